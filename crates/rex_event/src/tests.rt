@@ -1,0 +1,71 @@
+use super::*;
+use std::test::*;
+
+fn event(lane: u8, kind: Kind) -> Event {
+    Event {
+        lane,
+        index: 0,
+        kind,
+    }
+}
+
+#[test]
+fn events_conflict(rt: HostRuntime) {
+    let taken = event(0, Kind::AcqEx { lock: 2 });
+    let shared = event(1, Kind::AcqSh { lock: 2 });
+    let given = event(2, Kind::RelSh { lock: 2 });
+    let tried = event(1, Kind::TryBusy { lock: 2 });
+    let signal = event(
+        0,
+        Kind::Signal {
+            condition: 3,
+            woken: Some(1),
+        },
+    );
+    let broadcast = event(
+        0,
+        Kind::Broadcast {
+            condition: 3,
+            woken: 6,
+        },
+    );
+    let wake = event(
+        1,
+        Kind::Wake {
+            condition: 3,
+            lock: 4,
+        },
+    );
+    let reply = event(
+        0,
+        Kind::Reply {
+            client: 9,
+            value: 1,
+        },
+    );
+    let other = event(
+        1,
+        Kind::Reply {
+            client: 8,
+            value: 1,
+        },
+    );
+    assert!(rt; conflict(&taken, &shared));
+    assert!(rt; !conflict(&shared, &given));
+    assert!(rt; !conflict(&taken, &tried));
+    assert!(rt; conflict(&signal, &wake));
+    assert!(rt; conflict(&wake, &broadcast));
+    assert!(rt;
+        !conflict(
+            &event(
+                0,
+                Kind::Signal {
+                    condition: 2,
+                    woken: Some(1)
+                }
+            ),
+            &wake
+        )
+    );
+    assert!(rt; !conflict(&reply, &other));
+}

@@ -1,0 +1,11 @@
+//! Lists that contracts see as lists: one on the heap, and one of at most four numbers that takes no memory.
+#![tactic(auto)]
+
+mod arguments;
+mod list;
+
+pub use arguments::{ARGUMENTS, Arguments};
+pub use list::List;
+
+#[cfg(test)]
+mod tests;
