@@ -1,0 +1,4 @@
+pub mod Step
+pub mod Weights
+pub mod Segment
+pub mod Phases
