@@ -1,0 +1,103 @@
+-- What a good line declares.
+use Rattle.std.specs.Prelude.{ℕ, pos, List, [], ◌∷◌, ◌++◌, length, Option, Some, None, if◌then◌else◌, option_map, unwrap_or}
+use Rattle.rex_text.specs.Text.{Word}
+use Rattle.rex_text.specs.Numbers.{i64_at}
+use Rattle.rex_syntax.specs.declared.expr.Operator.TheVariants.{Add}
+use Rattle.rex_syntax.specs.declared.expr.Operand.{Operand}
+use Rattle.rex_syntax.specs.declared.expr.Operand.TheVariants.{Number, Local, Variable}
+use Rattle.rex_syntax.specs.declared.expr.Term.{Term}
+use Rattle.rex_syntax.specs.declared.expr.Expr.{Expr}
+use Rattle.rex_syntax.specs.declared.line.Line.{Line}
+use Rattle.rex_syntax.specs.declared.line.Line.TheVariants as line
+use Rattle.rex_syntax.specs.declared.service.LockKind.TheVariants.{Plain}
+use Rattle.rex_syntax.specs.declared.service.Handler.{Handler}
+use Rattle.rex_syntax.specs.declared.service.Declarations.{Declarations}
+use Rattle.rex_parse.specs.Above.{meaning_of, is_local, local_place}
+use Rattle.rex_parse.specs.Table.{form_of, count_of, begins_number, operator_of}
+use Rattle.rex_parse.specs.declared.language.Above.{Above}
+use Rattle.rex_parse.specs.declared.language.OpenHandler.{OpenHandler}
+use Rattle.rex_parse.specs.declared.language.Form.{Form}
+use Rattle.rex_parse.specs.declared.language.Form.TheVariants as form
+use Rattle.rex_parse.specs.declared.language.Meaning.{Meaning}
+use Rattle.rex_parse.specs.declared.language.Meaning.TheVariants as meaning
+
+-- the number of a lock, and of a variable
+abbrev pub lock_number : Option Meaning → ℕ
+lock_number (Some (meaning.Lock n)) = n
+lock_number _ = 0
+
+abbrev pub variable_number : Option Meaning → ℕ
+variable_number (Some (meaning.Variable n)) = n
+variable_number _ = 0
+
+-- an operand as a line has it
+abbrev pub operand_of : Above → Word → Operand
+operand_of a w =
+    if begins_number w then Number (unwrap_or (i64_at w) (pos 0))
+    else if is_local a w then Local (local_place a w)
+    else Variable (variable_number (meaning_of a w))
+
+-- an operator and the operand after it, and so on
+abbrev pub terms_of : Above → List Word → List Term
+terms_of a [] = []
+terms_of a (o ∷ []) = []
+terms_of a (o ∷ w ∷ ws) = (record { operator = unwrap_or (operator_of o) Add; operand = operand_of a w }) ∷ terms_of a ws
+
+-- the expression that words spell
+abbrev pub expr_of : Above → List Word → Expr
+expr_of a [] = record { first = Number (pos 0); rest = [] }
+expr_of a (w ∷ ws) = record { first = operand_of a w; rest = terms_of a ws }
+
+-- the open handler with one more line
+abbrev pub more_lines : ℕ → Line → OpenHandler → OpenHandler
+more_lines number l h = record h { lines = h.lines ++ l ∷ []; line_numbers = h.line_numbers ++ number ∷ [] }
+
+abbrev pub with_line : Above → ℕ → Line → Above
+with_line a number l = record a { open_handler = option_map (more_lines number l) a.open_handler }
+
+-- a local that is new is made
+abbrev pub with_local : Above → Word → Above
+with_local a w = if is_local a w then a else record a { locals = a.locals ++ w ∷ [] }
+
+abbrev pub ended : Above → OpenHandler → Handler
+ended a h = record { name = h.name; line_number = h.line_number; parameters = h.parameters; locals = length a.locals; lines = h.lines; line_numbers = h.line_numbers }
+
+-- the open handler is whole
+abbrev pub with_handler : Above → Option OpenHandler → Above
+with_handler a None = a
+with_handler a (Some h) = record a { handlers = a.handlers ++ ended a h ∷ []; locals = []; open_handler = None }
+
+abbrev pub closed : Above → Above
+closed a = with_handler a a.open_handler
+
+-- what is declared after a good line of a form, which has this number in its text
+abbrev pub after_form : Above → ℕ → Form → List Word → Above
+after_form a number form.Lanes (w ∷ ws) = record a { lanes = count_of 1 16 w }
+after_form a number form.Lock (w ∷ ws) =
+    record a { names = a.names ++ (record { name = w; meaning = meaning.Lock (length a.locks) }) ∷ []; locks = a.locks ++ (record { name = w; kind = Plain }) ∷ [] }
+after_form a number form.Var (w ∷ o ∷ l ∷ e ∷ v ∷ ws) =
+    record a {
+      names = a.names ++ (record { name = w; meaning = meaning.Variable (length a.variables) }) ∷ [];
+      variables = a.variables ++ (record { name = w; guard = lock_number (meaning_of a l); first = unwrap_or (i64_at v) (pos 0) }) ∷ [];
+    }
+after_form a number form.Handler (w ∷ ws) =
+    record a {
+      names = a.names ++ (record { name = w; meaning = meaning.Handler (length a.handlers) }) ∷ [];
+      locals = ws;
+      open_handler = Some (record { name = w; line_number = number; parameters = length ws; lines = []; line_numbers = [] });
+    }
+after_form a number form.Acquire (w ∷ ws) = with_line a number (line.Acquire (lock_number (meaning_of a w)))
+after_form a number form.Release (w ∷ ws) = with_line a number (line.Release (lock_number (meaning_of a w)))
+after_form a number form.Set (w ∷ e ∷ ws) = with_line a number (line.Set (variable_number (meaning_of a w)) (expr_of a ws))
+after_form a number form.Let (w ∷ e ∷ ws) = with_line (with_local a w) number (line.Let (local_place (with_local a w) w) (expr_of a ws))
+after_form a number form.Reply ws = closed (with_line a number (line.Reply (expr_of a ws)))
+after_form a number _ ws = a
+
+-- what is declared after a good line
+abbrev pub after : Above → ℕ → List Word → Above
+after a number [] = a
+after a number (w ∷ ws) = elim (form_of w) [ None ↦ a | Some f ↦ after_form a number f ws ]
+
+-- the service that a good text declares
+abbrev pub service_of : Above → Declarations
+service_of a = record { lanes = unwrap_or a.lanes 0; locks = a.locks; conditions = a.conditions; variables = a.variables; handlers = a.handlers }

@@ -1,0 +1,6 @@
+pub mod Words
+pub mod Above
+pub mod Table
+pub mod After
+pub mod Reading
+pub mod Law

@@ -1,0 +1,229 @@
+-- The table of lines: which words a line has, and which codes fit.
+use Rattle.std.specs.Prelude.{◌+◌, ◌==◌, ◌&&◌, ◌||◌, ℕ, Bool, true, false, not, List, [], ◌∷◌, length, nat_lt, nat_le, Option, Some, None, is_some, codes, find, if◌then◌else◌, option_map, option_and_then}
+use Rattle.std.specs.Str.{bytes_eq}
+use Rattle.std.specs.List.{list_any}
+use Rattle.rex_text.specs.Text.{Word}
+use Rattle.rex_text.specs.Numbers.{u64_at, i64_at}
+use Rattle.rex_syntax.specs.declared.expr.Operator.{Operator}
+use Rattle.rex_syntax.specs.declared.expr.Operator.TheVariants.{Add, Sub, Mul, Div, Rem, Equal, NotEqual, Less, LessEqual, Greater, GreaterEqual}
+use Rattle.rex_parse.specs.Words.{is_name, is_digit, least, fits}
+use Rattle.rex_parse.specs.Above.{meaning_of, is_declared, is_local, is_open}
+use Rattle.rex_parse.specs.declared.language.Above.{Above}
+use Rattle.rex_parse.specs.declared.language.OpenHandler.{OpenHandler}
+use Rattle.rex_parse.specs.declared.language.ServiceCode.{ServiceCode}
+use Rattle.rex_parse.specs.declared.language.ServiceCode.TheVariants.{Misplaced, BadForm, NoName, NoNumber, BadExpression, Undeclared, WrongKind, Taken, TooMany, LanesFirst}
+use Rattle.rex_parse.specs.declared.language.Form.{Form}
+use Rattle.rex_parse.specs.declared.language.Form.TheVariants as form
+use Rattle.rex_parse.specs.declared.language.Meaning.{Meaning}
+use Rattle.rex_parse.specs.declared.language.Meaning.TheVariants as meaning
+
+-- the first words of lines
+abbrev pub forms : List (Word × Form)
+forms =
+    (codes "lanes", form.Lanes) ∷ (codes "lock", form.Lock) ∷ (codes "var", form.Var) ∷ (codes "handler", form.Handler)
+    ∷ (codes "acquire", form.Acquire) ∷ (codes "release", form.Release) ∷ (codes "set", form.Set) ∷ (codes "let", form.Let) ∷ (codes "reply", form.Reply) ∷ []
+
+abbrev pub form_of : Word → Option Form
+form_of w = option_map (λ f. f.1) (find (λ f. bytes_eq w f.0) forms)
+
+-- a line of a handler, and no declaration
+abbrev pub is_inside : Form → Bool
+is_inside form.Lanes = false
+is_inside form.Lock = false
+is_inside form.Var = false
+is_inside form.Handler = false
+is_inside _ = true
+
+-- what may stand in a place of a line
+pub data Slot : Type 0 where
+  -- this very word
+  Fixed : Word → Slot
+  -- an unsigned number of this range
+  Count : ℕ → ℕ → Slot
+  -- a signed 64-bit number
+  Number : Slot
+  -- a name that the line declares
+  New : Slot
+  -- a handler's name and at most four parameters, to the end of the line
+  Heading : Slot
+  -- a lock of either kind
+  LockName : Slot
+  -- a variable
+  VariableName : Slot
+  -- a local, made if new
+  LocalName : Slot
+  -- one to eight operands with an operator between each two, to the end of the line
+  Expression : Slot
+
+-- the places of a line after its first word
+abbrev pub slots : Form → List Slot
+slots form.Lanes = Count 1 16 ∷ []
+slots form.Lock = New ∷ []
+slots form.Var = New ∷ Fixed (codes "on") ∷ LockName ∷ Fixed (codes "=") ∷ Number ∷ []
+slots form.Handler = Heading ∷ []
+slots form.Acquire = LockName ∷ []
+slots form.Release = LockName ∷ []
+slots form.Set = VariableName ∷ Fixed (codes "=") ∷ Expression ∷ []
+slots form.Let = LocalName ∷ Fixed (codes "=") ∷ Expression ∷ []
+slots form.Reply = Expression ∷ []
+
+-- the number of words or a fixed word is wrong
+abbrev pub is_misshapen : List Slot → List Word → Bool
+is_misshapen [] [] = false
+is_misshapen [] (w ∷ ws) = true
+is_misshapen (s ∷ ss) [] = true
+is_misshapen (Expression ∷ ss) (w ∷ ws) = false
+is_misshapen (Heading ∷ ss) (w ∷ ws) = nat_lt 4 (length ws)
+is_misshapen (Fixed f ∷ ss) (w ∷ ws) = not (bytes_eq w f) || is_misshapen ss ws
+is_misshapen (Count lo hi ∷ ss) (w ∷ ws) = is_misshapen ss ws
+is_misshapen (Number ∷ ss) (w ∷ ws) = is_misshapen ss ws
+is_misshapen (New ∷ ss) (w ∷ ws) = is_misshapen ss ws
+is_misshapen (LockName ∷ ss) (w ∷ ws) = is_misshapen ss ws
+is_misshapen (VariableName ∷ ss) (w ∷ ws) = is_misshapen ss ws
+is_misshapen (LocalName ∷ ss) (w ∷ ws) = is_misshapen ss ws
+
+abbrev pub in_range : ℕ → ℕ → ℕ → Bool
+in_range lo hi n = nat_le lo n && nat_le n hi
+
+-- the number of a range that a word spells
+abbrev pub count_of : ℕ → ℕ → Word → Option ℕ
+count_of lo hi w = option_and_then (λ n. if in_range lo hi n then Some n else None) (u64_at w)
+
+-- a name that a line declares
+abbrev pub new_code : Above → Word → Option ServiceCode
+new_code a w = if is_name w then fits (is_declared a w) Taken else Some NoName
+
+-- parameters: names that nothing above has, nor the handler or a parameter before
+abbrev pub parameters_code : Above → List Word → List Word → Option ServiceCode
+parameters_code a before [] = None
+parameters_code a before (w ∷ ws) =
+    least (if is_name w then fits (is_declared a w || list_any (λ b. bytes_eq b w) before) Taken else Some NoName) (parameters_code a (w ∷ before) ws)
+
+abbrev pub heading_code : Above → Word → List Word → Option ServiceCode
+heading_code a w ws = least (new_code a w) (parameters_code a (w ∷ []) ws)
+
+abbrev pub lock_kind_code : Option Meaning → Option ServiceCode
+lock_kind_code None = Some Undeclared
+lock_kind_code (Some (meaning.Lock n)) = None
+lock_kind_code (Some (meaning.Condition n)) = Some WrongKind
+lock_kind_code (Some (meaning.Variable n)) = Some WrongKind
+lock_kind_code (Some (meaning.Handler n)) = Some WrongKind
+
+-- a lock's name
+abbrev pub lock_code : Above → Word → Option ServiceCode
+lock_code a w = if is_name w then (if is_local a w then Some WrongKind else lock_kind_code (meaning_of a w)) else Some NoName
+
+abbrev pub variable_kind_code : Option Meaning → Option ServiceCode
+variable_kind_code None = Some Undeclared
+variable_kind_code (Some (meaning.Variable n)) = None
+variable_kind_code (Some (meaning.Lock n)) = Some WrongKind
+variable_kind_code (Some (meaning.Condition n)) = Some WrongKind
+variable_kind_code (Some (meaning.Handler n)) = Some WrongKind
+
+-- a variable's name
+abbrev pub variable_code : Above → Word → Option ServiceCode
+variable_code a w = if is_name w then (if is_local a w then Some WrongKind else variable_kind_code (meaning_of a w)) else Some NoName
+
+-- a local's name, which may be new
+abbrev pub local_code : Above → Word → Option ServiceCode
+local_code a w = if is_name w then fits (not (is_local a w) && is_declared a w) WrongKind else Some NoName
+
+abbrev pub begins_number : Word → Bool
+begins_number [] = false
+begins_number (b ∷ bs) = is_digit b || b == 45
+
+abbrev pub number_code : Word → Option ServiceCode
+number_code w = fits (not (is_some (i64_at w))) NoNumber
+
+-- an operand: a number, a parameter or local, or a variable
+abbrev pub operand_code : Above → Word → Option ServiceCode
+operand_code a w =
+    if begins_number w then number_code w
+    else if not (is_name w) then Some BadExpression
+    else if is_local a w then None
+    else variable_kind_code (meaning_of a w)
+
+abbrev pub operators : List (Word × Operator)
+operators =
+    (codes "+", Add) ∷ (codes "-", Sub) ∷ (codes "*", Mul) ∷ (codes "/", Div) ∷ (codes "%", Rem) ∷ (codes "==", Equal) ∷ (codes "!=", NotEqual)
+    ∷ (codes "<", Less) ∷ (codes "<=", LessEqual) ∷ (codes ">", Greater) ∷ (codes ">=", GreaterEqual) ∷ []
+
+-- the operator that a word is
+abbrev pub operator_of : Word → Option Operator
+operator_of w = option_map (λ o. o.1) (find (λ o. bytes_eq w o.0) operators)
+
+abbrev pub operator_code : Word → Option ServiceCode
+operator_code w = fits (not (is_some (operator_of w))) BadExpression
+
+-- operands at the first, third, fifth place and so on, operators at the others
+unfoldable pub expr_code : Above → List Word → Option ServiceCode
+expr_code a [] = Some BadExpression
+expr_code a (w ∷ []) = operand_code a w
+expr_code a (w ∷ o ∷ ws) = least (least (operand_code a w) (operator_code o)) (expr_code a ws)
+
+-- the same with at most eight operands
+abbrev pub whole_expr_code : Above → List Word → Option ServiceCode
+whole_expr_code a ws = least (fits (nat_lt 15 (length ws)) BadExpression) (expr_code a ws)
+
+-- the least code that fits at a place
+abbrev pub slot_code : Above → Slot → Word → List Word → Option ServiceCode
+slot_code a (Fixed f) w ws = None
+slot_code a (Count lo hi) w ws = fits (not (is_some (count_of lo hi w))) NoNumber
+slot_code a Number w ws = number_code w
+slot_code a New w ws = new_code a w
+slot_code a Heading w ws = heading_code a w ws
+slot_code a LockName w ws = lock_code a w
+slot_code a VariableName w ws = variable_code a w
+slot_code a LocalName w ws = local_code a w
+slot_code a Expression w ws = whole_expr_code a (w ∷ ws)
+
+abbrev pub slots_code : Above → List Slot → List Word → Option ServiceCode
+slots_code a [] ws = None
+slots_code a (s ∷ ss) [] = None
+slots_code a (s ∷ ss) (w ∷ ws) = least (slot_code a s w ws) (slots_code a ss ws)
+
+abbrev pub lines_of_open : Option OpenHandler → ℕ
+lines_of_open None = 0
+lines_of_open (Some h) = length h.lines
+
+-- a line of a handler past its 256th
+abbrev pub full_code : Above → Option ServiceCode
+full_code a = fits (nat_le 256 (lines_of_open a.open_handler)) TooMany
+
+-- a local past the 16th
+abbrev pub locals_code : Above → List Word → Option ServiceCode
+locals_code a [] = None
+locals_code a (w ∷ ws) = fits (not (is_local a w) && nat_le 16 (length a.locals)) TooMany
+
+-- a count limit is passed
+abbrev pub limit_code : Above → Form → List Word → Option ServiceCode
+limit_code a form.Lanes ws = None
+limit_code a form.Lock ws = fits (nat_le 64 (length a.locks)) TooMany
+limit_code a form.Var ws = fits (nat_le 256 (length a.variables)) TooMany
+limit_code a form.Handler ws = fits (nat_le 64 (length a.handlers)) TooMany
+limit_code a form.Let ws = least (locals_code a ws) (full_code a)
+limit_code a _ ws = full_code a
+
+abbrev pub is_lanes : Form → Bool
+is_lanes form.Lanes = true
+is_lanes _ = false
+
+-- the first line isn't `lanes`, or `lanes` comes again
+abbrev pub order_code : Above → Form → Option ServiceCode
+order_code a f = fits (not (is_some a.lanes) && not (is_lanes f) || is_some a.lanes && is_lanes f) LanesFirst
+
+abbrev pub same : Bool → Bool → Bool
+same true b = b
+same false b = not b
+
+-- the least code that fits a line of a form
+abbrev pub form_code : Above → Form → List Word → Option ServiceCode
+form_code a f ws =
+    if not (same (is_inside f) (is_open a)) then Some Misplaced
+    else if is_misshapen (slots f) ws then Some BadForm
+    else least (slots_code a (slots f) ws) (least (limit_code a f ws) (order_code a f))
+
+-- the least code that fits a line
+abbrev pub line_code : Above → List Word → Option ServiceCode
+line_code a [] = None
+line_code a (w ∷ ws) = elim (form_of w) [ None ↦ Some Misplaced | Some f ↦ form_code a f ws ]
