@@ -1,0 +1,5 @@
+pub mod Headings
+pub mod Requests
+pub mod Schedule
+pub mod Reading
+pub mod Fits

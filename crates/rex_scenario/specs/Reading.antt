@@ -1,0 +1,101 @@
+-- A whole scenario: the first bad line with its least code, or what was said.
+use Rattle.std.specs.Prelude.{◌+◌, ℕ, Bool, not, List, [], ◌∷◌, ◌++◌, length, nat_lt, Option, Some, None, Result, Ok, Err, unwrap_or, if◌then◌else◌}
+use Rattle.std.specs.List.{list_all}
+use Rattle.rex_text.specs.Text.{Word, lines_of, words_of, numbered, is_skipped, is_allowed}
+use Rattle.rex_parse.specs.Above.{nothing}
+use Rattle.rex_parse.specs.Reading.{raw_code, raw_after, end_code}
+use Rattle.rex_parse.specs.declared.language.ServiceCode.{ServiceCode}
+use Rattle.rex_scenario.specs.Headings.{is_heading, heading_code, next_stage}
+use Rattle.rex_scenario.specs.Requests.{request_code, request_of}
+use Rattle.rex_scenario.specs.Schedule.{schedule_code, step_of, with_step}
+use Rattle.rex_scenario.specs.declared.scenario.ScenarioCode.{ScenarioCode}
+use Rattle.rex_scenario.specs.declared.scenario.ScenarioCode.TheVariants.{Service, TooLong, BadByte, OutOfPlace}
+use Rattle.rex_scenario.specs.declared.scenario.Scenario.{Scenario}
+use Rattle.rex_scenario.specs.declared.scenario.Sections.{Sections}
+use Rattle.rex_scenario.specs.declared.scenario.Stage.{Stage}
+use Rattle.rex_scenario.specs.declared.scenario.Stage.TheVariants as stage
+
+-- before the first line
+abbrev pub no_sections : Sections
+no_sections = record { stage = stage.Start; service = nothing; requests = []; schedule = [] }
+
+abbrev pub is_clean : List ℕ → Bool
+is_clean line = list_all is_allowed line
+
+abbrev pub of_service : Option ServiceCode → Option ScenarioCode
+of_service None = None
+of_service (Some c) = Some (Service c)
+
+-- the first code, or else the second
+abbrev pub or_code : Option ScenarioCode → Option ScenarioCode → Option ScenarioCode
+or_code (Some c) other = Some c
+or_code None other = other
+
+abbrev pub byte_code : List ℕ → Option ScenarioCode
+byte_code line = if is_clean line then None else Some BadByte
+
+-- a heading in the service ends it: first comes what the service's end says
+abbrev pub service_end_code : Sections → List ℕ → Option ScenarioCode
+service_end_code s line = or_code (of_service (end_code s.service)) (or_code (byte_code line) (heading_code stage.Service (words_of line)))
+
+abbrev pub service_line_code : Sections → List ℕ → Option ScenarioCode
+service_line_code s line = if is_heading (words_of line) then service_end_code s line else of_service (raw_code s.service line)
+
+-- the code that fits a line with words outside the service that is no heading
+abbrev pub words_code : Sections → Stage → List Word → Option ScenarioCode
+words_code s stage.Requests ws = request_code s.service s.requests ws
+words_code s stage.Schedule ws = schedule_code 1 (length s.requests) (unwrap_or s.service.lanes 0) (length s.schedule) ws
+words_code s _ ws = Some OutOfPlace
+
+abbrev pub other_line_code : Sections → List ℕ → Option ScenarioCode
+other_line_code s line =
+    if not (is_clean line) then Some BadByte
+    else if is_skipped (words_of line) then None
+    else if is_heading (words_of line) then heading_code s.stage (words_of line)
+    else words_code s s.stage (words_of line)
+
+abbrev pub code_in : Stage → Sections → List ℕ → Option ScenarioCode
+code_in stage.Service s line = service_line_code s line
+code_in _ s line = other_line_code s line
+
+-- the least code that fits a line as it stands
+abbrev pub line_code : Sections → List ℕ → Option ScenarioCode
+line_code s line = code_in s.stage s line
+
+-- what a good line that is no heading says, by its stage
+abbrev pub with_words : Sections → Stage → ℕ → List ℕ → Sections
+with_words s stage.Service number line = record s { service = raw_after s.service number line }
+with_words s stage.Requests number line = record s { requests = s.requests ++ request_of s.service (words_of line) ∷ [] }
+with_words s stage.Schedule number line = record s { schedule = with_step s.schedule (step_of (words_of line)) }
+with_words s _ number line = s
+
+-- what a good line as it stands says
+abbrev pub line_after : Sections → ℕ → List ℕ → Sections
+line_after s number line =
+    if is_skipped (words_of line) then s
+    else if is_heading (words_of line) then record s { stage = next_stage s.stage }
+    else with_words s s.stage number line
+
+-- the text ends before the schedule, or in a service that isn't whole
+abbrev pub end_of : Sections → Stage → Option ScenarioCode
+end_of s stage.Schedule = None
+end_of s stage.Service = or_code (of_service (end_code s.service)) (Some OutOfPlace)
+end_of s _ = Some OutOfPlace
+
+-- a refusal of a line where a code fits it, and else what comes next
+abbrev pub or_next : Option ScenarioCode → ℕ → Result Sections (ℕ × ScenarioCode) → Result Sections (ℕ × ScenarioCode)
+or_next (Some c) number next = Err (number, c)
+or_next None number next = next
+
+-- the answer to numbered lines, after these sections, where the line after the last has the number `next`
+unfoldable pub answer_from : Sections → ℕ → List (ℕ × List ℕ) → Result Sections (ℕ × ScenarioCode)
+answer_from s next [] = or_next (end_of s s.stage) next (Ok s)
+answer_from s next (line ∷ rest) = or_next (line_code s line.1) line.0 (answer_from (line_after s line.0 line.1) (line.0 + 1) rest)
+
+-- the answer to a text of at most 4,194,304 bytes; a longer one is refused whatever it says
+abbrev pub answer_of : List ℕ → Result Sections (ℕ × ScenarioCode)
+answer_of bytes = if nat_lt 4194304 (length bytes) then Err (0, TooLong) else answer_from no_sections 1 (numbered 1 (lines_of bytes))
+
+-- the requests and the schedule of a good text
+abbrev pub scenario_of : Sections → Scenario
+scenario_of s = record { nodes = 1; seed = 0; requests = s.requests; schedule = s.schedule }

@@ -1,0 +1,80 @@
+//! What a scenario has.
+
+use rex_list::List;
+use rex_parse::{Above, ServiceCode};
+use rex_syntax::request::Request;
+
+/// A line of a schedule. Nodes are numbered from 1, lanes and requests from 0.
+#[derive(Clone, Copy, Debug, PartialEq, Eq)]
+pub enum ScheduleLine {
+    /// The node asks to lead.
+    Elect { node: u8 },
+    /// A client hands a request to the node.
+    Submit { node: u8, request: u32 },
+    /// A lane of the node makes its next event.
+    Lane { node: u8, lane: u8 },
+    /// The node proposes all its live events.
+    Cut { node: u8 },
+}
+
+/// The requests and the schedule of a scenario, which its service is read beside.
+#[derive(Drop)]
+pub struct Scenario {
+    /// The number of nodes.
+    pub nodes: u8,
+    /// The seed of the random reads.
+    pub seed: u32,
+    pub requests: List<Request>,
+    pub schedule: List<ScheduleLine>,
+}
+
+/// Why a line of a scenario is refused.
+#[derive(Clone, Copy, Debug, PartialEq, Eq)]
+pub enum ScenarioCode {
+    /// A line of the service is refused.
+    Service(ServiceCode),
+    /// S1: the text has more than 4,194,304 bytes.
+    TooLong,
+    /// S2: a byte isn't allowed, outside the service.
+    BadByte,
+    /// S3: a heading isn't the one that is due, another line stands before the service, or the text ends too early.
+    OutOfPlace,
+    /// S4: a heading's words or value are wrong.
+    BadHeading,
+    /// S5: a request's words aren't of the form or range.
+    BadRequest,
+    /// S6: a request names no handler, or has the wrong number of arguments.
+    BadCall,
+    /// S7: client and sequence of an earlier request.
+    Repeated,
+    /// S8: a schedule line's words aren't of a form, or a number in it is no number below 2^64.
+    BadLine,
+    /// S9: a schedule line past the 100,000th.
+    TooManyLines,
+    /// S10: a node, lane or request that isn't there.
+    NotThere,
+    /// S11: a request past the 65,536th.
+    TooManyRequests,
+}
+
+/// Where in a scenario a line stands: which heading came last.
+#[derive(Clone, Copy, Debug, PartialEq, Eq)]
+pub enum Stage {
+    /// Before `%nodes`.
+    Start,
+    /// After `%nodes`.
+    Nodes,
+    /// In the service.
+    Service,
+    Requests,
+    Schedule,
+}
+
+/// What the lines above a line of a scenario have said.
+#[derive(Drop)]
+pub struct Sections {
+    pub stage: Stage,
+    pub service: Above,
+    pub requests: List<Request>,
+    pub schedule: List<ScheduleLine>,
+}
