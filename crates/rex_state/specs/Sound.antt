@@ -82,8 +82,8 @@ pub record IsPlaced (service : Declarations) (s : StateValue) : Type 0 where
 
 -- ---- queues
 
--- the lane is among these
-abbrev pub Has : ℕ → List ℕ → Type 0
+-- it is among these
+abbrev pub Has : {X : Type 0} → X → List X → Type 0
 Has x [] = ⊥
 Has x (y ∷ ys) = (y ≡ x) ⊎ Has x ys
 
