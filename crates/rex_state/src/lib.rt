@@ -1,0 +1,4 @@
+//! The states that a service comes to, and the events that lead from one to the next.
+#![tactic(auto)]
+
+pub mod lane;
