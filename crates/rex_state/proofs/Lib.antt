@@ -1,1 +1,4 @@
+pub mod Held
+pub mod Walks
+pub mod Fits
 mod Examples
