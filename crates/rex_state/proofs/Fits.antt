@@ -80,7 +80,7 @@ lock_in (x ∷ xs) (suc c) lock h = lock_in xs c lock h
 pub lock_is : (service : Declarations) (c lock : ℕ) → is_lock_of service c lock ≡ true → lock_of service c ≡ lock
 lock_is service c lock h = lock_in service.conditions c lock h
 
-exclusive_mode : (m : Mode) → is_exclusive m ≡ true → m ≡ Exclusive
+pub exclusive_mode : (m : Mode) → is_exclusive m ≡ true → m ≡ Exclusive
 exclusive_mode Exclusive h = refl
 exclusive_mode Shared h = absurd (cc)
 exclusive_mode Free h = absurd (cc)

@@ -1,6 +1,7 @@
 pub mod Value
 pub mod Lines
 pub mod Locks
+pub mod Actions
 pub mod Own
 pub mod Machine
 pub mod Start
