@@ -16,7 +16,7 @@ use Rattle.rex_syntax.specs.declared.service.Condition.{Condition}
 use Rattle.rex_syntax.specs.declared.flow.Leads.{Leads}
 use Rattle.rex_syntax.specs.declared.flow.Target.{Target}
 use Rattle.rex_syntax.specs.Locks.{mode_of, with_mode, no_locks, is_exclusive, is_only}
-use Rattle.rex_syntax.specs.Leads.{leads_of, on, lock_of, no_condition}
+use Rattle.rex_syntax.specs.Leads.{leads_of, lock_of, no_condition}
 use Rattle.rex_syntax.specs.Flow.{entry, IsFlow}
 use Rattle.rex_syntax.specs.Shape.{IsShaped, LeadsOn, HasNext, open_at, open_after}
 use Rattle.rex_syntax.specs.Service.{IsService, IsHandler}
@@ -27,7 +27,7 @@ use Rattle.rex_event.specs.declared.event.Kind.{Kind}
 use Rattle.rex_event.specs.declared.event.Kind.TheVariants.{Begin, AcqEx, AcqSh, RelEx, RelSh, TryOk, TryBusy, Wait, Wake, Signal, Broadcast, Clock, Random, Reply}
 use Rattle.rex_state.specs.Lines.{lines_in, locals_in, lines_of, locals_of, line_of, is_acquire, is_share, is_release, is_try, is_wait, is_signal, is_broadcast, is_clock, is_random, is_condition_of, is_lock_of}
 use Rattle.rex_state.specs.Own.{fresh, moved, started}
-use Rattle.rex_state.specs.Machine.{takes, can_go, own_can, after, next, run}
+use Rattle.rex_state.specs.Machine.{takes, can_go, own_can, run}
 use Rattle.rex_state.specs.Flows.{CheckedFlows, flow_of, IsFlows}
 use Rattle.rex_state.specs.Sound.{wait_lock, FrameFits, Fits}
 use Rattle.rex_state.proofs.Held.{if_true, only_next, only_other, leads_at}

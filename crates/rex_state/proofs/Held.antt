@@ -17,7 +17,7 @@ use Rattle.rex_frame.specs.declared.frame.Frame.{Frame}
 use Rattle.rex_frame.specs.Step.{does_stand, frame_after, turned_by, innermost, at_line, value_in}
 use Rattle.rex_frame.specs.Weights.{IsInside}
 use Rattle.rex_frame.proofs.Steps.{innermost_body}
-use Rattle.rex_state.specs.Machine.{after, next}
+use Rattle.rex_state.specs.Machine.{after}
 
 -- the frame holds what its line is to be reached with
 abbrev pub HoldsItsLine : List (Option Lockset) → Frame → Type 0

@@ -6,4 +6,7 @@ pub mod Keep
 pub mod Placed
 pub mod Queued
 pub mod Served
+pub mod Starts
+pub mod Run
+pub mod Sounds
 mod Examples

@@ -5,7 +5,6 @@ use Rattle.std.proofs.lemmas.Bool.{true≢false, and_parts, or_cases, eqb-true, 
 use Rattle.std.proofs.lemmas.List.{get_or-set_same}
 use Rattle.std.proofs.lemmas.Option.{same_Some}
 use Rattle.rex_syntax.specs.declared.line.Line.{Line}
-use Rattle.rex_syntax.specs.Flow.{entry}
 use Rattle.rex_frame.specs.declared.frame.Frame.{Frame}
 use Rattle.rex_frame.specs.Phases.{is_running}
 use Rattle.rex_event.specs.declared.event.Kind.{Kind}
@@ -81,6 +80,9 @@ is_named (Some a) c = some_same a c (cases_eq a c)
 
 begun_entry : (kind : Kind) (client sequence handler : ℕ) (arguments : List ℤ) (cs : List Entry) → kind ≡ Begin client sequence handler arguments → client < length cs → entry_at (clients_after kind cs) client ≡ record { sequence = sequence; reply = None }
 begun_entry kind client sequence handler arguments cs e l = subst (λ (k : Kind). entry_at (clients_after k cs) client ≡ record { sequence = sequence; reply = None }) (sym e) (get_or-set_same cs client _ no_entry l)
+
+some_none : {X : Type 0} (v : ℤ) → Some v ≡ None → X
+some_none v e = absurd (cc)
 
 none_some : (a : Option ℕ) (k : ℕ) → a ≡ None → a ≡ Some k → ⊥
 none_some a k e h = cc
@@ -221,7 +223,7 @@ module _ (p : CheckedFlows) (chk : IsRight p) (s : StateValue) (e : Event) (soun
       let there : client < length s.clients = subst (λ (x : ℕ). x < length s.clients) fc ((served.busy e.lane f b).there) in
       let now : (entry_at (clients_after (Reply client value) s.clients) client).reply ≡ Some value = ap (λ (x : Entry). x.reply) (get_or-set_same s.clients client _ no_entry there) in
       let was : (entry_at (clients_after (Reply client value) s.clients) client).reply ≡ None = subst (λ (x : Kind). (entry_at (clients_after x s.clients) client).reply ≡ None) k (subst (λ (x : ℕ). (entry_at (clients_after e.kind s.clients) x).reply ≡ None) (sym (same_Some client c nc)) r) in
-      absurd (let z : Some value ≡ None = sym now ∙ was in cc)
+      some_none value (sym now ∙ was)
   named_owner kind o k b c nc r = absurd (none_some (named_client kind) c refl nc)
 
   owner : (c : ℕ) → 0 < (entry_at (clients_after e.kind s.clients) c).sequence → (entry_at (clients_after e.kind s.clients) c).reply ≡ None → (named_client e.kind ≡ Some c) ⊎ (named_client e.kind ≡ Some c → ⊥) → Owner (after p.service e.lane e.kind s) c

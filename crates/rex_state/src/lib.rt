@@ -2,3 +2,4 @@
 #![tactic(auto)]
 
 pub mod lane;
+pub mod laws;
