@@ -8,3 +8,4 @@ pub mod Start
 pub mod Flows
 pub mod Sound
 pub mod Laws
+pub mod Room

@@ -3,3 +3,4 @@
 
 pub mod lane;
 pub mod laws;
+mod own;
