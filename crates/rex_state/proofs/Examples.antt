@@ -1,5 +1,5 @@
 -- The definitions at work: services whose runs are computed, with the values that they come to.
-use Rattle.std.proofs.Common.{◌≡◌, ℕ, true, false, List, [], ◌∷◌, ◌++◌, refl}
+use Rattle.std.proofs.Common.{◌≡◌, ℕ, List, [], ◌∷◌, ◌++◌, refl}
 use Rattle.std.specs.Prelude.{Option, Some, None, ℤ, pos, negsuc}
 use Rattle.rex_syntax.specs.declared.line.Line.{Line}
 use Rattle.rex_syntax.specs.declared.line.Line.TheVariants.{Acquire, Share, Release, Wait as WaitAt, Signal as SignalAt, Set, Let, Repeat, EndRepeat, Reply as ReplyAt}
@@ -16,7 +16,7 @@ use Rattle.rex_event.specs.declared.event.Event.{Event}
 use Rattle.rex_event.specs.declared.event.Kind.{Kind}
 use Rattle.rex_event.specs.declared.event.Kind.TheVariants.{Begin, AcqEx, AcqSh, RelEx, RelSh, Wait, Wake, Signal, Reply}
 use Rattle.rex_state.specs.Value.{StateValue}
-use Rattle.rex_state.specs.Machine.{run, entry_at, frame_at}
+use Rattle.rex_state.specs.Machine.{run, entry_at}
 use Rattle.rex_state.specs.Start.{start_of}
 
 -- ---- words
@@ -89,9 +89,9 @@ begins_once = refl
 abbrev pub readers : Declarations
 readers =
     service_of 3 ReadersWriter (
-      handler 0 1 (Share 0 ∷ Let 0 (just (Variable 0)) ∷ Release 0 ∷ ReplyAt (just (Local 0)) ∷ [])
-      ∷ handler 0 0 (Acquire 0 ∷ Set 0 (just (Number (pos 7))) ∷ Release 0 ∷ ReplyAt (just (Number (pos 1))) ∷ [])
-      ∷ []
+    handler 0 1 (Share 0 ∷ Let 0 (just (Variable 0)) ∷ Release 0 ∷ ReplyAt (just (Local 0)) ∷ [])
+    ∷ handler 0 0 (Acquire 0 ∷ Set 0 (just (Number (pos 7))) ∷ Release 0 ∷ ReplyAt (just (Number (pos 1))) ∷ [])
+    ∷ []
     )
 
 abbrev pub two_share : List Event
@@ -111,9 +111,9 @@ then_writes = refl
 abbrev pub cell : Declarations
 cell =
     service_of 2 Plain (
-      handler 0 1 (Acquire 0 ∷ WaitAt 0 (joined (Variable 0) Equal (Number (pos 0))) ∷ Let 0 (just (Variable 0)) ∷ Release 0 ∷ ReplyAt (just (Local 0)) ∷ [])
-      ∷ handler 0 0 (Acquire 0 ∷ Set 0 (just (Number (pos 5))) ∷ SignalAt 0 ∷ Release 0 ∷ ReplyAt (just (Number (pos 1))) ∷ [])
-      ∷ []
+    handler 0 1 (Acquire 0 ∷ WaitAt 0 (joined (Variable 0) Equal (Number (pos 0))) ∷ Let 0 (just (Variable 0)) ∷ Release 0 ∷ ReplyAt (just (Local 0)) ∷ [])
+    ∷ handler 0 0 (Acquire 0 ∷ Set 0 (just (Number (pos 5))) ∷ SignalAt 0 ∷ Release 0 ∷ ReplyAt (just (Number (pos 1))) ∷ [])
+    ∷ []
     )
 
 abbrev pub takes_then_puts : List Event

@@ -2,3 +2,5 @@
 #![tactic(auto)]
 
 pub mod lane;
+pub mod laws;
+mod own;
