@@ -1,0 +1,26 @@
+-- What is kept of a recorder.
+use Rattle.std.specs.Prelude.{◌≡◌, ◌≤◌, true, List, [], ◌∷◌, length, Some, None}
+use Rattle.rex_syntax.specs.declared.request.Request.{Request}
+use Rattle.rex_syntax.specs.declared.service.Declarations.{Declarations}
+use Rattle.rex_state.specs.Value.{StateValue}
+use Rattle.rex_state.specs.Machine.{can_begin, client_allows, run}
+use Rattle.rex_state.specs.Sound.{IsSound}
+use Rattle.rex_record.specs.Turn.{begin_of}
+use Rattle.rex_record.specs.Value.{RecorderValue, queued_in}
+
+-- an idle lane could begin the request
+pub record CanBegin (service : Declarations) (s : StateValue) (r : Request) : Type 0 where
+  pub handler : can_begin service (begin_of r) ≡ true
+  pub client : client_allows (begin_of r) s.clients ≡ true
+
+-- an idle lane could begin each queued request, and no two are of one client
+abbrev pub AreQueued : Declarations → StateValue → List Request → Type 0
+AreQueued service s [] = Unit {0}
+AreQueued service s (r ∷ rest) = CanBegin service s r × (queued_in rest r.client ≡ None) × AreQueued service s rest
+
+-- the live events run from a sound state to the state
+pub record IsRecorder (service : Declarations) (r : RecorderValue) : Type 0 where
+  pub sound : IsSound service r.start
+  pub runs : run service r.start r.live ≡ Some r.state
+  pub few : length r.live ≤ 4096
+  pub queue : AreQueued service r.state r.queue

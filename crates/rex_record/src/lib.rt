@@ -1,0 +1,8 @@
+//! The recorder of an active node: requests in its queue, and the events that its lanes make, one turn at a time.
+#![tactic(auto)]
+
+mod recorder;
+mod turns;
+
+pub use recorder::{Recorder, Release, Settled};
+pub use turns::Turn;
