@@ -1,7 +1,10 @@
 //! Lanes, queues of waiting lanes, and what is known of clients.
 
+ghost use Rattle.std.specs.Prelude.{◌≡◌};
+
 use arrayvec::ArrayVec;
 use rex_frame::frame::Frame;
+use rex_syntax::locks::Mode;
 use rex_syntax::service::LANES;
 
 /// How many events a lane did, and its frame, unless it is idle.
@@ -22,4 +25,64 @@ pub struct Queue {
 pub struct Entry {
     pub sequence: u32,
     pub reply: Option<i64>,
+}
+
+impl Lane {
+    ghost use Rattle.std.specs.Prelude.{◌<◌};
+    ghost use Rattle.rex_state.specs.Locks.{mode_in};
+
+    /// The mode in which the lane holds a lock.
+    pub(crate) fn mode(&self, lock: u8) -> Mode
+        requires { lock < 64 }
+        ensures { result ≡ mode_in lock self.now }
+    {
+        match &self.frame {
+            Some(frame) => frame.held.mode(lock),
+            None => Mode::Free,
+        }
+    }
+
+    pub(crate) fn copy(&self) -> Lane
+        ensures { result ≡ self.now }
+    {
+        Lane {
+            done: self.done,
+            frame: self.frame.as_ref().map(copy_frame),
+        }
+    }
+}
+
+impl Queue {
+    pub(crate) fn copy(&self) -> Queue
+        ensures { result ≡ self.now }
+    {
+        Queue {
+            lanes: copy_items(&self.lanes),
+        }
+    }
+}
+
+fn copy_frame(frame: &Frame) -> Frame
+    ensures { result ≡ frame.now }
+{
+    Frame {
+        client: frame.client,
+        sequence: frame.sequence,
+        handler: frame.handler,
+        place: frame.place,
+        locals: copy_items(&frame.locals),
+        turns: copy_items(&frame.turns),
+        held: frame.held,
+        phase: frame.phase,
+    }
+}
+
+fn copy_items<T: Copy + Default, const N: usize>(items: &ArrayVec<T, N>) -> ArrayVec<T, N>
+    ensures { result.items ≡ items.now.items }
+{
+    let mut copy = ArrayVec::new();
+    for item in items.as_slice() {
+        copy.push(*item);
+    }
+    copy
 }

@@ -1,6 +1,9 @@
 //! The states that a service comes to, and the events that lead from one to the next.
 #![tactic(auto)]
 
+mod apply;
+mod can;
 pub mod lane;
 pub mod laws;
 mod own;
+pub mod state;
