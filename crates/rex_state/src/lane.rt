@@ -1,6 +1,8 @@
 //! Lanes, queues of waiting lanes, and what is known of clients.
 
-ghost use Rattle.std.specs.Prelude.{◌≡◌};
+ghost use Rattle.std.specs.Prelude.{◌≡◌, ◌<◌, length, IfSome};
+ghost use Rattle.std.specs.Option.{ForSome};
+ghost use Rattle.rex_state.specs.Locks as locks;
 
 use arrayvec::ArrayVec;
 use rex_frame::frame::Frame;
@@ -28,13 +30,10 @@ pub struct Entry {
 }
 
 impl Lane {
-    ghost use Rattle.std.specs.Prelude.{◌<◌};
-    ghost use Rattle.rex_state.specs.Locks.{mode_in};
-
     /// The mode in which the lane holds a lock.
     pub(crate) fn mode(&self, lock: u8) -> Mode
         requires { lock < 64 }
-        ensures { result ≡ mode_in lock self.now }
+        ensures { result ≡ locks.mode_in lock self.now }
     {
         match &self.frame {
             Some(frame) => frame.held.mode(lock),
@@ -85,4 +84,35 @@ fn copy_items<T: Copy + Default, const N: usize>(items: &ArrayVec<T, N>) -> Arra
         copy.push(*item);
     }
     copy
+}
+
+/// The least lane that holds a lock, in any mode.
+pub(crate) fn holder(lanes: &[Lane], lock: u8) -> Option<usize>
+    requires { lock < 64 }
+    ensures holder { result ≡ locks.holder lock lanes.now }
+    ensures inside { IfSome result (λ lane. lane < length lanes.now) }
+{
+    lanes.iter().position(|lane| lane.mode(lock) != Mode::Free)
+}
+
+/// The least lane that holds a lock exclusively.
+pub(crate) fn exclusive_holder(lanes: &[Lane], lock: u8) -> Option<usize>
+    requires { lock < 64 }
+    ensures holder { result ≡ locks.exclusive_holder lock lanes.now }
+    ensures inside { IfSome result (λ lane. lane < length lanes.now) }
+{
+    lanes
+        .iter()
+        .position(|lane| lane.mode(lock) == Mode::Exclusive)
+}
+
+/// A place among the lanes as a lane's number.
+pub(crate) fn as_lane(place: Option<usize>) -> Option<u8>
+    requires { ForSome place (λ lane. lane < 16) }
+    ensures { result ≡ place }
+{
+    match place {
+        Some(lane) => Some(lane as u8),
+        None => None,
+    }
 }

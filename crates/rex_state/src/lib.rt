@@ -6,4 +6,5 @@ mod can;
 pub mod lane;
 pub mod laws;
 mod own;
+mod parts;
 pub mod state;

@@ -1,29 +1,25 @@
 //! States.
 
-ghost use Rattle.std.specs.Prelude.{◌≡◌, ◌<◌, ◌+◌, ◌^◌, length, map, replicate, Some, IsSome, IfOk, slice_get};
+ghost use Rattle.std.specs.Prelude.{◌≡◌, ◌<◌, ◌+◌, ◌^◌, Some, IsSome, IfOk, slice_get};
 ghost use Rattle.std.specs.Option.{option_copied};
 ghost use Rattle.rex_syntax.specs.Service.{IsService};
 ghost use Rattle.rex_state.specs.Locks as locks;
 ghost use Rattle.rex_state.specs.Machine as spec;
-ghost use Rattle.rex_state.specs.Start.{start_of, first_of};
+ghost use Rattle.rex_state.specs.Start.{start_of};
 ghost use Rattle.rex_state.specs.Sound.{IsSound};
 ghost use Rattle.rex_state.specs.Room.{CanApply};
 
 use crate::apply::{change_clients, change_queues};
 use crate::can::{client_allows, is_in, locks_allow, mask, own_can, queue_at, queues_allow};
-use crate::lane::{Entry, Lane, Queue};
+use crate::lane::{Entry, Lane, Queue, as_lane, exclusive_holder, holder};
 use crate::own::{run_lane, start};
-use arrayvec::ArrayVec;
+use crate::parts::{copy_lanes, copy_queues, empty_queues, first_values, idle_lanes, new_entries};
 use rex_event::{Event, Kind};
 use rex_frame::frame::Frame;
 use rex_syntax::checked::Checked;
-use rex_syntax::locks::Mode;
-use rex_syntax::service::{Declarations, Variable};
+use rex_syntax::service::Declarations;
 use std::alloc::{AllocError, Global};
 use std::marker::Model;
-
-/// The greatest number of a client. Clients have the numbers from 1 on.
-pub const CLIENTS: usize = 256;
 
 /// What a service came to: the variables' values, the lanes, the lanes that wait at each condition, and what is known of
 /// each client.
@@ -47,63 +43,106 @@ impl Model for State {
     ghost invariant = { λ s. IsSmall s.lanes.items s.queues.items };
 }
 
-fn first_values(alloc: Global, variables: &[Variable]) -> Result<Vec<i64>, AllocError>
-    ensures { IfOk result (λ v. v.items ≡ map first_of variables.now) }
-{
-    variables.iter().map(|variable| variable.first).collect(alloc)
-}
-
-fn idle_lanes(alloc: Global, count: u8) -> Result<Vec<Lane>, AllocError>
-    ensures { IfOk result (λ v. v.items ≡ replicate count spec.no_lane) }
-{
-    let mut lanes = Vec::new(alloc);
-    for _ in 0..count {
-        lanes.push(Lane {
-            done: 0,
-            frame: None,
-        })?;
+impl State {
+    /// The state from which a service starts.
+    pub fn start(alloc: Global, svc: &Checked) -> Result<State, AllocError>
+        ensures start { IfOk result (λ s. s ≡ start_of svc.now) }
+        ensures sound { IfOk result (λ s. IsSound svc.now s) }
+    {
+        let service = svc.declarations();
+        Ok(State {
+            variables: first_values(alloc, service.variables.as_slice())?,
+            lanes: idle_lanes(alloc, service.lanes)?,
+            queues: empty_queues(alloc, service.conditions.len())?,
+            clients: new_entries(alloc)?,
+        })
     }
-    Ok(lanes)
-}
 
-fn empty_queues(alloc: Global, count: usize) -> Result<Vec<Queue>, AllocError>
-    ensures { IfOk result (λ v. v.items ≡ replicate count spec.no_queue) }
-{
-    let mut queues = Vec::new(alloc);
-    for _ in 0..count {
-        queues.push(Queue {
-            lanes: ArrayVec::new(),
-        })?;
+    /// An equal state.
+    pub fn copy(&self, alloc: Global) -> Result<State, AllocError>
+        ensures { IfOk result (λ s. s ≡ self.now) }
+    {
+        Ok(State {
+            variables: self.variables.to_vec(alloc)?,
+            lanes: copy_lanes(alloc, &self.lanes)?,
+            queues: copy_queues(alloc, &self.queues)?,
+            clients: self.clients.to_vec(alloc)?,
+        })
     }
-    Ok(queues)
-}
 
-fn new_entries(alloc: Global) -> Result<Vec<Entry>, AllocError>
-    ensures { IfOk result (λ v. v.items ≡ replicate 257 spec.no_entry) }
-{
-    let entry = Entry {
-        sequence: 0,
-        reply: None,
-    };
-    vec![in alloc; entry; CLIENTS + 1]
-}
-
-fn copy_lanes(alloc: Global, lanes: &[Lane]) -> Result<Vec<Lane>, AllocError>
-    ensures { IfOk result (λ v. v.items ≡ lanes.now) }
-{
-    let mut copies = Vec::new(alloc);
-    for lane in lanes {
-        copies.push(lane.copy())?;
+    pub fn variables(&self) -> &[i64]
+        ensures { result.now ≡ self.now.variables }
+    {
+        &self.variables
     }
-    Ok(copies)
-}
 
-fn copy_queues(alloc: Global, queues: &[Queue]) -> Result<Vec<Queue>, AllocError>
-    ensures { IfOk result (λ v. v.items ≡ queues.now) }
-{
-    let mut copies = Vec::new(alloc);
-    for queue in queues {
-        copies.push(queue.copy())?;
+    /// How many events a lane did: 0 where there is no such lane.
+    pub fn done(&self, lane: u8) -> u32
+        ensures { result ≡ (spec.lane_of self.now lane).done }
+    {
+        match self.lanes.get(lane as usize) {
+            Some(found) => found.done,
+            None => 0,
+        }
     }
-    Ok(copies)
+
+    /// The frame of a lane, unless it is idle or isn't there.
+    pub fn frame(&self, lane: u8) -> Option<&Frame>
+        ensures { option_copied result ≡ spec.frame_at self.now lane }
+    {
+        match self.lanes.get(lane as usize) {
+            Some(found) => found.frame.as_ref(),
+            None => None,
+        }
+    }
+
+    /// What is known of a client. Its sequence is 0 where it has sent nothing.
+    pub fn entry(&self, client: u16) -> Entry
+        ensures { result ≡ spec.entry_at self.now.clients client }
+    {
+        match self.clients.get(client as usize) {
+            Some(found) => *found,
+            None => Entry {
+                sequence: 0,
+                reply: None,
+            },
+        }
+    }
+
+    /// Whether a lane stands in a condition's queue.
+    pub fn is_queued(&self, condition: u8, lane: u8) -> bool
+        ensures { result ≡ spec.is_in lane (spec.queue_at self.now.queues condition) }
+    {
+        is_in(lane, queue_at(&self.queues, condition))
+    }
+
+    /// The lane that has waited longest at a condition.
+    pub fn first_waiting(&self, condition: u8) -> Option<u8>
+        ensures { result ≡ slice_get (spec.queue_at self.now.queues condition) 0 }
+    {
+        queue_at(&self.queues, condition).first().copied()
+    }
+
+    /// The lanes that wait at a condition: lane `l` is bit `l`.
+    pub fn waiting(&self, condition: u8) -> u64
+        ensures { result ≡ spec.mask (spec.queue_at self.now.queues condition) }
+    {
+        mask(queue_at(&self.queues, condition))
+    }
+
+    /// The least lane that holds a lock, in any mode.
+    pub fn holder(&self, lock: u8) -> Option<u8>
+        requires { lock < 64 }
+        ensures { result ≡ locks.holder lock self.now.lanes }
+    {
+        as_lane(holder(&self.lanes, lock))
+    }
+
+    /// The least lane that holds a lock exclusively.
+    pub fn exclusive_holder(&self, lock: u8) -> Option<u8>
+        requires { lock < 64 }
+        ensures { result ≡ locks.exclusive_holder lock self.now.lanes }
+    {
+        as_lane(exclusive_holder(&self.lanes, lock))
+    }
 }
