@@ -1,0 +1,62 @@
+//! Which scenarios are taken so far.
+
+ghost use Rattle.std.specs.Prelude.{◌≡◌, ◌<◌, ◌≤◌, length, IfOk};
+ghost use Rattle.std.specs.List.{All, list_all};
+ghost use Rattle.rex_cli.specs.First as spec;
+
+use rex_scenario::{Scenario, ScheduleLine};
+use rex_syntax::expr::{Expr, Operator};
+use rex_syntax::line::Line;
+use rex_syntax::request::Request;
+use rex_syntax::service::{Declarations, Handler};
+use std::alloc::{AllocError, Global};
+
+fn adds_only(expr: &Expr) -> bool
+    ensures { result ≡ spec.adds_only expr.now }
+{
+    expr.rest.as_slice().iter().all(|term| term.operator == Operator::Add)
+}
+
+fn is_first_line(line: &Line) -> bool
+    ensures { result ≡ spec.is_first_line line.now }
+{
+    match line {
+        Line::Set { value, .. } | Line::Let { value, .. } | Line::Reply { value } => adds_only(value),
+        _ => true,
+    }
+}
+
+fn is_first_handler(handler: &Handler) -> bool
+    ensures { result ≡ spec.is_first_handler handler.now }
+{
+    handler.lines.as_slice().iter().all(|line| is_first_line(line))
+}
+
+fn is_first_service(service: &Declarations) -> bool
+    ensures { result ≡ spec.is_first_service service.now }
+{
+    service.handlers.as_slice().iter().all(|handler| is_first_handler(handler))
+}
+
+fn are_first_requests(requests: &[Request]) -> bool
+    ensures { result ≡ list_all spec.is_first_request requests.now }
+{
+    requests.iter().all(|request| request.sequence == 1)
+}
+
+fn has_no_elect(lines: &[ScheduleLine]) -> bool
+    ensures { result ≡ list_all spec.is_no_elect lines.now }
+{
+    lines.iter().all(|line| !matches!(line, ScheduleLine::Elect { .. }))
+}
+
+// The first line alone asks to lead, if there is one.
+fn leads_first(schedule: &[ScheduleLine]) -> bool
+    ensures { result ≡ spec.leads_first schedule.now }
+{
+    match schedule {
+        [] => true,
+        [ScheduleLine::Elect { .. }, rest @ ..] => has_no_elect(rest),
+        _ => false,
+    }
+}
