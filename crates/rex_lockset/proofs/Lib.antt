@@ -1,1 +1,4 @@
 pub mod Same
+pub mod Bounds
+pub mod Names
+pub mod Forms

@@ -8,8 +8,12 @@
 //! 100,000 steps.
 #![tactic(auto)]
 
+mod bound;
 mod known;
 mod leads;
+mod refusal;
 
+pub use bound::{MOST_STEPS, step_bound};
 pub use known::Known;
 pub use leads::leads_from;
+pub use refusal::{Refused, refusal_of};
