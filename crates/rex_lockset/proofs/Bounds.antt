@@ -1,7 +1,7 @@
 -- Bounds on steps, counted as far as the check needs them.
-use Rattle.std.proofs.Common.{◌≡◌, ℕ, zero, suc, ◌+◌, ◌-◌, ◌*◌, ◌<◌, ◌≤◌, ◌⊎◌, min, max, List, [], ◌∷◌, length, drop, map, get_or, set, refl, ap, sym, ◌∙◌, arith, inl, inr, length-set}
+use Rattle.std.proofs.Common.{◌≡◌, ℕ, zero, suc, ◌+◌, ◌-◌, ◌*◌, ◌<◌, ◌≤◌, ◌⊎◌, max, List, [], ◌∷◌, length, drop, map, get_or, set, refl, ap, sym, ◌∙◌, arith, inl, inr, length-set}
 use Rattle.std.specs.Prelude.{slice_index}
-use Rattle.std.proofs.lemmas.List.{drop_more, drop-set, get_or-map}
+use Rattle.std.proofs.lemmas.List.{drop_more, drop-set}
 use Rattle.rex_syntax.specs.declared.line.Line.{Line}
 use Rattle.rex_syntax.specs.declared.line.Line.TheVariants.{Else, Busy, EndIf, EndTry, EndRepeat, Repeat, Reply}
 use Rattle.rex_syntax.specs.Check.{other_of, bound_of, bounds}

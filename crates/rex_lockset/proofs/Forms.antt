@@ -1,12 +1,11 @@
 -- The forms in which lines lead on.
-use Rattle.std.proofs.Common.{◌≡◌, ℕ, ◌+◌, ◌-◌, ◌<◌, ◌≤◌, ◌⊎◌, List, length, get_or, arith, refl, sym, ap, subst, Bool, true, false, Ok, Err, Result, inl, inr}
+use Rattle.std.proofs.Common.{◌≡◌, ℕ, ◌+◌, ◌-◌, ◌<◌, ◌⊎◌, List, length, get_or, arith, refl, sym, subst, Bool, true, false, Ok, Err, inl, inr}
 use Rattle.std.specs.Prelude.{Option, Some, None, IfSome, slice_get, if◌then◌else◌}
 use Rattle.rex_syntax.specs.declared.line.Line.{Line}
 use Rattle.rex_syntax.specs.declared.line.Line.TheVariants.{Acquire, Share, Release, Try, Busy, EndTry, Wait, Signal, Broadcast, Set, Let, Clock, Random, If, Else, EndIf, Repeat, EndRepeat, Reply}
 use Rattle.rex_syntax.specs.declared.locks.Lockset.{Lockset}
 use Rattle.rex_syntax.specs.declared.flow.CheckCode.{CheckCode}
 use Rattle.rex_syntax.specs.declared.flow.Leads.{Leads}
-use Rattle.rex_syntax.specs.declared.flow.Target.{Target}
 use Rattle.rex_syntax.specs.declared.service.Declarations.{Declarations}
 use Rattle.rex_syntax.specs.Leads.{leads_of, only_if, on, fork, jump, nowhere}
 use Rattle.rex_syntax.specs.declared.service.Handler.{Handler}

@@ -1,12 +1,10 @@
 -- What a line names, of at most sixteen locals.
-use Rattle.std.proofs.Common.{◌≡◌, ℕ, ◌<◌, ◌≤◌, List, length, get_or, arith, refl, sym, subst}
-use Rattle.std.specs.List.{All}
+use Rattle.std.proofs.Common.{◌≡◌, ℕ, ◌<◌, ◌≤◌, length, get_or, arith, sym, subst}
 use Rattle.rex_syntax.specs.declared.expr.Operand.{Operand}
 use Rattle.rex_syntax.specs.declared.expr.Operand.TheVariants.{Number, Local, Variable}
-use Rattle.rex_syntax.specs.declared.expr.Term.{Term}
 use Rattle.rex_syntax.specs.declared.expr.Expr.{Expr}
 use Rattle.rex_syntax.specs.declared.line.Line.{Line}
-use Rattle.rex_syntax.specs.declared.line.Line.TheVariants.{Wait, Set, Let, Clock, Random, If, Reply, Acquire, Share, Release, Try, Signal, Broadcast, Repeat, Else, Busy, EndIf, EndTry, EndRepeat}
+use Rattle.rex_syntax.specs.declared.line.Line.TheVariants.{Wait, Set, Let, Clock, Random, If, Reply}
 use Rattle.rex_syntax.specs.declared.service.Declarations.{Declarations}
 use Rattle.rex_syntax.specs.declared.service.Handler.{Handler}
 use Rattle.rex_syntax.specs.Expr.{OperandFits}

@@ -1,5 +1,5 @@
 -- The test of two locksets says whether they are equal.
-use Rattle.std.proofs.Common.{◌≡◌, ap, refl, ◌∙◌, sym, subst, Bool, true, false, List}
+use Rattle.std.proofs.Common.{◌≡◌, ap, refl, subst, Bool, true, List}
 use Rattle.std.specs.Bool.{Decides}
 use Rattle.std.proofs.lemmas.Bool.Decides.{Decides-like, same_from_decides}
 use Rattle.std.proofs.lemmas.Slice.Eq.{slice_eq-Decides}

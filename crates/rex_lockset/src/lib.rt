@@ -8,12 +8,16 @@
 //! 100,000 steps.
 #![tactic(auto)]
 
+mod answer;
 mod bound;
 mod known;
+mod laws;
 mod leads;
 mod refusal;
 
+pub use answer::{CheckError, check};
 pub use bound::{MOST_STEPS, step_bound};
 pub use known::Known;
+pub use laws::refusals_are_exact;
 pub use leads::leads_from;
 pub use refusal::{Refused, refusal_of};
