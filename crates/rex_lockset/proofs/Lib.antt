@@ -9,3 +9,4 @@ pub mod Sound
 pub mod Flows
 pub mod Complete
 pub mod Law
+mod Examples
