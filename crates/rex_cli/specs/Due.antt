@@ -3,6 +3,8 @@ use Rattle.std.specs.Prelude.{ℕ, Bool, false, List, [], ◌∷◌, ◌++◌, c
 use Rattle.std.specs.Str.{bytes_eq}
 use Rattle.rex_parse.specs.After.{service_of}
 use Rattle.rex_scenario.specs.declared.scenario.ScenarioCode.{ScenarioCode}
+use Rattle.rex_syntax.specs.declared.service.Declarations.{Declarations}
+use Rattle.rex_scenario.specs.declared.scenario.Scenario.{Scenario}
 use Rattle.rex_scenario.specs.declared.scenario.Sections.{Sections}
 use Rattle.rex_scenario.specs.Reading.{answer_of, scenario_of}
 use Rattle.rex_world.specs.Report.{report_of}
@@ -26,12 +28,12 @@ due_usage = record { status = 2; text = codes "usage: rex run|trace|check|gen|so
 abbrev pub due_refusal : Due
 due_refusal = record { status = 1; text = codes "refused line 0 S0" ++ 10 ∷ [] }
 
-abbrev pub due_sections : Sections → Due
-due_sections s =
-    if is_first (scenario_of s) (service_of s.service) then record { status = 0; text = report_of (service_of s.service) (scenario_of s) } else due_refusal
+-- a scenario that is taken so far asks for its report
+abbrev pub due_scenario : Scenario → Declarations → Due
+due_scenario s service = if is_first s service then record { status = 0; text = report_of service s } else due_refusal
 
 abbrev pub due_answer : Result Sections (ℕ × ScenarioCode) → Due
-due_answer (Ok s) = due_sections s
+due_answer (Ok s) = due_scenario (scenario_of s) (service_of s.service)
 due_answer (Err e) = due_refusal
 
 -- what an input asks for

@@ -1,5 +1,5 @@
 -- Which scenarios are taken so far: simple services, one request a client, and one leader from the first line on.
-use Rattle.std.specs.Prelude.{ℕ, ◌==◌, ◌&&◌, Bool, true, false, not, List, [], ◌∷◌, is_none}
+use Rattle.std.specs.Prelude.{ℕ, ◌==◌, ◌&&◌, ◌++◌, Bool, true, false, List, [], ◌∷◌, Option, Some, None, is_none, if◌then◌else◌}
 use Rattle.std.specs.List.{list_all, list_any}
 use Rattle.rex_syntax.specs.declared.expr.Operator.{Operator}
 use Rattle.rex_syntax.specs.declared.expr.Operator.TheVariants.{Add}
@@ -51,22 +51,28 @@ leads_first [] = true
 leads_first (Elect node ∷ rest) = list_all is_no_elect rest
 leads_first _ = false
 
--- the line submits this request
-abbrev pub submits : ℕ → ScheduleLine → Bool
-submits request (Submit node r) = r == request
-submits request _ = false
+-- the request that a line submits, if any
+abbrev pub submitted : ScheduleLine → Option ℕ
+submitted (Submit node request) = Some request
+submitted _ = None
 
--- no later line submits what a line submits
-abbrev pub is_new : ScheduleLine → List ScheduleLine → Bool
-is_new (Submit node request) rest = not (list_any (submits request) rest)
-is_new _ rest = true
+abbrev pub once_more : List ℕ → Option ℕ → (List ℕ → Bool) → Bool
+once_more earlier None later = later earlier
+once_more earlier (Some request) later = if list_any (λ r. r == request) earlier then false else later (earlier ++ request ∷ [])
+
+-- no line submits a request that was submitted before, where these were
+abbrev pub submits_once_after : List ℕ → List ScheduleLine → Bool
+submits_once_after earlier [] = true
+submits_once_after earlier (line ∷ rest) = once_more earlier (submitted line) (λ now. submits_once_after now rest)
 
 -- no request is submitted twice
 abbrev pub submits_once : List ScheduleLine → Bool
-submits_once [] = true
-submits_once (line ∷ rest) = is_new line rest && submits_once rest
+submits_once schedule = submits_once_after [] schedule
 
 -- a scenario that is taken so far, where its service passes the check
+abbrev pub is_simple : Scenario → Declarations → Bool
+is_simple s service = (is_first_service service && (list_all is_first_request s.requests && leads_first s.schedule)) && submits_once s.schedule
+
+-- a scenario that is taken so far
 abbrev pub is_first : Scenario → Declarations → Bool
-is_first s service =
-    is_first_service service && (list_all is_first_request s.requests && (leads_first s.schedule && (submits_once s.schedule && is_none (refusal_of service))))
+is_first s service = is_simple s service && is_none (refusal_of service)

@@ -60,3 +60,32 @@ fn leads_first(schedule: &[ScheduleLine]) -> bool
         _ => false,
     }
 }
+
+// No request is submitted twice.
+fn submits_once(alloc: Global, schedule: &[ScheduleLine]) -> Result<bool, AllocError>
+    ensures { IfOk result (λ once. once ≡ spec.submits_once schedule.now) }
+{
+    let mut earlier: Vec<u32> = Vec::new(alloc);
+    for line in schedule {
+        if let ScheduleLine::Submit { request, .. } = line {
+            if earlier.contains(request) {
+                return Ok(false);
+            }
+            earlier.push(*request)?;
+        }
+    }
+    Ok(true)
+}
+
+/// Whether a scenario is of the kind that is taken so far, its service's check aside.
+pub(crate) fn is_first(alloc: Global, scenario: &Scenario, service: &Declarations) -> Result<bool, AllocError>
+    ensures { IfOk result (λ first. first ≡ spec.is_simple scenario.now service.now) }
+{
+    let simple = is_first_service(service);
+    let fresh = are_first_requests(scenario.requests.as_slice());
+    let led = leads_first(scenario.schedule.as_slice());
+    if !(simple && fresh && led) {
+        return Ok(false);
+    }
+    submits_once(alloc, scenario.schedule.as_slice())
+}
