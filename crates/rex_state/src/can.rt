@@ -57,62 +57,62 @@ fn is_lock_of(service: &Declarations, condition: u8, lock: u8) -> bool
 /// Whether the line and the frame are the event's.
 fn can_go(
     service: &Declarations,
-    kind: Kind,
+    kind: &Kind,
     line: &Line,
     frame: &Frame,
     variables: &[i64],
 ) -> bool
     requires { LineFits (array_vec_len frame.now.locals) (length variables.now) line.now }
-    ensures { result ≡ spec.can_go service.now kind line.now frame.now variables.now }
+    ensures { result ≡ spec.can_go service.now kind.now line.now frame.now variables.now }
 {
     match kind {
         Kind::AcqEx { lock } => {
-            frame.is_running() && matches!(line, Line::Acquire { lock: wanted } if *wanted == lock)
+            frame.is_running() && matches!(line, Line::Acquire { lock: wanted } if wanted == lock)
         }
         Kind::AcqSh { lock } => {
-            frame.is_running() && matches!(line, Line::Share { lock: wanted } if *wanted == lock)
+            frame.is_running() && matches!(line, Line::Share { lock: wanted } if wanted == lock)
         }
         Kind::RelEx { lock } => {
             frame.is_running()
-                && is_release(line, lock)
-                && frame.held.mode(lock) == Mode::Exclusive
+                && is_release(line, *lock)
+                && frame.held.mode(*lock) == Mode::Exclusive
         }
         Kind::RelSh { lock } => {
-            frame.is_running() && is_release(line, lock) && frame.held.mode(lock) == Mode::Shared
+            frame.is_running() && is_release(line, *lock) && frame.held.mode(*lock) == Mode::Shared
         }
-        Kind::TryOk { lock } | Kind::TryBusy { lock } => frame.is_running() && is_try(line, lock),
+        Kind::TryOk { lock } | Kind::TryBusy { lock } => frame.is_running() && is_try(line, *lock),
         Kind::Wait { condition, lock } => {
-            frame.is_running() && is_wait(line, condition) && is_lock_of(service, condition, lock)
+            frame.is_running() && is_wait(line, *condition) && is_lock_of(service, *condition, *lock)
         }
         Kind::Wake { condition, lock } => {
-            !frame.is_running() && is_wait(line, condition) && is_lock_of(service, condition, lock)
+            !frame.is_running() && is_wait(line, *condition) && is_lock_of(service, *condition, *lock)
         }
         Kind::Signal { condition, .. } => {
             frame.is_running()
-                && matches!(line, Line::Signal { condition: wanted } if *wanted == condition)
+                && matches!(line, Line::Signal { condition: wanted } if wanted == condition)
         }
         Kind::Broadcast { condition, .. } => {
             frame.is_running()
-                && matches!(line, Line::Broadcast { condition: wanted } if *wanted == condition)
+                && matches!(line, Line::Broadcast { condition: wanted } if wanted == condition)
         }
         Kind::Clock { .. } => frame.is_running() && matches!(line, Line::Clock { .. }),
         Kind::Random { .. } => frame.is_running() && matches!(line, Line::Random { .. }),
         Kind::Reply { client, value } => {
             frame.is_running()
-                && frame.client == client
-                && is_reply(line, value, frame, variables)
+                && frame.client == *client
+                && is_reply(line, *value, frame, variables)
         }
         Kind::Begin { .. } => false,
     }
 }
 
-fn can_begin(service: &Declarations, kind: Kind) -> bool
-    ensures { result ≡ spec.can_begin service.now kind }
+fn can_begin(service: &Declarations, kind: &Kind) -> bool
+    ensures { result ≡ spec.can_begin service.now kind.now }
 {
     match kind {
         Kind::Begin {
             handler, arguments, ..
-        } => match service.handlers.as_slice().get(handler as usize) {
+        } => match service.handlers.as_slice().get(*handler as usize) {
             Some(found) => found.parameters as usize == arguments.len(),
             None => false,
         },
@@ -123,14 +123,14 @@ fn can_begin(service: &Declarations, kind: Kind) -> bool
 /// Whether the lane may do this, as far as its own frame and the variables say.
 pub(crate) fn own_can(
     service: &Declarations,
-    kind: Kind,
+    kind: &Kind,
     own: &Option<Frame>,
     variables: &[i64],
 ) -> bool
     requires service { IsService service.now }
     requires fits { IfSome own.now (FitsIn service.now) }
     requires variables { length variables.now ≡ length service.now.variables }
-    ensures { result ≡ spec.own_can service.now kind own.now variables.now }
+    ensures { result ≡ spec.own_can service.now kind.now own.now variables.now }
 {
     match own {
         Some(frame) => {
@@ -158,15 +158,15 @@ fn has_no_exclusive(lanes: &[Lane], lock: u8) -> bool
     lanes.iter().all(|lane| lane.mode(lock) != Mode::Exclusive)
 }
 
-pub(crate) fn locks_allow(kind: Kind, lanes: &[Lane]) -> bool
-    requires { TakesLock kind }
-    ensures { result ≡ spec.locks_allow kind lanes.now }
+pub(crate) fn locks_allow(kind: &Kind, lanes: &[Lane]) -> bool
+    requires { TakesLock kind.now }
+    ensures { result ≡ spec.locks_allow kind.now lanes.now }
 {
     match kind {
         Kind::AcqEx { lock } | Kind::TryOk { lock } | Kind::Wake { lock, .. } => {
-            is_free(lanes, lock)
+            is_free(lanes, *lock)
         }
-        Kind::AcqSh { lock } => has_no_exclusive(lanes, lock),
+        Kind::AcqSh { lock } => has_no_exclusive(lanes, *lock),
         _ => true,
     }
 }
@@ -198,28 +198,28 @@ pub(crate) fn is_in(lane: u8, lanes: &[u8]) -> bool
     lanes.contains(&lane)
 }
 
-pub(crate) fn queues_allow(kind: Kind, lane: u8, queues: &[Queue]) -> bool
+pub(crate) fn queues_allow(kind: &Kind, lane: u8, queues: &[Queue]) -> bool
     requires { All IsQueueSmall queues.now }
-    ensures { result ≡ spec.queues_allow kind lane queues.now }
+    ensures { result ≡ spec.queues_allow kind.now lane queues.now }
 {
     match kind {
-        Kind::Wake { condition, .. } => !is_in(lane, queue_at(queues, condition)),
-        Kind::Signal { condition, woken } => woken == queue_at(queues, condition).first().copied(),
-        Kind::Broadcast { condition, woken } => mask(queue_at(queues, condition)) == woken,
+        Kind::Wake { condition, .. } => !is_in(lane, queue_at(queues, *condition)),
+        Kind::Signal { condition, woken } => *woken == queue_at(queues, *condition).first().copied(),
+        Kind::Broadcast { condition, woken } => mask(queue_at(queues, *condition)) == *woken,
         _ => true,
     }
 }
 
 /// Whether the entry of the event's client allows it.
-pub(crate) fn client_allows(kind: Kind, clients: &[Entry]) -> bool
-    ensures { result ≡ spec.client_allows kind clients.now }
+pub(crate) fn client_allows(kind: &Kind, clients: &[Entry]) -> bool
+    ensures { result ≡ spec.client_allows kind.now clients.now }
 {
     match kind {
         Kind::Begin {
             client, sequence, ..
-        } => match clients.get(client as usize) {
+        } => match clients.get(*client as usize) {
             Some(entry) => {
-                sequence as u64 == entry.sequence as u64 + 1
+                *sequence as u64 == entry.sequence as u64 + 1
                     && (entry.sequence == 0 || entry.reply.is_some())
             }
             None => false,
