@@ -1,40 +1,36 @@
 -- What an event needs is there in a sound state that allows it.
-use Rattle.std.proofs.Common.{◌≡◌, ◌⊎◌, inl, inr, ℕ, zero, suc, ◌+◌, ◌<◌, ◌≤◌, ◌^◌, Bool, true, false, List, [], ◌∷◌, ◌++◌, length, drop, refl, ap, sym, ◌∙◌, subst, arith, get_or, eqb, length-set}
-use Rattle.std.specs.Prelude.{Option, Some, None, IfSome, IsSome, is_some, ℤ, slice_get, nat_eq}
+use Rattle.std.proofs.Common.{◌≡◌, ◌⊎◌, inl, inr, ℕ, zero, suc, ◌+◌, ◌<◌, ◌≤◌, ◌^◌, Bool, true, false, List, [], ◌∷◌, length, refl, ap, sym, ◌∙◌, subst, arith, get_or, eqb, set, length-set}
+use Rattle.std.specs.Prelude.{Option, Some, None, IfSome, IsSome, ℤ, slice_get}
 use Rattle.std.specs.List.{All, AllByRecursion, IsDistinct, list_any}
-use Rattle.std.proofs.lemmas.Bool.{and_parts, or_cases, eqb-true, ltb-true, true≢false, cases_lt, not-true}
+use Rattle.std.proofs.lemmas.Bool.{and_parts, eqb-true, ltb-true, true≢false, cases_lt}
 use Rattle.std.proofs.lemmas.List.{get_or_past}
 use Rattle.std.proofs.lemmas.List.Elements.{All-set, All-push, All-drop}
-use Rattle.std.proofs.lemmas.Option.{slice_get-get_or, slice_get_within, same_Some}
+use Rattle.std.proofs.lemmas.Option.{slice_get-get_or, slice_get_within}
 use Rattle.std.proofs.lemmas.Map.Keys.{IsDistinct-cons}
 use Rattle.std.proofs.lemmas.Map.Steps.{length-le_from_distinct_below}
-use Rattle.arrayvec.specs.ArrayVec.{array_vec_len}
 use Rattle.rex_syntax.specs.declared.line.Line.{Line}
-use Rattle.rex_syntax.specs.declared.line.Line.TheVariants.{Acquire, Share, Release, Try, EndIf, Wait as WaitAt, Signal as SignalAt, Broadcast as BroadcastAt, Clock as ClockAt, Random as RandomAt}
+use Rattle.rex_syntax.specs.declared.line.Line.TheVariants.{Acquire, Share, Release, Try, EndIf, Signal as SignalAt, Broadcast as BroadcastAt, Clock as ClockAt, Random as RandomAt}
 use Rattle.rex_syntax.specs.declared.service.Declarations.{Declarations}
-use Rattle.rex_syntax.specs.declared.service.Handler.{Handler}
 use Rattle.rex_syntax.specs.declared.service.Condition.{Condition}
 use Rattle.rex_syntax.specs.declared.service.LockKind.{LockKind}
 use Rattle.rex_syntax.specs.declared.service.LockKind.TheVariants.{Plain}
 use Rattle.rex_syntax.specs.Leads.{no_condition}
 use Rattle.rex_syntax.specs.Service.{IsService, IsHandler, IsLock, LineNames}
 use Rattle.rex_frame.specs.declared.frame.Frame.{Frame}
-use Rattle.rex_frame.specs.Phases.{is_running}
 use Rattle.rex_event.specs.declared.event.Kind.{Kind}
 use Rattle.rex_event.specs.declared.event.Event.{Event}
 use Rattle.rex_event.specs.declared.event.Kind.TheVariants.{Begin, AcqEx, AcqSh, RelEx, RelSh, TryOk, TryBusy, Wait, Wake, Signal, Broadcast, Clock, Random, Reply}
 use Rattle.rex_state.specs.declared.lane.Lane.{Lane}
 use Rattle.rex_state.specs.declared.lane.Queue.{Queue}
-use Rattle.rex_state.specs.declared.lane.Entry.{Entry}
 use Rattle.rex_state.specs.Value.{StateValue}
 use Rattle.rex_state.specs.Lines.{lines_in, locals_in, lines_of, locals_of, line_of, local_of, is_condition_of, is_lock_of}
 use Rattle.rex_state.specs.Own.{started}
-use Rattle.rex_state.specs.Machine.{no_lane, lane_of, frame_at, can_go, own_can, no_queue, queue_at, queues_after, client_allows, after, next}
+use Rattle.rex_state.specs.Machine.{no_lane, lane_of, frame_at, can_go, own_can, no_queue, queue_at, queues_after, client_allows, next}
 use Rattle.rex_state.specs.Flows.{CheckedFlows}
-use Rattle.rex_state.specs.Sound.{FrameFits, Fits, Has, IsOnce, IsQueued, AreServed, IsSoundBy, with_flows, IsSound}
+use Rattle.rex_state.specs.Sound.{FrameFits, Fits, Has, IsOnce, IsQueued, AreServed, with_flows, IsSound}
 use Rattle.rex_state.specs.Room.{IsQueueSmall, IsSmall, FitsIn, HasNextPlace, HasLock, HasLocal, CanMove, TakesLock, HasHandler, CanStart, HasQueue, HasEntry, CanApply}
-use Rattle.rex_state.proofs.Fits.{acquire_line, share_line, release_line, try_line, wait_line, signal_line, broadcast_line, clock_line, random_line, no_handler, takes_there, IsRight, starts_fit}
-use Rattle.rex_state.proofs.Keep.{IsEnabled, IsNext, next_is}
+use Rattle.rex_state.proofs.Fits.{acquire_line, share_line, release_line, try_line, signal_line, broadcast_line, clock_line, random_line, no_handler, takes_there, IsRight, starts_fit}
+use Rattle.rex_state.proofs.Keep.{IsNext, next_is}
 use Rattle.rex_state.proofs.Queued.{not_queued}
 use Rattle.rex_state.proofs.Sounds.{right_flows}
 
@@ -242,10 +238,10 @@ queues_small (Signal condition woken) lane queues l h = All-set IsQueueSmall que
 queues_small (Broadcast condition woken) lane queues l h = All-set IsQueueSmall queues condition _ (λ k d z. absurd (omega arith)) h
 queues_small _ lane queues l h = h
 
-pub small_after : (service : Declarations) (lane : ℕ) (kind : Kind) (s : StateValue) → lane < length s.lanes → IsSmall s.lanes s.queues → IsSmall (after service lane kind s).lanes (after service lane kind s).queues
-small_after service lane kind s l h = record {
-  few = let e : length (after service lane kind s).lanes ≡ length s.lanes = length-set s.lanes lane _ in omega (arith, h.few);
-  each = queues_small kind lane s.queues (omega (arith, h.few)) h.each;
+pub small_set : (lanes : List Lane) (queues : List Queue) (lane : ℕ) (x : Lane) (kind : Kind) → lane < length lanes → IsSmall lanes queues → IsSmall (set lanes lane x) (queues_after kind lane queues)
+small_set lanes queues lane x kind l h = record {
+  few = let e : length (set lanes lane x) ≡ length lanes = length-set lanes lane x in omega (arith, h.few);
+  each = queues_small kind lane queues (omega (arith, h.few)) h.each;
 }
 
 -- what is there
