@@ -3,4 +3,5 @@ pub mod Above
 pub mod Table
 pub mod After
 pub mod Reading
+pub mod Answers
 pub mod Law

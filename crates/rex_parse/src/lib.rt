@@ -1,6 +1,10 @@
 //! The service language: its grammar, and a reader that answers the first bad line with the least code that fits.
 #![tactic(auto)]
 
+mod codes;
 mod language;
+mod least;
+mod names;
+mod words;
 
 pub use language::{Above, Entry, Fault, Form, Meaning, OpenHandler, ServiceCode};
