@@ -1,11 +1,11 @@
 -- The least of codes, over the words of a line.
-use Rattle.std.proofs.Common.{◌≡◌, ℕ, ◌+◌, ◌-◌, ◌<◌, ◌≤◌, List, [], ◌∷◌, length, get_or, drop, take, Option, Some, None, refl, sym, ap, ◌∙◌, arith, inl, inr, ◌⊎◌}
+use Rattle.std.proofs.Common.{◌≡◌, ℕ, ◌+◌, ◌-◌, ◌<◌, ◌≤◌, List, [], ◌∷◌, ◌++◌, length, get_or, drop, take, Option, Some, None, refl, sym, ap, ◌∙◌, arith, inl, inr, ◌⊎◌}
 use Rattle.std.specs.Borrow.{Bor}
 use Rattle.std.proofs.lemmas.Bool.{cases_lt, le-leb, lt-leb}
-use Rattle.std.proofs.lemmas.List.{take_rest}
+use Rattle.std.proofs.lemmas.List.{take_rest, take_more, drop_more, nil_from_length, length-drop, map-append}
 use Rattle.rex_text.specs.Text.{Word}
 use Rattle.rex_parse.specs.Words.{least, lesser, rank}
-use Rattle.rex_parse.specs.Table.{operand_code, operator_code, expr_code}
+use Rattle.rex_parse.specs.Table.{operand_code, operator_code, expr_code, new_code, parameter_code, parameters_code, slots_code, Heading}
 use Rattle.rex_parse.specs.Answers.{texts}
 use Rattle.rex_parse.specs.declared.language.Above.{Above}
 use Rattle.rex_parse.specs.declared.language.ServiceCode.{ServiceCode}
@@ -65,3 +65,26 @@ pub expr_step : (a : Above) (ws : List (Bor Word)) (d : Bor Word) (code pair new
 expr_step a ws d code pair new total two p n so_far =
     let e : expr_code a (texts ws) ≡ least pair (expr_code a (texts (drop 2 ws))) = rw p (pair_step a ws d two) in
     rw (take_rest ws 2, n, least_assoc code pair (expr_code a (texts (drop 2 ws))), ← e) so_far
+
+-- ---- a heading
+
+pub heading_start : (a : Above) (ws : List (Bor Word)) (d : Bor Word) → 0 < length ws
+    → least (new_code a (get_or ws 0 d).now) (parameters_code a (texts (take 1 ws)) (texts (drop 1 ws))) ≡ slots_code a (Heading ∷ []) (texts ws)
+heading_start a [] d some = absurd (omega arith)
+heading_start a (w ∷ ws) d some = sym (least_none _)
+
+heading_more : (a : Above) (ws : List (Bor Word)) (i : ℕ) (d : Bor Word) → i < length ws
+    → parameters_code a (texts (take i ws)) (texts (drop i ws)) ≡ least (parameter_code a (texts (take i ws)) (get_or ws i d).now) (parameters_code a (texts (take (i + 1) ws)) (texts (drop (i + 1) ws)))
+heading_more a ws i d lt =
+    let before : texts (take (i + 1) ws) ≡ texts (take i ws) ++ (get_or ws i d).now ∷ [] = rw (take_more ws i d lt) (map-append (λ w. w.now) (take i ws) (get_or ws i d ∷ [])) in
+    rw (before, drop_more ws i d lt) refl
+
+-- one turn over a parameter
+pub heading_step : (a : Above) (ws : List (Bor Word)) (i : ℕ) (d : Bor Word) (code one new total : Option ServiceCode) → i < length ws
+    → one ≡ parameter_code a (texts (take i ws)) (get_or ws i d).now → new ≡ least code one
+    → least code (parameters_code a (texts (take i ws)) (texts (drop i ws))) ≡ total
+    → least new (parameters_code a (texts (take (i + 1) ws)) (texts (drop (i + 1) ws))) ≡ total
+heading_step a ws i d code one new total lt o n so_far =
+    let after : Option ServiceCode = parameters_code a (texts (take (i + 1) ws)) (texts (drop (i + 1) ws)) in
+    let e : parameters_code a (texts (take i ws)) (texts (drop i ws)) ≡ least one after = rw o (heading_more a ws i d lt) in
+    rw (n, least_assoc code one after, ← e) so_far

@@ -22,7 +22,7 @@ impl Above {
     }
 
     // Of a parameter, after the handler's name and the parameters before it.
-    fn parameter_code(&self, before: &[&[u8]], word: &[u8]) -> Option<ServiceCode>
+    pub(crate) fn parameter_code(&self, before: &[&[u8]], word: &[u8]) -> Option<ServiceCode>
         ensures { result ≡ table.parameter_code self.now (texts before.now) word.now }
     {
         if !is_name(word) {

@@ -2,6 +2,7 @@
 #![tactic(auto)]
 
 mod codes;
+mod forms;
 mod language;
 mod least;
 mod names;
