@@ -2,10 +2,13 @@
 #![tactic(auto)]
 
 mod codes;
+mod copying;
+mod exprs;
 mod forms;
 mod language;
 mod least;
 mod names;
+mod taking;
 mod words;
 
 pub use language::{Above, Entry, Fault, Form, Meaning, OpenHandler, ServiceCode};

@@ -38,7 +38,8 @@ impl Above {
 
     /// The number of a local, from 0, or how many there are where it is none.
     pub(crate) fn local_place(&self, word: &[u8]) -> usize
-        ensures { result ≡ above.local_place self.now word.now }
+        ensures place { result ≡ above.local_place self.now word.now }
+        ensures within { result ≤ length self.now.locals }
     {
         let mut place = 0;
         for local in self.locals.as_slice() {
