@@ -1,3 +1,4 @@
 pub mod Weighing
 pub mod Terms
 pub mod Fine
+pub mod Shapes

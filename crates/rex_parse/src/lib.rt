@@ -7,6 +7,7 @@ mod exprs;
 mod forms;
 mod language;
 mod least;
+mod lines;
 mod names;
 mod taking;
 mod words;

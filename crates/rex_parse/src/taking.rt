@@ -1,18 +1,15 @@
 //! What a good line declares.
 
-ghost use Rattle.std.specs.Prelude.{◌≡◌, ◌≤◌, ◌<◌, ◌∷◌, [], length, OnOk, Some, None};
+ghost use Rattle.std.specs.Prelude.{◌≡◌, ◌≤◌, ◌<◌, ◌∷◌, [], length, OnOk, None};
 ghost use Rattle.rex_parse.specs.Table as table;
 ghost use Rattle.rex_parse.specs.After as after;
-ghost use Rattle.rex_parse.specs.declared.language.Form.TheVariants as form;
-ghost use Rattle.rex_parse.specs.Answers.{texts, Takes};
+ghost use Rattle.rex_parse.specs.Answers.{texts};
 
 use crate::copying::{own_word, own_words};
-use crate::language::{Above, Entry, Fault, Meaning, OpenHandler};
-use crate::words::lane_count;
+use crate::language::{Above, Entry, Meaning, OpenHandler};
 use rex_list::List;
 use rex_syntax::line::Line;
 use rex_syntax::service::{Handler, Lock, LockKind, Variable};
-use rex_text::read_i64;
 use std::alloc::{AllocError, Global};
 
 impl OpenHandler {
