@@ -2,3 +2,4 @@ pub mod Weighing
 pub mod Terms
 pub mod Fine
 pub mod Shapes
+pub mod Dispatch

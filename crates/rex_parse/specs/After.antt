@@ -102,10 +102,14 @@ after_form a number form.Let (w ∷ e ∷ ws) = with_line (with_local a w) numbe
 after_form a number form.Reply ws = closed (with_line a number (line.Reply (expr_of a ws)))
 after_form a number _ ws = a
 
+abbrev pub after_found : Above → ℕ → Option Form → List Word → Above
+after_found a number None ws = a
+after_found a number (Some f) ws = after_form a number f ws
+
 -- what is declared after a good line
 abbrev pub after : Above → ℕ → List Word → Above
 after a number [] = a
-after a number (w ∷ ws) = elim (form_of w) [ None ↦ a | Some f ↦ after_form a number f ws ]
+after a number (w ∷ ws) = after_found a number (form_of w) ws
 
 -- the service that a good text declares
 abbrev pub service_of : Above → Declarations

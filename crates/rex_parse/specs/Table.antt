@@ -229,7 +229,12 @@ form_code a f ws =
     else if is_misshapen (slots f) ws then Some BadForm
     else least (slots_code a (slots f) ws) (least (limit_code a f ws) (order_code a f))
 
+-- the same where no form may have been found
+abbrev pub found_code : Above → Option Form → List Word → Option ServiceCode
+found_code a None ws = Some Misplaced
+found_code a (Some f) ws = form_code a f ws
+
 -- the least code that fits a line
 abbrev pub line_code : Above → List Word → Option ServiceCode
 line_code a [] = None
-line_code a (w ∷ ws) = elim (form_of w) [ None ↦ Some Misplaced | Some f ↦ form_code a f ws ]
+line_code a (w ∷ ws) = found_code a (form_of w) ws

@@ -101,6 +101,14 @@ pub enum Fault {
     OutOfMemory,
 }
 
+/// Why a text is no service.
+#[derive(Clone, Copy, Debug, PartialEq, Eq)]
+pub enum ReadError {
+    /// The first bad line, counted from 1, with the least code that fits it.
+    Refused { line: u32, code: ServiceCode },
+    OutOfMemory,
+}
+
 impl From<AllocError> for Fault {
     ghost use Rattle.rex_parse.specs.declared.language.Fault.TheVariants.{OutOfMemory};
     ghost use Rattle.std.specs.Prelude.{◌≡◌};

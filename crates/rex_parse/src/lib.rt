@@ -10,6 +10,7 @@ mod least;
 mod lines;
 mod names;
 mod taking;
+mod parser;
 mod words;
 
-pub use language::{Above, Entry, Fault, Form, Meaning, OpenHandler, ServiceCode};
+pub use language::{Above, Entry, Fault, Form, Meaning, OpenHandler, ReadError, ServiceCode};
