@@ -3,3 +3,7 @@ pub mod Terms
 pub mod Fine
 pub mod Shapes
 pub mod Dispatch
+pub mod FirstBad
+pub mod Numbering
+pub mod Extends
+pub mod Straight

@@ -6,6 +6,7 @@ use Rattle.rex_syntax.specs.declared.line.Line.TheVariants.{Try, Busy, EndTry, I
 use Rattle.rex_syntax.specs.declared.service.LockKind.TheVariants.{Plain}
 use Rattle.rex_syntax.specs.declared.service.Condition.{Condition}
 use Rattle.rex_syntax.specs.declared.service.Variable.{Variable}
+use Rattle.rex_syntax.specs.declared.service.Declarations.{Declarations}
 use Rattle.rex_syntax.specs.Service.{IsLock, LineNames, IsHandler}
 use Rattle.rex_parse.specs.Above.{nothing}
 use Rattle.rex_parse.specs.After.{service_of}
@@ -35,14 +36,14 @@ MeaningFits a (meaning.Condition n) = n < length a.conditions
 MeaningFits a (meaning.Variable n) = n < length a.variables
 MeaningFits a (meaning.Handler n) = n ≤ length a.handlers
 
--- the open handler's lines are few and plain, and what they name is there
-pub record IsOpen (a : Above) (h : OpenHandler) : Type 0 where
+-- an open handler with so many locals: its lines are few and plain, and what they name is there
+pub record IsOpen (service : Declarations) (locals : ℕ) (h : OpenHandler) : Type 0 where
   pub parameters : h.parameters ≤ 4
-  pub fewer : h.parameters ≤ length a.locals
+  pub fewer : h.parameters ≤ locals
   pub short : length h.lines ≤ 256
   pub numbered : length h.line_numbers ≡ length h.lines
   pub plain : All (λ l. is_plain l ≡ true) h.lines
-  pub names : All (LineNames (service_of a) (length a.locals)) h.lines
+  pub names : All (LineNames service locals) h.lines
 
 -- nothing is declared, or `lanes` came first; counts are within their limits, names stand for what is there, and each handler is one
 pub record IsGood (a : Above) : Type 0 where
@@ -56,4 +57,4 @@ pub record IsGood (a : Above) : Type 0 where
   pub conditions : All (λ (c : Condition). IsLock (service_of a) Plain c.lock) a.conditions
   pub variables : All (λ (v : Variable). v.guard < length a.locks) a.variables
   pub handlers : All (IsHandler (service_of a)) a.handlers
-  pub opened : IfSome a.open_handler (IsOpen a)
+  pub opened : IfSome a.open_handler (IsOpen (service_of a) (length a.locals))

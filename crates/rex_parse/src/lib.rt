@@ -11,6 +11,9 @@ mod lines;
 mod names;
 mod taking;
 mod parser;
+mod reading;
 mod words;
 
 pub use language::{Above, Entry, Fault, Form, Meaning, OpenHandler, ReadError, ServiceCode};
+pub use parser::Parser;
+pub use reading::{first_bad_line, read_service};

@@ -1,6 +1,6 @@
 //! A reader of lines, one after the other.
 
-ghost use Rattle.std.specs.Prelude.{◌≡◌, ◌≤◌, length, None, IfOk};
+ghost use Rattle.std.specs.Prelude.{◌≡◌, ◌≤◌, length, None, IfOk, unwrap_or};
 ghost use Rattle.std.specs.List.{list_all};
 ghost use Rattle.rex_text.specs.Text.{words_of, is_allowed};
 ghost use Rattle.rex_text.specs.Text as text;
@@ -73,6 +73,19 @@ impl Above {
         self.word_line(alloc, number, &words)
     }
 
+    fn declarations(self) -> Declarations
+        requires { unwrap_or self.lanes 0 ≤ 16 }
+        ensures { result ≡ service_of self }
+    {
+        Declarations {
+            lanes: self.lanes.unwrap_or(0) as u8,
+            locks: self.locks,
+            conditions: self.conditions,
+            variables: self.variables,
+            handlers: self.handlers,
+        }
+    }
+
     fn end_code(&self) -> Option<ServiceCode>
         ensures { result ≡ end_code self.now }
     {
@@ -103,4 +116,63 @@ fn words_in(alloc: Global, line: &[u8]) -> Result<Vec<&[u8]>, AllocError>
     ensures { IfOk result (λ found. texts found.items ≡ words_of line.now) }
 {
     words(line).collect(alloc)
+}
+
+/// A reader of the lines of a service. Contracts see it as what the lines so far have declared.
+#[derive(Drop)]
+pub struct Parser {
+    alloc: Global,
+    above: Above,
+}
+
+impl Model for Parser {
+    ghost use Rattle.std.specs.Prelude.{◌≤◌, length};
+    ghost use Rattle.rex_parse.specs.declared.language.Above.{Above};
+
+    ghost Value = { Above };
+
+    ghost view = { λ p. p.above };
+
+    ghost invariant = { λ p. length p.above.locals ≤ 16 };
+}
+
+ghost use Rattle.std.specs.Prelude.{OnOk};
+ghost use Rattle.rex_parse.specs.Good.{IsGood};
+
+impl Parser {
+    /// A reader before the first line.
+    pub fn new(alloc: Global) -> Parser
+        ensures start { result ≡ nothing }
+        ensures good { IsGood result }
+    {
+        Parser {
+            alloc,
+            above: Above::new(alloc),
+        }
+    }
+
+    /// Reads the next line, which has this number in its text, as it stands. After an error the reader serves no more.
+    pub fn raw_line(&mut self, number: u32, line: &[u8]) -> Result<(), Fault>
+        ensures takes { Takes result (raw_code self.old line.now) (raw_after self.old number line.now) self.new }
+        ensures good { IsGood self.old → OnOk result (IsGood self.new) }
+    {
+        self.above.raw_line(self.alloc, number, line)
+    }
+
+    /// The code that fits the end of the text, at the line after the last.
+    pub fn end_code(&self) -> Option<ServiceCode>
+        ensures { result ≡ end_code self.now }
+    {
+        self.above.end_code()
+    }
+
+    /// The service that the lines declare. It takes no memory.
+    pub fn finish(self) -> Service
+        requires ended { end_code self ≡ None }
+        requires good { IsGood self }
+        ensures { result ≡ service_of self }
+    {
+        let Parser { alloc: _, above } = self;
+        Service::of(above.declarations())
+    }
 }
