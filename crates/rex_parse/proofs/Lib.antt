@@ -7,3 +7,4 @@ pub mod FirstBad
 pub mod Numbering
 pub mod Extends
 pub mod Straight
+pub mod Named
