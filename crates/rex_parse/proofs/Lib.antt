@@ -8,3 +8,6 @@ pub mod Numbering
 pub mod Extends
 pub mod Straight
 pub mod Named
+pub mod Keeps
+pub mod KeepsLines
+pub mod Keeping

@@ -36,8 +36,9 @@ MeaningFits a (meaning.Condition n) = n < length a.conditions
 MeaningFits a (meaning.Variable n) = n < length a.variables
 MeaningFits a (meaning.Handler n) = n ≤ length a.handlers
 
--- an open handler with so many locals: its lines are few and plain, and what they name is there
+-- an open handler with so many locals: there is room for it, its lines are few and plain, and what they name is there
 pub record IsOpen (service : Declarations) (locals : ℕ) (h : OpenHandler) : Type 0 where
+  pub room : length service.handlers < 64
   pub parameters : h.parameters ≤ 4
   pub fewer : h.parameters ≤ locals
   pub short : length h.lines ≤ 256
