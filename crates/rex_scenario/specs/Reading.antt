@@ -6,7 +6,7 @@ use Rattle.rex_parse.specs.Above.{nothing}
 use Rattle.rex_parse.specs.Reading.{raw_code, raw_after, end_code}
 use Rattle.rex_parse.specs.declared.language.ServiceCode.{ServiceCode}
 use Rattle.rex_scenario.specs.Headings.{is_heading, heading_code, next_stage}
-use Rattle.rex_scenario.specs.Requests.{request_code, request_of}
+use Rattle.rex_scenario.specs.Requests.{or_code, request_code, request_of}
 use Rattle.rex_scenario.specs.Schedule.{schedule_code, step_of, with_step}
 use Rattle.rex_scenario.specs.declared.scenario.ScenarioCode.{ScenarioCode}
 use Rattle.rex_scenario.specs.declared.scenario.ScenarioCode.TheVariants.{Service, TooLong, BadByte, OutOfPlace}
@@ -25,11 +25,6 @@ is_clean line = list_all is_allowed line
 abbrev pub of_service : Option ServiceCode → Option ScenarioCode
 of_service None = None
 of_service (Some c) = Some (Service c)
-
--- the first code, or else the second
-abbrev pub or_code : Option ScenarioCode → Option ScenarioCode → Option ScenarioCode
-or_code (Some c) other = Some c
-or_code None other = other
 
 abbrev pub byte_code : List ℕ → Option ScenarioCode
 byte_code line = if is_clean line then None else Some BadByte

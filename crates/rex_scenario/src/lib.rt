@@ -1,6 +1,11 @@
 //! Scenarios: a service, requests, and a schedule of steps, read from a text.
 #![tactic(auto)]
 
+mod headings;
+mod reader;
+mod requests;
 mod scenario;
+mod schedule;
+mod words;
 
-pub use scenario::{Scenario, ScenarioCode, ScheduleLine, Sections, Stage};
+pub use scenario::{LineFault, Scenario, ScenarioCode, ScenarioError, ScheduleLine, Sections, Stage};
