@@ -3,6 +3,7 @@
 
 mod headings;
 mod reader;
+mod request_list;
 mod requests;
 mod scenario;
 mod schedule;
