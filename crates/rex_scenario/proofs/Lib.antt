@@ -1,3 +1,6 @@
 pub mod Arguments
 pub mod Calls
 pub mod Tickets
+pub mod Lines
+pub mod Placed
+pub mod Fitting

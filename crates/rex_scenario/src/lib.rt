@@ -3,10 +3,12 @@
 
 mod headings;
 mod reader;
+mod reading;
 mod request_list;
 mod requests;
 mod scenario;
 mod schedule;
 mod words;
 
+pub use reading::{SCENARIO_BYTES, read_scenario};
 pub use scenario::{LineFault, Scenario, ScenarioCode, ScenarioError, ScheduleLine, Sections, Stage};

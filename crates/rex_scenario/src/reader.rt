@@ -1,19 +1,21 @@
 //! The reader of a scenario, line by line.
 
-ghost use Rattle.std.specs.Prelude.{◌≡◌, OnOk};
+ghost use Rattle.std.specs.Prelude.{◌≡◌, None, OnOk};
 ghost use Rattle.rex_parse.specs.Answers.{texts};
 ghost use Rattle.rex_parse.specs.Good.{IsGood};
+ghost use Rattle.rex_parse.specs.After.{service_of};
 ghost use Rattle.rex_scenario.specs.declared.scenario.Stage.TheVariants as stage;
 
 use crate::headings::{heading_code, is_heading, is_heading_line, next_stage};
 use crate::request_list::RequestList;
 use crate::requests::read_request;
-use crate::scenario::{LineFault, ScenarioCode, ScheduleLine, Stage};
+use crate::scenario::{LineFault, Scenario, ScenarioCode, ScheduleLine, Stage};
 use crate::schedule::read_schedule_line;
 use crate::words::{is_clean, is_skipped, words_in};
 use rex_list::List;
 use rex_parse::{Fault, Parser};
 use rex_syntax::request::Request;
+use rex_syntax::service::Service;
 use std::alloc::Global;
 use std::marker::Model;
 
@@ -189,5 +191,35 @@ impl Reader {
             Ok(()) => Ok(()),
             Err(_) => Err(LineFault::OutOfMemory),
         }
+    }
+
+    /// The code that fits the end of the text.
+    pub(crate) fn end_code(&self) -> Option<ScenarioCode>
+        ensures { result ≡ reading.end_of self.now self.now.stage }
+    {
+        match self.stage {
+            Stage::Schedule => None,
+            Stage::Service => match self.parser.end_code() {
+                Some(code) => Some(ScenarioCode::Service(code)),
+                None => Some(ScenarioCode::OutOfPlace),
+            },
+            Stage::Start | Stage::Nodes | Stage::Requests => Some(ScenarioCode::OutOfPlace),
+        }
+    }
+
+    /// What a whole text says. It takes no memory.
+    pub(crate) fn finish(self) -> (Scenario, Service)
+        requires end { reading.end_of self self.stage ≡ None }
+        requires fit { SectionsFit self }
+        ensures scenario { result.0 ≡ reading.scenario_of self }
+        ensures service { result.1 ≡ service_of self.service }
+    {
+        let scenario = Scenario {
+            nodes: 1,
+            seed: 0,
+            requests: self.requests.into_items(),
+            schedule: self.schedule,
+        };
+        (scenario, self.parser.finish())
     }
 }
