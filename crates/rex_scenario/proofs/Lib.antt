@@ -4,3 +4,4 @@ pub mod Tickets
 pub mod Lines
 pub mod Placed
 pub mod Fitting
+pub mod First

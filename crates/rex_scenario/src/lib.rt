@@ -10,5 +10,5 @@ mod scenario;
 mod schedule;
 mod words;
 
-pub use reading::{SCENARIO_BYTES, read_scenario};
+pub use reading::{SCENARIO_BYTES, first_bad_line, read_scenario};
 pub use scenario::{LineFault, Scenario, ScenarioCode, ScenarioError, ScheduleLine, Sections, Stage};

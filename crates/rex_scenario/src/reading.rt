@@ -45,3 +45,12 @@ pub fn read_scenario(alloc: Global, bytes: &[u8]) -> Result<(Scenario, Service),
     }
     Ok(reader.finish())
 }
+
+ghost use Rattle.rex_scenario.specs.Law.{EachText};
+
+/// The answer to a text is its first bad line with the least code that fits it, given what the lines above say, or what
+/// its end says.
+pub fn first_bad_line()
+    ensures { EachText }
+{
+}
