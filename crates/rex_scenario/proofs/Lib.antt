@@ -5,3 +5,4 @@ pub mod Lines
 pub mod Placed
 pub mod Fitting
 pub mod First
+pub mod Examples
