@@ -1,3 +1,4 @@
 pub mod Turn
 pub mod Value
 pub mod Kept
+pub mod Laws

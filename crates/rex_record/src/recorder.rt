@@ -17,4 +17,3 @@ pub struct Settled {
     pub events: List<Event>,
     pub released: List<Release>,
 }
-pub struct Recorder;
