@@ -1,5 +1,7 @@
 -- What a lane's turn comes to.
 use Rattle.std.specs.Prelude.{ℕ, Bool, true, false, ℤ, pos, List, [], ◌∷◌, nat_le, Option, Some, None, if◌then◌else◌}
+use Rattle.rand_pcg.specs.Lcg.{Lcg}
+use Rattle.rand_pcg.specs.Pcg.{pcg32}
 use Rattle.rex_syntax.specs.declared.line.Line.{Line}
 use Rattle.rex_syntax.specs.declared.line.Line.TheVariants as line
 use Rattle.rex_syntax.specs.declared.request.Request.{Request}
@@ -22,8 +24,7 @@ use Rattle.rex_record.specs.declared.turns.Turn.TheVariants.{Done, Full, Idle, H
 
 -- the first of a queue, if any
 abbrev pub first_of : List ℕ → Option ℕ
-first_of [] = None
-first_of (lane ∷ rest) = Some lane
+first_of lanes = slice_get lanes 0
 
 -- the begin of a request
 abbrev pub begin_of : Request → Kind
@@ -54,11 +55,12 @@ held_by _ lanes = None
 abbrev pub event_at : StateValue → ℕ → Kind → Event
 event_at s lane k = record { lane = lane; index = (lane_of s lane).done; kind = k }
 
+-- the event is done, unless a lane is in its way
 abbrev pub done_unless : Option ℕ → Event → Turn
 done_unless (Some lane) e = Held lane
 done_unless None e = Done e
 
--- it is done, unless its lock is held
+-- the event is done, unless its lock is held
 abbrev pub turn_for : StateValue → ℕ → Kind → Turn
 turn_for s lane k = done_unless (held_by k s.lanes) (event_at s lane k)
 
@@ -68,6 +70,7 @@ waiting_turn service s lane (line.Wait condition test) =
     if is_in lane (queue_at s.queues condition) then Unsignalled else turn_for s lane (kind.Wake condition (lock_of service condition))
 waiting_turn service s lane _ = Unsignalled
 
+-- a running lane does what it wants, and a waiting one wakes
 abbrev pub busy_turn : Declarations → StateValue → ℕ → Frame → ℤ → ℕ → Bool → Turn
 busy_turn service s lane f clock random true = turn_for s lane (wanted service s f clock random (line_of service f))
 busy_turn service s lane f clock random false = waiting_turn service s lane (line_of service f)
@@ -77,6 +80,7 @@ abbrev pub idle_turn : StateValue → List Request → ℕ → Turn
 idle_turn s [] lane = Idle
 idle_turn s (r ∷ rest) lane = Done (event_at s lane (begin_of r))
 
+-- the turn of an idle or of a busy lane
 abbrev pub lane_turn : Declarations → StateValue → List Request → ℕ → ℤ → ℕ → Option Frame → Turn
 lane_turn service s queue lane clock random None = idle_turn s queue lane
 lane_turn service s queue lane clock random (Some f) = busy_turn service s lane f clock random (is_running f.phase)
@@ -86,10 +90,12 @@ abbrev pub turn_of : Declarations → StateValue → List Request → ℕ → �
 turn_of service s queue live lane clock random =
     if nat_le 4096 live then Full else lane_turn service s queue lane clock random (frame_at s lane)
 
+-- it reads the random generator
 abbrev pub is_random_line : Line → Bool
 is_random_line (line.Random local) = true
 is_random_line _ = false
 
+-- the lane's frame runs and stands at a line that reads the random generator
 abbrev pub draws_at : Declarations → Option Frame → Bool
 draws_at service None = false
 draws_at service (Some f) = if is_running f.phase then is_random_line (line_of service f) else false
@@ -97,3 +103,8 @@ draws_at service (Some f) = if is_running f.phase then is_random_line (line_of s
 -- the turn draws a random number
 abbrev pub does_draw : Declarations → StateValue → ℕ → ℕ → Bool
 does_draw service s live lane = if nat_le 4096 live then false else draws_at service (frame_at s lane)
+
+-- the dice after a turn: moved on by one word where the turn draws
+abbrev pub dice_after : Bool → Lcg → Lcg
+dice_after true dice = (pcg32 dice).1
+dice_after false dice = dice
