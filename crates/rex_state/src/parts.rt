@@ -15,7 +15,10 @@ pub const CLIENTS: usize = 256;
 pub(crate) fn first_values(alloc: Global, variables: &[Variable]) -> Result<Vec<i64>, AllocError>
     ensures { IfOk result (λ v. v.items ≡ map first_of variables.now) }
 {
-    variables.iter().map(|variable| variable.first).collect(alloc)
+    variables
+        .iter()
+        .map(|variable| variable.first)
+        .collect(alloc)
 }
 
 pub(crate) fn idle_lanes(alloc: Global, count: u8) -> Result<Vec<Lane>, AllocError>

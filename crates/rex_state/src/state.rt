@@ -145,4 +145,48 @@ impl State {
     {
         as_lane(exclusive_holder(&self.lanes, lock))
     }
+
+    /// Whether the state allows the event. It doesn't say that the event's index is its lane's next one.
+    pub fn enabled(&self, svc: &Checked, event: &Event) -> bool
+        requires { IsSound svc.now self.now }
+        ensures { result ≡ spec.enabled svc.now event.now.lane event.now.kind self.now }
+    {
+        match self.lanes.get(event.lane as usize) {
+            Some(lane) => {
+                own_can(
+                    svc.declarations(),
+                    &event.kind,
+                    &lane.frame,
+                    &self.variables,
+                ) && locks_allow(&event.kind, &self.lanes)
+                    && queues_allow(&event.kind, event.lane, &self.queues)
+                    && client_allows(&event.kind, &self.clients)
+            }
+            None => false,
+        }
+    }
+
+    fn perform(&mut self, service: &Declarations, lane: u8, kind: &Kind)
+        requires service { IsService service.now }
+        requires can { CanApply service.now lane kind.now self.old }
+        ensures { self.new ≡ spec.after service.now lane kind.now self.old }
+    {
+        let own = &mut self.lanes[lane as usize];
+        own.done += 1;
+        start(&mut own.frame, service, kind);
+        run_lane(&mut own.frame, &mut self.variables, service);
+        change_queues(&mut self.queues, kind, lane);
+        change_clients(&mut self.clients, kind);
+    }
+
+    /// Does the event, and runs its lane up to its next one. It takes no memory.
+    pub fn apply(&mut self, svc: &Checked, event: &Event)
+        requires sound { IsSound svc.now self.old }
+        requires next { IsSome (spec.next svc.now self.old event.now) }
+        requires count { event.now.index + 1 < 2 ^ 32 }
+        ensures next { spec.next svc.now self.old event.now ≡ Some self.new }
+        ensures sound { IsSound svc.now self.new }
+    {
+        self.perform(svc.declarations(), event.lane, &event.kind);
+    }
 }
