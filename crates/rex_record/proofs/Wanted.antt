@@ -3,7 +3,7 @@ use Rattle.std.proofs.Common.{◌≡◌, ℕ, zero, suc, ◌+◌, ◌<◌, ◌�
 use Rattle.std.specs.Prelude.{Option, Some, None, ℤ, if◌then◌else◌, slice_get, slice_index_or}
 use Rattle.std.specs.Ordering.{int_eq}
 use Rattle.std.specs.List.{list_all, position, prefix_len, position_or_len}
-use Rattle.std.proofs.lemmas.Bool.{true≢false, and_parts, and_from, ltb-false, not-true, not-false}
+use Rattle.std.proofs.lemmas.Bool.{true≢false, and_parts, and_from, ltb-false, not-true, not-false, false_from_ne_true}
 use Rattle.std.proofs.lemmas.Bool.Decides.{Decides-int_eq}
 use Rattle.std.proofs.lemmas.List.Quantifiers.{position-Some}
 use Rattle.std.proofs.lemmas.Option.{same_Some}
@@ -33,6 +33,7 @@ use Rattle.rex_state.specs.Flows.{CheckedFlows}
 use Rattle.rex_state.specs.Sound.{FrameFits, mode_at}
 use Rattle.rex_state.proofs.Fits.{IsRight, no_handler, right_at, may_line}
 use Rattle.rex_state.proofs.Held.{only_if_true}
+use Rattle.rex_state.proofs.Keep.{free_at}
 use Rattle.rex_record.specs.Turn.{first_of, wanted, held_by}
 use Rattle.rex_record.specs.Value.{is_begin}
 use Rattle.rex_record.specs.Laws.{is_in_way}
@@ -61,7 +62,7 @@ not_not : {X : Type 0} (p : X → Bool) (xs : List X) → list_all (λ x. not (n
 not_not p [] h = refl
 not_not p (x ∷ xs) h = let a = and_parts _ _ h in and_from _ _ (not-false _ (not-true _ a.0)) (not_not p xs a.1)
 
-no_holder : (lock : ℕ) (lanes : List Lane) → holder lock lanes ≡ None → is_free lock lanes ≡ true
+pub no_holder : (lock : ℕ) (lanes : List Lane) → holder lock lanes ≡ None → is_free lock lanes ≡ true
 no_holder lock lanes h = not_not (λ lane. is_free_mode (mode_in lock lane)) lanes (never (λ lane. not (is_free_mode (mode_in lock lane))) lanes h)
 
 no_exclusive_holder : (lock : ℕ) (lanes : List Lane) → exclusive_holder lock lanes ≡ None → has_no_exclusive lock lanes ≡ true
@@ -78,6 +79,12 @@ holder_found s (AcqEx lock) by h = let f = position-Some (λ lane. not (is_free_
 holder_found s (AcqSh lock) by h = let f = position-Some (λ lane. is_exclusive (mode_in lock lane)) s.lanes by no_lane h in (lock, refl, record { there = f.0; held = f.1; least = f.2 })
 holder_found s (Wake condition lock) by h = let f = position-Some (λ lane. not (is_free_mode (mode_in lock lane))) s.lanes by no_lane h in (lock, refl, record { there = f.0; held = f.1; least = f.2 })
 holder_found s k by h = absurd (cc)
+
+-- a lock that a lane holds is not free
+pub some_holder : (s : StateValue) (lock by : ℕ) → holder lock s.lanes ≡ Some by → is_free lock s.lanes ≡ false
+some_holder s lock by h =
+    let f = position-Some (λ lane. not (is_free_mode (mode_in lock lane))) s.lanes by no_lane h in
+    false_from_ne_true _ (λ free. true≢false (sym f.1 ∙ ap (λ (m : Mode). not (is_free_mode m)) (free_at s lock by free)))
 
 -- ---- conditions and queues
 

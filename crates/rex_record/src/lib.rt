@@ -5,5 +5,5 @@ pub mod laws;
 mod recorder;
 mod turns;
 
-pub use recorder::{Release, Settled};
+pub use recorder::{LIVE_EVENTS, Recorder, Release, Settled};
 pub use turns::Turn;

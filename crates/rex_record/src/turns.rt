@@ -1,7 +1,6 @@
 //! What a lane would do next.
 
 ghost use Rattle.std.specs.Prelude.{◌≡◌, ◌<◌, length, Some, if◌then◌else◌};
-ghost use Rattle.arrayvec.specs.ArrayVec.{array_vec_len};
 ghost use Rattle.rand_pcg.specs.Pcg.{pcg32};
 ghost use Rattle.rex_syntax.specs.Leads as leads;
 ghost use Rattle.rex_frame.specs.Phases.{is_running};
@@ -91,7 +90,7 @@ fn wanted(
     clock: i64,
     dice: &mut Lcg64Xsh32,
 ) -> Kind
-    requires fits { LineFits (array_vec_len frame.now.locals) (length state.now.variables) line.now }
+    requires fits { LineFits (length frame.now.locals.items) (length state.now.variables) line.now }
     requires condition { HasCondition service.now line.now }
     ensures kind { result ≡ spec.wanted service.now state.now frame.now clock (pcg32 dice.old).0 line.now }
     ensures lock { TakesLock result }
@@ -134,13 +133,13 @@ fn wanted(
 }
 
 /// The least lane that holds the lock that an event takes, in a mode in its way.
-fn held_by(state: &State, kind: Kind) -> Option<u8>
-    requires { TakesLock kind }
-    ensures { result ≡ spec.held_by kind state.now.lanes }
+fn held_by(state: &State, kind: &Kind) -> Option<u8>
+    requires { TakesLock kind.now }
+    ensures { result ≡ spec.held_by kind.now state.now.lanes }
 {
     match kind {
-        Kind::AcqEx { lock } | Kind::Wake { lock, .. } => state.holder(lock),
-        Kind::AcqSh { lock } => state.exclusive_holder(lock),
+        Kind::AcqEx { lock } | Kind::Wake { lock, .. } => state.holder(*lock),
+        Kind::AcqSh { lock } => state.exclusive_holder(*lock),
         _ => None,
     }
 }
@@ -159,7 +158,7 @@ fn turn_for(state: &State, lane: u8, kind: Kind) -> Turn
     requires { TakesLock kind }
     ensures { result ≡ spec.turn_for state.now lane kind }
 {
-    match held_by(state, kind) {
+    match held_by(state, &kind) {
         Some(by) => Turn::Held { by },
         None => Turn::Done(event_at(state, lane, kind)),
     }
