@@ -1,5 +1,5 @@
 -- A recorder that carries a world still does after a line.
-use Rattle.std.proofs.Common.{◌≡◌, ℕ, ◌+◌, ◌<◌, Bool, true, false, List, [], ◌∷◌, ◌++◌, length, refl, ap, sym, ◌∙◌, subst, arith, append-nil, append_assoc}
+use Rattle.std.proofs.Common.{◌≡◌, ℕ, ◌+◌, ◌<◌, Bool, true, false, List, [], ◌∷◌, ◌++◌, length, refl, ap, sym, ◌∙◌, subst, arith}
 use Rattle.std.specs.Prelude.{Option, Some, None, ℤ, pos, nat_le, slice_get, if◌then◌else◌}
 use Rattle.std.specs.List.{All}
 use Rattle.std.proofs.lemmas.Option.{slice_get_within, get_or_from_slice_get}
@@ -24,6 +24,7 @@ use Rattle.rex_world.specs.World.{WorldValue, is_follower, joined, known_state, 
 use Rattle.rex_world.specs.Row.{Row, counted, not_active, submit_found, submit_row, turn_in, turned as turned_row, only, cut_live, agreed}
 use Rattle.rex_world.specs.There.{HasLane}
 use Rattle.rex_world.specs.Running.{Running, settled_if, running_after}
+use Rattle.rex_world.proofs.Growth.{joined-push}
 use Rattle.rex_world.proofs.Wanted.{done_goes}
 use Rattle.rex_world.proofs.Carried.{Carries, carried_run, carried_live, carried_sound}
 use Rattle.rex_world.proofs.Queues.{queue_after_answer}
@@ -36,7 +37,7 @@ record Submitted (service : Declarations) (s : StateValue) (w : WorldValue) (aft
   live : after.world.live ≡ w.live
   queue : AreQueued service s after.world.queue
 
-found_fits : (service : Declarations) (requests : List Request) (number : ℕ) (q : Request) → All (RequestFits service) requests → slice_get requests number ≡ Some q → RequestFits service q
+pub found_fits : (service : Declarations) (requests : List Request) (number : ℕ) (q : Request) → All (RequestFits service) requests → slice_get requests number ≡ Some q → RequestFits service q
 found_fits service requests number q fit e =
     subst (RequestFits service) (get_or_from_slice_get requests number q q e) (fit number q (slice_get_within requests number q e))
 
@@ -108,10 +109,6 @@ lane_carries service requests seed r node lane good there h = by (is_follower r.
     }
 
 -- ---- cut
-
-pub joined-push : (deltas : List (List Event)) (delta : List Event) → joined (deltas ++ delta ∷ []) ≡ joined deltas ++ delta
-joined-push [] delta = append-nil delta
-joined-push (d ∷ ds) delta = ap (λ (es : List Event). d ++ es) (joined-push ds delta) ∙ sym (append_assoc d (joined ds) delta)
 
 -- the live events are known after a cut
 agreed_carries : (service : Declarations) (r : Running) (node : ℕ) → IsService service → Carries service r → Carries service (record { world = (agreed service r.world node).world; recorder = settled r.recorder })

@@ -38,7 +38,7 @@ running_keeps service requests seed r line good fit lane node h =
 -- ---- the beginning
 
 -- a list of one value has it everywhere, past its end too
-same_at : {X : Type 0} (n : ℕ) (x : X) (i : ℕ) → get_or (replicate n x) i x ≡ x
+pub same_at : {X : Type 0} (n : ℕ) (x : X) (i : ℕ) → get_or (replicate n x) i x ≡ x
 same_at zero x i = refl
 same_at (suc n) x zero = refl
 same_at (suc n) x (suc i) = same_at n x i
