@@ -10,3 +10,4 @@ pub mod Told
 pub mod Released
 pub mod Rows
 pub mod Headlines
+mod Examples
