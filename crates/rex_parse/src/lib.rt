@@ -1,6 +1,19 @@
 //! The service language: its grammar, and a reader that answers the first bad line with the least code that fits.
 #![tactic(auto)]
 
+mod codes;
+mod copying;
+mod exprs;
+mod forms;
 mod language;
+mod least;
+mod lines;
+mod names;
+mod taking;
+mod parser;
+mod reading;
+mod words;
 
-pub use language::{Above, Entry, Fault, Form, Meaning, OpenHandler, ServiceCode};
+pub use language::{Above, Entry, Fault, Form, Meaning, OpenHandler, ReadError, ServiceCode};
+pub use parser::Parser;
+pub use reading::{first_bad_line, read_service};

@@ -14,6 +14,11 @@ use Rattle.rex_parse.specs.declared.language.Meaning.TheVariants as meaning
 use Rattle.rex_scenario.specs.declared.scenario.ScenarioCode.{ScenarioCode}
 use Rattle.rex_scenario.specs.declared.scenario.ScenarioCode.TheVariants.{BadRequest, BadCall, Repeated, TooManyRequests}
 
+-- the first code, or else the second
+abbrev pub or_code : Option ScenarioCode → Option ScenarioCode → Option ScenarioCode
+or_code (Some c) other = Some c
+or_code None other = other
+
 -- a client's number, and a place among its requests
 abbrev pub client_of : Word → Option ℕ
 client_of w = count_of 1 256 w
@@ -64,10 +69,14 @@ request_of a _ = record { client = 0; sequence = 0; handler = 0; arguments = [] 
 abbrev pub is_repeated : List Request → Request → Bool
 is_repeated earlier r = list_any (λ (q : Request). (q.client == r.client) && (q.sequence == r.sequence)) earlier
 
+-- the code that fits the words of a request line, whatever came before
+abbrev pub call_code : Above → List Word → Option ScenarioCode
+call_code a ws = if not (is_request ws) then Some BadRequest else if not (is_call a ws) then Some BadCall else None
+
+-- the code that fits a request, given the earlier ones
+abbrev pub place_code : List Request → Request → Option ScenarioCode
+place_code earlier r = if is_repeated earlier r then Some Repeated else if nat_le 65536 (length earlier) then Some TooManyRequests else None
+
 -- the code that fits a request line
 abbrev pub request_code : Above → List Request → List Word → Option ScenarioCode
-request_code a earlier ws =
-    if not (is_request ws) then Some BadRequest
-    else if not (is_call a ws) then Some BadCall
-    else if is_repeated earlier (request_of a ws) then Some Repeated
-    else if nat_le 65536 (length earlier) then Some TooManyRequests else None
+request_code a earlier ws = or_code (call_code a ws) (place_code earlier (request_of a ws))

@@ -34,15 +34,15 @@ use Rattle.rex_state.proofs.Held.{if_true, only_next, only_other, leads_at}
 
 -- ---- the line of an event
 
-acquire_line : (line : Line) (lock : ℕ) → is_acquire line lock ≡ true → line ≡ Acquire lock
+pub acquire_line : (line : Line) (lock : ℕ) → is_acquire line lock ≡ true → line ≡ Acquire lock
 acquire_line (Acquire k) lock h = ap Acquire (eqb-true k lock h)
 acquire_line _ lock h = absurd (cc)
 
-share_line : (line : Line) (lock : ℕ) → is_share line lock ≡ true → line ≡ Share lock
+pub share_line : (line : Line) (lock : ℕ) → is_share line lock ≡ true → line ≡ Share lock
 share_line (Share k) lock h = ap Share (eqb-true k lock h)
 share_line _ lock h = absurd (cc)
 
-release_line : (line : Line) (lock : ℕ) → is_release line lock ≡ true → line ≡ Release lock
+pub release_line : (line : Line) (lock : ℕ) → is_release line lock ≡ true → line ≡ Release lock
 release_line (Release k) lock h = ap Release (eqb-true k lock h)
 release_line _ lock h = absurd (cc)
 
@@ -62,11 +62,11 @@ pub broadcast_line : (line : Line) (condition : ℕ) → is_broadcast line condi
 broadcast_line (BroadcastAt k) condition h = ap BroadcastAt (eqb-true k condition h)
 broadcast_line _ condition h = absurd (cc)
 
-clock_line : (line : Line) → is_clock line ≡ true → (local : ℕ) × (line ≡ ClockAt local)
+pub clock_line : (line : Line) → is_clock line ≡ true → (local : ℕ) × (line ≡ ClockAt local)
 clock_line (ClockAt local) h = (local, refl)
 clock_line _ h = absurd (cc)
 
-random_line : (line : Line) → is_random line ≡ true → (local : ℕ) × (line ≡ RandomAt local)
+pub random_line : (line : Line) → is_random line ≡ true → (local : ℕ) × (line ≡ RandomAt local)
 random_line (RandomAt local) h = (local, refl)
 random_line _ h = absurd (cc)
 

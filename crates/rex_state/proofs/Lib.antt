@@ -9,4 +9,5 @@ pub mod Served
 pub mod Starts
 pub mod Run
 pub mod Sounds
+pub mod Rooms
 mod Examples

@@ -62,6 +62,14 @@ CanMove (Clock value) line f = HasLocal line f
 CanMove (Random value) line f = HasLocal line f
 CanMove _ line f = Unit {0}
 
+-- the lock that an event takes is one of 64
+abbrev pub TakesLock : Kind → Type 0
+TakesLock (AcqEx lock) = lock < 64
+TakesLock (AcqSh lock) = lock < 64
+TakesLock (TryOk lock) = lock < 64
+TakesLock (Wake condition lock) = lock < 64
+TakesLock _ = Unit {0}
+
 -- the handler is there, and has locals for the arguments
 abbrev pub HasHandler : Declarations → ℕ → ℕ → Type 0
 HasHandler service handler count = (handler < length service.handlers) × (count ≤ locals_of service handler)

@@ -37,14 +37,14 @@ fn read(frame: &mut Frame, line: &Line, value: i64)
 }
 
 /// Moves the frame of a busy lane by an event, before the lines after it.
-fn move_on(frame: &mut Frame, line: &Line, kind: Kind)
-    requires { CanMove kind line.now frame.old }
-    ensures { frame.new ≡ spec.moved kind line.now frame.old }
+fn move_on(frame: &mut Frame, line: &Line, kind: &Kind)
+    requires { CanMove kind.now line.now frame.old }
+    ensures { frame.new ≡ spec.moved kind.now line.now frame.old }
 {
     match kind {
-        Kind::AcqEx { lock } | Kind::TryOk { lock } => hold(frame, lock, Mode::Exclusive),
-        Kind::AcqSh { lock } => hold(frame, lock, Mode::Shared),
-        Kind::RelEx { lock } | Kind::RelSh { lock } => hold(frame, lock, Mode::Free),
+        Kind::AcqEx { lock } | Kind::TryOk { lock } => hold(frame, *lock, Mode::Exclusive),
+        Kind::AcqSh { lock } => hold(frame, *lock, Mode::Shared),
+        Kind::RelEx { lock } | Kind::RelSh { lock } => hold(frame, *lock, Mode::Free),
         Kind::TryBusy { .. } => {
             if let Line::Try { busy, .. } = line {
                 frame.place = *busy;
@@ -53,16 +53,16 @@ fn move_on(frame: &mut Frame, line: &Line, kind: Kind)
             }
         }
         Kind::Wait { lock, .. } => {
-            frame.held = frame.held.with(lock, Mode::Free);
+            frame.held = frame.held.with(*lock, Mode::Free);
             frame.phase = Phase::Waiting;
         }
         Kind::Wake { lock, .. } => {
-            frame.held = frame.held.with(lock, Mode::Exclusive);
+            frame.held = frame.held.with(*lock, Mode::Exclusive);
             frame.phase = Phase::Running;
         }
         Kind::Signal { .. } | Kind::Broadcast { .. } => frame.place += 1,
-        Kind::Clock { value } => read(frame, line, value),
-        Kind::Random { value } => read(frame, line, value as i64),
+        Kind::Clock { value } => read(frame, line, *value),
+        Kind::Random { value } => read(frame, line, *value as i64),
         Kind::Begin { .. } | Kind::Reply { .. } => {}
     }
 }
@@ -118,10 +118,10 @@ fn fresh(
 }
 
 /// The frame from which a lane goes on after an event.
-pub(crate) fn start(own: &mut Option<Frame>, service: &Declarations, kind: Kind)
+pub(crate) fn start(own: &mut Option<Frame>, service: &Declarations, kind: &Kind)
     requires service { IsService service.now }
-    requires can { CanStart service.now kind own.old }
-    ensures { own.new ≡ spec.started service.now kind own.old }
+    requires can { CanStart service.now kind.now own.old }
+    ensures { own.new ≡ spec.started service.now kind.now own.old }
 {
     match kind {
         Kind::Begin {
@@ -129,7 +129,7 @@ pub(crate) fn start(own: &mut Option<Frame>, service: &Declarations, kind: Kind)
             sequence,
             handler,
             arguments,
-        } => *own = Some(fresh(service, client, sequence, handler, &arguments)),
+        } => *own = Some(fresh(service, *client, *sequence, *handler, arguments)),
         Kind::Reply { .. } => *own = None,
         _ => {
             if let Some(frame) = own {

@@ -1,5 +1,6 @@
 -- The lines and words of a text.
-use Rattle.std.specs.Prelude.{◌+◌, ◌==◌, ◌&&◌, ◌||◌, ℕ, Bool, true, not, List, [], ◌∷◌, length, map, nat_le, slice_index}
+use Rattle.std.specs.Prelude.{◌+◌, ◌==◌, ◌&&◌, ◌||◌, ℕ, Bool, true, not, List, [], ◌∷◌}
+use Rattle.std.specs.Prelude.{length, map, nat_le, slice_index}
 use Rattle.std.specs.List.{filter, slice_split}
 use Rattle.std.specs.Str.Lines.{lines}
 
@@ -7,7 +8,7 @@ use Rattle.std.specs.Str.Lines.{lines}
 abbrev pub Word : Type 0
 Word = List ℕ
 
--- Each LF ends a line, a CR right before it is dropped, and bytes after the last LF are a last line.
+-- Each LF ends a line, a CR right before it is dropped, and bytes behind the last LF are a line.
 abbrev pub lines_of : List ℕ → List (List ℕ)
 lines_of bytes = lines bytes
 
@@ -29,10 +30,14 @@ abbrev pub is_skipped : List Word → Bool
 is_skipped [] = true
 is_skipped (word ∷ more) = slice_index word 0 == 35
 
--- The lines that are not skipped, as words, each with its number among all lines.
+-- Those of some numbered lines that are not skipped, as words.
+abbrev pub word_lines : List (ℕ × List ℕ) → List (ℕ × List Word)
+word_lines raw =
+    filter (λ line. not (is_skipped line.1)) (map (λ line. (line.0, words_of line.1)) raw)
+
+-- The lines of a text that are not skipped, as words, each with its number among all lines.
 abbrev pub word_lines_of : List ℕ → List (ℕ × List Word)
-word_lines_of bytes =
-    filter (λ line. not (is_skipped line.1)) (map (λ line. (line.0, words_of line.1)) (numbered 1 (lines_of bytes)))
+word_lines_of bytes = word_lines (numbered 1 (lines_of bytes))
 
 -- A byte may stand in a line if it is a visible one of ASCII, a space or a tab.
 abbrev pub is_allowed : ℕ → Bool

@@ -67,11 +67,11 @@ pub struct Lines<'a> {
 }
 
 impl<'a> Iterator for Lines<'a> {
-    ghost use Rattle.rex_text.specs.Left.{starts_below, word_lines_left, words_left};
+    ghost use Rattle.rex_text.specs.Left.{word_lines_below, word_lines_left, words_left};
 
     type Item = (u32, Words<'a>);
 
-    ghost can_next = { λ s. starts_below (2 ^ 32) s.raw };
+    ghost can_next = { word_lines_below (2 ^ 32) };
 
     ghost next_gives = { YieldsFirstBy (λ x. (x.0, words_left x.1)) word_lines_left };
 

@@ -5,6 +5,7 @@ ghost use Rattle.rex_text.specs.Numbers.{i64_at, u64_at};
 pub fn read_u64(word: &[u8]) -> Option<u64>
     ensures { result ≡ u64_at word.now }
 {
+    // std's `parse` also takes a leading plus and leading zeros.
     if word.is_empty() || word[0] == b'+' {
         return None;
     }

@@ -1,5 +1,6 @@
 ghost use Rattle.std.specs.Prelude.{◌≡◌, ◌+◌, ◌<◌, ◌^◌, length};
-ghost use Rattle.rex_text.specs.Left.{lines_left, starts_below, word_lines_left, words_left};
+ghost use Rattle.rex_text.specs.Left.{lines_left, starts_below, words_left};
+ghost use Rattle.rex_text.specs.Left.{word_lines_below, word_lines_left};
 ghost use Rattle.rex_text.specs.Text.{lines_of, numbered, word_lines_of, words_of};
 
 use crate::iterators::{Lines, RawLines, Words};
@@ -31,7 +32,7 @@ pub fn words(line: &[u8]) -> Words<'_>
 pub fn lines(bytes: &[u8]) -> Lines<'_>
     requires { length bytes.now + 1 < 2 ^ 32 }
     ensures left { word_lines_left result ≡ word_lines_of bytes.now }
-    ensures can { starts_below (2 ^ 32) result.raw }
+    ensures can { word_lines_below (2 ^ 32) result }
 {
     Lines {
         raw: raw_lines(bytes),

@@ -1,4 +1,11 @@
-//! A world of one node, and what holds of every run of it.
+//! A world of one node: what each schedule line does to it, and the report of a whole scenario.
 #![tactic(auto)]
 
+mod answers;
+mod effects;
 pub mod laws;
+mod report;
+mod world;
+
+pub use report::report;
+pub use world::World;
