@@ -1,5 +1,7 @@
 -- What is kept of a recorder.
-use Rattle.std.specs.Prelude.{◌≡◌, ◌≤◌, true, List, [], ◌∷◌, length, Some, None}
+use Rattle.std.specs.Prelude.{◌≡◌, ◌+◌, ◌^◌, ◌<◌, ◌≤◌, true, List, [], ◌∷◌, length, Some, None}
+use Rattle.std.specs.List.{All}
+use Rattle.rex_event.specs.declared.event.Event.{Event}
 use Rattle.rex_syntax.specs.declared.request.Request.{Request}
 use Rattle.rex_syntax.specs.declared.service.Declarations.{Declarations}
 use Rattle.rex_state.specs.Value.{StateValue}
@@ -24,3 +26,7 @@ pub record IsRecorder (service : Declarations) (r : RecorderValue) : Type 0 wher
   pub runs : run service r.start r.live ≡ Some r.state
   pub few : length r.live ≤ 4096
   pub queue : AreQueued service r.state r.queue
+
+-- the index of each live event leaves room for the next one
+pub record AreCounted (live : List Event) : Type 0 where
+  pub each : All (λ (e : Event). e.index + 1 < 2 ^ 32) live

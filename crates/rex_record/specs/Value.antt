@@ -1,5 +1,5 @@
 -- What a recorder holds, and what a turn leaves.
-use Rattle.std.specs.Prelude.{ℕ, ◌==◌, Bool, true, false, List, [], ◌∷◌, ◌++◌, ℤ, drop, Option, Some, None, if◌then◌else◌, unwrap_or}
+use Rattle.std.specs.Prelude.{ℕ, ◌==◌, Bool, true, false, List, [], ◌∷◌, ◌++◌, drop, Option, Some, None, if◌then◌else◌, unwrap_or}
 use Rattle.rex_syntax.specs.declared.request.Request.{Request}
 use Rattle.rex_syntax.specs.declared.service.Declarations.{Declarations}
 use Rattle.rex_event.specs.declared.event.Event.{Event}
@@ -9,7 +9,7 @@ use Rattle.rex_state.specs.declared.lane.Entry.{Entry}
 use Rattle.rex_state.specs.Value.{StateValue}
 use Rattle.rex_state.specs.Machine.{next, entry_at, clients_after}
 use Rattle.rex_record.specs.declared.turns.Turn.{Turn}
-use Rattle.rex_record.specs.declared.turns.Turn.TheVariants.{Done, Full, Idle, Held, Unsignalled}
+use Rattle.rex_record.specs.declared.turns.Turn.TheVariants.{Done}
 use Rattle.rex_record.specs.declared.recorder.Release.{Release}
 
 -- the state where the live events begin, the live events, the state after them, and the queued requests

@@ -1,0 +1,4 @@
+pub mod Wanted
+pub mod Queue
+pub mod Goes
+pub mod Stands
