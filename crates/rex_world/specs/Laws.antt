@@ -16,6 +16,8 @@ use Rattle.rex_scenario.specs.Fits.{RequestFits}
 use Rattle.rex_world.specs.World.{beginning, joined}
 use Rattle.rex_world.specs.Row.{after_lines, effects_of}
 use Rattle.rex_world.specs.Stands.{Stands}
+use Rattle.rex_world.specs.There.{HasLane, HasNode}
+use Rattle.rex_world.specs.Running.{Running, IsRunning, running_at_first, running_after}
 
 -- a list begins with another one
 pub record IsPrefix {A : Type 0} (front whole : List A) : Type 0 where
@@ -41,8 +43,19 @@ pub record Headline (service : Declarations) (requests : List Request) (seed : �
       → IsAmong (Released client sequence value) (effects_of service requests seed beginning earlier)
       → Stands (trace_after service requests seed (earlier ++ later)) client sequence value
 
--- it holds for every checked service, whatever the schedule
+-- it holds for every checked service, whatever the schedule, where the lanes that have their turns are there
 abbrev pub HeadlineHolds : Type 0
 HeadlineHolds =
     (service : Declarations) (requests : List Request) (seed : ℕ) (lines : List ScheduleLine) → IsService service → IsChecked service
-    → All (RequestFits service) requests → Headline service requests seed lines
+    → All (RequestFits service) requests → All (HasLane service) lines → Headline service requests seed lines
+
+-- the beginning's recorder carries it
+abbrev pub BeginningIsRunning : Type 0
+BeginningIsRunning = (service : Declarations) → IsService service → IsChecked service → IsRunning service (running_at_first service)
+
+-- a recorder that carries a world still does after a line
+abbrev pub RowsKeepRunning : Type 0
+RowsKeepRunning =
+    (service : Declarations) (requests : List Request) (seed : ℕ) (r : Running) (line : ScheduleLine) → IsService service
+    → All (RequestFits service) requests → HasLane service line → HasNode line → IsRunning service r
+    → IsRunning service (running_after service requests seed r line)

@@ -2,5 +2,6 @@ pub mod World
 pub mod Row
 pub mod Report
 pub mod Stands
-pub mod Laws
+pub mod There
 pub mod Running
+pub mod Laws

@@ -3,6 +3,7 @@
 
 mod answers;
 mod effects;
+pub mod laws;
 mod report;
 mod world;
 
