@@ -12,7 +12,7 @@ use Rattle.rex_syntax.specs.declared.service.Variable.{Variable}
 use Rattle.rex_syntax.specs.declared.service.Handler.{Handler}
 use Rattle.rex_syntax.specs.declared.service.Declarations.{Declarations}
 use Rattle.rex_syntax.specs.Expr.{ExprFits}
-use Rattle.rex_syntax.specs.Shape.{IsShaped}
+use Rattle.rex_syntax.specs.Shape.{IsShaped, HasBranches}
 use Rattle.rex_syntax.specs.Blocks.{is_matched}
 
 -- a lock of this kind has the number
@@ -43,7 +43,7 @@ LineNames service locals (Repeat turns after) = (0 < turns) × (turns ≤ 1000)
 LineNames service locals (Reply value) = ExprNames service locals value
 LineNames service locals _ = Unit {0}
 
--- a handler's blocks are matched, its lines lead on, and what they name is there
+-- a handler's blocks are matched, its lines lead on, its second branches are led to, and what its lines name is there
 pub record IsHandler (service : Declarations) (h : Handler) : Type 0 where
   pub parameters : h.parameters ≤ 4
   pub fewer : h.parameters ≤ h.locals
@@ -53,6 +53,7 @@ pub record IsHandler (service : Declarations) (h : Handler) : Type 0 where
   pub numbered : length h.line_numbers ≡ length h.lines
   pub matched : is_matched h.lines ≡ true
   pub shaped : IsShaped h.lines
+  pub branches : HasBranches h.lines
   pub names : All (LineNames service h.locals) h.lines
 
 -- declarations within their limits, whose conditions have plain locks and whose variables have guards

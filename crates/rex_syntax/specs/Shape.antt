@@ -1,5 +1,5 @@
 -- The shape of a handler's lines: which loops are open, and that each line leads to a line that is there.
-use Rattle.std.specs.Prelude.{◌≡◌, ℕ, zero, suc, ◌+◌, ◌-◌, ◌<◌, List, [], ◌∷◌, ◌++◌, length, take, Option, Some, None, slice_get, slice_index}
+use Rattle.std.specs.Prelude.{◌≡◌, ℕ, zero, suc, ◌+◌, ◌-◌, ◌<◌, Bool, true, false, List, [], ◌∷◌, ◌++◌, length, take, Option, Some, None, slice_get, slice_index}
 use Rattle.rex_syntax.specs.declared.line.Line.{Line}
 use Rattle.rex_syntax.specs.declared.line.Line.TheVariants.{Try, Busy, If, Else, Repeat, EndRepeat, Reply}
 
@@ -72,3 +72,29 @@ LeadsOn lines place _ = HasNext lines place
 -- each line leads on
 pub record IsShaped (lines : List Line) : Type 0 where
   pub each : (place : ℕ) (line : Line) → slice_get lines place ≡ Some line → LeadsOn lines place line
+
+-- ---- second branches
+
+-- the line at which an `if` or a `try` goes on where it doesn't take its first branch
+abbrev pub branch_of : Line → Option ℕ
+branch_of (If test otherwise) = Some otherwise
+branch_of (Try lock busy) = Some busy
+branch_of _ = None
+
+-- it ends the first branch of an `if` or a `try`, and a second one follows
+abbrev pub is_divider : Line → Bool
+is_divider (Else end) = true
+is_divider (Busy end) = true
+is_divider _ = false
+
+-- an earlier `if` or `try` goes on at this line
+pub record IsBranch (lines : List Line) (place : ℕ) : Type 0 where
+  pub from : ℕ
+  pub fork : Line
+  pub there : slice_get lines from ≡ Some fork
+  pub earlier : from < place
+  pub leads : branch_of fork ≡ Some place
+
+-- the line after an `else` or a `busy` is one at which an earlier `if` or `try` goes on
+pub record HasBranches (lines : List Line) : Type 0 where
+  pub each : (place : ℕ) (line : Line) → slice_get lines place ≡ Some line → is_divider line ≡ true → IsBranch lines (place + 1)

@@ -1,0 +1,7 @@
+pub mod Wanted
+pub mod Queue
+pub mod Goes
+pub mod Stands
+pub mod Advance
+pub mod Follows
+pub mod Clients

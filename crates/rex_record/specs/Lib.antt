@@ -1,0 +1,5 @@
+pub mod Turn
+pub mod Stand
+pub mod Value
+pub mod Kept
+pub mod Laws

@@ -1,0 +1,5 @@
+pub mod Pieces
+pub mod Names
+pub mod Events
+pub mod Rows
+pub mod Ends

@@ -1,0 +1,13 @@
+pub mod Held
+pub mod Walks
+pub mod Fits
+pub mod Modes
+pub mod Keep
+pub mod Placed
+pub mod Queued
+pub mod Served
+pub mod Starts
+pub mod Run
+pub mod Sounds
+pub mod Rooms
+mod Examples

@@ -1,0 +1,22 @@
+-- What the machine keeps.
+use Rattle.std.specs.Prelude.{◌≡◌, List, Some}
+use Rattle.rex_syntax.specs.declared.service.Declarations.{Declarations}
+use Rattle.rex_syntax.specs.Service.{IsService}
+use Rattle.rex_syntax.specs.Check.{IsChecked}
+use Rattle.rex_event.specs.declared.event.Event.{Event}
+use Rattle.rex_state.specs.Value.{StateValue}
+use Rattle.rex_state.specs.Machine.{next, run}
+use Rattle.rex_state.specs.Start.{start_of}
+use Rattle.rex_state.specs.Sound.{IsSound}
+
+-- a checked service starts in a sound state
+abbrev pub StartIsSound : Type 0
+StartIsSound = (service : Declarations) → IsService service → IsChecked service → IsSound service (start_of service)
+
+-- an event leads from a sound state to a sound one
+abbrev pub EventsKeepSound : Type 0
+EventsKeepSound = (service : Declarations) (s t : StateValue) (e : Event) → IsService service → IsSound service s → next service s e ≡ Some t → IsSound service t
+
+-- events lead from a sound state to a sound one
+abbrev pub RunsKeepSound : Type 0
+RunsKeepSound = (service : Declarations) (s t : StateValue) (es : List Event) → IsService service → IsSound service s → run service s es ≡ Some t → IsSound service t

@@ -1,0 +1,11 @@
+pub mod Value
+pub mod Lines
+pub mod Locks
+pub mod Actions
+pub mod Own
+pub mod Machine
+pub mod Start
+pub mod Flows
+pub mod Sound
+pub mod Laws
+pub mod Room

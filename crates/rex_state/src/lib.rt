@@ -1,0 +1,10 @@
+//! The states that a service comes to, and the events that lead from one to the next.
+#![tactic(auto)]
+
+mod apply;
+mod can;
+pub mod lane;
+pub mod laws;
+mod own;
+mod parts;
+pub mod state;

@@ -1,0 +1,192 @@
+//! States.
+
+ghost use Rattle.std.specs.Prelude.{◌≡◌, ◌<◌, ◌+◌, ◌^◌, Some, IsSome, IfOk, slice_get};
+ghost use Rattle.std.specs.Option.{option_copied};
+ghost use Rattle.rex_syntax.specs.Service.{IsService};
+ghost use Rattle.rex_state.specs.Locks as locks;
+ghost use Rattle.rex_state.specs.Machine as spec;
+ghost use Rattle.rex_state.specs.Start.{start_of};
+ghost use Rattle.rex_state.specs.Sound.{IsSound};
+ghost use Rattle.rex_state.specs.Room.{CanApply};
+
+use crate::apply::{change_clients, change_queues};
+use crate::can::{client_allows, is_in, locks_allow, mask, own_can, queue_at, queues_allow};
+use crate::lane::{Entry, Lane, Queue, as_lane, exclusive_holder, holder};
+use crate::own::{run_lane, start};
+use crate::parts::{copy_lanes, copy_queues, empty_queues, first_values, idle_lanes, new_entries};
+use rex_event::{Event, Kind};
+use rex_frame::frame::Frame;
+use rex_syntax::checked::Checked;
+use rex_syntax::service::Declarations;
+use std::alloc::{AllocError, Global};
+use std::marker::Model;
+
+/// What a service came to: the variables' values, the lanes, the lanes that wait at each condition, and what is known of
+/// each client.
+#[derive(Drop)]
+pub struct State {
+    variables: Vec<i64>,
+    lanes: Vec<Lane>,
+    queues: Vec<Queue>,
+    /// By client number, from 0.
+    clients: Vec<Entry>,
+}
+
+impl Model for State {
+    ghost use Rattle.rex_state.specs.Value.{StateValue};
+    ghost use Rattle.rex_state.specs.Room.{IsSmall};
+
+    ghost Value = { StateValue };
+
+    ghost view = { λ s. record { variables = s.variables.items; lanes = s.lanes.items; queues = s.queues.items; clients = s.clients.items } };
+
+    ghost invariant = { λ s. IsSmall s.lanes.items s.queues.items };
+}
+
+impl State {
+    /// The state from which a service starts.
+    pub fn start(alloc: Global, svc: &Checked) -> Result<State, AllocError>
+        ensures start { IfOk result (λ s. s ≡ start_of svc.now) }
+        ensures sound { IfOk result (λ s. IsSound svc.now s) }
+    {
+        let service = svc.declarations();
+        Ok(State {
+            variables: first_values(alloc, service.variables.as_slice())?,
+            lanes: idle_lanes(alloc, service.lanes)?,
+            queues: empty_queues(alloc, service.conditions.len())?,
+            clients: new_entries(alloc)?,
+        })
+    }
+
+    /// An equal state.
+    pub fn copy(&self, alloc: Global) -> Result<State, AllocError>
+        ensures { IfOk result (λ s. s ≡ self.now) }
+    {
+        Ok(State {
+            variables: self.variables.to_vec(alloc)?,
+            lanes: copy_lanes(alloc, &self.lanes)?,
+            queues: copy_queues(alloc, &self.queues)?,
+            clients: self.clients.to_vec(alloc)?,
+        })
+    }
+
+    pub fn variables(&self) -> &[i64]
+        ensures { result.now ≡ self.now.variables }
+    {
+        &self.variables
+    }
+
+    /// How many events a lane did: 0 where there is no such lane.
+    pub fn done(&self, lane: u8) -> u32
+        ensures { result ≡ (spec.lane_of self.now lane).done }
+    {
+        match self.lanes.get(lane as usize) {
+            Some(found) => found.done,
+            None => 0,
+        }
+    }
+
+    /// The frame of a lane, unless it is idle or isn't there.
+    pub fn frame(&self, lane: u8) -> Option<&Frame>
+        ensures { option_copied result ≡ spec.frame_at self.now lane }
+    {
+        match self.lanes.get(lane as usize) {
+            Some(found) => found.frame.as_ref(),
+            None => None,
+        }
+    }
+
+    /// What is known of a client. Its sequence is 0 where it has sent nothing.
+    pub fn entry(&self, client: u16) -> Entry
+        ensures { result ≡ spec.entry_at self.now.clients client }
+    {
+        match self.clients.get(client as usize) {
+            Some(found) => *found,
+            None => Entry {
+                sequence: 0,
+                reply: None,
+            },
+        }
+    }
+
+    /// Whether a lane stands in a condition's queue.
+    pub fn is_queued(&self, condition: u8, lane: u8) -> bool
+        ensures { result ≡ spec.is_in lane (spec.queue_at self.now.queues condition) }
+    {
+        is_in(lane, queue_at(&self.queues, condition))
+    }
+
+    /// The lane that has waited longest at a condition.
+    pub fn first_waiting(&self, condition: u8) -> Option<u8>
+        ensures { result ≡ slice_get (spec.queue_at self.now.queues condition) 0 }
+    {
+        queue_at(&self.queues, condition).first().copied()
+    }
+
+    /// The lanes that wait at a condition: lane `l` is bit `l`.
+    pub fn waiting(&self, condition: u8) -> u64
+        ensures { result ≡ spec.mask (spec.queue_at self.now.queues condition) }
+    {
+        mask(queue_at(&self.queues, condition))
+    }
+
+    /// The least lane that holds a lock, in any mode.
+    pub fn holder(&self, lock: u8) -> Option<u8>
+        requires { lock < 64 }
+        ensures { result ≡ locks.holder lock self.now.lanes }
+    {
+        as_lane(holder(&self.lanes, lock))
+    }
+
+    /// The least lane that holds a lock exclusively.
+    pub fn exclusive_holder(&self, lock: u8) -> Option<u8>
+        requires { lock < 64 }
+        ensures { result ≡ locks.exclusive_holder lock self.now.lanes }
+    {
+        as_lane(exclusive_holder(&self.lanes, lock))
+    }
+
+    /// Whether the state allows the event. It doesn't say that the event's index is its lane's next one.
+    pub fn enabled(&self, svc: &Checked, event: &Event) -> bool
+        requires { IsSound svc.now self.now }
+        ensures { result ≡ spec.enabled svc.now event.now.lane event.now.kind self.now }
+    {
+        match self.lanes.get(event.lane as usize) {
+            Some(lane) => {
+                own_can(
+                    svc.declarations(),
+                    &event.kind,
+                    &lane.frame,
+                    &self.variables,
+                ) && locks_allow(&event.kind, &self.lanes)
+                    && queues_allow(&event.kind, event.lane, &self.queues)
+                    && client_allows(&event.kind, &self.clients)
+            }
+            None => false,
+        }
+    }
+
+    fn perform(&mut self, service: &Declarations, lane: u8, kind: &Kind)
+        requires service { IsService service.now }
+        requires can { CanApply service.now lane kind.now self.old }
+        ensures { self.new ≡ spec.after service.now lane kind.now self.old }
+    {
+        let own = &mut self.lanes[lane as usize];
+        own.done += 1;
+        start(&mut own.frame, service, kind);
+        run_lane(&mut own.frame, &mut self.variables, service);
+        change_queues(&mut self.queues, kind, lane);
+        change_clients(&mut self.clients, kind);
+    }
+
+    /// Does the event, and runs its lane up to its next one. It takes no memory.
+    pub fn apply(&mut self, svc: &Checked, event: &Event)
+        requires sound { IsSound svc.now self.old }
+        requires next { IsSome (spec.next svc.now self.old event.now) }
+        requires count { event.now.index + 1 < 2 ^ 32 }
+        ensures next { spec.next svc.now self.old event.now ≡ Some self.new }
+        ensures sound { IsSound svc.now self.new }
+    {
+        self.perform(svc.declarations(), event.lane, &event.kind);
+    }
+}

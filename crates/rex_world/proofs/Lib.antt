@@ -1,0 +1,14 @@
+pub mod Wanted
+pub mod Carried
+pub mod Growth
+pub mod Queues
+pub mod Keeps
+pub mod Counts
+pub mod Lines
+pub mod Traces
+pub mod Told
+pub mod Released
+pub mod Rows
+pub mod Few
+pub mod Headlines
+mod Examples
