@@ -1,7 +1,9 @@
 -- What holds of a line that no code fits.
-use Rattle.std.proofs.Common.{◌≡◌, ℕ, ◌+◌, ◌<◌, ◌≤◌, Bool, true, false, cond, not, ◌&&◌, leb, List, [], ◌∷◌, length, Option, Some, None, refl, sym, ap, ◌∙◌, arith}
+use Rattle.std.proofs.Common.{◌≡◌, ℕ, ◌+◌, ◌<◌, ◌≤◌, Bool, true, false, cond, not, ◌&&◌, leb, List, [], ◌∷◌, length, get_or, Option, Some, None, refl, sym, ap, ◌∙◌, arith}
 use Rattle.std.proofs.lemmas.Bool.{leb-false}
+use Rattle.std.specs.Borrow.{Bor}
 use Rattle.rex_text.specs.Text.{Word}
+use Rattle.rex_parse.specs.Answers.{texts}
 use Rattle.rex_parse.specs.Words.{least, fits}
 use Rattle.rex_parse.specs.Above.{is_local, is_open}
 use Rattle.rex_parse.specs.Table.{slots, slots_code, is_misshapen, is_inside, same, limit_code, order_code, form_code, full_code, locals_code, lines_of_open}
@@ -55,3 +57,7 @@ variable_room a ws e = below 256 (length a.variables) _ (fine_line a form.Var ws
 
 pub handler_room : (a : Above) (ws : List Word) → form_code a form.Handler ws ≡ None → length a.handlers < 64
 handler_room a ws e = below 64 (length a.handlers) _ (fine_line a form.Handler ws e).limits
+
+pub local_room : (a : Above) (ws : List (Bor Word)) (d : Bor Word) → 2 ≤ length ws → form_code a form.Let (texts ws) ≡ None → locals_code a ((get_or ws 0 d).now ∷ []) ≡ None
+local_room a [] d two e = absurd (omega arith)
+local_room a (w ∷ ws) d two e = (least_both (locals_code a (w.now ∷ texts ws)) (full_code a) (fine_line a form.Let (w.now ∷ texts ws) e).limits).0

@@ -11,3 +11,4 @@ pub mod Named
 pub mod Keeps
 pub mod KeepsLines
 pub mod Keeping
+pub mod Examples

@@ -59,12 +59,14 @@ by_kind true false kind e = e
 by_kind false local kind e = absurd cc
 
 pub lock_there : (a : Above) (w : Word) → IsGood a → lock_code a w ≡ None → lock_number (meaning_of a w) < length a.locks
+unfolding lock_code
 lock_there a w good e = lock_at a (meaning_of a w) (λ m is. meaning_fits a w m good is) (by_kind (is_name w) (is_local a w) (lock_kind_code (meaning_of a w)) e)
 
 variable_fits : (a : Above) (w : Word) → IsGood a → variable_kind_code (meaning_of a w) ≡ None → variable_number (meaning_of a w) < length a.variables
 variable_fits a w good e = variable_at a (meaning_of a w) (λ m is. meaning_fits a w m good is) e
 
 pub variable_there : (a : Above) (w : Word) → IsGood a → variable_code a w ≡ None → variable_number (meaning_of a w) < length a.variables
+unfolding variable_code
 variable_there a w good e = variable_fits a w good (by_kind (is_name w) (is_local a w) (variable_kind_code (meaning_of a w)) e)
 
 -- ---- locals

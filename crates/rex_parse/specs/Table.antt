@@ -94,7 +94,7 @@ abbrev pub count_code : ℕ → ℕ → Word → Option ServiceCode
 count_code lo hi w = fits (not (is_some (count_of lo hi w))) NoNumber
 
 -- a name that a line declares
-abbrev pub new_code : Above → Word → Option ServiceCode
+unfoldable pub new_code : Above → Word → Option ServiceCode
 new_code a w = if is_name w then fits (is_declared a w) Taken else Some NoName
 
 -- a parameter: a name that nothing above has, nor the handler or a parameter before
@@ -105,6 +105,7 @@ abbrev pub parameters_code : Above → List Word → List Word → Option Servic
 parameters_code a before [] = None
 parameters_code a before (w ∷ ws) = least (parameter_code a before w) (parameters_code a (before ++ w ∷ []) ws)
 
+-- a handler's name and its parameters
 abbrev pub heading_code : Above → Word → List Word → Option ServiceCode
 heading_code a w ws = least (new_code a w) (parameters_code a (w ∷ []) ws)
 
@@ -116,7 +117,7 @@ lock_kind_code (Some (meaning.Variable n)) = Some WrongKind
 lock_kind_code (Some (meaning.Handler n)) = Some WrongKind
 
 -- a lock's name
-abbrev pub lock_code : Above → Word → Option ServiceCode
+unfoldable pub lock_code : Above → Word → Option ServiceCode
 lock_code a w = if is_name w then (if is_local a w then Some WrongKind else lock_kind_code (meaning_of a w)) else Some NoName
 
 abbrev pub variable_kind_code : Option Meaning → Option ServiceCode
@@ -127,11 +128,11 @@ variable_kind_code (Some (meaning.Condition n)) = Some WrongKind
 variable_kind_code (Some (meaning.Handler n)) = Some WrongKind
 
 -- a variable's name
-abbrev pub variable_code : Above → Word → Option ServiceCode
+unfoldable pub variable_code : Above → Word → Option ServiceCode
 variable_code a w = if is_name w then (if is_local a w then Some WrongKind else variable_kind_code (meaning_of a w)) else Some NoName
 
 -- a local's name, which may be new
-abbrev pub local_code : Above → Word → Option ServiceCode
+unfoldable pub local_code : Above → Word → Option ServiceCode
 local_code a w = if is_name w then fits (not (is_local a w) && is_declared a w) WrongKind else Some NoName
 
 abbrev pub begins_number : Word → Bool

@@ -12,6 +12,7 @@ use rex_text::read_i64;
 
 impl Above {
     /// Of a name that a line declares.
+    #[tactic(auto, unfolding(crate::specs::Table::new_code))]
     pub(crate) fn new_code(&self, word: &[u8]) -> Option<ServiceCode>
         ensures { result ≡ table.new_code self.now word.now }
     {
@@ -33,6 +34,7 @@ impl Above {
     }
 
     /// Of a lock's name.
+    #[tactic(auto, unfolding(crate::specs::Table::lock_code))]
     pub(crate) fn lock_code(&self, word: &[u8]) -> Option<ServiceCode>
         ensures { result ≡ table.lock_code self.now word.now }
     {
@@ -61,6 +63,7 @@ impl Above {
     }
 
     /// Of a variable's name.
+    #[tactic(auto, unfolding(crate::specs::Table::variable_code))]
     pub(crate) fn variable_code(&self, word: &[u8]) -> Option<ServiceCode>
         ensures { result ≡ table.variable_code self.now word.now }
     {
@@ -74,6 +77,7 @@ impl Above {
     }
 
     /// Of a local's name, which may be new.
+    #[tactic(auto, unfolding(crate::specs::Table::local_code))]
     pub(crate) fn local_code(&self, word: &[u8]) -> Option<ServiceCode>
         ensures { result ≡ table.local_code self.now word.now }
     {

@@ -68,7 +68,10 @@ impl Above {
         if self.is_open() {
             return Some(ServiceCode::Misplaced);
         }
-        if words.is_empty() || words.len() > 5 {
+        let [_, parameters @ ..] = words else {
+            return Some(ServiceCode::BadForm);
+        };
+        if parameters.len() > 4 {
             return Some(ServiceCode::BadForm);
         }
         let full = fits(self.handlers.len() >= 64, ServiceCode::TooMany);

@@ -1,11 +1,10 @@
 -- The fold over the lines answers the first bad line.
-use Rattle.std.proofs.Common.{◌≡◌, ℕ, zero, suc, ◌+◌, ◌<◌, ◌≤◌, List, [], ◌∷◌, length, take, Option, Some, None, Result, Ok, Err, refl, sym, ap, ◌∙◌, arith, inl, inr, add-zero}
+use Rattle.std.proofs.Common.{◌≡◌, ℕ, zero, suc, ◌+◌, List, [], ◌∷◌, length, Option, Some, None, Result, Err, refl, sym, ap, ◌∙◌, arith, inl, inr, add-zero}
 use Rattle.std.proofs.lemmas.Bool.{le-ltb, lt-ltb}
 use Rattle.rex_text.specs.Text.{lines_of, numbered}
-use Rattle.rex_scenario.specs.Reading.{no_sections, line_code, line_after, or_next, answer_from, answer_of}
-use Rattle.rex_scenario.specs.Law.{sections_from, code_at, AreGood, IsFirstBad, IsAnswer, IsAnswered, EachText, end_answer}
+use Rattle.rex_scenario.specs.Reading.{no_sections, line_code, line_after, or_next, answer_from}
+use Rattle.rex_scenario.specs.Law.{sections_from, AreGood, IsAnswer, EachText, end_answer}
 use Rattle.rex_scenario.specs.declared.scenario.ScenarioCode.{ScenarioCode}
-use Rattle.rex_scenario.specs.declared.scenario.ScenarioCode.TheVariants.{TooLong}
 use Rattle.rex_scenario.specs.declared.scenario.Sections.{Sections}
 
 next_line : (n k : ℕ) → (n + 1) + k ≡ n + suc k

@@ -1,22 +1,15 @@
 -- Good lines keep what they name there.
-use Rattle.std.proofs.Common.{◌≡◌, ℕ, ◌≤◌, List, [], ◌∷◌, length, Option, Some, None, Bool, true, false, not, refl, sym, ap, subst, arith}
-use Rattle.std.specs.Prelude.{unwrap_or, if◌then◌else◌}
-use Rattle.std.specs.List.{All}
+use Rattle.std.proofs.Common.{◌≡◌, ℕ, List, [], length, Option, Some, None, Bool, true, false, refl, sym, subst, arith}
+use Rattle.std.specs.Prelude.{unwrap_or}
 use Rattle.std.proofs.lemmas.List.Elements.{All-nil}
 use Rattle.rex_text.specs.Text.{Word, words_of, is_skipped}
-use Rattle.rex_parse.specs.After.{service_of}
 use Rattle.rex_parse.specs.Good.{IsGood}
 use Rattle.rex_parse.specs.Reading.{end_code}
 use Rattle.rex_parse.specs.declared.language.ServiceCode.{ServiceCode}
-use Rattle.rex_syntax.specs.declared.request.Request.{Request}
-use Rattle.rex_scenario.specs.Fits.{RequestFits, LineFits}
 use Rattle.rex_scenario.specs.Headings.{is_heading, next_stage}
-use Rattle.rex_scenario.specs.Keeps.{AreAhead, RequestsFit, ScheduleFits, FitsAt, SectionsFit}
-use Rattle.rex_scenario.specs.Requests.{or_code}
-use Rattle.rex_scenario.specs.Schedule.{step_of, with_step}
+use Rattle.rex_scenario.specs.Keeps.{AreAhead, RequestsFit, FitsAt, SectionsFit}
+use Rattle.rex_scenario.specs.Schedule.{step_of}
 use Rattle.rex_scenario.specs.Reading.{of_service, is_clean, service_line_code, service_end_code, service_line_after, other_line_code, other_line_after, words_code, after_words, after_heading, code_in, after_in, line_code, line_after}
-use Rattle.rex_scenario.specs.declared.scenario.ScenarioCode.{ScenarioCode}
-use Rattle.rex_scenario.specs.declared.scenario.ScheduleLine.{ScheduleLine}
 use Rattle.rex_scenario.specs.declared.scenario.Sections.{Sections}
 use Rattle.rex_scenario.specs.declared.scenario.Stage.{Stage}
 use Rattle.rex_scenario.specs.declared.scenario.Stage.TheVariants as stage
@@ -29,12 +22,14 @@ good_service (Some c) e = absurd cc
 -- ---- the service
 
 ends_whole : (s : Sections) (line : List ℕ) → service_end_code s line ≡ None → AreAhead s → RequestsFit (after_heading s) × (s.schedule ≡ [])
-ends_whole s line e ahead =
-    (record {
-      whole = good_service (end_code s.service) (good_first _ _ e).0;
-      few = rw ahead.requests (omega arith);
-      each = rw ahead.requests (All-nil _);
-    }, ahead.schedule)
+ends_whole s line e ahead = (
+  record {
+    whole = good_service (end_code s.service) (good_first _ _ e).0;
+    few = rw ahead.requests (omega arith);
+    each = rw ahead.requests (All-nil _);
+  },
+  ahead.schedule,
+)
 
 service_fits : (s : Sections) (number : ℕ) (line : List ℕ) (b : Bool) → s.stage ≡ stage.Service → is_heading (words_of line) ≡ b → service_line_code s line ≡ None → AreAhead s
     → FitsAt (service_line_after s number line).stage (service_line_after s number line)

@@ -1,5 +1,5 @@
 -- A good request fits the service, and a good schedule line what is there.
-use Rattle.std.proofs.Common.{◌≡◌, ℕ, ◌<◌, ◌≤◌, ◌&&◌, List, [], ◌∷◌, length, map, Option, Some, None, Bool, true, false, not, refl, ap, sym, ◌∙◌, cond, arith, ◌++◌, length-append}
+use Rattle.std.proofs.Common.{◌≡◌, ℕ, ◌<◌, ◌≤◌, List, [], ◌∷◌, length, Option, Some, None, Bool, true, false, not, refl, arith, ◌++◌, length-append}
 use Rattle.std.specs.Prelude.{nat_le, is_some, unwrap_or, slice_get, option_and_then, if◌then◌else◌}
 use Rattle.std.proofs.lemmas.Bool.{and_parts, leb-true, leb-false}
 use Rattle.std.proofs.lemmas.List.{length-map}
@@ -10,10 +10,10 @@ use Rattle.rex_text.specs.Text.{Word}
 use Rattle.rex_text.specs.Numbers.{u64_at}
 use Rattle.rex_syntax.specs.declared.request.Request.{Request}
 use Rattle.rex_syntax.specs.declared.service.Handler.{Handler}
-use Rattle.rex_parse.specs.Table.{count_of, in_range}
+use Rattle.rex_parse.specs.Table.{in_range}
 use Rattle.rex_parse.specs.After.{service_of}
 use Rattle.rex_parse.specs.declared.language.Above.{Above}
-use Rattle.rex_scenario.specs.Requests.{client_of, sequence_of, handler_named, takes_so_many, is_call_of, is_call, is_request, argument_of, request_of, or_code, call_code, place_code, is_repeated, request_code}
+use Rattle.rex_scenario.specs.Requests.{client_of, sequence_of, handler_named, takes_so_many, is_call_of, is_call, is_request, request_of, or_code, call_code, place_code, is_repeated, request_code}
 use Rattle.rex_scenario.specs.Fits.{RequestFits, LineFits}
 use Rattle.rex_scenario.specs.Schedule.{is_there, line_of, step_code, with_step}
 use Rattle.rex_scenario.specs.declared.scenario.ScenarioCode.{ScenarioCode}
@@ -90,9 +90,10 @@ pub requests_fit : (a : Above) (earlier : List Request) (ws : List Word) → req
     → (length (earlier ++ request_of a ws ∷ []) ≤ 65536) × All (RequestFits (service_of a)) (earlier ++ request_of a ws ∷ [])
 requests_fit a earlier ws e fit =
     let good = good_first (call_code a ws) (place_code earlier (request_of a ws)) e in
-    let few : length earlier < 65536 = one_more (is_repeated earlier (request_of a ws)) (nat_le 65536 (length earlier)) earlier refl good.1 in
-    (omega (arith, length-append earlier (request_of a ws ∷ [])),
-      All-append (RequestFits (service_of a)) earlier (request_of a ws ∷ []) fit (All-one (RequestFits (service_of a)) (request_of a ws) (request_fits a ws good.0)))
+    let few : length earlier < 65536 = one_more (is_repeated earlier (request_of a ws)) (nat_le 65536 (length earlier)) earlier refl good.1 in (
+      omega (arith, length-append earlier (request_of a ws ∷ [])),
+      All-append (RequestFits (service_of a)) earlier (request_of a ws ∷ []) fit (All-one (RequestFits (service_of a)) (request_of a ws) (request_fits a ws good.0)),
+    )
 
 -- ---- schedule lines
 
@@ -117,9 +118,10 @@ one_line : (requests lanes : ℕ) (earlier : List ScheduleLine) (s : Step) (b c 
 one_line requests lanes earlier s true c e f n fit = absurd cc
 one_line requests lanes earlier s false false e f n fit = absurd cc
 one_line requests lanes earlier s false true e f n fit =
-    let few : length earlier < 100000 = leb-false 100000 (length earlier) e in
-    (omega (arith, length-append earlier (line_of s ∷ [])),
-      All-append (LineFits 1 requests lanes) earlier (line_of s ∷ []) fit (All-one (LineFits 1 requests lanes) (line_of s) (line_fits requests lanes s f)))
+    let few : length earlier < 100000 = leb-false 100000 (length earlier) e in (
+      omega (arith, length-append earlier (line_of s ∷ [])),
+      All-append (LineFits 1 requests lanes) earlier (line_of s ∷ []) fit (All-one (LineFits 1 requests lanes) (line_of s) (line_fits requests lanes s f)),
+    )
 
 -- the schedule with a good line
 pub schedule_fits : (requests lanes : ℕ) (earlier : List ScheduleLine) (o : Option Step) → step_code 1 requests lanes (length earlier) o ≡ None → All (LineFits 1 requests lanes) earlier

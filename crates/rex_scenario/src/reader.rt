@@ -64,7 +64,9 @@ impl Reader {
     {
         match self.stage {
             Stage::Service => self.service_line(number, line),
-            Stage::Start | Stage::Nodes | Stage::Requests | Stage::Schedule => self.other_line(line),
+            Stage::Start | Stage::Nodes | Stage::Requests | Stage::Schedule => self.other_line(
+                line,
+            ),
         }
     }
 
@@ -183,7 +185,12 @@ impl Reader {
         ensures { Takes result (reading.words_code self.old stage.Schedule (texts words.now)) (reading.after_words self.old stage.Schedule (texts words.now)) self.new }
     {
         let lanes = self.parser.above().lanes.unwrap_or(0);
-        let line = match read_schedule_line(words, self.requests.len(), lanes, self.schedule.len()) {
+        let line = match read_schedule_line(
+            words,
+            self.requests.len(),
+            lanes,
+            self.schedule.len(),
+        ) {
             Ok(line) => line,
             Err(code) => return Err(LineFault::Refused(code)),
         };

@@ -52,5 +52,4 @@ ghost use Rattle.rex_scenario.specs.Law.{EachText};
 /// its end says.
 pub fn first_bad_line()
     ensures { EachText }
-{
-}
+{}

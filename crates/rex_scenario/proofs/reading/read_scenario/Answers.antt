@@ -10,8 +10,8 @@ overflow_add-next c =
 pub loop-next-preserved : goal.loop-next-preserved
 loop-next-preserved c = record {
   same =
-    answer_from-good c.loop-next.reader c.line.new.self c.loop-next.next c.in-Some.number c.in-Some.line.now _ _ _ c.in-Some.ensures.steps
-    c.in-Ok.ensures.takes.0 c.in-Ok.ensures.takes.1 c.loop-next.invariant.same;
+      answer_from-good c.loop-next.reader c.line.new.self c.loop-next.next c.in-Some.number c.in-Some.line.now _ _ _ c.in-Some.ensures.steps
+      c.in-Ok.ensures.takes.0 c.in-Ok.ensures.takes.1 c.loop-next.invariant.same;
   can = search rules;
   fit = fits-good c.loop-next.reader c.line.new.self c.in-Some.number c.in-Some.line.now c.loop-next.invariant.fit c.in-Ok.ensures.takes.0 c.in-Ok.ensures.takes.1 c.in-Ok.ensures.good;
 }
