@@ -10,4 +10,5 @@ pub mod Starts
 pub mod Run
 pub mod Sounds
 pub mod Rooms
+pub mod Counter
 mod Examples

@@ -9,3 +9,4 @@ pub mod Flows
 pub mod Sound
 pub mod Laws
 pub mod Room
+pub mod Counter

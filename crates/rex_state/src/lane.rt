@@ -22,6 +22,9 @@ pub struct Queue {
     pub lanes: ArrayVec<u8, LANES>,
 }
 
+/// The greatest number of a client. Clients have the numbers from 1 on.
+pub const CLIENTS: usize = 256;
+
 /// A client's last sequence, and the reply to it, if it was given. Sequence 0 says that the client has sent nothing.
 #[derive(Clone, Copy, PartialEq, Eq)]
 pub struct Entry {

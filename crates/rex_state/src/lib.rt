@@ -8,3 +8,5 @@ pub mod laws;
 mod own;
 mod parts;
 pub mod state;
+#[cfg(test)]
+mod tests;

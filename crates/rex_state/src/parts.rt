@@ -4,13 +4,10 @@ ghost use Rattle.std.specs.Prelude.{◌≡◌, map, replicate, IfOk};
 ghost use Rattle.rex_state.specs.Machine as spec;
 ghost use Rattle.rex_state.specs.Start.{first_of};
 
-use crate::lane::{Entry, Lane, Queue};
+use crate::lane::{CLIENTS, Entry, Lane, Queue};
 use arrayvec::ArrayVec;
 use rex_syntax::service::Variable;
 use std::alloc::{AllocError, Global};
-
-/// The greatest number of a client. Clients have the numbers from 1 on.
-pub const CLIENTS: usize = 256;
 
 pub(crate) fn first_values(alloc: Global, variables: &[Variable]) -> Result<Vec<i64>, AllocError>
     ensures { IfOk result (λ v. v.items ≡ map first_of variables.now) }
