@@ -5,3 +5,4 @@ pub mod Stands
 pub mod Advance
 pub mod Follows
 pub mod Clients
+mod Examples
