@@ -25,7 +25,7 @@ use Rattle.rex_world.specs.Row.{Row, counted, not_active, submit_found, submit_r
 use Rattle.rex_world.specs.There.{HasLane}
 use Rattle.rex_world.specs.Running.{Running, settled_if, running_after}
 use Rattle.rex_world.proofs.Growth.{joined-push}
-use Rattle.rex_world.proofs.Wanted.{done_goes}
+use Rattle.rex_record.proofs.Goes.{turn_goes_on}
 use Rattle.rex_world.proofs.Carried.{Carries, carried_run, carried_live, carried_sound}
 use Rattle.rex_world.proofs.Queues.{queue_after_answer}
 
@@ -82,7 +82,7 @@ submit_carries service requests seed r node number good fit h =
 -- ---- lane
 
 turn_keeps : (service : Declarations) (r : RecorderValue) (lane : ℕ) (clock : ℤ) (random : ℕ) (t : Turn) → IsService service → IsRecorder service r → lane < service.lanes → turn_of service r.state r.queue (length r.live) lane clock random ≡ t → IsRecorder service (turned service r t)
-turn_keeps service r lane clock random (Done e) good h there is = (done_goes service r lane clock random e good h there is).keeps
+turn_keeps service r lane clock random (Done e) good h there is = (turn_goes_on service r lane clock random e good h there is).keeps
 turn_keeps service r lane clock random Full good h there is = h
 turn_keeps service r lane clock random Idle good h there is = h
 turn_keeps service r lane clock random (Held by) good h there is = h

@@ -1,4 +1,3 @@
-pub mod Wanted
 pub mod Carried
 pub mod Growth
 pub mod Queues
