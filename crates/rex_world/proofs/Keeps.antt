@@ -1,5 +1,5 @@
 -- A recorder that carries a world still does after a line.
-use Rattle.std.proofs.Common.{◌≡◌, ℕ, ◌+◌, ◌<◌, Bool, true, false, List, [], ◌∷◌, ◌++◌, length, refl, ap, sym, ◌∙◌, subst, arith}
+use Rattle.std.proofs.Common.{◌≡◌, ℕ, ◌<◌, Bool, true, false, List, [], ◌∷◌, length, refl, ap, sym, ◌∙◌, subst, arith}
 use Rattle.std.specs.Prelude.{Option, Some, None, ℤ, pos, nat_le, slice_get, if◌then◌else◌}
 use Rattle.std.specs.List.{All}
 use Rattle.std.proofs.lemmas.Option.{slice_get_within, get_or_from_slice_get}
@@ -13,7 +13,7 @@ use Rattle.rex_state.specs.Machine.{run, entry_at}
 use Rattle.rex_record.specs.declared.turns.Turn.{Turn}
 use Rattle.rex_record.specs.declared.turns.Turn.TheVariants.{Done, Full, Idle, Held, Unsignalled}
 use Rattle.rex_record.specs.Turn.{turn_of}
-use Rattle.rex_record.specs.Value.{RecorderValue, live_after, queue_after, queued_in, turned, settled}
+use Rattle.rex_record.specs.Value.{RecorderValue, live_after, queue_after, turned, settled}
 use Rattle.rex_record.specs.Kept.{AreQueued, IsRecorder}
 use Rattle.rex_report.specs.declared.effect.Effect.TheVariants.{Ended}
 use Rattle.rex_scenario.specs.declared.scenario.ScheduleLine.{ScheduleLine}
