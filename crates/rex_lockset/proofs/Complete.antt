@@ -60,9 +60,6 @@ agrees_followed : (known : List Known) (flow : List (Option Lockset)) (place : �
 agrees_followed known flow place leads a l =
     agrees_noted (noted known (place + 1) leads.next) flow (agrees_noted known flow a (place + 1) leads.next l.next) leads.other.line leads.other.held l.other
 
-same_Ok : (x y : Leads) (r : Result Leads CheckCode) → r ≡ Ok x → r ≡ Ok y → x ≡ y
-same_Ok x y r h k = cc
-
 leads_in : (service : Declarations) (line : Line) (place : ℕ) (flow : List (Option Lockset)) (known : Known) → IsRightAt service line place flow → AgreesAt known (entry flow place) → (leads : Leads) × (outcome service line known ≡ Ok leads) × LeadsIn flow place leads
 leads_in service line place flow Nothing r a = (nowhere, refl, record { next = tt; other = tt })
 leads_in service line place flow (Held held) r a =

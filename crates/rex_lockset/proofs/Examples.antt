@@ -1,25 +1,18 @@
 -- Services of one handler each, and what is refused in them, by computation.
 use Rattle.std.proofs.Common.{◌≡◌, ℕ, List, [], ◌∷◌, ◌++◌, length, replicate, refl}
 use Rattle.std.specs.Prelude.{Option, Some, None, pos}
-use Rattle.rex_syntax.specs.declared.expr.Operator.{Operator}
-use Rattle.rex_syntax.specs.declared.expr.Operator.TheVariants.{Add}
-use Rattle.rex_syntax.specs.declared.expr.Operand.{Operand}
 use Rattle.rex_syntax.specs.declared.expr.Operand.TheVariants.{Number, Local, Variable}
-use Rattle.rex_syntax.specs.declared.expr.Term.{Term}
 use Rattle.rex_syntax.specs.declared.expr.Expr.{Expr}
 use Rattle.rex_syntax.specs.declared.flow.CheckCode.{CheckCode}
 use Rattle.rex_syntax.specs.declared.flow.CheckCode.TheVariants.{UnguardedRead, UnguardedWrite, NotHeld, OutOfOrder, BranchesDiffer, LoopDiffers, HeldAtReply, ConditionLock, TooLong}
 use Rattle.rex_syntax.specs.declared.line.Line.{Line}
 use Rattle.rex_syntax.specs.declared.line.Line.TheVariants.{Acquire, Share, Release, Try, Busy, EndTry, Wait, Set, Let, If, Else, EndIf, Repeat, EndRepeat, Reply}
-use Rattle.rex_syntax.specs.declared.service.LockKind.{LockKind}
 use Rattle.rex_syntax.specs.declared.service.LockKind.TheVariants.{Plain, ReadersWriter}
-use Rattle.rex_syntax.specs.declared.service.Lock.{Lock}
-use Rattle.rex_syntax.specs.declared.service.Condition.{Condition}
-use Rattle.rex_syntax.specs.declared.service.Variable.{Variable as VariableOf}
 use Rattle.rex_syntax.specs.declared.service.Handler.{Handler}
 use Rattle.rex_syntax.specs.declared.service.Declarations.{Declarations}
 use Rattle.rex_syntax.specs.Check.{step_bound}
 use Rattle.rex_lockset.specs.declared.refusal.Refused.{Refused}
+use Rattle.rex_lockset.specs.Counter.{just, counter}
 use Rattle.rex_lockset.specs.Refusal.{refusal_of}
 
 -- ---- a service
@@ -41,17 +34,11 @@ handler_of lines = record { name = []; line_number = 1; parameters = 1; locals =
 abbrev service_of : List Line → Declarations
 service_of lines = service_with (handler_of lines ∷ [])
 
-abbrev just : Operand → Expr
-just operand = record { first = operand; rest = [] }
-
 abbrev zero_value : Expr
 zero_value = just (Number (pos 0))
 
 abbrev argument : Expr
 argument = just (Local 0)
-
-abbrev sum_of : Operand → Operand → Expr
-sum_of one other = record { first = one; rest = record { operator = Add; operand = other } ∷ [] }
 
 -- the line of the service's handler that is refused
 abbrev refused_at : ℕ → CheckCode → Option Refused
@@ -59,9 +46,9 @@ refused_at line code = Some (record { handler = 0; line = Some line; code = code
 
 -- ---- what passes
 
--- a counter: the guard is held at the write and at the read
-counter : refusal_of (service_of (Acquire 0 ∷ Set 0 (sum_of (Variable 0) (Local 0)) ∷ Let 1 (just (Variable 0)) ∷ Release 0 ∷ Reply (just (Local 1)) ∷ [])) ≡ None
-counter = refl
+-- the counter: the guard is held at the write and at the read
+counter_passes : refusal_of (counter (Acquire 0)) ≡ None
+counter_passes = refl
 
 -- both branches of a try end with nothing held
 tried : refusal_of (service_of (Try 0 3 ∷ Release 0 ∷ Busy 4 ∷ Let 1 zero_value ∷ EndTry ∷ Reply zero_value ∷ [])) ≡ None

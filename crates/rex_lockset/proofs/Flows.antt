@@ -1,5 +1,5 @@
 -- Lines of which none is refused have a flow.
-use Rattle.std.proofs.Common.{◌≡◌, ℕ, zero, suc, ◌+◌, ◌<◌, ◌≤◌, ◌⊎◌, List, [], ◌∷◌, length, drop, map, get_or, arith, refl, sym, ◌∙◌, ap, subst, Ok, Err, Result, length-drop, get_or-drop}
+use Rattle.std.proofs.Common.{◌≡◌, ℕ, zero, suc, ◌+◌, ◌<◌, ◌≤◌, List, [], ◌∷◌, length, drop, map, get_or, arith, refl, sym, ◌∙◌, ap, subst, Ok, Err, Result, length-drop, get_or-drop}
 use Rattle.std.specs.Prelude.{Option, Some, None, IfSome, slice_get}
 use Rattle.std.proofs.lemmas.List.{drop-drop, length-map}
 use Rattle.std.proofs.lemmas.Option.{slice_get-get_or, slice_get_read}
@@ -21,7 +21,7 @@ use Rattle.rex_lockset.specs.declared.refusal.Refused.{Refused}
 use Rattle.rex_lockset.specs.Known.{known_at, followed}
 use Rattle.rex_lockset.specs.Refusal.{outcome, refused_line}
 use Rattle.rex_lockset.proofs.Noted.{Has}
-use Rattle.rex_lockset.proofs.Forms.{has_form, LeadsInside, leads_inside}
+use Rattle.rex_lockset.proofs.Forms.{has_form, LeadsInside, leads_inside, target_there}
 use Rattle.rex_lockset.proofs.Sound.{IsFollowed, IsFollowedTo, IsFollowedTo-more, is_known}
 
 -- ---- the rest of the lines
@@ -103,10 +103,6 @@ module _ (service : Declarations) (lines : List Line) (known : List Known) (f : 
   leads_right None target k h = tt
   leads_right (Some there) target k h = entry-flow_of known target ∙ led_to (known_at known target) there (known_there target k) h
 
-weaker : (o : Option Lockset) (count target place : ℕ) (held : Lockset) → IfSome o (λ there. (target < count) × ((place < target) ⊎ ((target ≡ place) × (there ≡ held)))) → IfSome o (λ _. target < count)
-weaker None count target place held h = h
-weaker (Some there) count target place held h = h.0
-
 module _ (service : Declarations) (lines : List Line) (shaped : IsShaped lines) (some : 0 < length lines) (known : List Known) (f : IsFollowedTo service lines (length lines) known) where
   right_at : (place : ℕ) (line : Line) → slice_get lines place ≡ Some line → IsFollowed service line place known → IsRightAt service line place (flow_of known)
   right_at place line e at =
@@ -117,7 +113,7 @@ module _ (service : Declarations) (lines : List Line) (shaped : IsShaped lines) 
         before = entry-flow_of known place ∙ ap held_of at.before;
         may = at.may;
         next = leads_right service lines known f at.leads.next (place + 1) inside.next at.next;
-        other = leads_right service lines known f at.leads.other.held at.leads.other.line (weaker at.leads.other.held (length lines) at.leads.other.line place at.held inside.other) at.other;
+        other = leads_right service lines known f at.leads.other.held at.leads.other.line (target_there at.leads.other.held (length lines) at.leads.other.line place at.held inside.other) at.other;
       }
 
   pub is_flow : IsFlow service lines (flow_of known)

@@ -1,5 +1,5 @@
 -- What is known of the lines once one more was followed.
-use Rattle.std.proofs.Common.{◌≡◌, ℕ, ◌+◌, ◌<◌, ◌⊎◌, List, length, arith, sym, ◌∙◌, ap, subst, inl, inr, get_or-set_same}
+use Rattle.std.proofs.Common.{◌≡◌, ℕ, ◌+◌, ◌<◌, List, length, arith, sym, ◌∙◌, ap, subst, inl, inr, get_or-set_same}
 use Rattle.std.specs.Prelude.{Option, Some, None, IfSome}
 use Rattle.rex_syntax.specs.declared.locks.Lockset.{Lockset}
 use Rattle.rex_syntax.specs.declared.flow.Leads.{Leads}
@@ -7,10 +7,10 @@ use Rattle.rex_lockset.specs.declared.known.Known.{Known}
 use Rattle.rex_lockset.specs.declared.known.Known.TheVariants.{Nothing, Held}
 use Rattle.rex_lockset.specs.Known.{joined, known_at, noted, followed}
 use Rattle.rex_lockset.proofs.Noted.{Has, joined-same, noted-has, noted-keeps, noted-other, length-noted}
-use Rattle.rex_lockset.proofs.Forms.{LeadsInside}
+use Rattle.rex_lockset.proofs.Forms.{LeadsInside, IsAhead}
 
 -- noting what is held further on, or at the line itself what is held there, keeps what is known of a line
-stays : (known : List Known) (at target : ℕ) (held : Lockset) (o : Option Lockset) → at < length known → known_at known at ≡ Held held → IfSome o (λ there. (at < target) ⊎ ((target ≡ at) × (there ≡ held))) → known_at (noted known target o) at ≡ Held held
+stays : (known : List Known) (at target : ℕ) (held : Lockset) (o : Option Lockset) → at < length known → known_at known at ≡ Held held → IfSome o (λ there. IsAhead at held target there) → known_at (noted known target o) at ≡ Held held
 stays known at target held None l e h = e
 stays known at target held (Some there) l e (inl h) = noted-other known target at (Some there) (λ q. omega arith) ∙ e
 stays known at target held (Some there) l e (inr h) =
@@ -24,13 +24,13 @@ stays known at target held (Some there) l e (inr h) =
 
 -- a target that is no line before
 abbrev pub NotBefore : ℕ → Lockset → ℕ → Option Lockset → Type 0
-NotBefore place held target o = IfSome o (λ there. (place < target) ⊎ ((target ≡ place) × (there ≡ held)))
+NotBefore place held target o = IfSome o (λ there. IsAhead place held target there)
 
-pub not_before : (o : Option Lockset) (count target place : ℕ) (held : Lockset) → IfSome o (λ there. (target < count) × ((place < target) ⊎ ((target ≡ place) × (there ≡ held)))) → NotBefore place held target o
+pub not_before : (o : Option Lockset) (count target place : ℕ) (held : Lockset) → IfSome o (λ there. (target < count) × IsAhead place held target there) → NotBefore place held target o
 not_before None count target place held h = h
 not_before (Some there) count target place held h = h.1
 
-past_by : (at place target : ℕ) (there held other : Lockset) → at < place → (place < target) ⊎ ((target ≡ place) × (there ≡ held)) → at < target
+past_by : (at place target : ℕ) (there held other : Lockset) → at < place → IsAhead place held target there → at < target
 past_by at place target there held other l (inl h) = omega arith
 past_by at place target there held other l (inr h) = omega (arith, h.0)
 
@@ -50,7 +50,7 @@ has_next : (known : List Known) (place : ℕ) (o : Option Lockset) → IfSome o 
 has_next known place None h = tt
 has_next known place (Some after) h = noted-has known (place + 1) after h
 
-has_other : (known : List Known) (count target place : ℕ) (held : Lockset) (o : Option Lockset) → length known ≡ count → IfSome o (λ there. (target < count) × ((place < target) ⊎ ((target ≡ place) × (there ≡ held)))) → IfSome o (λ there. Has (known_at (noted known target o) target) there)
+has_other : (known : List Known) (count target place : ℕ) (held : Lockset) (o : Option Lockset) → length known ≡ count → IfSome o (λ there. (target < count) × IsAhead place held target there) → IfSome o (λ there. Has (known_at (noted known target o) target) there)
 has_other known count target place held None l h = tt
 has_other known count target place held (Some there) l h = noted-has known target there (omega (arith, h.0))
 

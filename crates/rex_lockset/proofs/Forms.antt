@@ -56,15 +56,19 @@ has_form service EndTry held leads e = (held, cc)
 has_form service EndRepeat held leads e = (held, cc)
 has_form service (Reply value) held leads e = both_ok _ _ _ _ _ leads e
 
--- it leads to lines that are there, and to none before it; to itself only with what is held there
+-- a line further on, or the line itself with what is held there
+abbrev pub IsAhead : ℕ → Lockset → ℕ → Lockset → Type 0
+IsAhead place held target there = (place < target) ⊎ ((target ≡ place) × (there ≡ held))
+
+-- it leads to lines that are there and ahead
 pub record LeadsInside (count place : ℕ) (held : Lockset) (leads : Leads) : Type 0 where
   pub next : IfSome leads.next (λ _. place + 1 < count)
-  pub other : IfSome leads.other.held (λ there. (leads.other.line < count) × ((place < leads.other.line) ⊎ ((leads.other.line ≡ place) × (there ≡ held))))
+  pub other : IfSome leads.other.held (λ there. (leads.other.line < count) × IsAhead place held leads.other.line there)
 
 inside_on : (count place : ℕ) (held after : Lockset) (leads : Leads) → place + 1 < count → leads ≡ on after → LeadsInside count place held leads
 inside_on count place held after leads h e = let P : Leads → Type 0 = λ l. LeadsInside count place held l in subst P (sym e) (record { next = h; other = tt })
 
-inside_fork : (count place target : ℕ) (held after there : Lockset) (leads : Leads) → place + 1 < count → target < count → (place < target) ⊎ ((target ≡ place) × (there ≡ held)) → leads ≡ fork after target there → LeadsInside count place held leads
+inside_fork : (count place target : ℕ) (held after there : Lockset) (leads : Leads) → place + 1 < count → target < count → IsAhead place held target there → leads ≡ fork after target there → LeadsInside count place held leads
 inside_fork count place target held after there leads h k o e = let P : Leads → Type 0 = λ l. LeadsInside count place held l in subst P (sym e) (record { next = h; other = (k, o) })
 
 inside_jump : (count place target : ℕ) (held : Lockset) (leads : Leads) → target < count → place < target → leads ≡ jump held target → LeadsInside count place held leads
@@ -74,7 +78,7 @@ inside_jump count place target held leads k o e = let P : Leads → Type 0 = λ 
 loop_end : (place after : ℕ) → place < after → (place < after - 1) ⊎ (after - 1 ≡ place)
 loop_end place after h = grind arith
 
-ended : (place after : ℕ) (held : Lockset) → (place < after - 1) ⊎ (after - 1 ≡ place) → (place < after - 1) ⊎ ((after - 1 ≡ place) × (held ≡ held))
+ended : (place after : ℕ) (held : Lockset) → (place < after - 1) ⊎ (after - 1 ≡ place) → IsAhead place held (after - 1) held
 ended place after held (inl h) = inl h
 ended place after held (inr h) = inr (h, refl)
 
@@ -88,9 +92,10 @@ leads_inside lines place (Reply value) held leads o f = let P : Leads → Type 0
 leads_inside lines place EndRepeat held leads o f = inside_on _ place held f.0 leads o.next f.1
 leads_inside lines place _ held leads o f = inside_on _ place held f.0 leads o f.1
 
-weaker : (o : Option Lockset) (count target place : ℕ) (held : Lockset) → IfSome o (λ there. (target < count) × ((place < target) ⊎ ((target ≡ place) × (there ≡ held)))) → IfSome o (λ _. target < count)
-weaker None count target place held h = h
-weaker (Some there) count target place held h = h.0
+-- the target is there
+pub target_there : (o : Option Lockset) (count target place : ℕ) (held : Lockset) → IfSome o (λ there. (target < count) × IsAhead place held target there) → IfSome o (λ _. target < count)
+target_there None count target place held h = h
+target_there (Some there) count target place held h = h.0
 
 -- a line that isn't refused leads to lines that are there
 pub outcome_inside : (service : Declarations) (lines : List Line) (place : ℕ) (line : Line) (known : Known) (leads : Leads) → LeadsOn lines place line → outcome service line known ≡ Ok leads → IfSome leads.next (λ _. place + 1 < length lines) × IfSome leads.other.held (λ _. leads.other.line < length lines)
@@ -100,7 +105,7 @@ outcome_inside service lines place line Nothing leads o e =
     subst P (sym n) (tt, tt)
 outcome_inside service lines place line (Held held) leads o e =
     let i = leads_inside lines place line held leads o (has_form service line held leads e) in
-    (i.next, weaker leads.other.held (length lines) leads.other.line place held i.other)
+    (i.next, target_there leads.other.held (length lines) leads.other.line place held i.other)
 outcome_inside service lines place line Differs leads o e = absurd (cc)
 
 -- the same of a handler's line that was read

@@ -1,6 +1,5 @@
 pub mod Same
 pub mod Bounds
-pub mod Names
 pub mod Forms
 pub mod Noted
 pub mod Followed
@@ -10,3 +9,4 @@ pub mod Flows
 pub mod Complete
 pub mod Law
 mod Examples
+pub mod CounterLemmas

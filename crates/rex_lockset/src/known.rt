@@ -7,7 +7,7 @@ use rex_syntax::locks::Lockset;
 
 /// What is known of what is held at a line, from the lines before it that lead there.
 #[derive(Clone, Copy)]
-pub enum Known {
+pub(crate) enum Known {
     /// No line leads there so far.
     Nothing,
     /// Those that lead there do so with this lockset.
@@ -18,7 +18,7 @@ pub enum Known {
 
 impl Known {
     /// What is known once one more line leads there.
-    pub fn joined(self, held: Lockset) -> Known
+    pub(crate) fn joined(self, held: Lockset) -> Known
         ensures { result ≡ joined self held }
     {
         match self {

@@ -3,6 +3,7 @@
 ghost use Rattle.std.specs.Prelude.{◌≡◌, ◌<◌, length};
 ghost use Rattle.rex_syntax.specs.Expr.{OperandFits};
 ghost use Rattle.rex_syntax.specs.Service.{IsService, ExprNames, LineNames};
+ghost use Rattle.rex_syntax.specs.Locks.{is_above, with_mode};
 ghost use Rattle.rex_syntax.specs.Leads.{guard_of, lock_of, operand_is_held, expr_is_held, on, fork, jump, nowhere, only_if, leads_of};
 
 use rex_syntax::expr::{Expr, Operand};
@@ -113,6 +114,36 @@ fn only_if(holds: bool, leads: Leads, code: CheckCode) -> Result<Leads, CheckCod
     if holds { Ok(leads) } else { Err(code) }
 }
 
+/// After a lock is taken, whose number has to be above those of all held locks.
+fn taken(held: Lockset, lock: u8, mode: Mode) -> Result<Leads, CheckCode>
+    requires { lock < LOCKS }
+    ensures { result ≡ only_if (is_above held lock) (on (with_mode held lock mode)) CheckCode.OutOfOrder }
+{
+    only_if(
+        held.is_above(lock),
+        on(held.with(lock, mode)),
+        CheckCode::OutOfOrder,
+    )
+}
+
+/// It leads there where the expression reads no variable whose guard isn't held.
+fn if_read(
+    service: &Declarations,
+    value: &Expr,
+    held: &Lockset,
+    leads: Leads,
+) -> Result<Leads, CheckCode>
+    requires sound { IsService service.now }
+    requires names { ExprNames service.now LOCALS value.now }
+    ensures { result ≡ only_if (expr_is_held service.now held.now value.now) leads CheckCode.UnguardedRead }
+{
+    only_if(
+        expr_is_held(service, held, value),
+        leads,
+        CheckCode::UnguardedRead,
+    )
+}
+
 fn after_wait(
     service: &Declarations,
     condition: u8,
@@ -126,11 +157,7 @@ fn after_wait(
     if !held.is_only(condition_lock(service, condition)) {
         return Err(CheckCode::ConditionLock);
     }
-    only_if(
-        expr_is_held(service, &held, test),
-        on(held),
-        CheckCode::UnguardedRead,
-    )
+    if_read(service, test, &held, on(held))
 }
 
 fn after_set(
@@ -171,16 +198,8 @@ pub fn leads_from(service: &Declarations, line: &Line, held: Lockset) -> Result<
     ensures { result ≡ leads_of service.now line.now held }
 {
     match line {
-        Line::Acquire { lock } => only_if(
-            held.is_above(*lock),
-            on(held.with(*lock, Mode::Exclusive)),
-            CheckCode::OutOfOrder,
-        ),
-        Line::Share { lock } => only_if(
-            held.is_above(*lock),
-            on(held.with(*lock, Mode::Shared)),
-            CheckCode::OutOfOrder,
-        ),
+        Line::Acquire { lock } => taken(held, *lock, Mode::Exclusive),
+        Line::Share { lock } => taken(held, *lock, Mode::Shared),
         Line::Release { lock } => only_if(
             held.mode(*lock) != Mode::Free,
             on(held.with(*lock, Mode::Free)),
@@ -198,16 +217,10 @@ pub fn leads_from(service: &Declarations, line: &Line, held: Lockset) -> Result<
             CheckCode::ConditionLock,
         ),
         Line::Set { variable, value } => after_set(service, *variable, value, held),
-        Line::Let { value, .. } => only_if(
-            expr_is_held(service, &held, value),
-            on(held),
-            CheckCode::UnguardedRead,
-        ),
-        Line::If { test, otherwise } => only_if(
-            expr_is_held(service, &held, test),
-            fork(held, *otherwise, held),
-            CheckCode::UnguardedRead,
-        ),
+        Line::Let { value, .. } => if_read(service, value, &held, on(held)),
+        Line::If { test, otherwise } => {
+            if_read(service, test, &held, fork(held, *otherwise, held))
+        }
         Line::Else { end } | Line::Busy { end } => Ok(jump(held, *end)),
         Line::Repeat { after, .. } => Ok(fork(held, after.saturating_sub(1), held)),
         Line::Clock { .. } | Line::Random { .. } | Line::EndIf | Line::EndTry | Line::EndRepeat =>

@@ -1,11 +1,25 @@
-//! The check of a service before it runs: no race, no lock taken out of order, no lock kept at a reply, and no handler
-//! that may run too long.
+//! The check of a service before it runs: no lane reads or writes a variable whose lock it doesn't hold, none waits for
+//! another in a circle, none keeps a lock after its reply, and no handler runs too long.
 //!
-//! The check follows each handler's lines once, from the first to the last, with what is held at each of them. A line
-//! that reads, writes, takes, gives up, waits or signals needs locks in some mode; a branch, a loop and a `try` come
-//! together again with the same locks in the same modes. The first line that breaks a rule is refused with the rule's
-//! code, handlers and lines in their order, and a handler that keeps every rule is refused if it may take more than
-//! 100,000 steps.
+//! What a lane holds is its lockset: each lock with its mode. The check follows the lines of a handler once, from the
+//! first to the last, with the lockset with which a lane comes to each of them. Nothing is held at the first line. A
+//! line is refused with a code where one of its tests fails, in this order:
+//!
+//! - Where two branches of an `if` or a `try` meet, they end with one lockset, else C5 at the `endif` or `endtry`; an
+//!   absent `else` ends as it began. A loop's body ends with the lockset with which it began, else C6 at the
+//!   `endrepeat`.
+//! - `acquire` and `share` take a lock whose number is above those of all held ones, else C4. `try` takes one that isn't
+//!   held, else C4; its second branch begins without the lock.
+//! - `release` gives up a lock that is held, else C3.
+//! - `wait` stands where its condition's lock is held exclusively and no other is held, and `signal` and `broadcast` where
+//!   that lock is held exclusively, else C8.
+//! - An expression reads variables whose guards are held in some mode, else C1.
+//! - `set` writes a variable whose guard is held exclusively, else C2.
+//! - `reply` stands where nothing is held, else C7.
+//!
+//! After the lines comes the bound on steps: one for a line, the greater one of two branches, and for a loop its turns,
+//! each with a step more. Above 100,000 the handler is refused as a whole with C9. Handlers go in order and lines in
+//! order, lines that never run like all others, and the first refusal is the answer.
 #![tactic(auto)]
 
 mod answer;
@@ -17,7 +31,9 @@ mod refusal;
 
 pub use answer::{CheckError, check};
 pub use bound::{MOST_STEPS, step_bound};
-pub use known::Known;
 pub use laws::refusals_are_exact;
 pub use leads::leads_from;
-pub use refusal::{Refused, refusal_of};
+pub use refusal::Refused;
+
+#[cfg(test)]
+mod tests;

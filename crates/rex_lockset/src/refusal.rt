@@ -130,7 +130,10 @@ fn refusal_in(
 }
 
 /// The first refusal in a service.
-pub fn refusal_of(alloc: Global, service: &Declarations) -> Result<Option<Refused>, AllocError>
+pub(crate) fn refusal_of(
+    alloc: Global,
+    service: &Declarations,
+) -> Result<Option<Refused>, AllocError>
     requires { IsService service.now }
     ensures { IfOk result (λ refused. refused ≡ spec.refusal_of service.now) }
 {

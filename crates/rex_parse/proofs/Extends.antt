@@ -74,5 +74,6 @@ handler_more old new x h good = record {
   numbered = good.numbered;
   matched = good.matched;
   shaped = good.shaped;
+  branches = good.branches;
   names = lines_more old new x h.locals h.locals (omega arith) h.lines good.names;
 }

@@ -24,7 +24,7 @@ use Rattle.rex_parse.specs.declared.language.OpenHandler.{OpenHandler}
 use Rattle.rex_parse.specs.declared.language.Entry.{Entry}
 use Rattle.rex_parse.proofs.Fine.{fits_not}
 use Rattle.rex_parse.proofs.Extends.{Extends, IsLock-more, lines_more, handler_more}
-use Rattle.rex_parse.proofs.Straight.{matched, shaped}
+use Rattle.rex_parse.proofs.Straight.{matched, shaped, branches}
 use Rattle.rex_parse.proofs.Keeps.{still, names_more}
 
 -- ---- one more line
@@ -132,6 +132,7 @@ handler_is a number value h locals few names open_handler = record {
   numbered = omega (arith, open_handler.numbered, length-append h.lines (line.Reply value ∷ []), length-append h.line_numbers (number ∷ []));
   matched = matched h.lines value open_handler.plain;
   shaped = shaped h.lines value open_handler.plain;
+  branches = branches h.lines value open_handler.plain;
   names = All-push (LineNames (service_of a) (length a.locals)) h.lines (line.Reply value) open_handler.names names;
 }
 

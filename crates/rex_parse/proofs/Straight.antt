@@ -1,5 +1,5 @@
 -- Plain lines and a reply make a handler.
-use Rattle.std.proofs.Common.{◌≡◌, ℕ, zero, suc, ◌+◌, ◌<◌, ◌≤◌, Bool, true, false, List, [], ◌∷◌, ◌++◌, length, get_or, Option, Some, None, refl, sym, ◌∙◌, arith, inl, inr, ◌⊎◌, length-append}
+use Rattle.std.proofs.Common.{◌≡◌, ℕ, zero, suc, ◌+◌, ◌<◌, ◌≤◌, Bool, true, false, List, [], ◌∷◌, ◌++◌, length, get_or, Option, Some, None, refl, sym, ap, ◌∙◌, arith, inl, inr, ◌⊎◌, length-append}
 use Rattle.std.specs.Prelude.{slice_get}
 use Rattle.std.specs.List.{All}
 use Rattle.std.proofs.lemmas.Bool.{cases_lt}
@@ -8,7 +8,9 @@ use Rattle.rex_syntax.specs.declared.expr.Expr.{Expr}
 use Rattle.rex_syntax.specs.declared.line.Line.{Line}
 use Rattle.rex_syntax.specs.declared.line.Line.TheVariants.{Acquire, Share, Release, Try, Busy, EndTry, Wait, Signal, Broadcast, Set, Let, Clock, Random, If, Else, EndIf, Repeat, EndRepeat, Reply}
 use Rattle.rex_syntax.specs.Blocks.{Block, blocks_after, is_reply_line, is_matched_in, is_matched}
-use Rattle.rex_syntax.specs.Shape.{open_after, open_from, open_at, HasNext, LeadsOn, IsShaped}
+use Rattle.rex_syntax.specs.Shape.{open_after, open_from, open_at, HasNext, LeadsOn, IsShaped, is_divider, HasBranches}
+use Rattle.std.proofs.lemmas.Option.{same_Some}
+use Rattle.std.proofs.lemmas.Bool.{true≢false}
 use Rattle.rex_parse.specs.Good.{is_plain}
 
 -- what a plain line does
@@ -87,3 +89,19 @@ leads_at ls value h place line e = elim (cases_of ls value place line h e) [
 
 pub shaped : (ls : List Line) (value : Expr) → ArePlain ls → IsShaped (ls ++ Reply value ∷ [])
 shaped ls value h = record { each = leads_at ls value h }
+
+-- ---- branches
+
+undivided : (l : Line) → is_plain l ≡ true → is_divider l ≡ false
+undivided (Busy end) e = absurd cc
+undivided (Else end) e = absurd cc
+undivided _ e = refl
+
+undivided_at : (ls : List Line) (value : Expr) → ArePlain ls → (place : ℕ) (line : Line) → slice_get (ls ++ Reply value ∷ []) place ≡ Some line → is_divider line ≡ false
+undivided_at [] value h zero line e = ap is_divider (sym (same_Some (Reply value) line e))
+undivided_at [] value h (suc n) line e = absurd cc
+undivided_at (l ∷ ls) value h zero line e = ap is_divider (sym (same_Some l line e)) ∙ undivided l (head_plain l ls h)
+undivided_at (l ∷ ls) value h (suc n) line e = undivided_at ls value (tail_plain l ls h) n line e
+
+pub branches : (ls : List Line) (value : Expr) → ArePlain ls → HasBranches (ls ++ Reply value ∷ [])
+branches ls value h = record { each = λ place line e d. absurd (true≢false (sym d ∙ undivided_at ls value h place line e)) }

@@ -138,7 +138,8 @@ abbrev pub begins_number : Word → Bool
 begins_number [] = false
 begins_number (b ∷ bs) = is_digit b || b == 45
 
-abbrev pub number_code : Word → Option ServiceCode
+-- a signed number
+unfoldable pub number_code : Word → Option ServiceCode
 number_code w = fits (not (is_some (i64_at w))) NoNumber
 
 -- an operand: a number, a parameter or local, or a variable

@@ -160,6 +160,7 @@ impl Above {
 }
 
 /// Of a signed number.
+#[tactic(auto, unfolding(crate::specs::Table::number_code))]
 pub(crate) fn number_code(word: &[u8]) -> Option<ServiceCode>
     ensures { result ≡ table.number_code word.now }
 {

@@ -7,7 +7,7 @@ use crate::language::{Above, Meaning};
 
 impl Above {
     /// What a declared name stands for.
-    pub(crate) fn meaning_of(&self, word: &[u8]) -> Option<Meaning>
+    pub fn meaning_of(&self, word: &[u8]) -> Option<Meaning>
         ensures { result ≡ above.meaning_of self.now word.now }
     {
         for entry in self.names.as_slice() {

@@ -151,6 +151,13 @@ impl Parser {
         }
     }
 
+    /// What the lines so far have declared.
+    pub fn above(&self) -> &Above
+        ensures { result.now ≡ self.now }
+    {
+        &self.above
+    }
+
     /// Reads the next line, which has this number in its text, as it stands. After an error the reader serves no more.
     pub fn raw_line(&mut self, number: u32, line: &[u8]) -> Result<(), Fault>
         ensures takes { Takes result (raw_code self.old line.now) (raw_after self.old number line.now) self.new }

@@ -71,7 +71,7 @@ pub(crate) fn operator_of(word: &[u8]) -> Option<Operator>
 
 /// A letter, then letters, digits and `_`, at most 32 characters, and no word of the language.
 #[tactic(auto, unfolding(crate::specs::Words::is_name))]
-pub(crate) fn is_name(word: &[u8]) -> bool
+pub fn is_name(word: &[u8]) -> bool
     ensures { result ≡ spec.is_name word.now }
 {
     let begins = begins_letter(word);

@@ -2,3 +2,6 @@ pub mod Wanted
 pub mod Queue
 pub mod Goes
 pub mod Stands
+pub mod Advance
+pub mod Follows
+pub mod Clients

@@ -1,13 +1,15 @@
 -- What is kept of a recorder.
-use Rattle.std.specs.Prelude.{◌≡◌, ◌+◌, ◌^◌, ◌<◌, ◌≤◌, true, List, [], ◌∷◌, length, Some, None}
+use Rattle.std.specs.Prelude.{◌≡◌, ◌+◌, ◌^◌, ◌<◌, ◌≤◌, true, List, [], ◌∷◌, length, Some, None, IsSome}
 use Rattle.std.specs.List.{All}
 use Rattle.rex_event.specs.declared.event.Event.{Event}
 use Rattle.rex_syntax.specs.declared.request.Request.{Request}
 use Rattle.rex_syntax.specs.declared.service.Declarations.{Declarations}
 use Rattle.rex_state.specs.Value.{StateValue}
-use Rattle.rex_state.specs.Machine.{can_begin, client_allows, run}
+use Rattle.rex_state.specs.Machine.{can_begin, client_allows, next, run}
 use Rattle.rex_state.specs.Sound.{IsSound}
 use Rattle.rex_record.specs.Turn.{begin_of}
+use Rattle.rex_record.specs.declared.turns.Turn.{Turn}
+use Rattle.rex_record.specs.declared.turns.Turn.TheVariants.{Done}
 use Rattle.rex_record.specs.Value.{RecorderValue, queued_in}
 
 -- an idle lane could begin the request
@@ -30,3 +32,14 @@ pub record IsRecorder (service : Declarations) (r : RecorderValue) : Type 0 wher
 -- the index of each live event leaves room for the next one
 pub record AreCounted (live : List Event) : Type 0 where
   pub each : All (λ (e : Event). e.index + 1 < 2 ^ 32) live
+
+-- the event of a turn is next, and its index leaves room for the next one
+abbrev pub CanFollow : Declarations → StateValue → Turn → Type 0
+CanFollow service s (Done e) = IsSome (next service s e) × (e.index + 1 < 2 ^ 32)
+CanFollow service s _ = Unit {0}
+
+-- the events run from the state, and their indices leave room for the next ones
+pub record CanAdvance (service : Declarations) (s : StateValue) (es : List Event) : Type 0 where
+  pub sound : IsSound service s
+  pub runs : IsSome (run service s es)
+  pub counted : AreCounted es

@@ -19,6 +19,7 @@ pub record RecorderValue : Type 0 where
   pub state : StateValue
   pub queue : List Request
 
+-- it begins a request
 abbrev pub is_begin : Kind → Bool
 is_begin (Begin client sequence handler arguments) = true
 is_begin _ = false
@@ -52,9 +53,17 @@ abbrev pub releases : List Entry → List Event → List Release
 releases clients [] = []
 releases clients (e ∷ es) = release_of (clients_after e.kind clients) e.kind ++ releases (clients_after e.kind clients) es
 
+-- a recorder that begins at a state
+abbrev pub started : StateValue → RecorderValue
+started s = record { start = s; live = []; state = s; queue = [] }
+
 -- the recorder once its live events are known
 abbrev pub settled : RecorderValue → RecorderValue
 settled r = record r { start = r.state; live = [] }
+
+-- the recorder with one more request at the queue's end
+abbrev pub with_request : RecorderValue → Request → RecorderValue
+with_request r request = record r { queue = r.queue ++ request ∷ [] }
 
 -- the sequence of a client's queued request, if it has one
 abbrev pub queued_in : List Request → ℕ → Option ℕ

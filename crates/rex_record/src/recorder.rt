@@ -1,16 +1,19 @@
 //! The recorder.
 
-ghost use Rattle.std.specs.Prelude.{◌≡◌, ◌+◌, ◌^◌, ◌<◌, ◌++◌, ◌∷◌, [], length, Some, None, IfOk, OnOk, OnErr};
+ghost use Rattle.std.specs.Prelude.{◌≡◌, ◌+◌, ◌^◌, ◌<◌, ◌++◌, ◌∷◌, [], length, Some, None, IfOk, OnOk, OnErr, find, ◌==◌};
+ghost use Rattle.std.specs.Option.{option_copied};
 ghost use Rattle.rand_pcg.specs.Pcg.{pcg32};
+ghost use Rattle.rex_syntax.specs.declared.service.Declarations.{Declarations};
 ghost use Rattle.rex_state.specs.Machine.{lane_of};
 ghost use Rattle.rex_state.specs.Sound.{IsSound};
 ghost use Rattle.rex_record.specs.Turn.{turn_of, does_draw, dice_after};
-ghost use Rattle.rex_record.specs.Value.{turned, settled, releases, queued_in};
+ghost use Rattle.rex_record.specs.Value.{started, with_request, turned, settled, releases, queued_in};
 ghost use Rattle.rex_record.specs.Kept.{CanBegin, IsRecorder};
 
+use crate::parts::{advance, follow};
 use crate::turns::{Turn, lane_turn};
 use rand_pcg::Lcg64Xsh32;
-use rex_event::{Event, Kind};
+use rex_event::Event;
 use rex_list::List;
 use rex_state::state::State;
 use rex_syntax::checked::Checked;
@@ -59,10 +62,18 @@ impl Model for Recorder {
     ghost invariant = { λ r. AreCounted r.live.items };
 }
 
+/// The first request of a client.
+fn find_request(queue: &VecDeque<Request>, client: u16) -> Option<&Request>
+    ensures { option_copied result ≡ find (λ request. request.client == client) queue.now.items }
+{
+    queue.iter().find(|request| request.client == client)
+}
+
 impl Recorder {
     /// A recorder that begins at a state, with no live events and no requests.
     pub fn new(alloc: Global, state: State) -> Result<Recorder, AllocError>
-        ensures { IfOk result (λ r. r ≡ record { start = state; live = []; state = state; queue = [] }) }
+        ensures started { IfOk result (λ r. r ≡ started state) }
+        ensures kept { IfOk result (λ r. (service : Declarations) → IsSound service state → IsRecorder service r) }
     {
         Ok(Recorder {
             start: state.copy(alloc)?,
@@ -91,5 +102,73 @@ impl Recorder {
         ensures { result.now ≡ self.now.live }
     {
         &self.live
+    }
+
+    /// The sequence of a client's queued request.
+    pub fn queued(&self, client: u16) -> Option<u32>
+        ensures { result ≡ queued_in self.now.queue client }
+    {
+        let request = find_request(&self.queue, client)?;
+        Some(request.sequence)
+    }
+
+    /// Appends a request to the queue, or changes nothing where memory is short.
+    pub fn queue(&mut self, svc: &Checked, request: Request) -> Result<(), AllocError>
+        requires recorder { IsRecorder svc.now self.old }
+        requires can { CanBegin svc.now self.old.state request }
+        requires new { queued_in self.old.queue request.client ≡ None }
+        ensures ok { OnOk result (self.new ≡ with_request self.old request) }
+        ensures err { OnErr result (self.new ≡ self.old) }
+        ensures kept { IsRecorder svc.now self.new }
+    {
+        self.queue.push_back(request)?;
+        Ok(())
+    }
+
+    /// A lane's turn: its next event, or why it makes none. The clock is what a read of the clock gives, and the dice
+    /// move on only at a read of the random generator. Where memory is short nothing changes.
+    pub fn lane_step(
+        &mut self,
+        svc: &Checked,
+        lane: u8,
+        clock: i64,
+        dice: &mut Lcg64Xsh32,
+    ) -> Result<Turn, AllocError>
+        requires recorder { IsRecorder svc.now self.old }
+        requires there { lane < svc.now.lanes }
+        requires count { (lane_of self.old.state lane).done + 1 < 2 ^ 32 }
+        ensures turn { IfOk result (λ t. t ≡ turn_of svc.now self.old.state self.old.queue (length self.old.live) lane clock (pcg32 dice.old).0) }
+        ensures turned { IfOk result (λ t. self.new ≡ turned svc.now self.old t) }
+        ensures dice { OnOk result (dice.new ≡ dice_after (does_draw svc.now self.old.state (length self.old.live) lane) dice.old) }
+        ensures err { OnErr result ((self.new ≡ self.old) × (dice.new ≡ dice.old)) }
+        ensures kept { IsRecorder svc.now self.new }
+    {
+        if self.live.len() >= LIVE_EVENTS {
+            return Ok(Turn::Full);
+        }
+        self.live.reserve(1)?;
+        let service = svc.declarations();
+        let turn = lane_turn(&self.state, service, &self.queue, lane, clock, dice);
+        follow(svc, &mut self.state, &mut self.live, &mut self.queue, &turn);
+        Ok(turn)
+    }
+
+    /// Hands out the live events, once they are known, with the replies among them. The recorder goes on with none. Where
+    /// memory is short nothing changes.
+    pub fn settle(&mut self, svc: &Checked, alloc: Global) -> Result<Settled, AllocError>
+        requires recorder { IsRecorder svc.now self.old }
+        ensures events { IfOk result (λ x. x.events ≡ self.old.live) }
+        ensures released { IfOk result (λ x. x.released ≡ releases self.old.start.clients self.old.live) }
+        ensures ok { OnOk result (self.new ≡ settled self.old) }
+        ensures err { OnErr result (self.new ≡ self.old) }
+        ensures kept { IsRecorder svc.now self.new }
+    {
+        let mut released = Vec::with_capacity(alloc, self.live.len())?;
+        advance(svc, &mut self.start, &self.live, &mut released);
+        let events = mem::replace(&mut self.live, Vec::new(alloc));
+        Ok(Settled {
+            events: List::from_vec(events),
+            released: List::from_vec(released),
+        })
     }
 }

@@ -8,5 +8,6 @@ pub mod Traces
 pub mod Told
 pub mod Released
 pub mod Rows
+pub mod Few
 pub mod Headlines
 mod Examples

@@ -4,4 +4,5 @@ pub mod Report
 pub mod Stands
 pub mod There
 pub mod Running
+pub mod Answering
 pub mod Laws

@@ -10,7 +10,7 @@ use Rattle.rex_record.specs.Kept.{IsRecorder}
 use Rattle.rex_scenario.specs.declared.scenario.ScheduleLine.{ScheduleLine}
 use Rattle.rex_scenario.specs.declared.scenario.ScheduleLine.TheVariants.{Elect, Submit, Lane, Cut}
 use Rattle.rex_world.specs.World.{WorldValue, beginning, is_follower, joined}
-use Rattle.rex_world.specs.Row.{submit_row, turn_in, row}
+use Rattle.rex_world.specs.Row.{Row, submit_row, turn_in, row}
 
 -- a world, and the recorder of its node
 pub record Running : Type 0 where
@@ -55,3 +55,7 @@ recorder_after service requests r (Cut node) =
 -- a world and its recorder after a schedule line
 abbrev pub running_after : Declarations → List Request → ℕ → Running → ScheduleLine → Running
 running_after service requests seed r line = record { world = (row service requests seed r.world line).world; recorder = recorder_after service requests r line }
+
+-- a row's world, with this recorder
+abbrev pub with_row : Row → RecorderValue → Running
+with_row line recorder = record { world = line.world; recorder = recorder }

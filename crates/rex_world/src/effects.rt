@@ -3,23 +3,22 @@
 ghost use Rattle.std.specs.Prelude.{◌≡◌, ◌++◌, ◌∷◌, [], map, IfOk, OnOk};
 ghost use Rattle.rex_world.specs.Row.{turn_effect, release_effect};
 
-use rex_list::List;
 use rex_record::{Release, Turn};
 use rex_report::Effect;
 use std::alloc::{AllocError, Global};
 
 /// One effect.
-pub(crate) fn one(alloc: Global, effect: Effect) -> Result<List<Effect>, AllocError>
-    ensures { IfOk result (λ effects. effects ≡ effect ∷ []) }
+pub(crate) fn one(alloc: Global, effect: Effect) -> Result<Vec<Effect>, AllocError>
+    ensures { IfOk result (λ effects. effects.items ≡ effect ∷ []) }
 {
-    let mut effects = List::new(alloc);
+    let mut effects = Vec::new(alloc);
     effects.push(effect)?;
     Ok(effects)
 }
 
 /// Two effects.
-pub(crate) fn two(alloc: Global, first: Effect, second: Effect) -> Result<List<Effect>, AllocError>
-    ensures { IfOk result (λ effects. effects ≡ first ∷ second ∷ []) }
+pub(crate) fn two(alloc: Global, first: Effect, second: Effect) -> Result<Vec<Effect>, AllocError>
+    ensures { IfOk result (λ effects. effects.items ≡ first ∷ second ∷ []) }
 {
     let mut effects = one(alloc, first)?;
     effects.push(second)?;
@@ -50,8 +49,8 @@ fn release_effect(release: &Release) -> Effect
 }
 
 /// Appends the replies that are released.
-pub(crate) fn push_releases(effects: &mut List<Effect>, releases: &[Release]) -> Result<(), AllocError>
-    ensures { OnOk result (effects.new ≡ effects.old ++ map release_effect releases.now) }
+pub(crate) fn push_releases(effects: &mut Vec<Effect>, releases: &[Release]) -> Result<(), AllocError>
+    ensures { OnOk result (effects.new.items ≡ effects.old.items ++ map release_effect releases.now) }
 {
     for release in releases {
         effects.push(release_effect(release))?;

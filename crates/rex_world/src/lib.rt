@@ -4,6 +4,7 @@
 mod answers;
 mod effects;
 pub mod laws;
+mod lines;
 mod report;
 mod world;
 

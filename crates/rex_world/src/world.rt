@@ -1,15 +1,13 @@
 //! The world.
 
-ghost use Rattle.std.specs.Prelude.{◌≡◌, ◌<◌, ◌+◌, ◌^◌, ◌×◌, length, IfOk, OnOk};
+ghost use Rattle.std.specs.Prelude.{◌≡◌, ◌≤◌, ◌<◌, ◌+◌, ◌^◌, length, Some, IfOk, OnOk};
 ghost use Rattle.std.specs.List.{All};
 ghost use Rattle.rex_scenario.specs.Fits.{RequestFits, LineFits};
-ghost use Rattle.rex_state.specs.Start.{start_of};
-ghost use Rattle.rex_world.specs.World.{beginning, dice_of};
+ghost use Rattle.rex_world.specs.World.{beginning, is_follower};
 ghost use Rattle.rex_world.specs.Row as spec;
-ghost use Rattle.rex_world.specs.Running.{IsRunning};
+ghost use Rattle.rex_world.specs.Report.{end_of};
+ghost use Rattle.rex_world.specs.Running.{IsRunning, running_after};
 
-use crate::answers::answer_of;
-use crate::effects::{one, push_releases, turn_effect, two};
 use rand_pcg::Lcg64Xsh32;
 use rex_event::Event;
 use rex_list::List;
@@ -28,12 +26,12 @@ pub const INSTANCES: usize = 65_535;
 /// One node and what the schedule has brought it to. After an `Err`, which is want of memory, it is given up.
 #[derive(Drop)]
 pub struct World {
-    recorder: Recorder,
-    known: Vec<List<Event>>,
-    ballot: u64,
-    promised: u64,
-    done: u32,
-    dice: Lcg64Xsh32,
+    pub(crate) recorder: Recorder,
+    pub(crate) known: Vec<List<Event>>,
+    pub(crate) ballot: u64,
+    pub(crate) promised: u64,
+    pub(crate) done: u32,
+    pub(crate) dice: Lcg64Xsh32,
 }
 
 impl Model for World {
@@ -45,19 +43,6 @@ impl Model for World {
         world = record { done = w.done; ballot = w.ballot; promised = w.promised; known = w.known.items; live = w.recorder.live; queue = w.recorder.queue; dice = w.dice };
         recorder = w.recorder;
     } };
-}
-
-/// The least ballot of a node above a promise: 16 times a round from 1 on, and the node's number.
-fn ballot_above(node: u8, promised: u64) -> u64
-    requires { promised < 2 ^ 60 }
-    ensures { result ≡ spec.ballot_above node promised }
-{
-    let node = node as u64;
-    if promised < 16 + node {
-        16 + node
-    } else {
-        (promised - node) / 16 * 16 + 16 + node
-    }
 }
 
 impl World {
@@ -114,17 +99,28 @@ impl World {
     }
 
     /// Does a schedule line, and answers what it reports.
-    pub fn step(&mut self, alloc: Global, svc: &Checked, requests: &[Request], seed: u32, line: &ScheduleLine) -> Result<List<Effect>, AllocError>
+    pub fn step(
+        &mut self,
+        alloc: Global,
+        svc: &Checked,
+        requests: &[Request],
+        seed: u32,
+        line: &ScheduleLine,
+    ) -> Result<Vec<Effect>, AllocError>
         requires running { IsRunning svc.now self.old }
         requires requests { All (RequestFits svc.now) requests.now }
         requires fits { LineFits 1 (length requests.now) svc.now.lanes line.now }
         requires count { self.old.world.done + 2 < 2 ^ 32 }
-        ensures row { IfOk result (λ effects. IsRow (spec.row svc.now requests.now seed self.old.world line.now) self.new.world effects) }
+        ensures effects { IfOk result (λ effects. effects.items ≡ (spec.row svc.now requests.now seed self.old.world line.now).effects) }
+        ensures world { OnOk result (self.new.world ≡ (spec.row svc.now requests.now seed self.old.world line.now).world) }
         ensures running { OnOk result (IsRunning svc.now self.new) }
     {
+        let _service = svc.declarations();
         match line {
-            ScheduleLine::Elect { node } => self.elect(alloc, svc, seed, *node),
-            ScheduleLine::Submit { request, .. } => self.submit(alloc, svc, &requests[*request as usize]),
+            ScheduleLine::Elect { node } => self.elect(alloc, seed, *node),
+            ScheduleLine::Submit { request, .. } => {
+                self.submit(alloc, svc, requests, *request as usize)
+            }
             ScheduleLine::Lane { lane, .. } => self.lane(alloc, svc, *lane),
             ScheduleLine::Cut { node } => self.cut(alloc, svc, *node),
         }
