@@ -20,7 +20,7 @@ use Rattle.rex_world.specs.Running.{running_at_first}
 use Rattle.rex_world.specs.Stands.{Stands}
 use Rattle.rex_world.specs.Laws.{IsPrefix, trace_after, Headline}
 use Rattle.rex_world.proofs.Carried.{Carries, running_carries}
-use Rattle.rex_world.proofs.Lines.{begins_running, carried_lines}
+use Rattle.rex_world.proofs.Carrying.{begins_running, carried_lines}
 use Rattle.rex_world.proofs.Growth.{trace_grows, lines_grow, after_lines-append}
 use Rattle.rex_world.proofs.Traces.{stands_more}
 use Rattle.rex_world.proofs.Rows.{lines_stand}

@@ -3,7 +3,7 @@ pub mod Growth
 pub mod Queues
 pub mod Keeps
 pub mod Counts
-pub mod Lines
+pub mod Carrying
 pub mod Traces
 pub mod Told
 pub mod Released

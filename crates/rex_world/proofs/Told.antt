@@ -19,7 +19,7 @@ use Rattle.rex_state.specs.Sound.{AreServed, IsSound}
 use Rattle.rex_state.proofs.Keep.{IsEnabled, next_is, client_other}
 use Rattle.rex_state.proofs.Sounds.{next_keeps, start_keeps}
 use Rattle.rex_world.specs.Stands.{Begins, Replies}
-use Rattle.rex_world.proofs.Lines.{same_at}
+use Rattle.rex_world.proofs.Carrying.{same_at}
 use Rattle.rex_world.proofs.Traces.{Told, told_other, told_begin, told_reply}
 
 -- every client's entry is told by the trace
