@@ -1,28 +1,76 @@
-//! Lists of effects.
+//! The texts of what a schedule line does.
 
-ghost use Rattle.std.specs.Prelude.{◌≡◌, ◌++◌, ◌∷◌, [], map, IfOk, OnOk};
+ghost use Rattle.std.specs.Prelude.{◌≡◌, ◌++◌, ◌∷◌, [], map, OnOk};
 ghost use Rattle.rex_world.specs.Row.{turn_effect, release_effect};
+ghost use Rattle.rex_report.specs.Rows.{row_text};
+ghost use Rattle.rex_world.specs.Report.{effects_text};
 
 use rex_record::{Release, Turn};
-use rex_report::Effect;
-use std::alloc::{AllocError, Global};
+use rex_report::{Effect, push_row};
+use rex_syntax::service::Declarations;
+use std::alloc::AllocError;
 
-/// One effect.
-pub(crate) fn one(alloc: Global, effect: Effect) -> Result<Vec<Effect>, AllocError>
-    ensures { IfOk result (λ effects. effects.items ≡ effect ∷ []) }
+/// Appends the report line of one effect.
+pub(crate) fn tell(
+    out: &mut Vec<u8>,
+    service: &Declarations,
+    number: u32,
+    effect: &Effect,
+) -> Result<(), AllocError>
+    ensures { OnOk result (out.new.items ≡ out.old.items ++ effects_text service.now number (effect.now ∷ [])) }
 {
-    let mut effects = Vec::new(alloc);
-    effects.push(effect)?;
-    Ok(effects)
+    push_row(out, service, number, effect)
 }
 
-/// Two effects.
-pub(crate) fn two(alloc: Global, first: Effect, second: Effect) -> Result<Vec<Effect>, AllocError>
-    ensures { IfOk result (λ effects. effects.items ≡ first ∷ second ∷ []) }
+/// Appends the report lines of two effects.
+pub(crate) fn tell_both(
+    out: &mut Vec<u8>,
+    service: &Declarations,
+    number: u32,
+    first: &Effect,
+    second: &Effect,
+) -> Result<(), AllocError>
+    ensures { OnOk result (out.new.items ≡ out.old.items ++ effects_text service.now number (first.now ∷ second.now ∷ [])) }
 {
-    let mut effects = one(alloc, first)?;
-    effects.push(second)?;
-    Ok(effects)
+    push_row(out, service, number, first)?;
+    push_row(out, service, number, second)?;
+    Ok(())
+}
+
+fn release_effect(release: &Release) -> Effect
+    ensures { result ≡ release_effect release.now }
+{
+    Effect::Released {
+        client: release.client,
+        sequence: release.sequence,
+        value: release.value,
+    }
+}
+
+fn tell_release(
+    out: &mut Vec<u8>,
+    service: &Declarations,
+    number: u32,
+    release: &Release,
+) -> Result<(), AllocError>
+    ensures { OnOk result (out.new.items ≡ out.old.items ++ row_text service.now number (release_effect release.now)) }
+{
+    push_row(out, service, number, &release_effect(release))
+}
+
+/// Appends the report lines of replies that are released.
+pub(crate) fn tell_releases(
+    out: &mut Vec<u8>,
+    service: &Declarations,
+    number: u32,
+    releases: &[Release],
+) -> Result<(), AllocError>
+    ensures { OnOk result (out.new.items ≡ out.old.items ++ effects_text service.now number (map release_effect releases.now)) }
+{
+    for release in releases {
+        tell_release(out, service, number, release)?;
+    }
+    Ok(())
 }
 
 /// What a lane's turn reports.
@@ -36,24 +84,4 @@ pub(crate) fn turn_effect(lane: u8, turn: Turn) -> Effect
         Turn::Held { by } => Effect::Held { lane, by },
         Turn::Unsignalled => Effect::Unsignalled { lane },
     }
-}
-
-fn release_effect(release: &Release) -> Effect
-    ensures { result ≡ release_effect release.now }
-{
-    Effect::Released {
-        client: release.client,
-        sequence: release.sequence,
-        value: release.value,
-    }
-}
-
-/// Appends the replies that are released.
-pub(crate) fn push_releases(effects: &mut Vec<Effect>, releases: &[Release]) -> Result<(), AllocError>
-    ensures { OnOk result (effects.new.items ≡ effects.old.items ++ map release_effect releases.now) }
-{
-    for release in releases {
-        effects.push(release_effect(release))?;
-    }
-    Ok(())
 }

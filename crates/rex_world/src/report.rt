@@ -2,32 +2,16 @@
 
 ghost use Rattle.std.specs.Prelude.{◌≡◌, ◌++◌, ◌≤◌, length, IfOk, OnOk};
 ghost use Rattle.rex_scenario.specs.Fits.{ScenarioFits};
-ghost use Rattle.rex_world.specs.Report.{effects_text, end_of, values_of, report_of};
+ghost use Rattle.rex_world.specs.Report.{end_of, values_of, report_of};
 ghost use Rattle.rex_world.specs.Running.{IsRunning};
 ghost use Rattle.rex_report.specs.Ends.{end_text};
 
 use crate::world::World;
-use rex_report::{Effect, push_end, push_row};
+use rex_report::push_end;
 use rex_scenario::Scenario;
 use rex_state::state::State;
 use rex_syntax::checked::Checked;
-use rex_syntax::service::Declarations;
 use std::alloc::{AllocError, Global};
-
-// The report lines of a schedule line.
-fn push_effects(
-    out: &mut Vec<u8>,
-    service: &Declarations,
-    number: u32,
-    effects: &[Effect],
-) -> Result<(), AllocError>
-    ensures { OnOk result (out.new.items ≡ out.old.items ++ effects_text service.now number effects.now) }
-{
-    for effect in effects {
-        push_row(out, service, number, effect)?;
-    }
-    Ok(())
-}
 
 // The line for the node.
 fn push_node(out: &mut Vec<u8>, alloc: Global, svc: &Checked, world: &World) -> Result<(), AllocError>
@@ -49,13 +33,11 @@ pub fn report(alloc: Global, svc: &Checked, scenario: &Scenario) -> Result<Vec<u
     requires { ScenarioFits svc.now scenario.now }
     ensures { IfOk result (λ text. text.items ≡ report_of svc.now scenario.now) }
 {
-    let service = svc.declarations();
     let requests = scenario.requests.as_slice();
     let mut out = Vec::new(alloc);
     let mut world = World::new(alloc, svc)?;
     for line in scenario.schedule.as_slice() {
-        let effects = world.step(alloc, svc, requests, scenario.seed, line)?;
-        push_effects(&mut out, service, world.done(), &effects)?;
+        world.step(alloc, svc, &mut out, requests, scenario.seed, line)?;
     }
     push_node(&mut out, alloc, svc, &world)?;
     Ok(out)

@@ -1,18 +1,18 @@
 //! The world.
 
-ghost use Rattle.std.specs.Prelude.{◌≡◌, ◌≤◌, ◌<◌, ◌+◌, ◌^◌, length, Some, IfOk, OnOk};
+ghost use Rattle.std.specs.Prelude.{◌≡◌, ◌≤◌, ◌<◌, ◌+◌, ◌^◌, ◌++◌, length, IfOk, OnOk};
 ghost use Rattle.std.specs.List.{All};
 ghost use Rattle.rex_scenario.specs.Fits.{RequestFits, LineFits};
 ghost use Rattle.rex_world.specs.World.{beginning, is_follower};
 ghost use Rattle.rex_world.specs.Row as spec;
-ghost use Rattle.rex_world.specs.Report.{end_of};
-ghost use Rattle.rex_world.specs.Running.{IsRunning, running_after};
+ghost use Rattle.rex_world.specs.Report.{end_of, effects_text};
+ghost use Rattle.rex_world.specs.Running.{IsRunning};
 
 use rand_pcg::Lcg64Xsh32;
 use rex_event::Event;
 use rex_list::List;
 use rex_record::Recorder;
-use rex_report::{Effect, End, Role};
+use rex_report::{End, Role};
 use rex_scenario::ScheduleLine;
 use rex_state::state::State;
 use rex_syntax::checked::Checked;
@@ -98,31 +98,32 @@ impl World {
         self.recorder.state().variables()
     }
 
-    /// Does a schedule line, and answers what it reports.
+    /// Does a schedule line, and appends what it reports.
     pub fn step(
         &mut self,
         alloc: Global,
         svc: &Checked,
+        out: &mut Vec<u8>,
         requests: &[Request],
         seed: u32,
         line: &ScheduleLine,
-    ) -> Result<Vec<Effect>, AllocError>
+    ) -> Result<(), AllocError>
         requires running { IsRunning svc.now self.old }
         requires requests { All (RequestFits svc.now) requests.now }
         requires fits { LineFits 1 (length requests.now) svc.now.lanes line.now }
         requires count { self.old.world.done + 2 < 2 ^ 32 }
-        ensures effects { IfOk result (λ effects. effects.items ≡ (spec.row svc.now requests.now seed self.old.world line.now).effects) }
+        ensures told { OnOk result (out.new.items ≡ out.old.items ++ effects_text svc.now (self.old.world.done + 1) (spec.row svc.now requests.now seed self.old.world line.now).effects) }
         ensures world { OnOk result (self.new.world ≡ (spec.row svc.now requests.now seed self.old.world line.now).world) }
         ensures running { OnOk result (IsRunning svc.now self.new) }
     {
         let _service = svc.declarations();
         match line {
-            ScheduleLine::Elect { node } => self.elect(alloc, seed, *node),
+            ScheduleLine::Elect { node } => self.elect(alloc, svc, out, seed, *node),
             ScheduleLine::Submit { request, .. } => {
-                self.submit(alloc, svc, requests, *request as usize)
+                self.submit(svc, out, requests, *request as usize)
             }
-            ScheduleLine::Lane { lane, .. } => self.lane(alloc, svc, *lane),
-            ScheduleLine::Cut { node } => self.cut(alloc, svc, *node),
+            ScheduleLine::Lane { lane, .. } => self.lane(svc, out, *lane),
+            ScheduleLine::Cut { node } => self.cut(alloc, svc, out, *node),
         }
     }
 }

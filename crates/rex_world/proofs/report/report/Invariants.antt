@@ -8,5 +8,5 @@ invariant-loop-line l = record {
   running : IsRunning l.svc l.world;
   done : l.world.world.done ≡ l.line-index;
   known : length l.world.world.known ≤ 65535;
-  told : l.out.items ++ report_from l.service l.requests l.scenario.seed l.world.world (drop l.line-index l.scenario.schedule) ≡ report_of l.service l.scenario;
+  told : l.out.items ++ report_from l.svc l.requests l.scenario.seed l.world.world (drop l.line-index l.scenario.schedule) ≡ report_of l.svc l.scenario;
 }

@@ -1,7 +1,0 @@
-use Rattle.std.proofs.Common.{◌≡◌, ◌++◌, drop}
-use Rattle.rex_world.specs.Report.{effects_text}
-use Rattle.rex_world.proofs.report.push_effects.Given as goal
-
-abbrev pub invariant-loop-effect : goal.invariant-loop-effect
-invariant-loop-effect l =
-    l.out.items ++ effects_text l.service l.number (drop l.effect-index l.effects) ≡ l.initial.out.items ++ effects_text l.service l.number l.effects
