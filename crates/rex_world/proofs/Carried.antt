@@ -1,5 +1,5 @@
 -- A recorder that carries a world: what the world's definitions compute is in it.
-use Rattle.std.proofs.Common.{◌≡◌, List, ◌++◌, ap, sym, ◌∙◌, subst}
+use Rattle.std.proofs.Common.{◌≡◌, List, ◌++◌, ap, ◌∙◌, subst}
 use Rattle.std.specs.Prelude.{Option, Some, unwrap_or}
 use Rattle.rex_syntax.specs.declared.service.Declarations.{Declarations}
 use Rattle.rex_syntax.specs.Service.{IsService}

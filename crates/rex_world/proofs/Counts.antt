@@ -1,5 +1,5 @@
 -- What the number of lines done bounds: the events of each lane, and the promise.
-use Rattle.std.proofs.Common.{◌≡◌, ◌⊎◌, inl, inr, ℕ, ◌+◌, ◌-◌, ◌*◌, ◌/◌, ◌<◌, ◌≤◌, Bool, true, false, List, [], ◌∷◌, length, refl, ap, sym, ◌∙◌, subst, arith}
+use Rattle.std.proofs.Common.{◌≡◌, ◌⊎◌, inl, inr, ℕ, ◌+◌, ◌-◌, ◌*◌, ◌/◌, ◌<◌, ◌≤◌, Bool, true, false, List, [], ◌∷◌, length, refl, ap, sym, subst, arith}
 use Rattle.std.specs.Prelude.{Option, Some, None, nat_lt, nat_le, slice_get, unwrap_or, if◌then◌else◌}
 use Rattle.std.proofs.lemmas.Bool.{cases_eq, ltb-false}
 use Rattle.std.proofs.lemmas.Option.{same_Some}
@@ -12,8 +12,8 @@ use Rattle.rex_state.specs.Machine.{lane_of, after, next, run_from, run}
 use Rattle.rex_state.proofs.Keep.{next_is, lane_own, lane_other}
 use Rattle.rex_record.specs.declared.turns.Turn.{Turn}
 use Rattle.rex_record.specs.declared.turns.Turn.TheVariants.{Done}
-use Rattle.rex_record.specs.Value.{RecorderValue, state_after, turned}
-use Rattle.rex_report.specs.declared.effect.Effect.TheVariants.{Nothing, Ended}
+use Rattle.rex_record.specs.Value.{state_after, turned}
+use Rattle.rex_report.specs.declared.effect.Effect.TheVariants.{Ended}
 use Rattle.rex_scenario.specs.declared.scenario.ScheduleLine.{ScheduleLine}
 use Rattle.rex_scenario.specs.declared.scenario.ScheduleLine.TheVariants.{Elect, Submit, Lane as LaneLine, Cut}
 use Rattle.rex_world.specs.World.{WorldValue, is_follower}

@@ -1,6 +1,7 @@
 -- A counter's scenario, computed: what each line reports, and the report as it is written.
 use Rattle.std.proofs.Common.{◌≡◌, ℕ, List, [], ◌∷◌, ◌++◌, refl}
-use Rattle.std.specs.Prelude.{ℤ, pos, codes}
+use Rattle.std.specs.Prelude.{pos, codes}
+use Rattle.std.specs.Fmt.{digits}
 use Rattle.rex_syntax.specs.declared.line.Line.TheVariants.{Acquire, Release, Set, Let, Reply as ReplyAt}
 use Rattle.rex_syntax.specs.declared.expr.Operand.TheVariants.{Local, Variable}
 use Rattle.rex_syntax.specs.declared.expr.Operator.TheVariants.{Add}
@@ -10,13 +11,12 @@ use Rattle.rex_syntax.specs.declared.service.Declarations.{Declarations}
 use Rattle.rex_event.specs.declared.event.Event.{Event}
 use Rattle.rex_event.specs.declared.event.Kind.{Kind}
 use Rattle.rex_event.specs.declared.event.Kind.TheVariants.{Begin, AcqEx, RelEx, Reply}
-use Rattle.rex_report.specs.declared.effect.Effect.{Effect}
-use Rattle.rex_report.specs.declared.effect.Effect.TheVariants.{Candidate, Active, Proposes, Known, Released, Queued, Recorded}
-use Rattle.rex_scenario.specs.declared.scenario.Scenario.{Scenario}
+use Rattle.rex_report.specs.declared.effect.Effect.TheVariants.{Candidate, Active, Proposes, Known, Released, Nothing, Queued, Waiting, Recorded, Idle, NotActive}
+use Rattle.rex_report.specs.declared.effect.Role.TheVariants.{Follower}
 use Rattle.rex_scenario.specs.declared.scenario.ScheduleLine.{ScheduleLine}
 use Rattle.rex_scenario.specs.declared.scenario.ScheduleLine.TheVariants.{Elect, Submit, Lane, Cut}
 use Rattle.rex_world.specs.World.{beginning}
-use Rattle.rex_world.specs.Row.{after_lines, effects_of}
+use Rattle.rex_world.specs.Row.{effects_of}
 use Rattle.rex_world.specs.Report.{report_of}
 use Rattle.rex_world.specs.Laws.{trace_after}
 
@@ -83,4 +83,33 @@ writes : report_of counter (record { nodes = 1; seed = 7; requests = adds_5; sch
     ++ codes "7 node 1 known 1\n"
     ++ codes "7 released 1 1 5\n"
     ++ codes "end node 1 active promised 17 known 1 live 0 a=5\n"
+unfolding digits
 writes = refl
+
+-- ---- before the election and after the cut
+
+-- a follower does nothing
+refuses : effects_of counter adds_5 7 beginning (Submit 1 0 ∷ Lane 1 0 ∷ Cut 1 ∷ []) ≡ NotActive Follower ∷ NotActive Follower ∷ NotActive Follower ∷ []
+refuses = refl
+
+-- a request that is submitted again waits until its reply is known, and then gets it; there is nothing left to do
+repeats : effects_of counter adds_5 7 beginning (Elect 1 ∷ Submit 1 0 ∷ Submit 1 0 ∷ Lane 1 0 ∷ Lane 1 0 ∷ Lane 1 0 ∷ Lane 1 0 ∷ Submit 1 0 ∷ Cut 1 ∷ Submit 1 0 ∷ Lane 1 1 ∷ Cut 1 ∷ []) ≡
+    Candidate 1 17 ∷ Active 1 17
+    ∷ Queued
+    ∷ Waiting
+    ∷ Recorded (on_lane_0 0 (Begin 1 1 0 (pos 5 ∷ [])))
+    ∷ Recorded (on_lane_0 1 (AcqEx 0))
+    ∷ Recorded (on_lane_0 2 (RelEx 0))
+    ∷ Recorded (on_lane_0 3 (Reply 1 (pos 5)))
+    ∷ Waiting
+    ∷ Proposes 1 1 4 ∷ Known 1 1 ∷ Released 1 1 (pos 5)
+    ∷ Released 1 1 (pos 5)
+    ∷ Idle 1
+    ∷ Nothing
+    ∷ []
+repeats = refl
+
+-- a new election drops what isn't known, and its ballot is 16 above the one before
+starts_anew : effects_of counter adds_5 7 beginning (Elect 1 ∷ Submit 1 0 ∷ Lane 1 0 ∷ Elect 1 ∷ Cut 1 ∷ Submit 1 0 ∷ []) ≡
+    Candidate 1 17 ∷ Active 1 17 ∷ Queued ∷ Recorded (on_lane_0 0 (Begin 1 1 0 (pos 5 ∷ []))) ∷ Candidate 1 33 ∷ Active 1 33 ∷ Nothing ∷ Queued ∷ []
+starts_anew = refl

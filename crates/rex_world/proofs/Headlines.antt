@@ -1,5 +1,5 @@
 -- The headline of every run.
-use Rattle.std.proofs.Common.{◌≡◌, ℕ, ◌<◌, ◌+◌, List, [], ◌∷◌, ◌++◌, length, refl, ap, sym, ◌∙◌, subst, arith}
+use Rattle.std.proofs.Common.{◌≡◌, ℕ, List, [], ◌∷◌, ◌++◌, ap, sym, ◌∙◌, subst}
 use Rattle.std.specs.Prelude.{Some, ℤ}
 use Rattle.std.specs.List.{All}
 use Rattle.std.proofs.lemmas.List.Elements.{All-head, All-tail, All-nil, All-cons}
@@ -11,17 +11,16 @@ use Rattle.rex_state.specs.Value.{StateValue}
 use Rattle.rex_state.specs.Start.{start_of}
 use Rattle.rex_state.specs.Machine.{run}
 use Rattle.rex_event.specs.declared.event.Event.{Event}
-use Rattle.rex_report.specs.declared.effect.Effect.TheVariants.{Released}
 use Rattle.rex_scenario.specs.declared.scenario.ScheduleLine.{ScheduleLine}
 use Rattle.rex_scenario.specs.Fits.{RequestFits}
 use Rattle.rex_world.specs.World.{WorldValue, beginning, joined}
-use Rattle.rex_world.specs.Row.{after_lines, effects_of}
+use Rattle.rex_world.specs.Row.{after_lines}
 use Rattle.rex_world.specs.There.{HasLane}
 use Rattle.rex_world.specs.Running.{running_at_first}
 use Rattle.rex_world.specs.Stands.{Stands}
-use Rattle.rex_world.specs.Laws.{IsPrefix, IsAmong, trace_after, Headline}
+use Rattle.rex_world.specs.Laws.{IsPrefix, trace_after, Headline}
 use Rattle.rex_world.proofs.Carried.{Carries, running_carries}
-use Rattle.rex_world.proofs.Lines.{begins_running, carried_lines}
+use Rattle.rex_world.proofs.Carrying.{begins_running, carried_lines}
 use Rattle.rex_world.proofs.Growth.{trace_grows, lines_grow, after_lines-append}
 use Rattle.rex_world.proofs.Traces.{stands_more}
 use Rattle.rex_world.proofs.Rows.{lines_stand}

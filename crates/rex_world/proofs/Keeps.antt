@@ -1,5 +1,5 @@
 -- A recorder that carries a world still does after a line.
-use Rattle.std.proofs.Common.{◌≡◌, ℕ, ◌+◌, ◌<◌, Bool, true, false, List, [], ◌∷◌, ◌++◌, length, refl, ap, sym, ◌∙◌, subst, arith}
+use Rattle.std.proofs.Common.{◌≡◌, ℕ, ◌<◌, Bool, true, false, List, [], ◌∷◌, length, refl, ap, sym, ◌∙◌, subst, arith}
 use Rattle.std.specs.Prelude.{Option, Some, None, ℤ, pos, nat_le, slice_get, if◌then◌else◌}
 use Rattle.std.specs.List.{All}
 use Rattle.std.proofs.lemmas.Option.{slice_get_within, get_or_from_slice_get}
@@ -13,7 +13,7 @@ use Rattle.rex_state.specs.Machine.{run, entry_at}
 use Rattle.rex_record.specs.declared.turns.Turn.{Turn}
 use Rattle.rex_record.specs.declared.turns.Turn.TheVariants.{Done, Full, Idle, Held, Unsignalled}
 use Rattle.rex_record.specs.Turn.{turn_of}
-use Rattle.rex_record.specs.Value.{RecorderValue, live_after, queue_after, queued_in, turned, settled}
+use Rattle.rex_record.specs.Value.{RecorderValue, live_after, queue_after, turned, settled}
 use Rattle.rex_record.specs.Kept.{AreQueued, IsRecorder}
 use Rattle.rex_report.specs.declared.effect.Effect.TheVariants.{Ended}
 use Rattle.rex_scenario.specs.declared.scenario.ScheduleLine.{ScheduleLine}
@@ -25,7 +25,7 @@ use Rattle.rex_world.specs.Row.{Row, counted, not_active, submit_found, submit_r
 use Rattle.rex_world.specs.There.{HasLane}
 use Rattle.rex_world.specs.Running.{Running, settled_if, running_after}
 use Rattle.rex_world.proofs.Growth.{joined-push}
-use Rattle.rex_world.proofs.Wanted.{done_goes}
+use Rattle.rex_record.proofs.Goes.{turn_goes_on}
 use Rattle.rex_world.proofs.Carried.{Carries, carried_run, carried_live, carried_sound}
 use Rattle.rex_world.proofs.Queues.{queue_after_answer}
 
@@ -82,7 +82,7 @@ submit_carries service requests seed r node number good fit h =
 -- ---- lane
 
 turn_keeps : (service : Declarations) (r : RecorderValue) (lane : ℕ) (clock : ℤ) (random : ℕ) (t : Turn) → IsService service → IsRecorder service r → lane < service.lanes → turn_of service r.state r.queue (length r.live) lane clock random ≡ t → IsRecorder service (turned service r t)
-turn_keeps service r lane clock random (Done e) good h there is = (done_goes service r lane clock random e good h there is).keeps
+turn_keeps service r lane clock random (Done e) good h there is = (turn_goes_on service r lane clock random e good h there is).keeps
 turn_keeps service r lane clock random Full good h there is = h
 turn_keeps service r lane clock random Idle good h there is = h
 turn_keeps service r lane clock random (Held by) good h there is = h

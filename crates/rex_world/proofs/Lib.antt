@@ -1,10 +1,9 @@
-pub mod Wanted
 pub mod Carried
 pub mod Growth
 pub mod Queues
 pub mod Keeps
 pub mod Counts
-pub mod Lines
+pub mod Carrying
 pub mod Traces
 pub mod Told
 pub mod Released

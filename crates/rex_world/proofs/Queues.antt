@@ -1,19 +1,17 @@
 -- A request that is put into the queue could begin on an idle lane, and its client has none queued.
-use Rattle.std.proofs.Common.{◌≡◌, ◌⊎◌, inl, inr, ⊎_elim, ℕ, ◌+◌, ◌<◌, ◌≤◌, Bool, true, false, List, [], ◌∷◌, ◌++◌, length, refl, ap, sym, ◌∙◌, subst, arith, eqb, eq-eqb}
+use Rattle.std.proofs.Common.{◌≡◌, ⊎_elim, ℕ, ◌+◌, ◌<◌, ◌≤◌, Bool, true, false, List, [], ◌∷◌, ◌++◌, length, refl, ap, sym, arith, eq-eqb}
 use Rattle.std.specs.Prelude.{Option, Some, None, ℤ, nat_eq, nat_lt, is_none, slice_get, ◌&&◌, ◌||◌, ◌==◌, if◌then◌else◌}
 use Rattle.std.proofs.lemmas.Bool.{true≢false, and_parts, and_from, or_cases, ltb-false, lt-ltb, eqb-true, eqb-false, ne_eqb}
 use Rattle.rex_syntax.specs.declared.request.Request.{Request}
 use Rattle.rex_syntax.specs.declared.service.Declarations.{Declarations}
 use Rattle.rex_syntax.specs.declared.service.Handler.{Handler}
-use Rattle.rex_event.specs.declared.event.Kind.{Kind}
 use Rattle.rex_state.specs.declared.lane.Entry.{Entry}
 use Rattle.rex_state.specs.Value.{StateValue}
-use Rattle.rex_state.specs.Machine.{takes, can_begin, entry_at, is_replied, client_allows}
-use Rattle.rex_record.specs.Turn.{begin_of}
+use Rattle.rex_state.specs.Machine.{takes, entry_at, is_replied}
 use Rattle.rex_record.specs.Value.{queued_in}
 use Rattle.rex_record.specs.Kept.{CanBegin, AreQueued}
 use Rattle.rex_report.specs.declared.effect.Effect.{Effect}
-use Rattle.rex_report.specs.declared.effect.Effect.TheVariants.{Released, Queued, Waiting, Old, Gap}
+use Rattle.rex_report.specs.declared.effect.Effect.TheVariants.{Queued, Waiting, Old, Gap}
 use Rattle.rex_scenario.specs.Requests.{takes_so_many}
 use Rattle.rex_scenario.specs.Fits.{RequestFits}
 use Rattle.rex_world.specs.Row.{last_of, expected_of, released_if, reply_of, answer_of, queue_with}

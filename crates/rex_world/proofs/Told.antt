@@ -1,5 +1,5 @@
 -- Along a run from the start the trace says of every client what its entry says.
-use Rattle.std.proofs.Common.{◌≡◌, ◌⊎◌, inl, inr, ℕ, ◌<◌, true, List, [], ◌∷◌, ◌++◌, length, refl, ap, sym, ◌∙◌, subst, arith, append-nil, append_assoc}
+use Rattle.std.proofs.Common.{◌≡◌, ◌⊎◌, inl, inr, ℕ, ◌<◌, true, List, [], ◌∷◌, ◌++◌, length, refl, ap, sym, subst, arith, append-nil, append_assoc}
 use Rattle.std.specs.Prelude.{Option, Some, None, ℤ}
 use Rattle.std.proofs.lemmas.Bool.{true≢false, and_parts, eqb-true, ltb-true, cases_eq}
 use Rattle.std.proofs.lemmas.List.{get_or-set_same}
@@ -18,8 +18,8 @@ use Rattle.rex_state.specs.Machine.{frame_at, own_can, no_entry, entry_at, clien
 use Rattle.rex_state.specs.Sound.{AreServed, IsSound}
 use Rattle.rex_state.proofs.Keep.{IsEnabled, next_is, client_other}
 use Rattle.rex_state.proofs.Sounds.{next_keeps, start_keeps}
-use Rattle.rex_world.specs.Stands.{Begins, Replies, Stands}
-use Rattle.rex_world.proofs.Lines.{same_at}
+use Rattle.rex_world.specs.Stands.{Begins, Replies}
+use Rattle.rex_world.proofs.Carrying.{same_at}
 use Rattle.rex_world.proofs.Traces.{Told, told_other, told_begin, told_reply}
 
 -- every client's entry is told by the trace
@@ -41,12 +41,12 @@ there_or_not (Some f) = inr (f, refl)
 pub awaited : (service : Declarations) (s : StateValue) (lane client : ℕ) (value : ℤ) → AreServed s → own_can service (Reply client value) (frame_at s lane) s.variables ≡ true → IsAwaited s client
 awaited service s lane client value served h =
     elim (there_or_not (frame_at s lane)) [
-      inl b ↦ absurd (true≢false (sym (subst (λ o. own_can service (Reply client value) o s.variables ≡ true) b h)))
+      | inl b ↦ absurd (true≢false (sym (subst (λ o. own_can service (Reply client value) o s.variables ≡ true) b h)))
       | inr p ↦
-      let k = subst (λ o. own_can service (Reply client value) o s.variables ≡ true) p.1 h in
-      let same : p.0.client ≡ client = eqb-true _ _ ((and_parts _ _ ((and_parts _ _ k).1)).0) in
-      let v = served.busy lane p.0 p.1 in
-      subst (IsAwaited s) same (record { there = v.there; some = subst (λ (n : ℕ). 0 < n) (sym v.sequence) v.some; open_yet = v.open_yet })
+          let k = subst (λ o. own_can service (Reply client value) o s.variables ≡ true) p.1 h in
+          let same : p.0.client ≡ client = eqb-true _ _ ((and_parts _ _ ((and_parts _ _ k).1)).0) in
+          let v = served.busy lane p.0 p.1 in
+          subst (IsAwaited s) same (record { there = v.there; some = subst (λ (n : ℕ). 0 < n) (sym v.sequence) v.some; open_yet = v.open_yet })
     ]
 
 -- ---- an event

@@ -1,4 +1,4 @@
-use Rattle.rex_world.proofs.Lines.{begins_running}
+use Rattle.rex_world.proofs.Carrying.{begins_running}
 use Rattle.rex_world.proofs.laws.beginning_is_running.Goals as goal
 
 pub returns : goal.returns

@@ -1,4 +1,4 @@
-use Rattle.rex_world.proofs.Lines.{running_keeps}
+use Rattle.rex_world.proofs.Carrying.{running_keeps}
 use Rattle.rex_world.proofs.laws.rows_keep_running.Goals as goal
 
 pub returns : goal.returns

@@ -1,17 +1,17 @@
 -- A recorder carries the beginning, and still carries the world after lines.
-use Rattle.std.proofs.Common.{◌≡◌, ℕ, zero, suc, ◌+◌, ◌*◌, ◌<◌, ◌≤◌, List, [], ◌∷◌, replicate, get_or, refl, ap, sym, subst, arith}
+use Rattle.std.proofs.Common.{◌≡◌, ℕ, zero, suc, ◌*◌, ◌≤◌, List, [], ◌∷◌, replicate, get_or, refl, ap, sym, subst, arith}
 use Rattle.std.specs.List.{All}
 use Rattle.std.proofs.lemmas.List.Elements.{All-head, All-tail}
 use Rattle.rex_syntax.specs.declared.request.Request.{Request}
 use Rattle.rex_syntax.specs.declared.service.Declarations.{Declarations}
 use Rattle.rex_syntax.specs.Service.{IsService}
 use Rattle.rex_syntax.specs.Check.{IsChecked}
-use Rattle.rex_state.specs.declared.lane.Lane.{Lane}
-use Rattle.rex_state.specs.Start.{start_of}
+use Rattle.rex_state.specs.declared.lane.Lane.{Lane as StateLane}
 use Rattle.rex_state.specs.Machine.{no_lane, lane_of}
 use Rattle.rex_state.proofs.Sounds.{start_keeps}
 use Rattle.rex_scenario.specs.declared.scenario.ScheduleLine.{ScheduleLine}
-use Rattle.rex_scenario.specs.Fits.{RequestFits}
+use Rattle.rex_scenario.specs.declared.scenario.ScheduleLine.TheVariants.{Elect, Submit, Lane, Cut}
+use Rattle.rex_scenario.specs.Fits.{RequestFits, LineFits}
 use Rattle.rex_world.specs.World.{WorldValue}
 use Rattle.rex_world.specs.Row.{row, after_lines}
 use Rattle.rex_world.specs.There.{HasLane, HasNode}
@@ -19,6 +19,22 @@ use Rattle.rex_world.specs.Running.{Running, IsRunning, running_at_first, record
 use Rattle.rex_world.proofs.Carried.{Carries, running_carries}
 use Rattle.rex_world.proofs.Keeps.{carries_after}
 use Rattle.rex_world.proofs.Counts.{counts_after, row_done, promised_after}
+
+-- ---- what a line names
+
+-- a line that fits its scenario names a lane that is there
+pub fits_lane : (service : Declarations) (requests : ℕ) (line : ScheduleLine) → LineFits 1 requests service.lanes line → HasLane service line
+fits_lane service requests (Elect node) h = tt
+fits_lane service requests (Submit node number) h = tt
+fits_lane service requests (Lane node lane) h = h.1
+fits_lane service requests (Cut node) h = tt
+
+-- and the only node
+pub fits_node : (service : Declarations) (requests : ℕ) (line : ScheduleLine) → LineFits 1 requests service.lanes line → HasNode line
+fits_node service requests (Elect node) h = h.1
+fits_node service requests (Submit node number) h = tt
+fits_node service requests (Lane node lane) h = tt
+fits_node service requests (Cut node) h = tt
 
 -- ---- one line
 
@@ -52,7 +68,7 @@ begins_running service good checked = record {
   known = refl;
   live = refl;
   queue = refl;
-  counts = λ lane. zero_le _ (ap (λ (x : Lane). x.done) (same_at service.lanes no_lane lane));
+  counts = λ lane. zero_le _ (ap (λ (x : StateLane). x.done) (same_at service.lanes no_lane lane));
   promised = omega arith;
 }
 
