@@ -10,4 +10,5 @@ pub mod Released
 pub mod Rows
 pub mod Few
 pub mod Headlines
+pub mod Bridges
 mod Examples
