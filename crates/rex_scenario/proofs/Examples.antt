@@ -5,7 +5,7 @@ use Rattle.std.specs.Result.{result_err}
 use Rattle.std.proofs.lemmas.Bool.{lt-ltb, le-leb}
 use Rattle.std.specs.Fmt.{digits}
 use Rattle.rex_parse.specs.Words.{is_name}
-use Rattle.rex_parse.specs.Table.{expr_code, number_code}
+use Rattle.rex_parse.specs.Table.{new_code, lock_code, variable_code, local_code, number_code, expr_code}
 use Rattle.rex_parse.specs.declared.language.ServiceCode.TheVariants as service
 use Rattle.rex_syntax.specs.declared.request.Request.{Request}
 use Rattle.rex_scenario.specs.Requests.{is_repeated, place_code}
@@ -35,7 +35,7 @@ said (Ok s) = Some (s.requests, s.schedule)
 said (Err e) = None
 
 counter_says : said (answer_of (text_of counter)) ≡ Some ((record { client = 1; sequence = 1; handler = 0; arguments = pos 5 ∷ [] }) ∷ [], Elect 1 ∷ Submit 1 0 ∷ Lane 1 0 ∷ Cut 1 ∷ [])
-unfolding text_of counter counter_service said answer_from is_name expr_code number_code digits
+unfolding text_of counter counter_service said answer_from is_name new_code lock_code variable_code local_code number_code expr_code digits
 counter_says = refl
 
 -- ---- a refusal of each code
@@ -75,27 +75,27 @@ unfolding refusal text_of answer_from digits
 open_handler = refl
 
 no_client : refusal (requests_of (codes "0 1 add 5" ∷ [])) ≡ Some (13, code.BadRequest)
-unfolding refusal requests_of counter_service text_of answer_from is_name expr_code number_code digits
+unfolding refusal requests_of counter_service text_of answer_from is_name new_code lock_code variable_code local_code number_code expr_code digits
 no_client = refl
 
 no_argument : refusal (requests_of (codes "1 1 add" ∷ [])) ≡ Some (13, code.BadCall)
-unfolding refusal requests_of counter_service text_of answer_from is_name expr_code number_code digits
+unfolding refusal requests_of counter_service text_of answer_from is_name new_code lock_code variable_code local_code number_code expr_code digits
 no_argument = refl
 
 same_request : refusal (requests_of (codes "1 1 add 5" ∷ codes "1 1 add 6" ∷ [])) ≡ Some (14, code.Repeated)
-unfolding refusal requests_of counter_service text_of answer_from is_name expr_code number_code digits
+unfolding refusal requests_of counter_service text_of answer_from is_name new_code lock_code variable_code local_code number_code expr_code digits
 same_request = refl
 
 not_spelled : refusal (schedule_of (codes "elect 01" ∷ [])) ≡ Some (15, code.BadLine)
-unfolding refusal schedule_of requests_of counter_service text_of answer_from is_name expr_code number_code digits
+unfolding refusal schedule_of requests_of counter_service text_of answer_from is_name new_code lock_code variable_code local_code number_code expr_code digits
 not_spelled = refl
 
 no_node : refusal (schedule_of (codes "elect 0" ∷ [])) ≡ Some (15, code.NotThere)
-unfolding refusal schedule_of requests_of counter_service text_of answer_from is_name expr_code number_code digits
+unfolding refusal schedule_of requests_of counter_service text_of answer_from is_name new_code lock_code variable_code local_code number_code expr_code digits
 no_node = refl
 
 no_request : refusal (schedule_of (codes "submit 1 2" ∷ [])) ≡ Some (15, code.NotThere)
-unfolding refusal schedule_of requests_of counter_service text_of answer_from is_name expr_code number_code digits
+unfolding refusal schedule_of requests_of counter_service text_of answer_from is_name new_code lock_code variable_code local_code number_code expr_code digits
 no_request = refl
 
 -- ---- the codes of limits

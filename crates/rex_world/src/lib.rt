@@ -5,8 +5,7 @@ mod answers;
 mod effects;
 pub mod laws;
 mod lines;
-mod report;
+pub mod report;
 mod world;
 
-pub use report::report;
 pub use world::World;
