@@ -11,4 +11,5 @@ pub mod Rows
 pub mod Few
 pub mod Headlines
 pub mod Bridges
+pub mod Steps
 mod Examples

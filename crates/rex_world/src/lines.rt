@@ -1,6 +1,6 @@
 //! What each kind of schedule line does.
 
-ghost use Rattle.std.specs.Prelude.{◌≡◌, ◌≤◌, ◌<◌, ◌+◌, ◌^◌, ◌++◌, [], length, OnOk};
+ghost use Rattle.std.specs.Prelude.{◌≡◌, ◌≤◌, ◌<◌, ◌+◌, ◌^◌, ◌++◌, [], length, IfOk, OnOk};
 ghost use Rattle.std.specs.List.{All};
 ghost use Rattle.rex_scenario.specs.Fits.{RequestFits};
 ghost use Rattle.rex_world.specs.Row as spec;
@@ -31,7 +31,7 @@ fn ballot_above(node: u8, promised: u64) -> u64
 impl World {
     ghost use Rattle.rex_record.specs.Value.{settled};
     ghost use Rattle.rex_scenario.specs.declared.scenario.ScheduleLine.TheVariants as line;
-    ghost use Rattle.rex_world.specs.Answering.{answer_in};
+    ghost use Rattle.rex_world.specs.Answering.{answer_in, taken, turn_at, turned_at};
     ghost use Rattle.rex_world.specs.Report.{effects_text};
     ghost use Rattle.rex_world.specs.Running.{IsRunning, with_row, restarted, recorder_after};
 
@@ -98,11 +98,22 @@ impl World {
         }
         let request = &requests[number];
         let answer = self.answer(request);
+        self.take(svc, request, &answer)?;
+        self.done += 1;
+        tell(out, svc.declarations(), self.done, &answer)
+    }
+
+    // A request that is answered `Queued` joins the queue.
+    fn take(&mut self, svc: &Checked, request: &Request, answer: &Effect) -> Result<(), AllocError>
+        requires running { IsRunning svc.now self.old }
+        requires request { RequestFits svc.now request.now }
+        requires answer { answer.now ≡ answer_in self.old request.now }
+        ensures { OnOk result (self.new ≡ taken self.old request.now answer.now) }
+    {
         if let Effect::Queued = answer {
             self.recorder.queue(svc, *request)?;
         }
-        self.done += 1;
-        tell(out, svc.declarations(), self.done, &answer)
+        Ok(())
     }
 
     // The answer to a request.
@@ -125,10 +136,22 @@ impl World {
         if self.is_follower() {
             return self.not_active(svc, out);
         }
+        let effect = self.turn(svc, lane)?;
+        self.done += 1;
+        tell(out, svc.declarations(), self.done, &effect)
+    }
+
+    // The lane's turn, as it is reported.
+    fn turn(&mut self, svc: &Checked, lane: u8) -> Result<Effect, AllocError>
+        requires running { IsRunning svc.now self.old }
+        requires there { lane < svc.now.lanes }
+        requires count { self.old.world.done + 1 < 2 ^ 32 }
+        ensures effect { IfOk result (λ effect. effect ≡ spec.turn_effect lane (turn_at svc.now self.old lane)) }
+        ensures after { OnOk result (self.new ≡ turned_at svc.now self.old lane) }
+    {
         let clock = self.done as i64;
         let turn = self.recorder.lane_step(svc, lane, clock, &mut self.dice)?;
-        self.done += 1;
-        tell(out, svc.declarations(), self.done, &turn_effect(lane, turn))
+        Ok(turn_effect(lane, turn))
     }
 
     pub(crate) fn cut(&mut self, alloc: Global, svc: &Checked, out: &mut Vec<u8>, node: u8) -> Result<(), AllocError>

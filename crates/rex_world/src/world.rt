@@ -79,7 +79,8 @@ impl World {
 
     /// What the node came to.
     pub fn end(&self) -> End
-        requires { length self.now.world.known ≤ 65535 }
+        requires known { length self.now.world.known ≤ 65535 }
+        requires live { length self.now.world.live ≤ 4096 }
         ensures { result ≡ end_of self.now.world }
     {
         let known = self.known.len() as u32;
