@@ -1,18 +1,15 @@
 -- What is computed from the recorder is what the definitions say of the world that it carries.
-use Rattle.std.proofs.Common.{◌≡◌, ℕ, ◌<◌, ◌≤◌, List, length, ap, sym, ◌∙◌, subst, arith}
-use Rattle.std.specs.Prelude.{Option, Some, None, ℤ, pos}
+use Rattle.std.proofs.Common.{◌≡◌, ℕ, ◌<◌, ◌≤◌, List, length, ap, sym, ◌∙◌, arith}
+use Rattle.std.specs.Prelude.{None, pos}
 use Rattle.rex_syntax.specs.declared.request.Request.{Request}
 use Rattle.rex_syntax.specs.declared.service.Declarations.{Declarations}
 use Rattle.rex_syntax.specs.Service.{IsService}
 use Rattle.rex_event.specs.declared.event.Event.{Event}
-use Rattle.rex_state.specs.declared.lane.Entry.{Entry}
 use Rattle.rex_state.specs.Value.{StateValue}
 use Rattle.rex_state.specs.Machine.{lane_of, entry_at}
-use Rattle.rex_record.specs.declared.recorder.Release.{Release}
 use Rattle.rex_record.specs.Turn.{turn_of, does_draw}
 use Rattle.rex_record.specs.Value.{queued_in, releases}
 use Rattle.rex_record.specs.Kept.{CanBegin}
-use Rattle.rex_report.specs.declared.effect.Effect.{Effect}
 use Rattle.rex_report.specs.declared.effect.Effect.TheVariants.{Queued}
 use Rattle.rex_scenario.specs.Fits.{RequestFits}
 use Rattle.rand_pcg.specs.Pcg.{pcg32}
