@@ -18,7 +18,7 @@ use Rattle.rex_world.specs.Answering.{answer_in, taken, turn_at, turned_at, turn
 use Rattle.rex_world.proofs.Bridges.{answer_is, turn_is, draw_is}
 
 -- one more line is done
-pub counted : Running → Running
+abbrev pub counted : Running → Running
 counted r = record r { world = record r.world { done = r.world.done + 1 } }
 
 module _ (service : Declarations) (r : Running) (h : IsRunning service r) (leads : is_follower r.world ≡ false) where
@@ -37,7 +37,7 @@ module _ (service : Declarations) (r : Running) (h : IsRunning service r) (leads
         ap (λ (queue : List Request). queued_as (spec.queue_with queue q (answer_in r q))) h.queue
         ∙ sym (ap (λ (x : spec.Row). with_row x (record r.recorder { queue = x.world.queue })) submit_is)
       where
-        queued_as : List Request → Running
+        abbrev queued_as : List Request → Running
         queued_as queue = record { world = spec.counted (record r.world { queue = queue }); recorder = record r.recorder { queue = queue } }
 
   module _ (lane : ℕ) where
@@ -61,7 +61,7 @@ module _ (service : Declarations) (r : Running) (h : IsRunning service r) (leads
     dice_are : dice_after (does_draw service r.recorder.state (length r.recorder.live) lane) r.world.dice ≡ spec.dice_after service r.world lane
     dice_are = ap (λ (b : Bool). dice_after b r.world.dice) (draw_is service r h lane) ∙ same_dice (does_draw service (live_state service r.world) (length r.world.live) lane) r.world.dice
 
-    turned_as : List Event → List Request → Lcg → Running
+    abbrev turned_as : List Event → List Request → Lcg → Running
     turned_as live queue dice = record {
       world = spec.counted (record r.world { live = live_after live (turn_at service r lane); queue = queue_after queue (turn_at service r lane); dice = dice });
       recorder = turned_recorder service r.recorder (turn_at service r lane);
