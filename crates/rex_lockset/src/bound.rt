@@ -5,6 +5,7 @@ ghost use Rattle.rex_syntax.specs.Check.{other_of, bound_of, bounds as bounds_of
 ghost use Rattle.rex_lockset.specs.Bound.{capped};
 
 use rex_syntax::line::Line;
+use rex_syntax::service::LINES;
 use std::alloc::{AllocError, Global};
 
 /// The most steps of a handler that passes.
@@ -26,8 +27,8 @@ fn other_line(line: &Line, place: usize) -> usize
 
 /// The steps from a line on, by those from the next line and from the other one.
 fn line_bound(line: &Line, next: u64, other: u64) -> u64
-    requires next { next ≤ 100001 }
-    requires other { other ≤ 100001 }
+    requires next { next ≤ MOST_STEPS + 1 }
+    requires other { other ≤ MOST_STEPS + 1 }
     ensures { result ≡ capped (bound_of line.now next other) }
 {
     let bound = match line {
@@ -43,7 +44,7 @@ fn line_bound(line: &Line, next: u64, other: u64) -> u64
 
 /// The bound on the steps of a handler with these lines, where all from 100,001 on count as that.
 pub fn step_bound(alloc: Global, lines: &[Line]) -> Result<u64, AllocError>
-    requires { length lines.now ≤ 256 }
+    requires { length lines.now ≤ LINES }
     ensures { IfOk result (λ bound. bound ≡ capped (step_bound_of lines.now)) }
 {
     let mut bounds = vec![in alloc; 0u64; lines.len()]?;
@@ -53,7 +54,7 @@ pub fn step_bound(alloc: Global, lines: &[Line]) -> Result<u64, AllocError>
 
 /// Writes the bound from each line on, from the last one to the first.
 fn fill_bounds(lines: &[Line], bounds: &mut [u64])
-    requires short { length lines.now ≤ 256 }
+    requires short { length lines.now ≤ LINES }
     requires long { length bounds.old ≡ length lines.now }
     ensures { bounds.new ≡ map capped (bounds_of 0 lines.now) }
 {

@@ -32,6 +32,7 @@ fn condition_lock(service: &Declarations, condition: u8) -> u8
     service.conditions.as_slice()[condition as usize].lock
 }
 
+/// Whether what is read may be read.
 fn operand_is_held(service: &Declarations, held: &Lockset, operand: Operand) -> bool
     requires sound { IsService service.now }
     requires names { OperandFits LOCALS (length service.now.variables) operand }
@@ -43,6 +44,7 @@ fn operand_is_held(service: &Declarations, held: &Lockset, operand: Operand) -> 
     }
 }
 
+/// Whether every variable that is read may be read.
 fn expr_is_held(service: &Declarations, held: &Lockset, expr: &Expr) -> bool
     requires sound { IsService service.now }
     requires names { ExprNames service.now LOCALS expr.now }
@@ -59,6 +61,7 @@ fn expr_is_held(service: &Declarations, held: &Lockset, expr: &Expr) -> bool
     true
 }
 
+/// It leads to the next line alone.
 fn on(held: Lockset) -> Leads
     ensures { result ≡ on held }
 {
@@ -71,6 +74,7 @@ fn on(held: Lockset) -> Leads
     }
 }
 
+/// It leads to the next line, and to another one.
 fn fork(held: Lockset, line: u16, other: Lockset) -> Leads
     ensures { result ≡ fork held line other }
 {
@@ -83,6 +87,7 @@ fn fork(held: Lockset, line: u16, other: Lockset) -> Leads
     }
 }
 
+/// It leads to another line alone.
 fn jump(held: Lockset, line: u16) -> Leads
     ensures { result ≡ jump held line }
 {
@@ -95,6 +100,7 @@ fn jump(held: Lockset, line: u16) -> Leads
     }
 }
 
+/// It leads nowhere.
 pub(crate) fn nowhere() -> Leads
     ensures { result ≡ nowhere }
 {

@@ -1,5 +1,5 @@
-//! The check of a service before it runs: no lane reads or writes a variable whose lock it doesn't hold, none waits for
-//! another in a circle, none keeps a lock after its reply, and no handler runs too long.
+//! The check of a service before it runs: against races on variables, lanes that wait for each other in a circle, locks
+//! kept at a reply, and handlers that run too long.
 //!
 //! What a lane holds is its lockset: each lock with its mode. The check follows the lines of a handler once, from the
 //! first to the last, with the lockset with which a lane comes to each of them. Nothing is held at the first line. A

@@ -11,7 +11,7 @@ use crate::leads::{leads_from, nowhere};
 use rex_syntax::flow::{CheckCode, Leads};
 use rex_syntax::line::Line;
 use rex_syntax::locks::Lockset;
-use rex_syntax::service::{Declarations, Handler, LOCALS};
+use rex_syntax::service::{Declarations, Handler, LINES, LOCALS};
 use std::alloc::{AllocError, Global};
 
 /// What the check refuses: the number of a handler from 0, the number of a line in it from 0, or none where the handler
@@ -96,7 +96,7 @@ fn refused_line(
 
 /// The refusal of a handler as a whole, where it may take too many steps.
 fn too_long(alloc: Global, number: u8, lines: &[Line]) -> Result<Option<Refused>, AllocError>
-    requires { length lines.now ≤ 256 }
+    requires { length lines.now ≤ LINES }
     ensures { IfOk result (λ refused. refused ≡ spec.too_long number lines.now) }
 {
     if step_bound(alloc, lines)? <= MOST_STEPS {
