@@ -1,6 +1,19 @@
 -- What a submit and a lane's turn leave, from the recorder.
-use Rattle.std.proofs.Common.{◌≡◌, ℕ, ◌+◌, Bool, true, false, List, [], ◌∷◌, length, refl, ap, sym, ◌∙◌, subst}
-use Rattle.std.specs.Prelude.{Option, Some, slice_get, pos, if◌then◌else◌}
+use Rattle.std.proofs.Common.{drop, get_or, suc, ◌<◌, arith, append_assoc, ◌≡◌, ℕ, ◌+◌, Bool, true, false, List, [], ◌∷◌, length, refl, ap, sym, ◌∙◌, subst}
+use Rattle.std.specs.Prelude.{◌++◌, Result, Ok, Err, OnOk, ℤ, Option, Some, slice_get, pos, if◌then◌else◌}
+use Rattle.std.proofs.Math.Seq.{drop-cons}
+use Rattle.std.specs.List.{All}
+use Rattle.rex_syntax.specs.Service.{IsService}
+use Rattle.rex_scenario.specs.Fits.{RequestFits, LineFits}
+use Rattle.rex_scenario.specs.declared.scenario.ScheduleLine.{ScheduleLine}
+use Rattle.rex_syntax.specs.declared.service.Variable.{Variable}
+use Rattle.rex_state.specs.Value.{StateValue}
+use Rattle.rex_state.specs.Start.{start_of}
+use Rattle.rex_report.specs.declared.ends.End.{End}
+use Rattle.rex_report.specs.Ends.{end_text}
+use Rattle.rex_world.proofs.Carried.{live_is}
+use Rattle.rex_world.proofs.Carrying.{running_keeps, fits_lane, fits_node}
+use Rattle.std.proofs.lemmas.Result.{on_ok_weaker}
 use Rattle.rex_syntax.specs.declared.request.Request.{Request}
 use Rattle.rex_syntax.specs.declared.service.Declarations.{Declarations}
 use Rattle.rex_event.specs.declared.event.Event.{Event}
@@ -13,7 +26,8 @@ use Rattle.rex_report.specs.declared.effect.Effect.{Effect}
 use Rattle.rex_scenario.specs.declared.scenario.ScheduleLine.TheVariants as line
 use Rattle.rex_world.specs.World.{WorldValue, is_follower, live_state}
 use Rattle.rex_world.specs.Row as spec
-use Rattle.rex_world.specs.Running.{Running, IsRunning, with_row, recorder_after}
+use Rattle.rex_world.specs.Report.{effects_text, report_from, values_of}
+use Rattle.rex_world.specs.Running.{Running, IsRunning, with_row, recorder_after, running_after}
 use Rattle.rex_world.specs.Answering.{answer_in, taken, turn_at, turned_at, turned_by}
 use Rattle.rex_world.proofs.Bridges.{answer_is, turn_is, draw_is}
 
@@ -32,13 +46,13 @@ module _ (service : Declarations) (r : Running) (h : IsRunning service r) (leads
     pub told_answer : (spec.submit_row service requests r.world number).effects ≡ answer_in r q ∷ []
     told_answer = ap (λ (x : spec.Row). x.effects) submit_is
 
+    abbrev queued_as : List Request → Running
+    queued_as queue = record { world = spec.counted (record r.world { queue = queue }); recorder = record r.recorder { queue = queue } }
+
     pub after_answer : counted (taken r q (answer_in r q)) ≡ with_row (spec.submit_row service requests r.world number) (recorder_after service requests r (line.Submit 1 number))
     after_answer =
         ap (λ (queue : List Request). queued_as (spec.queue_with queue q (answer_in r q))) h.queue
         ∙ sym (ap (λ (x : spec.Row). with_row x (record r.recorder { queue = x.world.queue })) submit_is)
-      where
-        abbrev queued_as : List Request → Running
-        queued_as queue = record { world = spec.counted (record r.world { queue = queue }); recorder = record r.recorder { queue = queue } }
 
   module _ (lane : ℕ) where
     lane_is : spec.lane_row service r.world lane ≡ spec.turned service r.world lane (turn_at service r lane)
@@ -74,3 +88,53 @@ module _ (service : Declarations) (r : Running) (h : IsRunning service r) (leads
         ∙ ap (turned_as r.world.live r.world.queue) dice_are
         ∙ ap (with_row (spec.turned service r.world lane (turn_at service r lane))) (sym same_recorder)
         ∙ ap (λ (x : spec.Row). with_row x (recorder_after service [] r (line.Lane 1 lane))) (sym lane_is)
+
+-- what holds anyway holds at Ok
+pub on_ok_always : {E P : Type 0} (r : Result (Unit {0}) E) → P → OnOk r P
+on_ok_always (Ok u) p = p
+on_ok_always (Err e) p = tt
+
+-- a text that is told, in other terms
+pub told_as : {E : Type 0} {service other : Declarations} {n m : ℕ} {es others : List Effect} (r : Result (Unit {0}) E) (before after : List ℕ) → other ≡ service → m ≡ n → others ≡ es
+    → OnOk r (after ≡ before ++ effects_text other m others) → OnOk r (after ≡ before ++ effects_text service n es)
+told_as {E} {service} {other} {n} {m} {es} {others} r before after d k e h = on_ok_weaker r (λ (t : after ≡ before ++ effects_text other m others). cc) h
+
+-- a line that does what the definitions say keeps the world running
+pub step_runs : {E : Type 0} (service : Declarations) (requests : List Request) (seed : ℕ) (r : Running) (line : ScheduleLine) (result : Result (Unit {0}) E) (after : Running) → IsService service → All (RequestFits service) requests
+    → LineFits 1 (length requests) service.lanes line → IsRunning service r → OnOk result (after ≡ running_after service requests seed r line) → OnOk result (IsRunning service after)
+step_runs service requests seed r line result after good fit fits h e =
+    on_ok_weaker result
+    (λ (t : after ≡ running_after service requests seed r line).
+        subst (IsRunning service) (sym t) (running_keeps service requests seed r line good fit (fits_lane service (length requests) line fits) (fits_node service (length requests) line fits) h))
+    e
+
+-- ---- the report
+
+-- the values after the live events are the recorder's
+pub live_values : (service : Declarations) (r : Running) → IsRunning service r → is_follower r.world ≡ false → r.recorder.state.variables ≡ values_of service r.world
+live_values service r h leads =
+    ap (λ (s : StateValue). s.variables) (sym (live_is service r h))
+    ∙ ap (λ (b : Bool). if b then (start_of service).variables else (live_state service r.world).variables) (sym leads)
+
+-- an end line that is told, in other terms
+pub ended_as : {E : Type 0} {end other : End} {variables others : List Variable} {values shown : List ℤ} (r : Result (Unit {0}) E) (before after : List ℕ) → other ≡ end → others ≡ variables → shown ≡ values
+    → OnOk r (after ≡ before ++ end_text other others shown) → OnOk r (after ≡ before ++ end_text end variables values)
+ended_as {E} {end} {other} {variables} {others} {values} {shown} r before after a b d h = on_ok_weaker r (λ (t : after ≡ before ++ end_text other others shown). cc) h
+
+-- the lines from a place on
+pub drop_next : {X : Type 0} (xs : List X) (i : ℕ) (d : X) → i < length xs → drop i xs ≡ get_or xs i d ∷ drop (i + 1) xs
+drop_next xs i d lt = subst (λ (n : ℕ). drop i xs ≡ get_or xs i d ∷ drop n xs) (one_on i) (drop-cons xs i d lt)
+  where
+    one_on : (n : ℕ) → suc n ≡ n + 1
+    one_on n = omega arith
+
+-- a line that is told, where the report goes on
+pub line_told : (service : Declarations) (requests : List Request) (seed : ℕ) (w after : WorldValue) (line : ScheduleLine) (rest left : List ScheduleLine) (before out total : List ℕ) → left ≡ line ∷ rest
+    → after ≡ (spec.row service requests seed w line).world → out ≡ before ++ effects_text service (w.done + 1) (spec.row service requests seed w line).effects → before ++ report_from service requests seed w left ≡ total
+    → out ++ report_from service requests seed after rest ≡ total
+line_told service requests seed w after line rest left before out total l a o t =
+    ap (λ (text : List ℕ). text ++ report_from service requests seed after rest) o
+    ∙ append_assoc before (effects_text service (w.done + 1) (spec.row service requests seed w line).effects) (report_from service requests seed after rest)
+    ∙ ap (λ (x : WorldValue). before ++ (effects_text service (w.done + 1) (spec.row service requests seed w line).effects ++ report_from service requests seed x rest)) a
+    ∙ ap (λ (lines : List ScheduleLine). before ++ report_from service requests seed w lines) (sym l)
+    ∙ t

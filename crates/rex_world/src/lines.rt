@@ -9,6 +9,7 @@ use crate::answers::answer_of;
 use crate::effects::{tell, tell_both, tell_releases, turn_effect};
 use crate::world::{INSTANCES, World};
 use rand_pcg::Lcg64Xsh32;
+use rex_event::Kind;
 use rex_record::{Recorder, Settled};
 use rex_report::{Effect, Role};
 use rex_syntax::checked::Checked;
@@ -110,6 +111,7 @@ impl World {
         requires answer { answer.now ≡ answer_in self.old request.now }
         ensures { OnOk result (self.new ≡ taken self.old request.now answer.now) }
     {
+        let _service = svc.declarations();
         if let Effect::Queued = answer {
             self.recorder.queue(svc, *request)?;
         }
@@ -137,6 +139,8 @@ impl World {
             return self.not_active(svc, out);
         }
         let effect = self.turn(svc, lane)?;
+        // The checker loses sight of an event's kinds in a function that names none.
+        let _kind: Option<Kind> = None;
         self.done += 1;
         tell(out, svc.declarations(), self.done, &effect)
     }
