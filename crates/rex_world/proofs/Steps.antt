@@ -121,9 +121,11 @@ pub ended_as : {E : Type 0} {end other : End} {variables others : List Variable}
     → OnOk r (after ≡ before ++ end_text other others shown) → OnOk r (after ≡ before ++ end_text end variables values)
 ended_as {E} {end} {other} {variables} {others} {values} {shown} r before after a b d h = on_ok_weaker r (λ (t : after ≡ before ++ end_text other others shown). cc) h
 
--- the lines from a place on
-pub drop_next : {X : Type 0} (xs : List X) (i : ℕ) (d : X) → i < length xs → drop i xs ≡ get_or xs i d ∷ drop (i + 1) xs
-drop_next xs i d lt = subst (λ (n : ℕ). drop i xs ≡ get_or xs i d ∷ drop n xs) (one_on i) (drop-cons xs i d lt)
+-- the items from a place on
+pub drop_next : {X : Type 0} (xs same : List X) (i : ℕ) (d : X) → same ≡ xs → i < length same → drop i xs ≡ get_or same i d ∷ drop (i + 1) xs
+drop_next {X} xs same i d e lt =
+    subst (λ (ys : List X). drop i ys ≡ get_or same i d ∷ drop (i + 1) ys) e
+    (subst (λ (n : ℕ). drop i same ≡ get_or same i d ∷ drop n same) (one_on i) (drop-cons same i d lt))
   where
     one_on : (n : ℕ) → suc n ≡ n + 1
     one_on n = omega arith

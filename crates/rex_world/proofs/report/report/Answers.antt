@@ -1,5 +1,4 @@
 use Rattle.std.proofs.Common.{◌≡◌, ℕ, ◌+◌, ◌≤◌, ◌<◌, List, drop, length, sym, ap, ◌∙◌, refl, subst}
-use Rattle.rex_scenario.specs.declared.scenario.ScheduleLine.{ScheduleLine}
 use Rattle.rex_world.specs.Report.{report_of}
 use Rattle.rex_world.specs.World.{WorldValue}
 use Rattle.rex_world.proofs.Counts.{row_done}
@@ -15,5 +14,5 @@ loop-line-preserved c = record {
   told =
       line_told c.args.svc.now c.as_slice-requests.result.now c.args.scenario.now.seed c.loop-line.world.world c.step.new.self.world _ (drop (c.loop-line.line-index + 1) c.args.scenario.now.schedule)
       (drop c.loop-line.line-index c.args.scenario.now.schedule) c.loop-line.out.items c.step.new.out.items (report_of c.args.svc.now c.args.scenario.now)
-      (drop_next c.args.scenario.now.schedule c.loop-line.line-index _ (subst (λ (lines : List ScheduleLine). c.loop-line.line-index < length lines) c.as_slice-line-items.ensures c.loop-line-test.true)) c.in_ok-step.ensures.world c.in_ok-step.ensures.told c.loop-line.invariant.told;
+      (drop_next c.args.scenario.now.schedule c.as_slice-line-items.result.now c.loop-line.line-index _ c.as_slice-line-items.ensures c.loop-line-test.true) c.in_ok-step.ensures.world c.in_ok-step.ensures.told c.loop-line.invariant.told;
 }
