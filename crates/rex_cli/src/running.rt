@@ -14,7 +14,7 @@ use rex_scenario::{Scenario, ScenarioError, read_scenario};
 use rex_streams::{ReadFault, read_input, write_all};
 use rex_syntax::service::Service;
 use rex_traits::{Gate, Sink, SinkFault, Source};
-use rex_world::report;
+use rex_world::report::report;
 use std::alloc::{AllocError, Global};
 use std::thread::Threads;
 
