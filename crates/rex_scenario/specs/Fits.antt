@@ -17,6 +17,7 @@ pub record RequestFits (service : Declarations) (r : Request) : Type 0 where
   pub handler : r.handler < length service.handlers
   pub takes : takes_so_many (slice_get service.handlers r.handler) (length r.arguments) ≡ true
 
+-- a number from 1 to that of the nodes
 abbrev pub IsNode : ℕ → ℕ → Type 0
 IsNode nodes n = (0 < n) × (n ≤ nodes)
 

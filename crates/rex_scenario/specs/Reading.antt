@@ -19,13 +19,16 @@ use Rattle.rex_scenario.specs.declared.scenario.Stage.TheVariants as stage
 abbrev pub no_sections : Sections
 no_sections = record { stage = stage.Start; service = nothing; requests = []; schedule = [] }
 
+-- each byte of a line is allowed
 abbrev pub is_clean : List ℕ → Bool
 is_clean line = list_all is_allowed line
 
+-- a code of the service as one of the scenario
 abbrev pub of_service : Option ServiceCode → Option ScenarioCode
 of_service None = None
 of_service (Some c) = Some (Service c)
 
+-- a byte that is not allowed
 abbrev pub byte_code : List ℕ → Option ScenarioCode
 byte_code line = if is_clean line then None else Some BadByte
 
@@ -33,6 +36,7 @@ byte_code line = if is_clean line then None else Some BadByte
 abbrev pub service_end_code : Sections → List ℕ → Option ScenarioCode
 service_end_code s line = or_code (of_service (end_code s.service)) (or_code (byte_code line) (heading_code stage.Service (words_of line)))
 
+-- the code that fits a line of the service, or the heading that ends it
 abbrev pub service_line_code : Sections → List ℕ → Option ScenarioCode
 service_line_code s line = if is_heading (words_of line) then service_end_code s line else of_service (raw_code s.service line)
 
@@ -42,6 +46,7 @@ words_code s stage.Requests ws = request_code s.service s.requests ws
 words_code s stage.Schedule ws = schedule_code 1 (length s.requests) (unwrap_or s.service.lanes 0) (length s.schedule) ws
 words_code s _ ws = Some OutOfPlace
 
+-- the code that fits a line outside the service
 abbrev pub other_line_code : Sections → List ℕ → Option ScenarioCode
 other_line_code s line =
     if not (is_clean line) then Some BadByte
@@ -49,6 +54,7 @@ other_line_code s line =
     else if is_heading (words_of line) then heading_code s.stage (words_of line)
     else words_code s s.stage (words_of line)
 
+-- the code that fits a line at a stage
 abbrev pub code_in : Stage → Sections → List ℕ → Option ScenarioCode
 code_in stage.Service s line = service_line_code s line
 code_in _ s line = other_line_code s line
@@ -61,6 +67,7 @@ line_code s line = code_in s.stage s line
 abbrev pub after_heading : Sections → Sections
 after_heading s = record s { stage = next_stage s.stage }
 
+-- what a good line of the service says, or the heading that ends it
 abbrev pub service_line_after : Sections → ℕ → List ℕ → Sections
 service_line_after s number line = if is_heading (words_of line) then after_heading s else record s { service = raw_after s.service number line }
 
@@ -70,12 +77,14 @@ after_words s stage.Requests ws = record s { requests = s.requests ++ request_of
 after_words s stage.Schedule ws = record s { schedule = with_step s.schedule (step_of ws) }
 after_words s _ ws = s
 
+-- what a good line outside the service says
 abbrev pub other_line_after : Sections → List ℕ → Sections
 other_line_after s line =
     if is_skipped (words_of line) then s
     else if is_heading (words_of line) then after_heading s
     else after_words s s.stage (words_of line)
 
+-- what a good line at a stage says
 abbrev pub after_in : Stage → Sections → ℕ → List ℕ → Sections
 after_in stage.Service s number line = service_line_after s number line
 after_in _ s number line = other_line_after s line

@@ -48,6 +48,7 @@ line_of (step.Submit n r) = Submit n (r - 1)
 line_of (step.Lane n l) = Lane n (l - 1)
 line_of (step.Cut n) = Cut n
 
+-- the code that fits a step, or words that spell none
 abbrev pub step_code : ℕ → ℕ → ℕ → ℕ → Option Step → Option ScenarioCode
 step_code nodes requests lanes earlier None = Some BadLine
 step_code nodes requests lanes earlier (Some s) =

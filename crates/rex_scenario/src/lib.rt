@@ -11,9 +11,7 @@ mod schedule;
 mod words;
 
 pub use reading::{SCENARIO_BYTES, first_bad_line, read_scenario};
-pub use scenario::{
-    LineFault, Scenario, ScenarioCode, ScenarioError, ScheduleLine, Sections, Stage,
-};
+pub use scenario::{Scenario, ScenarioCode, ScenarioError, ScheduleLine, Sections, Stage};
 
 #[cfg(test)]
 mod tests;

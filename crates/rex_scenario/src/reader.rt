@@ -59,7 +59,8 @@ impl Reader {
     /// Takes a line as it stands, with its number in the text.
     pub(crate) fn line(&mut self, number: u32, line: &[u8]) -> Result<(), LineFault>
         requires { SectionsFit self.old }
-        ensures takes { Takes result (reading.line_code self.old line.now) (reading.line_after self.old number line.now) self.new }
+        ensures takes { Takes result (reading.line_code self.old line.now)
+            (reading.line_after self.old number line.now) self.new }
         ensures good { OnOk result (IsGood self.new.service) }
     {
         match self.stage {
@@ -74,7 +75,8 @@ impl Reader {
     fn service_line(&mut self, number: u32, line: &[u8]) -> Result<(), LineFault>
         requires stage { self.old.stage ≡ stage.Service }
         requires good { IsGood self.old.service }
-        ensures takes { Takes result (reading.service_line_code self.old line.now) (reading.service_line_after self.old number line.now) self.new }
+        ensures takes { Takes result (reading.service_line_code self.old line.now)
+            (reading.service_line_after self.old number line.now) self.new }
         ensures good { OnOk result (IsGood self.new.service) }
     {
         if is_heading_line(line) {
@@ -90,7 +92,8 @@ impl Reader {
     // The heading that ends the service.
     fn end_service(&mut self, line: &[u8]) -> Result<(), LineFault>
         requires { self.old.stage ≡ stage.Service }
-        ensures { Takes result (reading.service_end_code self.old line.now) (reading.after_heading self.old) self.new }
+        ensures { Takes result (reading.service_end_code self.old line.now)
+            (reading.after_heading self.old) self.new }
     {
         if let Some(code) = self.parser.end_code() {
             return Err(LineFault::Refused(ScenarioCode::Service(code)));
@@ -105,7 +108,8 @@ impl Reader {
     }
 
     fn heading(&mut self, words: &[&[u8]]) -> Result<(), LineFault>
-        ensures { Takes result (headings.heading_code self.old.stage (texts words.now)) (reading.after_heading self.old) self.new }
+        ensures { Takes result (headings.heading_code self.old.stage (texts words.now))
+            (reading.after_heading self.old) self.new }
     {
         if let Some(code) = heading_code(self.stage, words) {
             return Err(LineFault::Refused(code));
@@ -117,7 +121,8 @@ impl Reader {
     // A line outside the service.
     fn other_line(&mut self, line: &[u8]) -> Result<(), LineFault>
         requires { SectionsFit self.old }
-        ensures { Takes result (reading.other_line_code self.old line.now) (reading.other_line_after self.old line.now) self.new }
+        ensures { Takes result (reading.other_line_code self.old line.now)
+            (reading.other_line_after self.old line.now) self.new }
     {
         if !is_clean(line) {
             return Err(LineFault::Refused(ScenarioCode::BadByte));
@@ -137,7 +142,8 @@ impl Reader {
     // A line with words that is no heading.
     fn word_line(&mut self, words: &[&[u8]]) -> Result<(), LineFault>
         requires { SectionsFit self.old }
-        ensures { Takes result (reading.words_code self.old self.old.stage (texts words.now)) (reading.after_words self.old self.old.stage (texts words.now)) self.new }
+        ensures { Takes result (reading.words_code self.old self.old.stage (texts words.now))
+            (reading.after_words self.old self.old.stage (texts words.now)) self.new }
     {
         match self.stage {
             Stage::Requests => self.request_line(words),
@@ -151,7 +157,8 @@ impl Reader {
     fn request_line(&mut self, words: &[&[u8]]) -> Result<(), LineFault>
         requires stage { self.old.stage ≡ stage.Requests }
         requires fit { SectionsFit self.old }
-        ensures { Takes result (reading.words_code self.old stage.Requests (texts words.now)) (reading.after_words self.old stage.Requests (texts words.now)) self.new }
+        ensures { Takes result (reading.words_code self.old stage.Requests (texts words.now))
+            (reading.after_words self.old stage.Requests (texts words.now)) self.new }
     {
         let request = match read_request(self.parser.above(), words) {
             Ok(request) => request,
@@ -182,7 +189,8 @@ impl Reader {
     fn schedule_line(&mut self, words: &[&[u8]]) -> Result<(), LineFault>
         requires stage { self.old.stage ≡ stage.Schedule }
         requires fit { SectionsFit self.old }
-        ensures { Takes result (reading.words_code self.old stage.Schedule (texts words.now)) (reading.after_words self.old stage.Schedule (texts words.now)) self.new }
+        ensures { Takes result (reading.words_code self.old stage.Schedule (texts words.now))
+            (reading.after_words self.old stage.Schedule (texts words.now)) self.new }
     {
         let lanes = self.parser.above().lanes.unwrap_or(0);
         let line = match read_schedule_line(

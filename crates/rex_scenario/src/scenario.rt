@@ -59,7 +59,7 @@ pub enum ScenarioCode {
 
 /// Why a line was not taken.
 #[derive(Clone, Copy, Debug, PartialEq, Eq)]
-pub enum LineFault {
+pub(crate) enum LineFault {
     Refused(ScenarioCode),
     OutOfMemory,
 }

@@ -1,11 +1,10 @@
 //! Schedule lines.
 
-ghost use Rattle.std.specs.Prelude.{◌≡◌, ◌≤◌, ◌-◌, None, Some, IfOk, IfSome, option_map, if◌then◌else◌};
+ghost use Rattle.std.specs.Prelude.{◌≡◌, ◌≤◌, ◌-◌, None, Some, IfOk, option_map, if◌then◌else◌};
 ghost use Rattle.std.specs.Result.{result_err};
 ghost use Rattle.rex_parse.specs.Answers.{texts};
 ghost use Rattle.rex_parse.specs.Table.{in_range};
 ghost use Rattle.rex_scenario.specs.Schedule as schedule;
-ghost use Rattle.rex_scenario.specs.Fits.{LineFits};
 
 use crate::scenario::{ScenarioCode, ScheduleLine};
 use rex_text::read_u64;
@@ -68,7 +67,6 @@ pub(crate) fn read_schedule_line(
     requires lanes { lanes ≤ 16 }
     ensures code { result_err result ≡ schedule.schedule_code 1 requests lanes earlier (texts words.now) }
     ensures line { IfOk result (λ l. option_map schedule.line_of (schedule.step_of (texts words.now)) ≡ Some l) }
-    ensures fits { IfOk result (LineFits 1 requests lanes) }
 {
     let Some(step) = step_of(words) else {
         return Err(ScenarioCode::BadLine);
@@ -83,8 +81,7 @@ pub(crate) fn read_schedule_line(
 fn placed(step: Step, requests: u64, lanes: u64) -> Option<ScheduleLine>
     requires requests { requests ≤ 65536 }
     requires lanes { lanes ≤ 16 }
-    ensures line { result ≡ (if schedule.is_there 1 requests lanes step then Some (schedule.line_of step) else None) }
-    ensures fits { IfSome result (LineFits 1 requests lanes) }
+    ensures { result ≡ (if schedule.is_there 1 requests lanes step then Some (schedule.line_of step) else None) }
 {
     let line = match step {
         Step::Elect(node) => ScheduleLine::Elect {
