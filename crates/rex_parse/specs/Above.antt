@@ -1,5 +1,5 @@
 -- What the lines above a line have declared.
-use Rattle.std.specs.Prelude.{ℕ, Bool, List, [], Option, None, is_some, find, option_map}
+use Rattle.std.specs.Prelude.{ℕ, Bool, [], Option, None, is_some, find, option_map}
 use Rattle.std.specs.List.{list_any, position_or_len}
 use Rattle.std.specs.Str.{bytes_eq}
 use Rattle.rex_text.specs.Text.{Word}

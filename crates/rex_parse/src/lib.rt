@@ -9,11 +9,14 @@ mod language;
 mod least;
 mod lines;
 mod names;
-mod taking;
 mod parser;
 mod reading;
+mod taking;
 mod words;
 
 pub use language::{Above, Entry, Fault, Form, Meaning, OpenHandler, ReadError, ServiceCode};
 pub use parser::Parser;
 pub use reading::{first_bad_line, read_service};
+
+#[cfg(test)]
+mod tests;
