@@ -11,6 +11,7 @@ use Rattle.rex_parse.specs.declared.language.Meaning.{Meaning}
 abbrev pub nothing : Above
 nothing = record { lanes = None; names = []; locks = []; conditions = []; variables = []; handlers = []; locals = []; open_handler = None }
 
+-- what the name of an entry stands for
 abbrev pub meaning_in : Entry → Meaning
 meaning_in e = e.meaning
 
