@@ -36,12 +36,12 @@ counter = record {
     parameters = 1;
     locals = 2;
     lines =
-      line.Acquire 0
-      ∷ line.Set 0 (record { first = Variable 0; rest = (record { operator = Add; operand = Local 0 }) ∷ [] })
-      ∷ line.Let 1 (record { first = Variable 0; rest = [] })
-      ∷ line.Release 0
-      ∷ line.Reply (record { first = Local 1; rest = [] })
-      ∷ [];
+        line.Acquire 0
+        ∷ line.Set 0 (record { first = Variable 0; rest = (record { operator = Add; operand = Local 0 }) ∷ [] })
+        ∷ line.Let 1 (record { first = Variable 0; rest = [] })
+        ∷ line.Release 0
+        ∷ line.Reply (record { first = Local 1; rest = [] })
+        ∷ [];
     line_numbers = 5 ∷ 6 ∷ 7 ∷ 8 ∷ 9 ∷ [];
   }) ∷ [];
 }

@@ -1,12 +1,12 @@
 -- What holds of a line that no code fits.
-use Rattle.std.proofs.Common.{◌≡◌, ℕ, ◌+◌, ◌<◌, ◌≤◌, Bool, true, false, cond, not, ◌&&◌, leb, List, [], ◌∷◌, length, get_or, Option, Some, None, refl, sym, ap, ◌∙◌, arith}
+use Rattle.std.proofs.Common.{◌≡◌, ℕ, ◌<◌, ◌≤◌, Bool, true, false, cond, not, leb, List, [], ◌∷◌, length, get_or, Option, Some, None, refl, arith}
 use Rattle.std.proofs.lemmas.Bool.{leb-false}
 use Rattle.std.specs.Borrow.{Bor}
 use Rattle.rex_text.specs.Text.{Word}
 use Rattle.rex_parse.specs.Answers.{texts}
 use Rattle.rex_parse.specs.Words.{least, fits}
-use Rattle.rex_parse.specs.Above.{is_local, is_open}
-use Rattle.rex_parse.specs.Table.{slots, slots_code, is_misshapen, is_inside, same, limit_code, order_code, form_code, full_code, locals_code, lines_of_open}
+use Rattle.rex_parse.specs.Above.{is_open}
+use Rattle.rex_parse.specs.Table.{slots, slots_code, is_misshapen, is_inside, same, limit_code, order_code, form_code, full_code, locals_code}
 use Rattle.rex_parse.specs.declared.language.Above.{Above}
 use Rattle.rex_parse.specs.declared.language.ServiceCode.{ServiceCode}
 use Rattle.rex_parse.specs.declared.language.ServiceCode.TheVariants.{Misplaced, BadForm}

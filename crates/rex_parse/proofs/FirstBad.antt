@@ -1,5 +1,5 @@
 -- The fold over the lines answers the first bad line.
-use Rattle.std.proofs.Common.{◌≡◌, ℕ, zero, suc, ◌+◌, ◌<◌, List, [], ◌∷◌, length, Option, Some, None, Result, Err, Ok, refl, sym, ap, ◌∙◌, arith, inl, inr, add-zero}
+use Rattle.std.proofs.Common.{◌≡◌, ℕ, zero, suc, ◌+◌, List, [], ◌∷◌, length, Option, Some, None, Result, Err, Ok, refl, sym, ap, ◌∙◌, arith, inl, inr, add-zero}
 use Rattle.rex_text.specs.Text.{lines_of, numbered}
 use Rattle.rex_parse.specs.Above.{nothing}
 use Rattle.rex_parse.specs.Reading.{raw_code, raw_after, end_code, answer_from, or_next}

@@ -1,16 +1,14 @@
 -- Good lines keep what they keep, and a text that ends well declares a service.
-use Rattle.std.proofs.Common.{◌≡◌, ℕ, ◌+◌, ◌<◌, ◌≤◌, Bool, true, false, cond, not, ◌||◌, eqb, leb, List, [], ◌∷◌, length, Option, Some, None, Result, Ok, Err, OnOk, refl, sym, ap, ◌∙◌, arith}
-use Rattle.std.specs.Prelude.{is_some, unwrap_or, IfSome, MatchOption}
+use Rattle.std.proofs.Common.{◌≡◌, ℕ, ◌<◌, ◌≤◌, Bool, true, false, cond, not, ◌||◌, eqb, leb, List, [], ◌∷◌, length, Option, Some, None, Result, Ok, Err, OnOk, refl, ap, ◌∙◌, arith}
+use Rattle.std.specs.Prelude.{is_some, unwrap_or, MatchOption}
 use Rattle.std.specs.List.{list_all}
 use Rattle.std.proofs.lemmas.Bool.{eqb-false}
-use Rattle.std.proofs.lemmas.List.Elements.{All-nil}
 use Rattle.rex_text.specs.Text.{Word, words_of, is_skipped, is_allowed}
-use Rattle.rex_syntax.specs.declared.service.Declarations.{Declarations}
 use Rattle.rex_syntax.specs.declared.line.Line.TheVariants as line
 use Rattle.rex_syntax.specs.Service.{IsService}
 use Rattle.rex_parse.specs.Words.{fits}
 use Rattle.rex_parse.specs.Above.{nothing, meaning_of, is_open, local_place}
-use Rattle.rex_parse.specs.Table.{form_of, form_code, found_code, line_code, full_code, lines_of_open, whole_expr_code}
+use Rattle.rex_parse.specs.Table.{form_of, found_code, line_code, full_code, lines_of_open, whole_expr_code}
 use Rattle.rex_parse.specs.After.{service_of, lock_number, variable_number, with_line, with_local, expr_of, after_form, after_found, after}
 use Rattle.rex_parse.specs.Reading.{raw_code, raw_after, end_code}
 use Rattle.rex_parse.specs.Good.{IsGood}
@@ -26,7 +24,6 @@ use Rattle.rex_parse.proofs.Extends.{expr_more}
 use Rattle.rex_parse.proofs.Named.{lock_there, variable_there, made_there, whole_expr_fits}
 use Rattle.rex_parse.proofs.Keeps.{began, good_lanes, good_lock, good_var, good_heading}
 use Rattle.rex_parse.proofs.KeepsLines.{LeavesRest, good_line, good_local, good_reply}
-
 
 unshaped : (b : Bool) → (b || true) ≡ false → ⊥
 unshaped true e = absurd cc

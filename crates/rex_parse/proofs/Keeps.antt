@@ -1,25 +1,17 @@
 -- Each good line keeps what good lines keep.
-use Rattle.std.proofs.Common.{◌≡◌, ℕ, ℤ, ◌+◌, ◌<◌, ◌≤◌, Bool, true, false, cond, not, ◌&&◌, ◌||◌, leb, List, [], ◌∷◌, ◌++◌, length, Option, Some, None, refl, sym, ap, ◌∙◌, subst, arith, length-append}
-use Rattle.std.specs.Prelude.{option_map, option_and_then, is_some, nat_le, IfSome, MatchOption}
-use Rattle.std.specs.List.{All}
+use Rattle.std.proofs.Common.{◌≡◌, ℕ, ℤ, ◌+◌, ◌<◌, ◌≤◌, Bool, true, false, cond, not, ◌&&◌, ◌||◌, leb, List, [], ◌∷◌, length, Option, Some, None, refl, sym, subst, arith, length-append}
+use Rattle.std.specs.Prelude.{option_and_then, is_some, IfSome, MatchOption}
 use Rattle.std.proofs.lemmas.Bool.{leb-false, leb-true, ltb-false}
 use Rattle.std.proofs.lemmas.List.Elements.{All-nil, All-push, All-weaker}
 use Rattle.rex_text.specs.Text.{Word}
-use Rattle.rex_text.specs.Numbers.{u64_at, i64_at}
-use Rattle.rex_syntax.specs.declared.expr.Expr.{Expr}
-use Rattle.rex_syntax.specs.declared.line.Line.{Line}
-use Rattle.rex_syntax.specs.declared.line.Line.TheVariants as line
+use Rattle.rex_text.specs.Numbers.{u64_at}
 use Rattle.rex_syntax.specs.declared.service.LockKind.TheVariants.{Plain}
 use Rattle.rex_syntax.specs.declared.service.Condition.{Condition}
 use Rattle.rex_syntax.specs.declared.service.Variable.{Variable}
-use Rattle.rex_syntax.specs.declared.service.Handler.{Handler}
-use Rattle.rex_syntax.specs.declared.service.Declarations.{Declarations}
-use Rattle.rex_syntax.specs.Expr.{ExprFits}
 use Rattle.rex_syntax.specs.Service.{IsLock, LineNames, IsHandler}
-use Rattle.rex_parse.specs.Words.{is_name, fits, least}
-use Rattle.rex_parse.specs.Above.{nothing, meaning_of, is_open, is_local, local_place}
-use Rattle.rex_parse.specs.Table.{count_of, in_range, order_code, is_lanes, same, is_inside, full_code, lines_of_open, form_code, limit_code, slots, slots_code, is_misshapen, locals_code}
-use Rattle.rex_parse.specs.After.{service_of, lock_number, with_name, with_lock, with_variable, with_heading, with_line, with_local, more_lines, closed, ended, expr_of, after_form}
+use Rattle.rex_parse.specs.Above.{nothing}
+use Rattle.rex_parse.specs.Table.{count_of, in_range, order_code, is_lanes, same}
+use Rattle.rex_parse.specs.After.{service_of, with_lock, with_variable, with_heading}
 use Rattle.rex_parse.specs.Good.{MeaningFits, IsOpen, IsGood, is_plain}
 use Rattle.rex_parse.specs.declared.language.Above.{Above}
 use Rattle.rex_parse.specs.declared.language.OpenHandler.{OpenHandler}

@@ -1,7 +1,6 @@
 -- Each good line of a handler keeps what good lines keep.
-use Rattle.std.proofs.Common.{◌≡◌, ℕ, ◌+◌, ◌<◌, ◌≤◌, Bool, true, false, cond, not, ◌&&◌, leb, List, [], ◌∷◌, ◌++◌, length, Option, Some, None, refl, sym, ap, ◌∙◌, arith, length-append}
-use Rattle.std.specs.Prelude.{option_map, is_some, IfSome, MatchOption}
-use Rattle.std.specs.List.{All}
+use Rattle.std.proofs.Common.{◌≡◌, ℕ, ◌+◌, ◌<◌, ◌≤◌, Bool, true, false, cond, not, ◌&&◌, leb, [], ◌∷◌, ◌++◌, length, Option, Some, None, refl, arith, length-append}
+use Rattle.std.specs.Prelude.{option_map, is_some, IfSome}
 use Rattle.std.proofs.lemmas.Bool.{leb-false}
 use Rattle.std.proofs.lemmas.List.Elements.{All-push, All-weaker}
 use Rattle.rex_text.specs.Text.{Word}
@@ -14,10 +13,9 @@ use Rattle.rex_syntax.specs.declared.service.Handler.{Handler}
 use Rattle.rex_syntax.specs.declared.service.Declarations.{Declarations}
 use Rattle.rex_syntax.specs.Expr.{ExprFits}
 use Rattle.rex_syntax.specs.Service.{IsLock, LineNames, IsHandler}
-use Rattle.rex_parse.specs.Words.{fits}
-use Rattle.rex_parse.specs.Above.{nothing, is_open, is_local, local_place}
+use Rattle.rex_parse.specs.Above.{nothing, is_open, is_local}
 use Rattle.rex_parse.specs.Table.{same, full_code, lines_of_open, locals_code}
-use Rattle.rex_parse.specs.After.{service_of, with_line, with_local, more_lines, closed, ended, with_handler}
+use Rattle.rex_parse.specs.After.{service_of, with_line, with_local, more_lines, closed, ended}
 use Rattle.rex_parse.specs.Good.{MeaningFits, IsOpen, IsGood, is_plain}
 use Rattle.rex_parse.specs.declared.language.Above.{Above}
 use Rattle.rex_parse.specs.declared.language.OpenHandler.{OpenHandler}

@@ -2,7 +2,7 @@
 use Rattle.std.proofs.Common.{◌≡◌, ℕ, ◌+◌, ◌-◌, ◌<◌, ◌≤◌, List, [], ◌∷◌, ◌++◌, length, get_or, drop, take, Option, Some, None, refl, sym, ap, ◌∙◌, arith, inl, inr, ◌⊎◌}
 use Rattle.std.specs.Borrow.{Bor}
 use Rattle.std.proofs.lemmas.Bool.{cases_lt, le-leb, lt-leb}
-use Rattle.std.proofs.lemmas.List.{take_rest, take_more, drop_more, nil_from_length, length-drop, map-append}
+use Rattle.std.proofs.lemmas.List.{take_rest, take_more, drop_more, map-append}
 use Rattle.rex_text.specs.Text.{Word}
 use Rattle.rex_parse.specs.Words.{least, lesser, rank}
 use Rattle.rex_parse.specs.Table.{operand_code, operator_code, expr_code, new_code, parameter_code, parameters_code, slots_code, Heading}

@@ -1,5 +1,5 @@
 -- What the lines above a line have declared.
-use Rattle.std.specs.Prelude.{ℕ, Bool, List, [], Option, None, is_some, find, option_map}
+use Rattle.std.specs.Prelude.{ℕ, Bool, [], Option, None, is_some, find, option_map}
 use Rattle.std.specs.List.{list_any, position_or_len}
 use Rattle.std.specs.Str.{bytes_eq}
 use Rattle.rex_text.specs.Text.{Word}
@@ -11,6 +11,7 @@ use Rattle.rex_parse.specs.declared.language.Meaning.{Meaning}
 abbrev pub nothing : Above
 nothing = record { lanes = None; names = []; locks = []; conditions = []; variables = []; handlers = []; locals = []; open_handler = None }
 
+-- what the name of an entry stands for
 abbrev pub meaning_in : Entry → Meaning
 meaning_in e = e.meaning
 

@@ -21,11 +21,12 @@ use Rattle.rex_parse.specs.declared.language.Form.TheVariants as form
 use Rattle.rex_parse.specs.declared.language.Meaning.{Meaning}
 use Rattle.rex_parse.specs.declared.language.Meaning.TheVariants as meaning
 
--- the number of a lock, and of a variable
+-- the number of a lock
 abbrev pub lock_number : Option Meaning → ℕ
 lock_number (Some (meaning.Lock n)) = n
 lock_number _ = 0
 
+-- the number of a variable
 abbrev pub variable_number : Option Meaning → ℕ
 variable_number (Some (meaning.Variable n)) = n
 variable_number _ = 0
@@ -52,6 +53,7 @@ expr_of a (w ∷ ws) = record { first = operand_of a w; rest = terms_of a ws }
 abbrev pub more_lines : ℕ → Line → OpenHandler → OpenHandler
 more_lines number l h = record h { lines = h.lines ++ l ∷ []; line_numbers = h.line_numbers ++ number ∷ [] }
 
+-- the open handler has one more line
 abbrev pub with_line : Above → ℕ → Line → Above
 with_line a number l = record a { open_handler = option_map (more_lines number l) a.open_handler }
 
@@ -59,14 +61,16 @@ with_line a number l = record a { open_handler = option_map (more_lines number l
 abbrev pub with_local : Above → Word → Above
 with_local a w = if is_local a w then a else record a { locals = a.locals ++ w ∷ [] }
 
+-- a handler with as many locals as were made in it
 abbrev pub ended : Above → OpenHandler → Handler
 ended a h = record { name = h.name; line_number = h.line_number; parameters = h.parameters; locals = length a.locals; lines = h.lines; line_numbers = h.line_numbers }
 
--- the open handler is whole
+-- an open handler is whole, if there is one
 abbrev pub with_handler : Above → Option OpenHandler → Above
 with_handler a None = a
 with_handler a (Some h) = record a { handlers = a.handlers ++ ended a h ∷ []; locals = []; open_handler = None }
 
+-- the handler whose lines are read is whole
 abbrev pub closed : Above → Above
 closed a = with_handler a a.open_handler
 
@@ -74,14 +78,16 @@ closed a = with_handler a a.open_handler
 abbrev pub with_name : Above → Word → Meaning → Above
 with_name a w m = record a { names = a.names ++ (record { name = w; meaning = m }) ∷ [] }
 
--- a further lock, variable and handler, of which the handler is open with these parameters
+-- a further lock
 abbrev pub with_lock : Above → Word → Above
 with_lock a w = record (with_name a w (meaning.Lock (length a.locks))) { locks = a.locks ++ (record { name = w; kind = Plain }) ∷ [] }
 
+-- a further variable, with its guard and its first value
 abbrev pub with_variable : Above → Word → ℕ → ℤ → Above
 with_variable a w guard first =
     record (with_name a w (meaning.Variable (length a.variables))) { variables = a.variables ++ (record { name = w; guard = guard; first = first }) ∷ [] }
 
+-- a further handler, which is open and has these parameters
 abbrev pub with_heading : Above → ℕ → Word → List Word → Above
 with_heading a number w ws =
     record (with_name a w (meaning.Handler (length a.handlers))) {
@@ -102,6 +108,7 @@ after_form a number form.Let (w ∷ e ∷ ws) = with_line (with_local a w) numbe
 after_form a number form.Reply ws = closed (with_line a number (line.Reply (expr_of a ws)))
 after_form a number _ ws = a
 
+-- the same where no form may have been found
 abbrev pub after_found : Above → ℕ → Option Form → List Word → Above
 after_found a number None ws = a
 after_found a number (Some f) ws = after_form a number f ws

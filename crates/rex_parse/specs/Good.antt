@@ -1,5 +1,5 @@
 -- What good lines keep, so that a text that ends well declares a service.
-use Rattle.std.specs.Prelude.{◌≡◌, ℕ, ◌<◌, ◌≤◌, Bool, true, false, List, length, Option, IfSome, MatchOption}
+use Rattle.std.specs.Prelude.{◌≡◌, ℕ, ◌<◌, ◌≤◌, Bool, true, false, length, IfSome, MatchOption}
 use Rattle.std.specs.List.{All}
 use Rattle.rex_syntax.specs.declared.line.Line.{Line}
 use Rattle.rex_syntax.specs.declared.line.Line.TheVariants.{Try, Busy, EndTry, If, Else, EndIf, Repeat, EndRepeat, Reply}

@@ -1,5 +1,5 @@
 -- The table of lines: which words a line has, and which codes fit.
-use Rattle.std.specs.Prelude.{◌+◌, ◌==◌, ◌&&◌, ◌||◌, ℕ, Bool, true, false, not, List, [], ◌∷◌, ◌++◌, length, nat_lt, nat_le, Option, Some, None, is_some, codes, find, if◌then◌else◌, option_map, option_and_then}
+use Rattle.std.specs.Prelude.{◌==◌, ◌&&◌, ◌||◌, ℕ, Bool, true, false, not, List, [], ◌∷◌, ◌++◌, length, nat_lt, nat_le, Option, Some, None, is_some, codes, find, if◌then◌else◌, option_map, option_and_then}
 use Rattle.std.specs.Str.{bytes_eq}
 use Rattle.std.specs.List.{list_any}
 use Rattle.rex_text.specs.Text.{Word}
@@ -23,6 +23,7 @@ forms =
     (codes "lanes", form.Lanes) ∷ (codes "lock", form.Lock) ∷ (codes "var", form.Var) ∷ (codes "handler", form.Handler)
     ∷ (codes "acquire", form.Acquire) ∷ (codes "release", form.Release) ∷ (codes "set", form.Set) ∷ (codes "let", form.Let) ∷ (codes "reply", form.Reply) ∷ []
 
+-- the form of a line with this first word
 abbrev pub form_of : Word → Option Form
 form_of w = option_map (λ f. f.1) (find (λ f. bytes_eq w f.0) forms)
 
@@ -82,6 +83,7 @@ is_misshapen (LockName ∷ ss) (w ∷ ws) = is_misshapen ss ws
 is_misshapen (VariableName ∷ ss) (w ∷ ws) = is_misshapen ss ws
 is_misshapen (LocalName ∷ ss) (w ∷ ws) = is_misshapen ss ws
 
+-- a number lies from lo to hi
 abbrev pub in_range : ℕ → ℕ → ℕ → Bool
 in_range lo hi n = nat_le lo n && nat_le n hi
 
@@ -101,6 +103,7 @@ new_code a w = if is_name w then fits (is_declared a w) Taken else Some NoName
 abbrev pub parameter_code : Above → List Word → Word → Option ServiceCode
 parameter_code a before w = if is_name w then fits (is_declared a w || list_any (λ b. bytes_eq b w) before) Taken else Some NoName
 
+-- the least code that fits parameters after these words
 abbrev pub parameters_code : Above → List Word → List Word → Option ServiceCode
 parameters_code a before [] = None
 parameters_code a before (w ∷ ws) = least (parameter_code a before w) (parameters_code a (before ++ w ∷ []) ws)
@@ -109,6 +112,7 @@ parameters_code a before (w ∷ ws) = least (parameter_code a before w) (paramet
 abbrev pub heading_code : Above → Word → List Word → Option ServiceCode
 heading_code a w ws = least (new_code a w) (parameters_code a (w ∷ []) ws)
 
+-- a name that is due to stand for a lock stands for this
 abbrev pub lock_kind_code : Option Meaning → Option ServiceCode
 lock_kind_code None = Some Undeclared
 lock_kind_code (Some (meaning.Lock n)) = None
@@ -120,6 +124,7 @@ lock_kind_code (Some (meaning.Handler n)) = Some WrongKind
 unfoldable pub lock_code : Above → Word → Option ServiceCode
 lock_code a w = if is_name w then (if is_local a w then Some WrongKind else lock_kind_code (meaning_of a w)) else Some NoName
 
+-- a name that is due to stand for a variable stands for this
 abbrev pub variable_kind_code : Option Meaning → Option ServiceCode
 variable_kind_code None = Some Undeclared
 variable_kind_code (Some (meaning.Variable n)) = None
@@ -135,6 +140,7 @@ variable_code a w = if is_name w then (if is_local a w then Some WrongKind else 
 unfoldable pub local_code : Above → Word → Option ServiceCode
 local_code a w = if is_name w then fits (not (is_local a w) && is_declared a w) WrongKind else Some NoName
 
+-- a word begins with a digit or `-`
 abbrev pub begins_number : Word → Bool
 begins_number [] = false
 begins_number (b ∷ bs) = is_digit b || b == 45
@@ -151,6 +157,7 @@ operand_code a w =
     else if is_local a w then None
     else variable_kind_code (meaning_of a w)
 
+-- the words of operators
 abbrev pub operators : List (Word × Operator)
 operators =
     (codes "+", Add) ∷ (codes "-", Sub) ∷ (codes "*", Mul) ∷ (codes "/", Div) ∷ (codes "%", Rem) ∷ (codes "==", Equal) ∷ (codes "!=", NotEqual)
@@ -160,6 +167,7 @@ operators =
 abbrev pub operator_of : Word → Option Operator
 operator_of w = option_map (λ o. o.1) (find (λ o. bytes_eq w o.0) operators)
 
+-- an operator is one of eleven words
 abbrev pub operator_code : Word → Option ServiceCode
 operator_code w = fits (not (is_some (operator_of w))) BadExpression
 
@@ -185,11 +193,13 @@ slot_code a VariableName w ws = variable_code a w
 slot_code a LocalName w ws = local_code a w
 slot_code a Expression w ws = whole_expr_code a (w ∷ ws)
 
+-- the least code that fits at the places of a line
 abbrev pub slots_code : Above → List Slot → List Word → Option ServiceCode
 slots_code a [] ws = None
 slots_code a (s ∷ ss) [] = None
 slots_code a (s ∷ ss) (w ∷ ws) = least (slot_code a s w ws) (slots_code a ss ws)
 
+-- how many lines the open handler has
 abbrev pub lines_of_open : Option OpenHandler → ℕ
 lines_of_open None = 0
 lines_of_open (Some h) = length h.lines
@@ -212,6 +222,7 @@ limit_code a form.Handler ws = fits (nat_le 64 (length a.handlers)) TooMany
 limit_code a form.Let ws = least (locals_code a ws) (full_code a)
 limit_code a _ ws = full_code a
 
+-- a line of this form says how many lanes there are
 abbrev pub is_lanes : Form → Bool
 is_lanes form.Lanes = true
 is_lanes _ = false
@@ -220,6 +231,7 @@ is_lanes _ = false
 abbrev pub order_code : Above → Form → Option ServiceCode
 order_code a f = fits (not (is_some a.lanes) && not (is_lanes f) || is_some a.lanes && is_lanes f) LanesFirst
 
+-- two tests agree
 abbrev pub same : Bool → Bool → Bool
 same true b = b
 same false b = not b

@@ -14,6 +14,7 @@ is_letter b = (nat_le 65 b && nat_le b 90) || (nat_le 97 b && nat_le b 122)
 abbrev pub is_digit : ℕ → Bool
 is_digit b = nat_le 48 b && nat_le b 57
 
+-- a word begins with a letter
 abbrev pub begins_letter : Word → Bool
 begins_letter [] = false
 begins_letter (b ∷ bs) = is_letter b
@@ -29,6 +30,7 @@ reserved =
     ∷ codes "try" ∷ codes "busy" ∷ codes "endtry" ∷ codes "wait" ∷ codes "while" ∷ codes "signal" ∷ codes "broadcast" ∷ codes "set" ∷ codes "let" ∷ codes "clock" ∷ codes "random"
     ∷ codes "if" ∷ codes "else" ∷ codes "endif" ∷ codes "repeat" ∷ codes "endrepeat" ∷ codes "reply" ∷ []
 
+-- one of the words of the language
 abbrev pub is_reserved : Word → Bool
 is_reserved w = list_any (λ r. bytes_eq r w) reserved
 
@@ -53,6 +55,7 @@ rank LanesFirst = 12
 rank ReplyInBlock = 13
 rank Unended = 14
 
+-- the code with the lesser number
 abbrev pub lesser : ServiceCode → ServiceCode → ServiceCode
 lesser a b = if nat_le (rank a) (rank b) then a else b
 

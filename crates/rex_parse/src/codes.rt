@@ -143,7 +143,8 @@ impl Above {
     {
         let is_lanes = matches!(form, Form::Lanes);
         let is_set = self.lanes.is_some();
-        fits((!is_set && !is_lanes) || (is_set && is_lanes), ServiceCode::LanesFirst)
+        let is_wrong = (!is_set && !is_lanes) || (is_set && is_lanes);
+        fits(is_wrong, ServiceCode::LanesFirst)
     }
 
     /// Of a line of a handler past its 256th.

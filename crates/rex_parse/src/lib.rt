@@ -18,3 +18,6 @@ pub use language::{Above, Entry, Fault, Form, Meaning, OpenHandler, ReadError, S
 pub use parser::Parser;
 pub use reading::{first_bad_line, read_service};
 pub use words::is_name;
+
+#[cfg(test)]
+mod tests;

@@ -29,7 +29,12 @@ impl Above {
     }
 
     // `lock NAME`
-    pub(crate) fn lock_line(&mut self, alloc: Global, number: u32, words: &[&[u8]]) -> Result<(), Fault>
+    pub(crate) fn lock_line(
+        &mut self,
+        alloc: Global,
+        number: u32,
+        words: &[&[u8]],
+    ) -> Result<(), Fault>
         ensures takes { Takes result (form_code self.old form.Lock (texts words.now))
             (after_form self.old number form.Lock (texts words.now)) self.new }
         ensures locals { self.new.locals ≡ self.old.locals }
@@ -44,7 +49,12 @@ impl Above {
     }
 
     // `var NAME on LOCK = NUMBER`
-    pub(crate) fn var_line(&mut self, alloc: Global, number: u32, words: &[&[u8]]) -> Result<(), Fault>
+    pub(crate) fn var_line(
+        &mut self,
+        alloc: Global,
+        number: u32,
+        words: &[&[u8]],
+    ) -> Result<(), Fault>
         ensures takes { Takes result (form_code self.old form.Var (texts words.now))
             (after_form self.old number form.Var (texts words.now)) self.new }
         ensures locals { self.new.locals ≡ self.old.locals }
@@ -61,7 +71,12 @@ impl Above {
     }
 
     // `handler NAME PARAM..`
-    pub(crate) fn handler_line(&mut self, alloc: Global, number: u32, words: &[&[u8]]) -> Result<(), Fault>
+    pub(crate) fn handler_line(
+        &mut self,
+        alloc: Global,
+        number: u32,
+        words: &[&[u8]],
+    ) -> Result<(), Fault>
         requires { length self.old.locals ≤ 16 }
         ensures takes { Takes result (form_code self.old form.Handler (texts words.now))
             (after_form self.old number form.Handler (texts words.now)) self.new }
@@ -109,7 +124,12 @@ impl Above {
     }
 
     // `set VAR = EXPR`
-    pub(crate) fn set_line(&mut self, alloc: Global, number: u32, words: &[&[u8]]) -> Result<(), Fault>
+    pub(crate) fn set_line(
+        &mut self,
+        alloc: Global,
+        number: u32,
+        words: &[&[u8]],
+    ) -> Result<(), Fault>
         requires { length self.old.locals ≤ 16 }
         ensures takes { Takes result (form_code self.old form.Set (texts words.now))
             (after_form self.old number form.Set (texts words.now)) self.new }
@@ -127,7 +147,12 @@ impl Above {
     }
 
     // `let LOCAL = EXPR`
-    pub(crate) fn let_line(&mut self, alloc: Global, number: u32, words: &[&[u8]]) -> Result<(), Fault>
+    pub(crate) fn let_line(
+        &mut self,
+        alloc: Global,
+        number: u32,
+        words: &[&[u8]],
+    ) -> Result<(), Fault>
         requires { length self.old.locals ≤ 16 }
         ensures takes { Takes result (form_code self.old form.Let (texts words.now))
             (after_form self.old number form.Let (texts words.now)) self.new }
@@ -146,7 +171,12 @@ impl Above {
     }
 
     // `reply EXPR`
-    pub(crate) fn reply_line(&mut self, alloc: Global, number: u32, words: &[&[u8]]) -> Result<(), Fault>
+    pub(crate) fn reply_line(
+        &mut self,
+        alloc: Global,
+        number: u32,
+        words: &[&[u8]],
+    ) -> Result<(), Fault>
         requires { length self.old.locals ≤ 16 }
         ensures takes { Takes result (form_code self.old form.Reply (texts words.now))
             (after_form self.old number form.Reply (texts words.now)) self.new }

@@ -99,7 +99,8 @@ impl Above {
 fn is_allowed(line: &[u8]) -> bool
     ensures { result ≡ list_all is_allowed line.now }
 {
-    line.iter().all(|byte| (32 <= *byte && *byte <= 126) || *byte == 9)
+    line.iter()
+        .all(|byte| (32 <= *byte && *byte <= 126) || *byte == 9)
 }
 
 fn is_skipped(line: &[u8]) -> bool

@@ -36,5 +36,4 @@ pub fn read_service(alloc: Global, bytes: &[u8]) -> Result<Service, ReadError>
 /// The answer for a text is its first bad line with the least code that fits, given what the lines above declare.
 pub fn first_bad_line()
     ensures { EachText }
-{
-}
+{}

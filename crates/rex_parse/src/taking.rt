@@ -55,7 +55,13 @@ impl Above {
         self.locks.push(lock)
     }
 
-    pub(crate) fn add_variable(&mut self, alloc: Global, name: &[u8], guard: u8, first: i64) -> Result<(), AllocError>
+    pub(crate) fn add_variable(
+        &mut self,
+        alloc: Global,
+        name: &[u8],
+        guard: u8,
+        first: i64,
+    ) -> Result<(), AllocError>
         requires { length self.old.variables < 256 }
         ensures taken { OnOk result (self.new ≡ after.with_variable self.old name.now guard first) }
         ensures locals { self.new.locals ≡ self.old.locals }
@@ -71,7 +77,13 @@ impl Above {
         self.variables.push(variable)
     }
 
-    pub(crate) fn begin_handler(&mut self, alloc: Global, number: u32, name: &[u8], parameters: &[&[u8]]) -> Result<(), AllocError>
+    pub(crate) fn begin_handler(
+        &mut self,
+        alloc: Global,
+        number: u32,
+        name: &[u8],
+        parameters: &[&[u8]],
+    ) -> Result<(), AllocError>
         requires room { length self.old.handlers < 64 }
         requires few { length parameters.now ≤ 4 }
         requires few_locals { length self.old.locals ≤ 16 }

@@ -134,9 +134,33 @@ pub(crate) fn is_among(words: &[&[u8]], word: &[u8]) -> bool
 }
 
 const RESERVED: [&[u8]; 27] = [
-    b"lanes", b"lock", b"rwlock", b"cond", b"on", b"var", b"handler", b"acquire", b"share", b"release", b"try", b"busy",
-    b"endtry", b"wait", b"while", b"signal", b"broadcast", b"set", b"let", b"clock", b"random", b"if", b"else", b"endif",
-    b"repeat", b"endrepeat", b"reply",
+    b"lanes",
+    b"lock",
+    b"rwlock",
+    b"cond",
+    b"on",
+    b"var",
+    b"handler",
+    b"acquire",
+    b"share",
+    b"release",
+    b"try",
+    b"busy",
+    b"endtry",
+    b"wait",
+    b"while",
+    b"signal",
+    b"broadcast",
+    b"set",
+    b"let",
+    b"clock",
+    b"random",
+    b"if",
+    b"else",
+    b"endif",
+    b"repeat",
+    b"endrepeat",
+    b"reply",
 ];
 
 /// Whether a word begins as a number does.

@@ -15,6 +15,8 @@ returns-in_default-words-clause-takes c = absurd (let_words c.args.self.now c.ar
 
 pub returns-in_ok-push_line-clause-takes : goal.returns-in_ok-push_line-clause-takes
 returns-in_ok-push_line-clause-takes c =
-    let d : Bor Word = record { ref_ptr = (0, 0); now = [] } in
-    (sym c.in_default.ensures, let_after c.args.self.now c.make_local.new.self c.push_line.new.self c.args.words.now d c.args.number c.local_place-local.result c.in_ok-value.value
-    c.in-len2-up.len_at_least c.in_ok-make_local.ensures.taken c.local_place-local.ensures.place c.in_ok-value.ensures c.in_ok-push_line.ensures.taken)
+    let d : Bor Word = record { ref_ptr = (0, 0); now = [] } in (
+      sym c.in_default.ensures,
+      let_after c.args.self.now c.make_local.new.self c.push_line.new.self c.args.words.now d c.args.number c.local_place-local.result c.in_ok-value.value
+          c.in-len2-up.len_at_least c.in_ok-make_local.ensures.taken c.local_place-local.ensures.place c.in_ok-value.ensures c.in_ok-push_line.ensures.taken,
+    )

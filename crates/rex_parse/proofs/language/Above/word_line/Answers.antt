@@ -43,4 +43,3 @@ returns-in-Some-Let-clause-takes c =
 pub returns-in-Some-Reply-clause-takes : goal.returns-in-Some-Reply-clause-takes
 returns-in-Some-Reply-clause-takes c =
     dispatched c.args.self.now c.reply_line.new.self c.args.words.now no_word c.args.number c.in-Some-Reply.field-0 form.Reply c.reply_line.result c.in-len1-up.len_at_least c.in-Some-Reply.ensures c.in-Some-Reply.field-0-is c.reply_line.ensures.takes
-
