@@ -12,4 +12,5 @@ pub mod Few
 pub mod Headlines
 pub mod Bridges
 pub mod Steps
+pub mod Scenarios
 mod Examples

@@ -3,6 +3,7 @@
 ghost use Rattle.std.specs.Prelude.{◌≡◌, ◌++◌, ◌≤◌, length, IfOk, OnOk};
 ghost use Rattle.rex_scenario.specs.Fits.{ScenarioFits};
 ghost use Rattle.rex_world.specs.Report.{end_of, values_of, report_of};
+ghost use Rattle.rex_world.specs.Laws.{Headline};
 ghost use Rattle.rex_world.specs.Running.{IsRunning};
 ghost use Rattle.rex_report.specs.Ends.{end_text};
 
@@ -31,8 +32,10 @@ fn push_node(out: &mut Vec<u8>, alloc: Global, svc: &Checked, world: &World) -> 
 /// The report of a scenario, from its service and the schedule's first line to its end lines.
 pub fn report(alloc: Global, svc: &Checked, scenario: &Scenario) -> Result<Vec<u8>, AllocError>
     requires { ScenarioFits svc.now scenario.now }
-    ensures { IfOk result (λ text. text.items ≡ report_of svc.now scenario.now) }
+    ensures told { IfOk result (λ text. text.items ≡ report_of svc.now scenario.now) }
+    ensures headline { Headline svc.now scenario.now.requests scenario.now.seed scenario.now.schedule }
 {
+    let _service = svc.declarations();
     let requests = scenario.requests.as_slice();
     let mut out = Vec::new(alloc);
     let mut world = World::new(alloc, svc)?;

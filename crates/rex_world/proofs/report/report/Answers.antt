@@ -3,6 +3,7 @@ use Rattle.rex_world.specs.Report.{report_of}
 use Rattle.rex_world.specs.World.{WorldValue}
 use Rattle.rex_world.proofs.Counts.{row_done}
 use Rattle.rex_world.proofs.Few.{keeps_few}
+use Rattle.rex_world.proofs.Scenarios.{scenario_headline}
 use Rattle.rex_world.proofs.Steps.{line_told, drop_next}
 use Rattle.rex_world.proofs.report.report.Goals as goal
 
@@ -16,3 +17,15 @@ loop-line-preserved c = record {
       (drop c.loop-line.line-index c.args.scenario.now.schedule) c.loop-line.out.items c.step.new.out.items (report_of c.args.svc.now c.args.scenario.now)
       (drop_next c.args.scenario.now.schedule c.as_slice-line-items.result.now c.loop-line.line-index _ c.as_slice-line-items.ensures c.loop-line-test.true) c.in_ok-step.ensures.world c.in_ok-step.ensures.told c.loop-line.invariant.told;
 }
+
+pub returns-in_err-world-clause-headline : goal.returns-in_err-world-clause-headline
+returns-in_err-world-clause-headline c = scenario_headline c.args.svc.now c.args.scenario.now c.declarations-service.ensures.sound c.declarations-service.ensures.checked c.requires
+
+pub returns-in_err-step-clause-headline : goal.returns-in_err-step-clause-headline
+returns-in_err-step-clause-headline c = scenario_headline c.args.svc.now c.args.scenario.now c.declarations-service.ensures.sound c.declarations-service.ensures.checked c.requires
+
+pub returns-in_err-push_node-clause-headline : goal.returns-in_err-push_node-clause-headline
+returns-in_err-push_node-clause-headline c = scenario_headline c.args.svc.now c.args.scenario.now c.declarations-service.ensures.sound c.declarations-service.ensures.checked c.requires
+
+pub returns-clause-headline : goal.returns-clause-headline
+returns-clause-headline c = scenario_headline c.args.svc.now c.args.scenario.now c.declarations-service.ensures.sound c.declarations-service.ensures.checked c.requires
