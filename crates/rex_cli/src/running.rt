@@ -2,6 +2,7 @@ ghost use Rattle.std.specs.Prelude.{◌≡◌, ◌≤◌, ◌<◌, ◌⊎◌, fa
 ghost use Rattle.std.specs.Io.KnownBytes.{IsAtEnd};
 ghost use Rattle.rex_traits.specs.Causes.{Rose};
 ghost use Rattle.rex_scenario.specs.Fits.{ScenarioFits};
+ghost use Rattle.rex_world.specs.Laws.{Headline};
 ghost use Rattle.rex_cli.specs.Due as due;
 ghost use Rattle.rex_cli.specs.Outcome.{Gives};
 ghost use Rattle.rex_cli.specs.Headline.{Committed};
@@ -48,6 +49,7 @@ fn run_scenario(alloc: Global, scenario: &Scenario, service: Service) -> Result<
     requires { ScenarioFits service scenario.now }
     ensures status { IfOk result (λ a. a.status ≡ (due.due_scenario scenario.now service).status) }
     ensures text { IfOk result (λ a. a.text.items ≡ (due.due_scenario scenario.now service).text) }
+    ensures headline { IfOk result (λ a. a.status ≡ 0 → Headline service scenario.now.requests scenario.now.seed scenario.now.schedule) }
 {
     if !is_first(alloc, scenario, service.declarations())? {
         return refusal(alloc);
@@ -67,6 +69,7 @@ fn answer_to(alloc: Global, input: &[u8]) -> Result<Answer, AllocError>
     requires { length input.now ≤ 4194305 }
     ensures status { IfOk result (λ a. a.status ≡ (due.due_input input.now).status) }
     ensures text { IfOk result (λ a. a.text.items ≡ (due.due_input input.now).text) }
+    ensures headline { IfOk result (λ a. a.status ≡ 0 → Committed input.now) }
 {
     match read_scenario(alloc, input) {
         Ok((scenario, service)) => run_scenario(alloc, &scenario, service),
@@ -81,7 +84,8 @@ fn respond<S: Source>(alloc: Global, words: &[String], source: &mut S) -> Result
     ensures text { IfOk result (λ a. IfSome (S.left source.old) (λ input. a.text.items ≡ (due.due (map string_bytes words.now) input).text)) }
     ensures usage { due.is_command (map string_bytes words.now) ≡ false → IfOk result (λ a. (a.status ≡ 2) × (a.text.items ≡ due.due_usage.text)) }
     ensures whole { IfOk result (λ a. a.status ≡ 0 → IsAtEnd (S.left source.new)) }
-    ensures low { IfOk result (λ a. a.status < 4) }
+    ensures headline { IfOk result (λ a. a.status ≡ 0 → IfSome (S.left source.old) Committed) }
+    ensures low { IfOk result (λ a. a.status < 3) }
     ensures later { S.faults source.old ≤ S.faults source.new }
     ensures failed { IsErrOf result fault.Failed → Rose (S.faults source.old) (S.faults source.new) }
 {
@@ -131,8 +135,8 @@ pub fn rex_main<R: Threads + Sync, S: Source, K: Sink, G: Gate + Sync>(
         → (Rose (S.faults source.old) (S.faults source.new) → ⊥) → (Rose (K.faults sink.old) (K.faults sink.new) → ⊥)
         → (result ≡ 0) ⊎ (result ≡ 6)) }
 
-    // The run that the report tells of keeps its agreed trace, and what it has released.
-    ensures headline { IfSome (S.left source.old) Committed }
+    // At 0 the run that the report tells of keeps its agreed trace, and what it has released.
+    ensures headline { result ≡ 0 → IfSome (S.left source.old) Committed }
 {
     match respond(alloc, words, source) {
         Ok(answer) => match write_all(sink, &answer.text) {
