@@ -1,7 +1,11 @@
+ghost use Rattle.std.specs.Prelude.{◌≡◌};
+
 use super::*;
 use std::test::*;
 
-fn event(lane: u8, kind: Kind) -> Event {
+fn event(lane: u8, kind: Kind) -> Event
+    ensures { result.lane ≡ lane }
+{
     Event {
         lane,
         index: 0,

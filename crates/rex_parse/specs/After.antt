@@ -1,5 +1,5 @@
 -- What a good line declares.
-use Rattle.std.specs.Prelude.{ℕ, pos, List, [], ◌∷◌, ◌++◌, length, Option, Some, None, if◌then◌else◌, option_map, unwrap_or}
+use Rattle.std.specs.Prelude.{ℕ, ℤ, pos, List, [], ◌∷◌, ◌++◌, length, Option, Some, None, if◌then◌else◌, option_map, unwrap_or}
 use Rattle.rex_text.specs.Text.{Word}
 use Rattle.rex_text.specs.Numbers.{i64_at}
 use Rattle.rex_syntax.specs.declared.expr.Operator.TheVariants.{Add}
@@ -70,22 +70,31 @@ with_handler a (Some h) = record a { handlers = a.handlers ++ ended a h ∷ []; 
 abbrev pub closed : Above → Above
 closed a = with_handler a a.open_handler
 
--- what is declared after a good line of a form, which has this number in its text
-abbrev pub after_form : Above → ℕ → Form → List Word → Above
-after_form a number form.Lanes (w ∷ ws) = record a { lanes = count_of 1 16 w }
-after_form a number form.Lock (w ∷ ws) =
-    record a { names = a.names ++ (record { name = w; meaning = meaning.Lock (length a.locks) }) ∷ []; locks = a.locks ++ (record { name = w; kind = Plain }) ∷ [] }
-after_form a number form.Var (w ∷ o ∷ l ∷ e ∷ v ∷ ws) =
-    record a {
-      names = a.names ++ (record { name = w; meaning = meaning.Variable (length a.variables) }) ∷ [];
-      variables = a.variables ++ (record { name = w; guard = lock_number (meaning_of a l); first = unwrap_or (i64_at v) (pos 0) }) ∷ [];
-    }
-after_form a number form.Handler (w ∷ ws) =
-    record a {
-      names = a.names ++ (record { name = w; meaning = meaning.Handler (length a.handlers) }) ∷ [];
+-- a further name
+abbrev pub with_name : Above → Word → Meaning → Above
+with_name a w m = record a { names = a.names ++ (record { name = w; meaning = m }) ∷ [] }
+
+-- a further lock, variable and handler, of which the handler is open with these parameters
+abbrev pub with_lock : Above → Word → Above
+with_lock a w = record (with_name a w (meaning.Lock (length a.locks))) { locks = a.locks ++ (record { name = w; kind = Plain }) ∷ [] }
+
+abbrev pub with_variable : Above → Word → ℕ → ℤ → Above
+with_variable a w guard first =
+    record (with_name a w (meaning.Variable (length a.variables))) { variables = a.variables ++ (record { name = w; guard = guard; first = first }) ∷ [] }
+
+abbrev pub with_heading : Above → ℕ → Word → List Word → Above
+with_heading a number w ws =
+    record (with_name a w (meaning.Handler (length a.handlers))) {
       locals = ws;
       open_handler = Some (record { name = w; line_number = number; parameters = length ws; lines = []; line_numbers = [] });
     }
+
+-- what is declared after a good line of a form, which has this number in its text
+abbrev pub after_form : Above → ℕ → Form → List Word → Above
+after_form a number form.Lanes (w ∷ ws) = record a { lanes = count_of 1 16 w }
+after_form a number form.Lock (w ∷ ws) = with_lock a w
+after_form a number form.Var (w ∷ o ∷ l ∷ e ∷ v ∷ ws) = with_variable a w (lock_number (meaning_of a l)) (unwrap_or (i64_at v) (pos 0))
+after_form a number form.Handler (w ∷ ws) = with_heading a number w ws
 after_form a number form.Acquire (w ∷ ws) = with_line a number (line.Acquire (lock_number (meaning_of a w)))
 after_form a number form.Release (w ∷ ws) = with_line a number (line.Release (lock_number (meaning_of a w)))
 after_form a number form.Set (w ∷ e ∷ ws) = with_line a number (line.Set (variable_number (meaning_of a w)) (expr_of a ws))
@@ -93,10 +102,14 @@ after_form a number form.Let (w ∷ e ∷ ws) = with_line (with_local a w) numbe
 after_form a number form.Reply ws = closed (with_line a number (line.Reply (expr_of a ws)))
 after_form a number _ ws = a
 
+abbrev pub after_found : Above → ℕ → Option Form → List Word → Above
+after_found a number None ws = a
+after_found a number (Some f) ws = after_form a number f ws
+
 -- what is declared after a good line
 abbrev pub after : Above → ℕ → List Word → Above
 after a number [] = a
-after a number (w ∷ ws) = elim (form_of w) [ None ↦ a | Some f ↦ after_form a number f ws ]
+after a number (w ∷ ws) = after_found a number (form_of w) ws
 
 -- the service that a good text declares
 abbrev pub service_of : Above → Declarations

@@ -3,4 +3,6 @@ pub mod Above
 pub mod Table
 pub mod After
 pub mod Reading
+pub mod Good
+pub mod Answers
 pub mod Law

@@ -1,5 +1,5 @@
 -- The table of lines: which words a line has, and which codes fit.
-use Rattle.std.specs.Prelude.{◌+◌, ◌==◌, ◌&&◌, ◌||◌, ℕ, Bool, true, false, not, List, [], ◌∷◌, length, nat_lt, nat_le, Option, Some, None, is_some, codes, find, if◌then◌else◌, option_map, option_and_then}
+use Rattle.std.specs.Prelude.{◌+◌, ◌==◌, ◌&&◌, ◌||◌, ℕ, Bool, true, false, not, List, [], ◌∷◌, ◌++◌, length, nat_lt, nat_le, Option, Some, None, is_some, codes, find, if◌then◌else◌, option_map, option_and_then}
 use Rattle.std.specs.Str.{bytes_eq}
 use Rattle.std.specs.List.{list_any}
 use Rattle.rex_text.specs.Text.{Word}
@@ -89,16 +89,23 @@ in_range lo hi n = nat_le lo n && nat_le n hi
 abbrev pub count_of : ℕ → ℕ → Word → Option ℕ
 count_of lo hi w = option_and_then (λ n. if in_range lo hi n then Some n else None) (u64_at w)
 
+-- a number of this range
+abbrev pub count_code : ℕ → ℕ → Word → Option ServiceCode
+count_code lo hi w = fits (not (is_some (count_of lo hi w))) NoNumber
+
 -- a name that a line declares
-abbrev pub new_code : Above → Word → Option ServiceCode
+unfoldable pub new_code : Above → Word → Option ServiceCode
 new_code a w = if is_name w then fits (is_declared a w) Taken else Some NoName
 
--- parameters: names that nothing above has, nor the handler or a parameter before
+-- a parameter: a name that nothing above has, nor the handler or a parameter before
+abbrev pub parameter_code : Above → List Word → Word → Option ServiceCode
+parameter_code a before w = if is_name w then fits (is_declared a w || list_any (λ b. bytes_eq b w) before) Taken else Some NoName
+
 abbrev pub parameters_code : Above → List Word → List Word → Option ServiceCode
 parameters_code a before [] = None
-parameters_code a before (w ∷ ws) =
-    least (if is_name w then fits (is_declared a w || list_any (λ b. bytes_eq b w) before) Taken else Some NoName) (parameters_code a (w ∷ before) ws)
+parameters_code a before (w ∷ ws) = least (parameter_code a before w) (parameters_code a (before ++ w ∷ []) ws)
 
+-- a handler's name and its parameters
 abbrev pub heading_code : Above → Word → List Word → Option ServiceCode
 heading_code a w ws = least (new_code a w) (parameters_code a (w ∷ []) ws)
 
@@ -110,7 +117,7 @@ lock_kind_code (Some (meaning.Variable n)) = Some WrongKind
 lock_kind_code (Some (meaning.Handler n)) = Some WrongKind
 
 -- a lock's name
-abbrev pub lock_code : Above → Word → Option ServiceCode
+unfoldable pub lock_code : Above → Word → Option ServiceCode
 lock_code a w = if is_name w then (if is_local a w then Some WrongKind else lock_kind_code (meaning_of a w)) else Some NoName
 
 abbrev pub variable_kind_code : Option Meaning → Option ServiceCode
@@ -121,18 +128,19 @@ variable_kind_code (Some (meaning.Condition n)) = Some WrongKind
 variable_kind_code (Some (meaning.Handler n)) = Some WrongKind
 
 -- a variable's name
-abbrev pub variable_code : Above → Word → Option ServiceCode
+unfoldable pub variable_code : Above → Word → Option ServiceCode
 variable_code a w = if is_name w then (if is_local a w then Some WrongKind else variable_kind_code (meaning_of a w)) else Some NoName
 
 -- a local's name, which may be new
-abbrev pub local_code : Above → Word → Option ServiceCode
+unfoldable pub local_code : Above → Word → Option ServiceCode
 local_code a w = if is_name w then fits (not (is_local a w) && is_declared a w) WrongKind else Some NoName
 
 abbrev pub begins_number : Word → Bool
 begins_number [] = false
 begins_number (b ∷ bs) = is_digit b || b == 45
 
-abbrev pub number_code : Word → Option ServiceCode
+-- a signed number
+unfoldable pub number_code : Word → Option ServiceCode
 number_code w = fits (not (is_some (i64_at w))) NoNumber
 
 -- an operand: a number, a parameter or local, or a variable
@@ -168,7 +176,7 @@ whole_expr_code a ws = least (fits (nat_lt 15 (length ws)) BadExpression) (expr_
 -- the least code that fits at a place
 abbrev pub slot_code : Above → Slot → Word → List Word → Option ServiceCode
 slot_code a (Fixed f) w ws = None
-slot_code a (Count lo hi) w ws = fits (not (is_some (count_of lo hi w))) NoNumber
+slot_code a (Count lo hi) w ws = count_code lo hi w
 slot_code a Number w ws = number_code w
 slot_code a New w ws = new_code a w
 slot_code a Heading w ws = heading_code a w ws
@@ -223,7 +231,12 @@ form_code a f ws =
     else if is_misshapen (slots f) ws then Some BadForm
     else least (slots_code a (slots f) ws) (least (limit_code a f ws) (order_code a f))
 
+-- the same where no form may have been found
+abbrev pub found_code : Above → Option Form → List Word → Option ServiceCode
+found_code a None ws = Some Misplaced
+found_code a (Some f) ws = form_code a f ws
+
 -- the least code that fits a line
 abbrev pub line_code : Above → List Word → Option ServiceCode
 line_code a [] = None
-line_code a (w ∷ ws) = elim (form_of w) [ None ↦ Some Misplaced | Some f ↦ form_code a f ws ]
+line_code a (w ∷ ws) = found_code a (form_of w) ws

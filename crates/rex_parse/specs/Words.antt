@@ -30,7 +30,7 @@ reserved =
     ∷ codes "if" ∷ codes "else" ∷ codes "endif" ∷ codes "repeat" ∷ codes "endrepeat" ∷ codes "reply" ∷ []
 
 abbrev pub is_reserved : Word → Bool
-is_reserved w = list_any (λ r. bytes_eq w r) reserved
+is_reserved w = list_any (λ r. bytes_eq r w) reserved
 
 -- a letter, then letters, digits and `_`, at most 32 characters, and no word of the language
 unfoldable pub is_name : Word → Bool

@@ -3,6 +3,7 @@
 use rex_list::List;
 use rex_syntax::line::Line;
 use rex_syntax::service::{Condition, Handler, Lock, Variable};
+use std::alloc::AllocError;
 
 /// Why a line of a service is refused.
 #[derive(Clone, Copy, Debug, PartialEq, Eq)]
@@ -98,4 +99,23 @@ pub struct Above {
 pub enum Fault {
     Refused(ServiceCode),
     OutOfMemory,
+}
+
+/// Why a text is no service.
+#[derive(Clone, Copy, Debug, PartialEq, Eq)]
+pub enum ReadError {
+    /// The first bad line, counted from 1, with the least code that fits it.
+    Refused { line: u32, code: ServiceCode },
+    OutOfMemory,
+}
+
+impl From<AllocError> for Fault {
+    ghost use Rattle.rex_parse.specs.declared.language.Fault.TheVariants.{OutOfMemory};
+    ghost use Rattle.std.specs.Prelude.{◌≡◌};
+
+    ghost from_gives = { λ _ fault. fault ≡ OutOfMemory };
+
+    fn from(_error: AllocError) -> Fault {
+        Fault::OutOfMemory
+    }
 }

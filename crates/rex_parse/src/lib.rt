@@ -1,6 +1,20 @@
 //! The service language: its grammar, and a reader that answers the first bad line with the least code that fits.
 #![tactic(auto)]
 
+mod codes;
+mod copying;
+mod exprs;
+mod forms;
 mod language;
+mod least;
+mod lines;
+mod names;
+mod parser;
+mod reading;
+mod taking;
+mod words;
 
-pub use language::{Above, Entry, Fault, Form, Meaning, OpenHandler, ServiceCode};
+pub use language::{Above, Entry, Fault, Form, Meaning, OpenHandler, ReadError, ServiceCode};
+pub use parser::Parser;
+pub use reading::{first_bad_line, read_service};
+pub use words::is_name;

@@ -6,7 +6,7 @@ use Rattle.rex_parse.specs.Above.{nothing}
 use Rattle.rex_parse.specs.Reading.{raw_code, raw_after, end_code}
 use Rattle.rex_parse.specs.declared.language.ServiceCode.{ServiceCode}
 use Rattle.rex_scenario.specs.Headings.{is_heading, heading_code, next_stage}
-use Rattle.rex_scenario.specs.Requests.{request_code, request_of}
+use Rattle.rex_scenario.specs.Requests.{or_code, request_code, request_of}
 use Rattle.rex_scenario.specs.Schedule.{schedule_code, step_of, with_step}
 use Rattle.rex_scenario.specs.declared.scenario.ScenarioCode.{ScenarioCode}
 use Rattle.rex_scenario.specs.declared.scenario.ScenarioCode.TheVariants.{Service, TooLong, BadByte, OutOfPlace}
@@ -25,11 +25,6 @@ is_clean line = list_all is_allowed line
 abbrev pub of_service : Option ServiceCode → Option ScenarioCode
 of_service None = None
 of_service (Some c) = Some (Service c)
-
--- the first code, or else the second
-abbrev pub or_code : Option ScenarioCode → Option ScenarioCode → Option ScenarioCode
-or_code (Some c) other = Some c
-or_code None other = other
 
 abbrev pub byte_code : List ℕ → Option ScenarioCode
 byte_code line = if is_clean line then None else Some BadByte
@@ -62,19 +57,32 @@ code_in _ s line = other_line_code s line
 abbrev pub line_code : Sections → List ℕ → Option ScenarioCode
 line_code s line = code_in s.stage s line
 
--- what a good line that is no heading says, by its stage
-abbrev pub with_words : Sections → Stage → ℕ → List ℕ → Sections
-with_words s stage.Service number line = record s { service = raw_after s.service number line }
-with_words s stage.Requests number line = record s { requests = s.requests ++ request_of s.service (words_of line) ∷ [] }
-with_words s stage.Schedule number line = record s { schedule = with_step s.schedule (step_of (words_of line)) }
-with_words s _ number line = s
+-- a good heading begins the next stage
+abbrev pub after_heading : Sections → Sections
+after_heading s = record s { stage = next_stage s.stage }
+
+abbrev pub service_line_after : Sections → ℕ → List ℕ → Sections
+service_line_after s number line = if is_heading (words_of line) then after_heading s else record s { service = raw_after s.service number line }
+
+-- what a good line with words outside the service that is no heading says
+abbrev pub after_words : Sections → Stage → List Word → Sections
+after_words s stage.Requests ws = record s { requests = s.requests ++ request_of s.service ws ∷ [] }
+after_words s stage.Schedule ws = record s { schedule = with_step s.schedule (step_of ws) }
+after_words s _ ws = s
+
+abbrev pub other_line_after : Sections → List ℕ → Sections
+other_line_after s line =
+    if is_skipped (words_of line) then s
+    else if is_heading (words_of line) then after_heading s
+    else after_words s s.stage (words_of line)
+
+abbrev pub after_in : Stage → Sections → ℕ → List ℕ → Sections
+after_in stage.Service s number line = service_line_after s number line
+after_in _ s number line = other_line_after s line
 
 -- what a good line as it stands says
 abbrev pub line_after : Sections → ℕ → List ℕ → Sections
-line_after s number line =
-    if is_skipped (words_of line) then s
-    else if is_heading (words_of line) then record s { stage = next_stage s.stage }
-    else with_words s s.stage number line
+line_after s number line = after_in s.stage s number line
 
 -- the text ends before the schedule, or in a service that isn't whole
 abbrev pub end_of : Sections → Stage → Option ScenarioCode

@@ -6,44 +6,47 @@ use Rattle.rex_text.specs.Numbers.{u64_at}
 use Rattle.rex_parse.specs.Table.{in_range}
 use Rattle.rex_scenario.specs.declared.scenario.ScenarioCode.{ScenarioCode}
 use Rattle.rex_scenario.specs.declared.scenario.ScenarioCode.TheVariants.{BadLine, TooManyLines, NotThere}
+use Rattle.rex_scenario.specs.declared.schedule.Step.{Step}
+use Rattle.rex_scenario.specs.declared.schedule.Step.TheVariants as step
 use Rattle.rex_scenario.specs.declared.scenario.ScheduleLine.{ScheduleLine}
 use Rattle.rex_scenario.specs.declared.scenario.ScheduleLine.TheVariants.{Elect, Submit, Lane, Cut}
 
--- a schedule line before its numbers are compared with what is there
-pub data Step : Type 0 where
-  ElectAt : ℕ → Step
-  SubmitAt : ℕ → ℕ → Step
-  LaneAt : ℕ → ℕ → Step
-  CutAt : ℕ → Step
-
 -- a step of two numbers
 abbrev pub with_both : (ℕ → ℕ → Step) → Option ℕ → Option ℕ → Option Step
-with_both step (Some m) (Some n) = Some (step m n)
-with_both step _ _ = None
+with_both make (Some m) (Some n) = Some (make m n)
+with_both make _ _ = None
+
+-- a word and a node
+abbrev pub short_step : Word → Word → Option Step
+short_step w v =
+    if bytes_eq w (codes "elect") then option_map step.Elect (u64_at v)
+    else if bytes_eq w (codes "cut") then option_map step.Cut (u64_at v) else None
+
+-- a word, a node, and a request or a lane
+abbrev pub long_step : Word → Word → Word → Option Step
+long_step w v u =
+    if bytes_eq w (codes "submit") then with_both step.Submit (u64_at v) (u64_at u)
+    else if bytes_eq w (codes "lane") then with_both step.Lane (u64_at v) (u64_at u) else None
 
 -- the step that the words spell
 abbrev pub step_of : List Word → Option Step
-step_of (w ∷ v ∷ []) =
-    if bytes_eq w (codes "elect") then option_map ElectAt (u64_at v)
-    else if bytes_eq w (codes "cut") then option_map CutAt (u64_at v) else None
-step_of (w ∷ v ∷ u ∷ []) =
-    if bytes_eq w (codes "submit") then with_both SubmitAt (u64_at v) (u64_at u)
-    else if bytes_eq w (codes "lane") then with_both LaneAt (u64_at v) (u64_at u) else None
+step_of (w ∷ v ∷ []) = short_step w v
+step_of (w ∷ v ∷ u ∷ []) = long_step w v u
 step_of _ = None
 
 -- the node, the request and the lane that it names, counted from 1, are there
 abbrev pub is_there : ℕ → ℕ → ℕ → Step → Bool
-is_there nodes requests lanes (ElectAt n) = in_range 1 nodes n
-is_there nodes requests lanes (SubmitAt n r) = in_range 1 nodes n && in_range 1 requests r
-is_there nodes requests lanes (LaneAt n l) = in_range 1 nodes n && in_range 1 lanes l
-is_there nodes requests lanes (CutAt n) = in_range 1 nodes n
+is_there nodes requests lanes (step.Elect n) = in_range 1 nodes n
+is_there nodes requests lanes (step.Submit n r) = in_range 1 nodes n && in_range 1 requests r
+is_there nodes requests lanes (step.Lane n l) = in_range 1 nodes n && in_range 1 lanes l
+is_there nodes requests lanes (step.Cut n) = in_range 1 nodes n
 
 -- the schedule line that a step is
 abbrev pub line_of : Step → ScheduleLine
-line_of (ElectAt n) = Elect n
-line_of (SubmitAt n r) = Submit n (r - 1)
-line_of (LaneAt n l) = Lane n (l - 1)
-line_of (CutAt n) = Cut n
+line_of (step.Elect n) = Elect n
+line_of (step.Submit n r) = Submit n (r - 1)
+line_of (step.Lane n l) = Lane n (l - 1)
+line_of (step.Cut n) = Cut n
 
 abbrev pub step_code : ℕ → ℕ → ℕ → ℕ → Option Step → Option ScenarioCode
 step_code nodes requests lanes earlier None = Some BadLine

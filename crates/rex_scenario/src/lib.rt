@@ -1,6 +1,19 @@
 //! Scenarios: a service, requests, and a schedule of steps, read from a text.
 #![tactic(auto)]
 
+mod headings;
+mod reader;
+mod reading;
+mod request_list;
+mod requests;
 mod scenario;
+mod schedule;
+mod words;
 
-pub use scenario::{Scenario, ScenarioCode, ScheduleLine, Sections, Stage};
+pub use reading::{SCENARIO_BYTES, first_bad_line, read_scenario};
+pub use scenario::{
+    LineFault, Scenario, ScenarioCode, ScenarioError, ScheduleLine, Sections, Stage,
+};
+
+#[cfg(test)]
+mod tests;

@@ -57,6 +57,22 @@ pub enum ScenarioCode {
     TooManyRequests,
 }
 
+/// Why a line was not taken.
+#[derive(Clone, Copy, Debug, PartialEq, Eq)]
+pub enum LineFault {
+    Refused(ScenarioCode),
+    OutOfMemory,
+}
+
+/// Why a text is no scenario.
+#[derive(Clone, Copy, Debug, PartialEq, Eq)]
+pub enum ScenarioError {
+    /// The first bad line, counted from 1, with the least code that fits it. A text that is too long is refused at line 0,
+    /// and one that ends too early at the number after its last line's.
+    Refused { line: u32, code: ScenarioCode },
+    OutOfMemory,
+}
+
 /// Where in a scenario a line stands: which heading came last.
 #[derive(Clone, Copy, Debug, PartialEq, Eq)]
 pub enum Stage {

@@ -28,7 +28,7 @@ use Rattle.rex_state.specs.Own.{started}
 use Rattle.rex_state.specs.Machine.{no_lane, lane_of, frame_at, can_go, own_can, no_queue, queue_at, queues_after, client_allows, next}
 use Rattle.rex_state.specs.Flows.{CheckedFlows}
 use Rattle.rex_state.specs.Sound.{FrameFits, Fits, Has, IsOnce, IsQueued, AreServed, with_flows, IsSound}
-use Rattle.rex_state.specs.Room.{IsQueueSmall, IsSmall, FitsIn, HasNextPlace, HasLock, HasLocal, CanMove, TakesLock, HasHandler, CanStart, HasQueue, HasEntry, CanApply}
+use Rattle.rex_state.specs.Room.{IsQueueSmall, IsSmall, FitsIn, HasNextPlace, HasLock, HasLocal, CanMove, HasHandler, CanStart, HasQueue, HasEntry, CanApply}
 use Rattle.rex_state.proofs.Fits.{acquire_line, share_line, release_line, try_line, signal_line, broadcast_line, clock_line, random_line, no_handler, takes_there, IsRight, starts_fit}
 use Rattle.rex_state.proofs.Keep.{IsNext, next_is}
 use Rattle.rex_state.proofs.Queued.{not_queued}
@@ -107,19 +107,6 @@ module _ (service : Declarations) (good : IsService service) where
   can_move (Random value) f vs fits h = let t = random_line _ (and_parts _ _ h).1 in has_local f (RandomAt t.0) t.0 fits (names_line f (RandomAt t.0) fits t.1) t.1 refl
   can_move (Begin client sequence handler arguments) f vs fits h = tt
   can_move (Reply client value) f vs fits h = tt
-
-  takes_of : (kind : Kind) (line : Line) (f : Frame) → CanMove kind line f → TakesLock kind
-  takes_of (AcqEx lock) line f h = h.0
-  takes_of (AcqSh lock) line f h = h.0
-  takes_of (TryOk lock) line f h = h.0
-  takes_of (Wake condition lock) line f h = h
-  takes_of _ line f h = tt
-
-  -- the lock that an event takes is one of 64
-  pub takes_lock : (kind : Kind) (o : Option Frame) (vs : List ℤ) → IfSome o (FitsIn service) → own_can service kind o vs ≡ true → TakesLock kind
-  takes_lock kind (Some f) vs fits h = takes_of kind (line_of service f) f (can_move kind f vs fits h)
-  takes_lock (Begin client sequence handler arguments) None vs fits h = tt
-  takes_lock kind None vs fits h = absurd (true≢false (sym h))
 
   has_handler : (handler count : ℕ) → (handler < length service.handlers) × ((get_or service.handlers handler no_handler).parameters ≡ count) → HasHandler service handler count
   has_handler handler count t = (t.0, omega (arith, t.1, locals_are handler t.0, (handler_at handler t.0).fewer))

@@ -122,7 +122,7 @@ pub record AreServed (s : StateValue) : Type 0 where
 
 -- ---- the whole
 
--- a state that is sound with these flows: frames fit their handlers, and no two lanes hold a lock in conflicting modes
+-- a state that is sound with these flows: nothing is missing, frames fit their handlers, no two lanes hold a lock in conflicting modes, and lanes, queues and entries agree
 pub record IsSoundBy (p : CheckedFlows) (s : StateValue) : Type 0 where
   pub complete : IsComplete p.service s
   pub fits : (lane : ℕ) → Fits p (frame_at s lane)

@@ -70,6 +70,7 @@ impl State {
         })
     }
 
+    /// The variables' values, in order of declaration.
     pub fn variables(&self) -> &[i64]
         ensures { result.now ≡ self.now.variables }
     {
@@ -166,6 +167,7 @@ impl State {
         }
     }
 
+    /// The effect of an event whose parts are all there.
     fn perform(&mut self, service: &Declarations, lane: u8, kind: &Kind)
         requires service { IsService service.now }
         requires can { CanApply service.now lane kind.now self.old }

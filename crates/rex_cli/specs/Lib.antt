@@ -1,0 +1,4 @@
+pub mod First
+pub mod Due
+pub mod Outcome
+pub mod Headline

@@ -1,0 +1,11 @@
+//! What the program `rex` does, from its words and a source's bytes to a sink's bytes and a status.
+#![tactic(auto)]
+
+mod command;
+mod first;
+mod running;
+
+pub use running::rex_main;
+
+#[cfg(test)]
+mod tests;

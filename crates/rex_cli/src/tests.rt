@@ -1,0 +1,94 @@
+use super::*;
+use rex_traits::{MemSink, MemSource, OpenGate};
+use std::test::*;
+
+const COUNTER: &[u8] = b"%nodes 1
+%service
+lanes 2
+lock L
+var a on L = 0
+handler add x
+acquire L
+set a = a + x
+let r = a
+release L
+reply r
+%requests
+1 1 add 5
+%schedule
+elect 1
+submit 1 1
+lane 1 1
+lane 1 1
+lane 1 1
+lane 1 1
+cut 1
+";
+
+const REPORT: &[u8] = b"1 node 1 candidate ballot 17
+1 node 1 active ballot 17
+2 queued
+3 lane 1 0 begin 1 1 add 5
+4 lane 1 1 acquire L
+5 lane 1 2 release L
+6 lane 1 3 reply 1 5
+7 node 1 proposes 1 events 4
+7 node 1 known 1
+7 released 1 1 5
+end node 1 active promised 17 known 1 live 0 a=5
+";
+
+/// The status, and what was written.
+#[derive(Drop)]
+struct Outcome {
+    status: u8,
+    written: Vec<u8>,
+}
+
+// Runs the program over memory. The read and the write of these numbers, from 1, fail; 0 is none.
+fn run(rt: &HostRuntime, word: &str, input: &[u8], read: u64, write: u64) -> Result<Outcome, Fail> {
+    let alloc = rt.alloc();
+    let words = vec![in alloc; "rex".to_string(alloc)?, word.to_string(alloc)?]?;
+    let bytes = Vec::from_slice(alloc, input)?;
+    let mut source = MemSource::new(bytes, vec![in alloc; read]?);
+    let mut sink = MemSink::new(alloc, vec![in alloc; write]?, 100);
+    let status = rex_main(rt, alloc, &words, &mut source, &mut sink, &OpenGate);
+    let written = Vec::from_slice(alloc, sink.held())?;
+    Ok(Outcome { status, written })
+}
+
+#[test]
+fn a_request_is_served(rt: HostRuntime) -> Result<(), Fail> {
+    let outcome = run(&rt, "run", COUNTER, 0, 0)?;
+    assert_eq!(rt; outcome.status, 0);
+    assert_eq!(rt; outcome.written.as_slice(), REPORT);
+    Ok(())
+}
+
+#[test]
+fn other_texts_and_words_are_refused(rt: HostRuntime) -> Result<(), Fail> {
+    let empty = run(&rt, "run", b"", 0, 0)?;
+    assert_eq!(rt; empty.status, 1);
+    assert_eq!(rt; empty.written.as_slice(), b"refused line 0 S0\n".as_slice());
+    let fly = run(&rt, "fly", COUNTER, 0, 0)?;
+    assert_eq!(rt; fly.status, 2);
+    assert_eq!(rt; fly.written.as_slice(), b"usage: rex run|trace|check|gen|soak\n".as_slice());
+    Ok(())
+}
+
+#[test]
+fn faults_are_answered(rt: HostRuntime) -> Result<(), Fail> {
+    let unread = run(&rt, "run", COUNTER, 1, 0)?;
+    assert_eq!(rt; unread.status, 4);
+    assert_eq!(rt; unread.written.len(), 0);
+    let cut_off = run(&rt, "run", COUNTER, 2, 0)?;
+    assert_eq!(rt; cut_off.status, 4);
+    assert_eq!(rt; cut_off.written.len(), 0);
+    let unwritten = run(&rt, "run", COUNTER, 0, 1)?;
+    assert_eq!(rt; unwritten.status, 5);
+    assert_eq!(rt; unwritten.written.len(), 0);
+    let half = run(&rt, "run", COUNTER, 0, 2)?;
+    assert_eq!(rt; half.status, 5);
+    assert_eq!(rt; half.written.as_slice(), &REPORT[..100]);
+    Ok(())
+}

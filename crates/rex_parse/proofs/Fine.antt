@@ -1,0 +1,63 @@
+-- What holds of a line that no code fits.
+use Rattle.std.proofs.Common.{◌≡◌, ℕ, ◌+◌, ◌<◌, ◌≤◌, Bool, true, false, cond, not, ◌&&◌, leb, List, [], ◌∷◌, length, get_or, Option, Some, None, refl, sym, ap, ◌∙◌, arith}
+use Rattle.std.proofs.lemmas.Bool.{leb-false}
+use Rattle.std.specs.Borrow.{Bor}
+use Rattle.rex_text.specs.Text.{Word}
+use Rattle.rex_parse.specs.Answers.{texts}
+use Rattle.rex_parse.specs.Words.{least, fits}
+use Rattle.rex_parse.specs.Above.{is_local, is_open}
+use Rattle.rex_parse.specs.Table.{slots, slots_code, is_misshapen, is_inside, same, limit_code, order_code, form_code, full_code, locals_code, lines_of_open}
+use Rattle.rex_parse.specs.declared.language.Above.{Above}
+use Rattle.rex_parse.specs.declared.language.ServiceCode.{ServiceCode}
+use Rattle.rex_parse.specs.declared.language.ServiceCode.TheVariants.{Misplaced, BadForm}
+use Rattle.rex_parse.specs.declared.language.Form.{Form}
+use Rattle.rex_parse.specs.declared.language.Form.TheVariants as form
+
+pub least_both : (x y : Option ServiceCode) → least x y ≡ None → (x ≡ None) × (y ≡ None)
+least_both None y e = (refl, e)
+least_both (Some a) None e = absurd cc
+least_both (Some a) (Some b) e = absurd cc
+
+pub fits_not : (b : Bool) (c : ServiceCode) → fits b c ≡ None → b ≡ false
+fits_not true c e = absurd cc
+fits_not false c e = refl
+
+-- a line of a form that no code fits
+pub record IsFine (a : Above) (f : Form) (ws : List Word) : Type 0 where
+  pub placed : same (is_inside f) (is_open a) ≡ true
+  pub shaped : is_misshapen (slots f) ws ≡ false
+  pub places : slots_code a (slots f) ws ≡ None
+  pub limits : limit_code a f ws ≡ None
+  pub order : order_code a f ≡ None
+
+by_tests : (b m : Bool) (x y z : Option ServiceCode) → cond (not b) (Some Misplaced) (cond m (Some BadForm) (least x (least y z))) ≡ None
+    → (b ≡ true) × (m ≡ false) × (x ≡ None) × (y ≡ None) × (z ≡ None)
+by_tests false m x y z e = absurd cc
+by_tests true true x y z e = absurd cc
+by_tests true false x y z e =
+    let p : (x ≡ None) × (least y z ≡ None) = least_both x (least y z) e in
+    let q : (y ≡ None) × (z ≡ None) = least_both y z p.1 in
+    (refl, refl, p.0, q.0, q.1)
+
+pub fine_line : (a : Above) (f : Form) (ws : List Word) → form_code a f ws ≡ None → IsFine a f ws
+fine_line a f ws e =
+    let t = by_tests (same (is_inside f) (is_open a)) (is_misshapen (slots f) ws) (slots_code a (slots f) ws) (limit_code a f ws) (order_code a f) e in
+    record { placed = t.0; shaped = t.1; places = t.2; limits = t.3; order = t.4 }
+
+-- ---- room
+
+below : (limit n : ℕ) (c : ServiceCode) → fits (leb limit n) c ≡ None → n < limit
+below limit n c e = leb-false limit n (fits_not (leb limit n) c e)
+
+pub lock_room : (a : Above) (ws : List Word) → form_code a form.Lock ws ≡ None → length a.locks < 64
+lock_room a ws e = below 64 (length a.locks) _ (fine_line a form.Lock ws e).limits
+
+pub variable_room : (a : Above) (ws : List Word) → form_code a form.Var ws ≡ None → length a.variables < 256
+variable_room a ws e = below 256 (length a.variables) _ (fine_line a form.Var ws e).limits
+
+pub handler_room : (a : Above) (ws : List Word) → form_code a form.Handler ws ≡ None → length a.handlers < 64
+handler_room a ws e = below 64 (length a.handlers) _ (fine_line a form.Handler ws e).limits
+
+pub local_room : (a : Above) (ws : List (Bor Word)) (d : Bor Word) → 2 ≤ length ws → form_code a form.Let (texts ws) ≡ None → locals_code a ((get_or ws 0 d).now ∷ []) ≡ None
+local_room a [] d two e = absurd (omega arith)
+local_room a (w ∷ ws) d two e = (least_both (locals_code a (w.now ∷ texts ws)) (full_code a) (fine_line a form.Let (w.now ∷ texts ws) e).limits).0

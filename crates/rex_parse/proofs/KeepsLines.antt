@@ -1,0 +1,172 @@
+-- Each good line of a handler keeps what good lines keep.
+use Rattle.std.proofs.Common.{◌≡◌, ℕ, ◌+◌, ◌<◌, ◌≤◌, Bool, true, false, cond, not, ◌&&◌, leb, List, [], ◌∷◌, ◌++◌, length, Option, Some, None, refl, sym, ap, ◌∙◌, arith, length-append}
+use Rattle.std.specs.Prelude.{option_map, is_some, IfSome, MatchOption}
+use Rattle.std.specs.List.{All}
+use Rattle.std.proofs.lemmas.Bool.{leb-false}
+use Rattle.std.proofs.lemmas.List.Elements.{All-push, All-weaker}
+use Rattle.rex_text.specs.Text.{Word}
+use Rattle.rex_syntax.specs.declared.expr.Expr.{Expr}
+use Rattle.rex_syntax.specs.declared.line.Line.{Line}
+use Rattle.rex_syntax.specs.declared.line.Line.TheVariants as line
+use Rattle.rex_syntax.specs.declared.service.LockKind.TheVariants.{Plain}
+use Rattle.rex_syntax.specs.declared.service.Condition.{Condition}
+use Rattle.rex_syntax.specs.declared.service.Handler.{Handler}
+use Rattle.rex_syntax.specs.declared.service.Declarations.{Declarations}
+use Rattle.rex_syntax.specs.Expr.{ExprFits}
+use Rattle.rex_syntax.specs.Service.{IsLock, LineNames, IsHandler}
+use Rattle.rex_parse.specs.Words.{fits}
+use Rattle.rex_parse.specs.Above.{nothing, is_open, is_local, local_place}
+use Rattle.rex_parse.specs.Table.{same, full_code, lines_of_open, locals_code}
+use Rattle.rex_parse.specs.After.{service_of, with_line, with_local, more_lines, closed, ended, with_handler}
+use Rattle.rex_parse.specs.Good.{MeaningFits, IsOpen, IsGood, is_plain}
+use Rattle.rex_parse.specs.declared.language.Above.{Above}
+use Rattle.rex_parse.specs.declared.language.OpenHandler.{OpenHandler}
+use Rattle.rex_parse.specs.declared.language.Entry.{Entry}
+use Rattle.rex_parse.proofs.Fine.{fits_not}
+use Rattle.rex_parse.proofs.Extends.{Extends, IsLock-more, lines_more, handler_more}
+use Rattle.rex_parse.proofs.Straight.{matched, shaped, branches}
+use Rattle.rex_parse.proofs.Keeps.{still, names_more}
+
+-- ---- one more line
+
+opens_more : (s : Declarations) (locals number : ℕ) (l : Line) (h : OpenHandler) → is_plain l ≡ true → LineNames s locals l → length h.lines < 256 → IsOpen s locals h → IsOpen s locals (more_lines number l h)
+opens_more s locals number l h plain names few open_handler = record {
+  room = open_handler.room;
+  parameters = open_handler.parameters;
+  fewer = open_handler.fewer;
+  short = omega (arith, few, length-append h.lines (l ∷ []));
+  numbered = omega (arith, open_handler.numbered, length-append h.lines (l ∷ []), length-append h.line_numbers (number ∷ []));
+  plain = All-push (λ m. is_plain m ≡ true) h.lines l open_handler.plain plain;
+  names = All-push (LineNames s locals) h.lines l open_handler.names names;
+}
+
+opened_more : (s : Declarations) (locals number : ℕ) (l : Line) (o : Option OpenHandler) → is_plain l ≡ true → LineNames s locals l → lines_of_open o < 256 → IfSome o (IsOpen s locals)
+    → IfSome (option_map (more_lines number l) o) (IsOpen s locals)
+opened_more s locals number l None plain names few h = tt
+opened_more s locals number l (Some open_handler) plain names few h = opens_more s locals number l open_handler plain names few h
+
+pub room_for_line : (a : Above) → full_code a ≡ None → lines_of_open a.open_handler < 256
+room_for_line a e = leb-false 256 (lines_of_open a.open_handler) (fits_not _ _ e)
+
+pub good_line : (a : Above) (number : ℕ) (l : Line) → is_plain l ≡ true → LineNames (service_of a) (length a.locals) l → full_code a ≡ None → is_some a.lanes ≡ true → IsGood a → IsGood (with_line a number l)
+good_line a number l plain names full begun good =
+    let b : Above = with_line a number l in
+    record {
+      begun = still a.lanes (a ≡ nothing) (b ≡ nothing) _ begun good.begun;
+      locks = good.locks;
+      few_conditions = good.few_conditions;
+      few_variables = good.few_variables;
+      few_handlers = good.few_handlers;
+      locals = good.locals;
+      names = All-weaker (λ (e : Entry). MeaningFits a e.meaning) (λ (e : Entry). MeaningFits b e.meaning) (λ e q. names_more a b (omega arith) (omega arith) (omega arith) (omega arith) e.meaning q) a.names good.names;
+      conditions = good.conditions;
+      variables = good.variables;
+      handlers = good.handlers;
+      opened = opened_more (service_of a) (length a.locals) number l a.open_handler plain names (room_for_line a full) good.opened;
+    }
+
+-- ---- one more local
+
+opened_local : (s : Declarations) (old new : ℕ) (o : Option OpenHandler) → Extends s s → old ≤ new → IfSome o (IsOpen s old) → IfSome o (IsOpen s new)
+opened_local s old new None x more h = tt
+opened_local s old new (Some open_handler) x more h = record {
+  room = h.room;
+  parameters = h.parameters;
+  fewer = omega (arith, more, h.fewer);
+  short = h.short;
+  numbered = h.numbered;
+  plain = h.plain;
+  names = lines_more s s x old new more open_handler.lines h.names;
+}
+
+pub itself : (s : Declarations) → Extends s s
+itself s = record { locks = λ n l e. e; more_locks = omega arith; more_conditions = omega arith; more_variables = omega arith }
+
+with_more : (a : Above) (w : Word) → length a.locals < 16 → is_some a.lanes ≡ true → IsGood a → IsGood (record a { locals = a.locals ++ w ∷ [] })
+with_more a w room begun good =
+    let b : Above = record a { locals = a.locals ++ w ∷ [] } in
+    let more : length b.locals ≡ length a.locals + 1 = length-append a.locals (w ∷ []) in
+    record {
+      begun = still a.lanes (a ≡ nothing) (b ≡ nothing) _ begun good.begun;
+      locks = good.locks;
+      few_conditions = good.few_conditions;
+      few_variables = good.few_variables;
+      few_handlers = good.few_handlers;
+      locals = omega (arith, room, more);
+      names = All-weaker (λ (e : Entry). MeaningFits a e.meaning) (λ (e : Entry). MeaningFits b e.meaning) (λ e q. names_more a b (omega arith) (omega arith) (omega arith) (omega arith) e.meaning q) a.names good.names;
+      conditions = good.conditions;
+      variables = good.variables;
+      handlers = good.handlers;
+      opened = opened_local (service_of a) (length a.locals) (length b.locals) a.open_handler (itself (service_of a)) (omega (arith, more)) good.opened;
+    }
+
+-- what the making of a local leaves
+pub record LeavesRest (a b : Above) : Type 0 where
+  pub good : IsGood b
+  pub lanes : b.lanes ≡ a.lanes
+  pub variables : b.variables ≡ a.variables
+  pub open_handler : b.open_handler ≡ a.open_handler
+  pub more : length a.locals ≤ length b.locals
+
+local_by : (a : Above) (w : Word) (b : Bool) → (b ≡ false → length a.locals < 16) → is_some a.lanes ≡ true → IsGood a → LeavesRest a (cond b a (record a { locals = a.locals ++ w ∷ [] }))
+local_by a w true room begun good = record { good = good; lanes = refl; variables = refl; open_handler = refl; more = omega arith }
+local_by a w false room begun good = record { good = with_more a w (room refl) begun good; lanes = refl; variables = refl; open_handler = refl; more = omega (arith, length-append a.locals (w ∷ [])) }
+
+room_by : (b : Bool) (n : ℕ) → (not b && leb 16 n) ≡ false → b ≡ false → n < 16
+room_by true n e is = absurd cc
+room_by false n e is = leb-false 16 n e
+
+pub good_local : (a : Above) (w : Word) → locals_code a (w ∷ []) ≡ None → is_some a.lanes ≡ true → IsGood a → LeavesRest a (with_local a w)
+good_local a w room begun good = local_by a w (is_local a w) (room_by (is_local a w) (length a.locals) (fits_not _ _ room)) begun good
+
+-- ---- a whole handler
+
+handler_is : (a : Above) (number : ℕ) (value : Expr) (h : OpenHandler) → length a.locals ≤ 16 → length h.lines < 256 → ExprFits (length a.locals) (length a.variables) value → IsOpen (service_of a) (length a.locals) h
+    → IsHandler (service_of a) (ended a (more_lines number (line.Reply value) h))
+handler_is a number value h locals few names open_handler = record {
+  parameters = open_handler.parameters;
+  fewer = open_handler.fewer;
+  locals = locals;
+  some = omega (arith, length-append h.lines (line.Reply value ∷ []));
+  short = omega (arith, few, length-append h.lines (line.Reply value ∷ []));
+  numbered = omega (arith, open_handler.numbered, length-append h.lines (line.Reply value ∷ []), length-append h.line_numbers (number ∷ []));
+  matched = matched h.lines value open_handler.plain;
+  shaped = shaped h.lines value open_handler.plain;
+  branches = branches h.lines value open_handler.plain;
+  names = All-push (LineNames (service_of a) (length a.locals)) h.lines (line.Reply value) open_handler.names names;
+}
+
+handler_extends : (a : Above) (h : Handler) → Extends (service_of a) (service_of (record a { handlers = a.handlers ++ h ∷ []; locals = []; open_handler = None }))
+handler_extends a h = record { locks = λ n l e. e; more_locks = omega arith; more_conditions = omega arith; more_variables = omega arith }
+
+good_ended : (a : Above) (h : Handler) → IsHandler (service_of a) h → length a.handlers < 64 → is_some a.lanes ≡ true → IsGood a → IsGood (record a { handlers = a.handlers ++ h ∷ []; locals = []; open_handler = None })
+good_ended a h is room begun good =
+    let b : Above = record a { handlers = a.handlers ++ h ∷ []; locals = []; open_handler = None } in
+    let x : Extends (service_of a) (service_of b) = handler_extends a h in
+    let more : length b.handlers ≡ length a.handlers + 1 = length-append a.handlers (h ∷ []) in
+    record {
+      begun = still a.lanes (a ≡ nothing) (b ≡ nothing) _ begun good.begun;
+      locks = good.locks;
+      few_conditions = good.few_conditions;
+      few_variables = good.few_variables;
+      few_handlers = omega (arith, room, more);
+      locals = omega arith;
+      names = All-weaker (λ (e : Entry). MeaningFits a e.meaning) (λ (e : Entry). MeaningFits b e.meaning) (λ e q. names_more a b (omega arith) (omega arith) (omega arith) (omega (arith, more)) e.meaning q) a.names good.names;
+      conditions = All-weaker (λ (c : Condition). IsLock (service_of a) Plain c.lock) (λ (c : Condition). IsLock (service_of b) Plain c.lock) (λ c q. IsLock-more _ _ x Plain c.lock q) a.conditions good.conditions;
+      variables = good.variables;
+      handlers = All-push (IsHandler (service_of b)) a.handlers h (All-weaker (IsHandler (service_of a)) (IsHandler (service_of b)) (λ g q. handler_more _ _ x g q) a.handlers good.handlers) (handler_more _ _ x h is);
+      opened = tt;
+    }
+
+reply_by : (a : Above) (number : ℕ) (value : Expr) (o : Option OpenHandler) → a.open_handler ≡ o → is_some o ≡ true → lines_of_open o < 256 → ExprFits (length a.locals) (length a.variables) value
+    → IfSome o (IsOpen (service_of a) (length a.locals)) → is_some a.lanes ≡ true → IsGood a → IsGood (closed (with_line a number (line.Reply value)))
+reply_by a number value None is some few names open_handler begun good = absurd cc
+reply_by a number value (Some h) is some few names open_handler begun good =
+    rw is (good_ended a (ended a (more_lines number (line.Reply value) h)) (handler_is a number value h good.locals few names open_handler) open_handler.room begun good)
+
+opened_by : (b : Bool) → same true b ≡ true → b ≡ true
+opened_by b e = e
+
+pub good_reply : (a : Above) (number : ℕ) (value : Expr) → same true (is_open a) ≡ true → full_code a ≡ None → ExprFits (length a.locals) (length a.variables) value → is_some a.lanes ≡ true → IsGood a
+    → IsGood (closed (with_line a number (line.Reply value)))
+good_reply a number value placed full names begun good = reply_by a number value a.open_handler refl (opened_by _ placed) (room_for_line a full) names good.opened begun good

@@ -1,0 +1,14 @@
+pub mod Weighing
+pub mod Terms
+pub mod Fine
+pub mod Shapes
+pub mod Dispatch
+pub mod FirstBad
+pub mod Numbering
+pub mod Extends
+pub mod Straight
+pub mod Named
+pub mod Keeps
+pub mod KeepsLines
+pub mod Keeping
+pub mod Examples

@@ -1,0 +1,185 @@
+//! The codes that fit the words of a line.
+
+ghost use Rattle.std.specs.Prelude.{◌≡◌, ◌∷◌, [], ◌<◌, length};
+ghost use Rattle.rex_parse.specs.Table as table;
+ghost use Rattle.rex_parse.specs.Above.{meaning_of};
+ghost use Rattle.rex_parse.specs.Answers.{texts};
+
+use crate::language::{Above, Form, Meaning, ServiceCode};
+use crate::least::{fits, least};
+use crate::words::{begins_number, is_among, is_name, lane_count, operator_of};
+use rex_text::read_i64;
+
+impl Above {
+    /// Of a name that a line declares.
+    #[tactic(auto, unfolding(crate::specs::Table::new_code))]
+    pub(crate) fn new_code(&self, word: &[u8]) -> Option<ServiceCode>
+        ensures { result ≡ table.new_code self.now word.now }
+    {
+        if !is_name(word) {
+            return Some(ServiceCode::NoName);
+        }
+        fits(self.is_declared(word), ServiceCode::Taken)
+    }
+
+    // Of a parameter, after the handler's name and the parameters before it.
+    pub(crate) fn parameter_code(&self, before: &[&[u8]], word: &[u8]) -> Option<ServiceCode>
+        ensures { result ≡ table.parameter_code self.now (texts before.now) word.now }
+    {
+        if !is_name(word) {
+            return Some(ServiceCode::NoName);
+        }
+        let is_taken = self.is_declared(word) || is_among(before, word);
+        fits(is_taken, ServiceCode::Taken)
+    }
+
+    /// Of a lock's name.
+    #[tactic(auto, unfolding(crate::specs::Table::lock_code))]
+    pub(crate) fn lock_code(&self, word: &[u8]) -> Option<ServiceCode>
+        ensures { result ≡ table.lock_code self.now word.now }
+    {
+        if !is_name(word) {
+            return Some(ServiceCode::NoName);
+        }
+        if self.is_local(word) {
+            return Some(ServiceCode::WrongKind);
+        }
+        match self.meaning_of(word) {
+            None => Some(ServiceCode::Undeclared),
+            Some(Meaning::Lock(_)) => None,
+            Some(_) => Some(ServiceCode::WrongKind),
+        }
+    }
+
+    // Of what a variable's name stands for.
+    fn variable_kind_code(&self, word: &[u8]) -> Option<ServiceCode>
+        ensures { result ≡ table.variable_kind_code (meaning_of self.now word.now) }
+    {
+        match self.meaning_of(word) {
+            None => Some(ServiceCode::Undeclared),
+            Some(Meaning::Variable(_)) => None,
+            Some(_) => Some(ServiceCode::WrongKind),
+        }
+    }
+
+    /// Of a variable's name.
+    #[tactic(auto, unfolding(crate::specs::Table::variable_code))]
+    pub(crate) fn variable_code(&self, word: &[u8]) -> Option<ServiceCode>
+        ensures { result ≡ table.variable_code self.now word.now }
+    {
+        if !is_name(word) {
+            return Some(ServiceCode::NoName);
+        }
+        if self.is_local(word) {
+            return Some(ServiceCode::WrongKind);
+        }
+        self.variable_kind_code(word)
+    }
+
+    /// Of a local's name, which may be new.
+    #[tactic(auto, unfolding(crate::specs::Table::local_code))]
+    pub(crate) fn local_code(&self, word: &[u8]) -> Option<ServiceCode>
+        ensures { result ≡ table.local_code self.now word.now }
+    {
+        if !is_name(word) {
+            return Some(ServiceCode::NoName);
+        }
+        let is_other = !self.is_local(word) && self.is_declared(word);
+        fits(is_other, ServiceCode::WrongKind)
+    }
+
+    /// Of an operand.
+    pub(crate) fn operand_code(&self, word: &[u8]) -> Option<ServiceCode>
+        ensures { result ≡ table.operand_code self.now word.now }
+    {
+        if begins_number(word) {
+            return number_code(word);
+        }
+        if !is_name(word) {
+            return Some(ServiceCode::BadExpression);
+        }
+        if self.is_local(word) {
+            return None;
+        }
+        self.variable_kind_code(word)
+    }
+
+    // Of operands at the first, third, fifth place and so on, and operators at the others.
+    fn expr_code(&self, words: &[&[u8]]) -> Option<ServiceCode>
+        ensures { result ≡ table.expr_code self.now (texts words.now) }
+    {
+        let mut code = None;
+        let mut rest = words;
+        while let [word, operator, after @ ..] = rest {
+            let pair = least(self.operand_code(word), operator_code(operator));
+            code = least(code, pair);
+            rest = after;
+        }
+        least(code, self.last_code(rest))
+    }
+
+    #[tactic(auto, unfolding(crate::specs::Table::expr_code))]
+    fn last_code(&self, words: &[&[u8]]) -> Option<ServiceCode>
+        requires { length words.now < 2 }
+        ensures { result ≡ table.expr_code self.now (texts words.now) }
+    {
+        match words {
+            [] => Some(ServiceCode::BadExpression),
+            [word, ..] => self.operand_code(word),
+        }
+    }
+
+    /// Of an expression.
+    pub(crate) fn whole_expr_code(&self, words: &[&[u8]]) -> Option<ServiceCode>
+        ensures { result ≡ table.whole_expr_code self.now (texts words.now) }
+    {
+        let too_long = fits(words.len() > 15, ServiceCode::BadExpression);
+        least(too_long, self.expr_code(words))
+    }
+
+    /// Of the order of lines: `lanes` first, and once.
+    pub(crate) fn order_code(&self, form: Form) -> Option<ServiceCode>
+        ensures { result ≡ table.order_code self.now form }
+    {
+        let is_lanes = matches!(form, Form::Lanes);
+        let is_set = self.lanes.is_some();
+        fits((!is_set && !is_lanes) || (is_set && is_lanes), ServiceCode::LanesFirst)
+    }
+
+    /// Of a line of a handler past its 256th.
+    pub(crate) fn full_code(&self) -> Option<ServiceCode>
+        ensures { result ≡ table.full_code self.now }
+    {
+        fits(self.open_line_count() >= 256, ServiceCode::TooMany)
+    }
+
+    fn open_line_count(&self) -> usize
+        ensures { result ≡ table.lines_of_open self.now.open_handler }
+    {
+        match &self.open_handler {
+            None => 0,
+            Some(handler) => handler.lines.len(),
+        }
+    }
+}
+
+/// Of a signed number.
+#[tactic(auto, unfolding(crate::specs::Table::number_code))]
+pub(crate) fn number_code(word: &[u8]) -> Option<ServiceCode>
+    ensures { result ≡ table.number_code word.now }
+{
+    fits(read_i64(word).is_none(), ServiceCode::NoNumber)
+}
+
+/// Of the number of lanes.
+pub(crate) fn lane_count_code(word: &[u8]) -> Option<ServiceCode>
+    ensures { result ≡ table.count_code 1 16 word.now }
+{
+    fits(lane_count(word).is_none(), ServiceCode::NoNumber)
+}
+
+fn operator_code(word: &[u8]) -> Option<ServiceCode>
+    ensures { result ≡ table.operator_code word.now }
+{
+    fits(operator_of(word).is_none(), ServiceCode::BadExpression)
+}

@@ -1,0 +1,163 @@
+//! A line of each form: taken where no code fits it.
+
+ghost use Rattle.std.specs.Prelude.{◌≡◌, ◌≤◌, length};
+ghost use Rattle.rex_parse.specs.Table.{form_code};
+ghost use Rattle.rex_parse.specs.After.{after_form};
+ghost use Rattle.rex_parse.specs.declared.language.Form.TheVariants as form;
+ghost use Rattle.rex_parse.specs.Answers.{texts, Takes};
+
+use crate::language::{Above, Fault};
+use crate::words::lane_count;
+use rex_syntax::line::Line;
+use rex_text::read_i64;
+use std::alloc::Global;
+
+impl Above {
+    // `lanes N`
+    pub(crate) fn lanes_line(&mut self, number: u32, words: &[&[u8]]) -> Result<(), Fault>
+        ensures takes { Takes result (form_code self.old form.Lanes (texts words.now))
+            (after_form self.old number form.Lanes (texts words.now)) self.new }
+        ensures locals { self.new.locals ≡ self.old.locals }
+    {
+        if let Some(code) = self.lanes_code(words) {
+            return Err(Fault::Refused(code));
+        }
+        if let [count, ..] = words {
+            self.lanes = lane_count(count);
+        }
+        Ok(())
+    }
+
+    // `lock NAME`
+    pub(crate) fn lock_line(&mut self, alloc: Global, number: u32, words: &[&[u8]]) -> Result<(), Fault>
+        ensures takes { Takes result (form_code self.old form.Lock (texts words.now))
+            (after_form self.old number form.Lock (texts words.now)) self.new }
+        ensures locals { self.new.locals ≡ self.old.locals }
+    {
+        if let Some(code) = self.lock_form_code(words) {
+            return Err(Fault::Refused(code));
+        }
+        if let [name, ..] = words {
+            self.add_lock(alloc, name)?;
+        }
+        Ok(())
+    }
+
+    // `var NAME on LOCK = NUMBER`
+    pub(crate) fn var_line(&mut self, alloc: Global, number: u32, words: &[&[u8]]) -> Result<(), Fault>
+        ensures takes { Takes result (form_code self.old form.Var (texts words.now))
+            (after_form self.old number form.Var (texts words.now)) self.new }
+        ensures locals { self.new.locals ≡ self.old.locals }
+    {
+        if let Some(code) = self.var_code(words) {
+            return Err(Fault::Refused(code));
+        }
+        if let [name, _, lock, _, first, ..] = words {
+            let guard = self.lock_number(lock);
+            let first = read_i64(first).unwrap_or(0);
+            self.add_variable(alloc, name, guard, first)?;
+        }
+        Ok(())
+    }
+
+    // `handler NAME PARAM..`
+    pub(crate) fn handler_line(&mut self, alloc: Global, number: u32, words: &[&[u8]]) -> Result<(), Fault>
+        requires { length self.old.locals ≤ 16 }
+        ensures takes { Takes result (form_code self.old form.Handler (texts words.now))
+            (after_form self.old number form.Handler (texts words.now)) self.new }
+        ensures locals { length self.new.locals ≤ 16 }
+    {
+        if let Some(code) = self.handler_code(words) {
+            return Err(Fault::Refused(code));
+        }
+        if let [name, parameters @ ..] = words {
+            self.begin_handler(alloc, number, name, parameters)?;
+        }
+        Ok(())
+    }
+
+    // `acquire LOCK`
+    pub(crate) fn acquire_line(&mut self, number: u32, words: &[&[u8]]) -> Result<(), Fault>
+        ensures takes { Takes result (form_code self.old form.Acquire (texts words.now))
+            (after_form self.old number form.Acquire (texts words.now)) self.new }
+        ensures locals { self.new.locals ≡ self.old.locals }
+    {
+        if let Some(code) = self.acquire_code(words) {
+            return Err(Fault::Refused(code));
+        }
+        if let [lock, ..] = words {
+            let lock = self.lock_number(lock);
+            self.push_line(number, Line::Acquire { lock })?;
+        }
+        Ok(())
+    }
+
+    // `release LOCK`
+    pub(crate) fn release_line(&mut self, number: u32, words: &[&[u8]]) -> Result<(), Fault>
+        ensures takes { Takes result (form_code self.old form.Release (texts words.now))
+            (after_form self.old number form.Release (texts words.now)) self.new }
+        ensures locals { self.new.locals ≡ self.old.locals }
+    {
+        if let Some(code) = self.release_code(words) {
+            return Err(Fault::Refused(code));
+        }
+        if let [lock, ..] = words {
+            let lock = self.lock_number(lock);
+            self.push_line(number, Line::Release { lock })?;
+        }
+        Ok(())
+    }
+
+    // `set VAR = EXPR`
+    pub(crate) fn set_line(&mut self, alloc: Global, number: u32, words: &[&[u8]]) -> Result<(), Fault>
+        requires { length self.old.locals ≤ 16 }
+        ensures takes { Takes result (form_code self.old form.Set (texts words.now))
+            (after_form self.old number form.Set (texts words.now)) self.new }
+        ensures locals { length self.new.locals ≤ 16 }
+    {
+        if let Some(code) = self.set_code(words) {
+            return Err(Fault::Refused(code));
+        }
+        if let [variable, _, value @ ..] = words {
+            let variable = self.variable_number(variable);
+            let value = self.expr_of(alloc, value)?;
+            self.push_line(number, Line::Set { variable, value })?;
+        }
+        Ok(())
+    }
+
+    // `let LOCAL = EXPR`
+    pub(crate) fn let_line(&mut self, alloc: Global, number: u32, words: &[&[u8]]) -> Result<(), Fault>
+        requires { length self.old.locals ≤ 16 }
+        ensures takes { Takes result (form_code self.old form.Let (texts words.now))
+            (after_form self.old number form.Let (texts words.now)) self.new }
+        ensures locals { length self.new.locals ≤ 16 }
+    {
+        if let Some(code) = self.let_code(words) {
+            return Err(Fault::Refused(code));
+        }
+        if let [local, _, value @ ..] = words {
+            let value = self.expr_of(alloc, value)?;
+            self.make_local(alloc, local)?;
+            let local = self.local_place(local) as u8;
+            self.push_line(number, Line::Let { local, value })?;
+        }
+        Ok(())
+    }
+
+    // `reply EXPR`
+    pub(crate) fn reply_line(&mut self, alloc: Global, number: u32, words: &[&[u8]]) -> Result<(), Fault>
+        requires { length self.old.locals ≤ 16 }
+        ensures takes { Takes result (form_code self.old form.Reply (texts words.now))
+            (after_form self.old number form.Reply (texts words.now)) self.new }
+        ensures locals { length self.new.locals ≤ 16 }
+    {
+        if let Some(code) = self.reply_code(words) {
+            return Err(Fault::Refused(code));
+        }
+        let value = self.expr_of(alloc, words)?;
+        self.push_line(number, Line::Reply { value })?;
+        self.end_handler(alloc)?;
+        Ok(())
+    }
+}

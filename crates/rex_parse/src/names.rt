@@ -1,0 +1,59 @@
+//! What words name, given what the lines above have declared.
+
+ghost use Rattle.std.specs.Prelude.{◌≡◌, ◌≤◌, length};
+ghost use Rattle.rex_parse.specs.Above as above;
+
+use crate::language::{Above, Meaning};
+
+impl Above {
+    /// What a declared name stands for.
+    pub fn meaning_of(&self, word: &[u8]) -> Option<Meaning>
+        ensures { result ≡ above.meaning_of self.now word.now }
+    {
+        for entry in self.names.as_slice() {
+            if entry.name.as_slice() == word {
+                return Some(entry.meaning);
+            }
+        }
+        None
+    }
+
+    pub(crate) fn is_declared(&self, word: &[u8]) -> bool
+        ensures { result ≡ above.is_declared self.now word.now }
+    {
+        self.meaning_of(word).is_some()
+    }
+
+    /// Whether a word is a parameter or a local of the open handler.
+    pub(crate) fn is_local(&self, word: &[u8]) -> bool
+        ensures { result ≡ above.is_local self.now word.now }
+    {
+        for local in self.locals.as_slice() {
+            if local.as_slice() == word {
+                return true;
+            }
+        }
+        false
+    }
+
+    /// The number of a local, from 0, or how many there are where it is none.
+    pub(crate) fn local_place(&self, word: &[u8]) -> usize
+        ensures place { result ≡ above.local_place self.now word.now }
+        ensures within { result ≤ length self.now.locals }
+    {
+        let mut place = 0;
+        for local in self.locals.as_slice() {
+            if local.as_slice() == word {
+                return place;
+            }
+            place += 1;
+        }
+        place
+    }
+
+    pub(crate) fn is_open(&self) -> bool
+        ensures { result ≡ above.is_open self.now }
+    {
+        self.open_handler.is_some()
+    }
+}

@@ -1,0 +1,185 @@
+//! A reader of lines, one after the other.
+
+ghost use Rattle.std.specs.Prelude.{◌≡◌, ◌≤◌, length, None, IfOk, unwrap_or};
+ghost use Rattle.std.specs.List.{list_all};
+ghost use Rattle.rex_text.specs.Text.{words_of, is_allowed};
+ghost use Rattle.rex_text.specs.Text as text;
+ghost use Rattle.rex_parse.specs.Above.{nothing};
+ghost use Rattle.rex_parse.specs.Table.{line_code};
+ghost use Rattle.rex_parse.specs.After.{after, service_of};
+ghost use Rattle.rex_parse.specs.Reading.{raw_code, raw_after, end_code};
+ghost use Rattle.rex_parse.specs.Answers.{texts, Takes};
+
+use crate::language::{Above, Fault, Form, ServiceCode};
+use crate::words::form_of;
+use rex_list::List;
+use rex_syntax::service::{Declarations, Service};
+use rex_text::words;
+use std::alloc::{AllocError, Global};
+use std::marker::Model;
+
+impl Above {
+    fn new(alloc: Global) -> Above
+        ensures { result ≡ nothing }
+    {
+        Above {
+            lanes: None,
+            names: List::new(alloc),
+            locks: List::new(alloc),
+            conditions: List::new(alloc),
+            variables: List::new(alloc),
+            handlers: List::new(alloc),
+            locals: List::new(alloc),
+            open_handler: None,
+        }
+    }
+
+    // A line that isn't skipped.
+    fn word_line(&mut self, alloc: Global, number: u32, words: &[&[u8]]) -> Result<(), Fault>
+        requires { length self.old.locals ≤ 16 }
+        ensures takes { Takes result (line_code self.old (texts words.now)) (after self.old number (texts words.now)) self.new }
+        ensures locals { length self.new.locals ≤ 16 }
+    {
+        let [first, rest @ ..] = words else {
+            return Ok(());
+        };
+        match form_of(first) {
+            None => Err(Fault::Refused(ServiceCode::Misplaced)),
+            Some(Form::Lanes) => self.lanes_line(number, rest),
+            Some(Form::Lock) => self.lock_line(alloc, number, rest),
+            Some(Form::Var) => self.var_line(alloc, number, rest),
+            Some(Form::Handler) => self.handler_line(alloc, number, rest),
+            Some(Form::Acquire) => self.acquire_line(number, rest),
+            Some(Form::Release) => self.release_line(number, rest),
+            Some(Form::Set) => self.set_line(alloc, number, rest),
+            Some(Form::Let) => self.let_line(alloc, number, rest),
+            Some(Form::Reply) => self.reply_line(alloc, number, rest),
+        }
+    }
+
+    // A line as it stands.
+    fn raw_line(&mut self, alloc: Global, number: u32, line: &[u8]) -> Result<(), Fault>
+        requires { length self.old.locals ≤ 16 }
+        ensures takes { Takes result (raw_code self.old line.now) (raw_after self.old number line.now) self.new }
+        ensures locals { length self.new.locals ≤ 16 }
+    {
+        if !is_allowed(line) {
+            return Err(Fault::Refused(ServiceCode::BadByte));
+        }
+        if is_skipped(line) {
+            return Ok(());
+        }
+        let words = words_in(alloc, line)?;
+        self.word_line(alloc, number, &words)
+    }
+
+    fn declarations(self) -> Declarations
+        requires { unwrap_or self.lanes 0 ≤ 16 }
+        ensures { result ≡ service_of self }
+    {
+        Declarations {
+            lanes: self.lanes.unwrap_or(0) as u8,
+            locks: self.locks,
+            conditions: self.conditions,
+            variables: self.variables,
+            handlers: self.handlers,
+        }
+    }
+
+    fn end_code(&self) -> Option<ServiceCode>
+        ensures { result ≡ end_code self.now }
+    {
+        if self.is_open() || self.handlers.is_empty() {
+            return Some(ServiceCode::Unended);
+        }
+        None
+    }
+}
+
+fn is_allowed(line: &[u8]) -> bool
+    ensures { result ≡ list_all is_allowed line.now }
+{
+    line.iter().all(|byte| (32 <= *byte && *byte <= 126) || *byte == 9)
+}
+
+fn is_skipped(line: &[u8]) -> bool
+    ensures { result ≡ text.is_skipped (words_of line.now) }
+{
+    let mut rest = words(line);
+    match rest.next() {
+        None => true,
+        Some(word) => word.first() == Some(&b'#'),
+    }
+}
+
+fn words_in(alloc: Global, line: &[u8]) -> Result<Vec<&[u8]>, AllocError>
+    ensures { IfOk result (λ found. texts found.items ≡ words_of line.now) }
+{
+    words(line).collect(alloc)
+}
+
+/// A reader of the lines of a service. Contracts see it as what the lines so far have declared.
+#[derive(Drop)]
+pub struct Parser {
+    alloc: Global,
+    above: Above,
+}
+
+impl Model for Parser {
+    ghost use Rattle.std.specs.Prelude.{◌≤◌, length};
+    ghost use Rattle.rex_parse.specs.declared.language.Above.{Above};
+
+    ghost Value = { Above };
+
+    ghost view = { λ p. p.above };
+
+    ghost invariant = { λ p. length p.above.locals ≤ 16 };
+}
+
+ghost use Rattle.std.specs.Prelude.{OnOk};
+ghost use Rattle.rex_parse.specs.Good.{IsGood};
+
+impl Parser {
+    /// A reader before the first line.
+    pub fn new(alloc: Global) -> Parser
+        ensures start { result ≡ nothing }
+        ensures good { IsGood result }
+    {
+        Parser {
+            alloc,
+            above: Above::new(alloc),
+        }
+    }
+
+    /// What the lines so far have declared.
+    pub fn above(&self) -> &Above
+        ensures { result.now ≡ self.now }
+    {
+        &self.above
+    }
+
+    /// Reads the next line, which has this number in its text, as it stands. After an error the reader serves no more.
+    pub fn raw_line(&mut self, number: u32, line: &[u8]) -> Result<(), Fault>
+        ensures takes { Takes result (raw_code self.old line.now) (raw_after self.old number line.now) self.new }
+        ensures good { IsGood self.old → OnOk result (IsGood self.new) }
+    {
+        self.above.raw_line(self.alloc, number, line)
+    }
+
+    /// The code that fits the end of the text, at the line after the last.
+    pub fn end_code(&self) -> Option<ServiceCode>
+        ensures { result ≡ end_code self.now }
+    {
+        self.above.end_code()
+    }
+
+    /// The service that the lines declare. It takes no memory.
+    pub fn finish(self) -> Service
+        requires ended { end_code self ≡ None }
+        requires good { IsGood self }
+        ensures { result ≡ service_of self }
+    {
+        let Parser { alloc: _, above } = self;
+        Service::of(above.declarations())
+    }
+}

@@ -1,0 +1,111 @@
+-- Scenarios, and what they say.
+use Rattle.std.proofs.Common.{◌≡◌, ℕ, List, [], ◌∷◌, ◌++◌, ◌<◌, ◌≤◌, length, false, Option, Some, None, Result, Ok, Err, refl, codes}
+use Rattle.std.specs.Prelude.{pos}
+use Rattle.std.specs.Result.{result_err}
+use Rattle.std.proofs.lemmas.Bool.{lt-ltb, le-leb}
+use Rattle.std.specs.Fmt.{digits}
+use Rattle.rex_parse.specs.Words.{is_name}
+use Rattle.rex_parse.specs.Table.{new_code, lock_code, variable_code, local_code, number_code, expr_code}
+use Rattle.rex_parse.specs.declared.language.ServiceCode.TheVariants as service
+use Rattle.rex_syntax.specs.declared.request.Request.{Request}
+use Rattle.rex_scenario.specs.Requests.{is_repeated, place_code}
+use Rattle.rex_scenario.specs.Schedule.{schedule_code}
+use Rattle.rex_scenario.specs.Reading.{answer_from, answer_of}
+use Rattle.rex_scenario.specs.declared.scenario.ScenarioCode.{ScenarioCode}
+use Rattle.rex_scenario.specs.declared.scenario.ScenarioCode.TheVariants as code
+use Rattle.rex_scenario.specs.declared.scenario.ScheduleLine.{ScheduleLine}
+use Rattle.rex_scenario.specs.declared.scenario.ScheduleLine.TheVariants.{Elect, Submit, Lane, Cut}
+use Rattle.rex_scenario.specs.declared.scenario.Sections.{Sections}
+
+-- lines as a text, each with a LF
+text_of : List (List ℕ) → List ℕ
+text_of [] = []
+text_of (line ∷ lines) = line ++ 10 ∷ text_of lines
+
+counter_service : List (List ℕ)
+counter_service =
+    codes "%nodes 1" ∷ codes "%service" ∷ codes "lanes 2" ∷ codes "lock L" ∷ codes "var a on L = 0" ∷ codes "handler add x" ∷ codes "acquire L" ∷ codes "set a = a + x" ∷ codes "let r = a"
+    ∷ codes "release L" ∷ codes "reply r" ∷ []
+
+counter : List (List ℕ)
+counter = counter_service ++ codes "%requests" ∷ codes "1 1 add 5" ∷ codes "%schedule" ∷ codes "elect 1" ∷ codes "submit 1 1" ∷ codes "lane 1 1" ∷ codes "cut 1" ∷ []
+
+said : Result Sections (ℕ × ScenarioCode) → Option (List Request × List ScheduleLine)
+said (Ok s) = Some (s.requests, s.schedule)
+said (Err e) = None
+
+counter_says : said (answer_of (text_of counter)) ≡ Some ((record { client = 1; sequence = 1; handler = 0; arguments = pos 5 ∷ [] }) ∷ [], Elect 1 ∷ Submit 1 0 ∷ Lane 1 0 ∷ Cut 1 ∷ [])
+unfolding text_of counter counter_service said answer_from is_name new_code lock_code variable_code local_code number_code expr_code digits
+counter_says = refl
+
+-- ---- a refusal of each code
+
+refusal : List (List ℕ) → Option (ℕ × ScenarioCode)
+refusal lines = result_err (answer_of (text_of lines))
+
+requests_of : List (List ℕ) → List (List ℕ)
+requests_of lines = counter_service ++ codes "%requests" ∷ lines
+
+schedule_of : List (List ℕ) → List (List ℕ)
+schedule_of lines = requests_of (codes "1 1 add 5" ∷ codes "%schedule" ∷ lines)
+
+bad_byte : refusal ((9 ∷ 127 ∷ []) ∷ []) ≡ Some (1, code.BadByte)
+unfolding refusal text_of answer_from digits
+bad_byte = refl
+
+-- no text is refused at the line after the last
+no_text : refusal [] ≡ Some (1, code.OutOfPlace)
+unfolding refusal text_of answer_from digits
+no_text = refl
+
+other_heading : refusal (codes "%service" ∷ []) ≡ Some (1, code.OutOfPlace)
+unfolding refusal text_of answer_from digits
+other_heading = refl
+
+two_nodes : refusal (codes "%nodes 2" ∷ []) ≡ Some (1, code.BadHeading)
+unfolding refusal text_of answer_from digits
+two_nodes = refl
+
+bad_service : refusal (codes "%nodes 1" ∷ codes "%service" ∷ codes "lanes 17" ∷ []) ≡ Some (3, code.Service service.NoNumber)
+unfolding refusal text_of answer_from digits
+bad_service = refl
+
+open_handler : refusal (codes "%nodes 1" ∷ codes "%service" ∷ codes "lanes 1" ∷ codes "%requests" ∷ []) ≡ Some (4, code.Service service.Unended)
+unfolding refusal text_of answer_from digits
+open_handler = refl
+
+no_client : refusal (requests_of (codes "0 1 add 5" ∷ [])) ≡ Some (13, code.BadRequest)
+unfolding refusal requests_of counter_service text_of answer_from is_name new_code lock_code variable_code local_code number_code expr_code digits
+no_client = refl
+
+no_argument : refusal (requests_of (codes "1 1 add" ∷ [])) ≡ Some (13, code.BadCall)
+unfolding refusal requests_of counter_service text_of answer_from is_name new_code lock_code variable_code local_code number_code expr_code digits
+no_argument = refl
+
+same_request : refusal (requests_of (codes "1 1 add 5" ∷ codes "1 1 add 6" ∷ [])) ≡ Some (14, code.Repeated)
+unfolding refusal requests_of counter_service text_of answer_from is_name new_code lock_code variable_code local_code number_code expr_code digits
+same_request = refl
+
+not_spelled : refusal (schedule_of (codes "elect 01" ∷ [])) ≡ Some (15, code.BadLine)
+unfolding refusal schedule_of requests_of counter_service text_of answer_from is_name new_code lock_code variable_code local_code number_code expr_code digits
+not_spelled = refl
+
+no_node : refusal (schedule_of (codes "elect 0" ∷ [])) ≡ Some (15, code.NotThere)
+unfolding refusal schedule_of requests_of counter_service text_of answer_from is_name new_code lock_code variable_code local_code number_code expr_code digits
+no_node = refl
+
+no_request : refusal (schedule_of (codes "submit 1 2" ∷ [])) ≡ Some (15, code.NotThere)
+unfolding refusal schedule_of requests_of counter_service text_of answer_from is_name new_code lock_code variable_code local_code number_code expr_code digits
+no_request = refl
+
+-- ---- the codes of limits
+
+too_long : (bytes : List ℕ) → 4194304 < length bytes → answer_of bytes ≡ Err (0, code.TooLong)
+too_long bytes lt = rw (lt-ltb 4194304 (length bytes) lt) refl
+
+too_many_lines : (lanes : ℕ) → schedule_code 1 0 lanes 100000 (codes "elect" ∷ codes "1" ∷ []) ≡ Some code.TooManyLines
+unfolding digits
+too_many_lines lanes = refl
+
+too_many_requests : (earlier : List Request) (r : Request) → is_repeated earlier r ≡ false → 65536 ≤ length earlier → place_code earlier r ≡ Some code.TooManyRequests
+too_many_requests earlier r new full = rw (new, le-leb 65536 (length earlier) full) refl

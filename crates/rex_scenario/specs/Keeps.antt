@@ -1,0 +1,37 @@
+-- What the good lines so far keep: what the sections name is there.
+use Rattle.std.specs.Prelude.{◌≡◌, ◌≤◌, [], length, None, unwrap_or}
+use Rattle.std.specs.List.{All}
+use Rattle.rex_parse.specs.After.{service_of}
+use Rattle.rex_parse.specs.Good.{IsGood}
+use Rattle.rex_parse.specs.Reading.{end_code}
+use Rattle.rex_scenario.specs.Fits.{RequestFits, LineFits}
+use Rattle.rex_scenario.specs.declared.scenario.Sections.{Sections}
+use Rattle.rex_scenario.specs.declared.scenario.Stage.{Stage}
+use Rattle.rex_scenario.specs.declared.scenario.Stage.TheVariants as stage
+
+-- no requests and no schedule yet
+pub record AreAhead (s : Sections) : Type 0 where
+  pub requests : s.requests ≡ []
+  pub schedule : s.schedule ≡ []
+
+-- the service is whole, and the requests fit it
+pub record RequestsFit (s : Sections) : Type 0 where
+  pub whole : end_code s.service ≡ None
+  pub few : length s.requests ≤ 65536
+  pub each : All (RequestFits (service_of s.service)) s.requests
+
+-- the schedule lines fit the service and the requests
+pub record ScheduleFits (s : Sections) : Type 0 where
+  pub few : length s.schedule ≤ 100000
+  pub each : All (LineFits 1 (length s.requests) (unwrap_or s.service.lanes 0)) s.schedule
+
+-- what holds of the sections that were read
+abbrev pub FitsAt : Stage → Sections → Type 0
+FitsAt stage.Requests s = RequestsFit s × (s.schedule ≡ [])
+FitsAt stage.Schedule s = RequestsFit s × ScheduleFits s
+FitsAt _ s = AreAhead s
+
+-- what holds of the sections so far
+pub record SectionsFit (s : Sections) : Type 0 where
+  pub service : IsGood s.service
+  pub sections : FitsAt s.stage s

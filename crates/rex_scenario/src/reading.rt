@@ -1,0 +1,55 @@
+//! A whole scenario from its text.
+
+ghost use Rattle.std.specs.Prelude.{◌+◌, ◌<◌, ◌^◌, IfErr, IfOk, length};
+ghost use Rattle.rex_scenario.specs.Answers.{Refuses, Says};
+ghost use Rattle.rex_scenario.specs.Fits.{ScenarioFits};
+ghost use Rattle.rex_scenario.specs.Reading.{answer_of};
+
+use crate::reader::Reader;
+use crate::scenario::{LineFault, Scenario, ScenarioCode, ScenarioError};
+use rex_syntax::service::Service;
+use rex_text::raw_lines;
+use std::alloc::Global;
+
+/// The most bytes of a scenario's text.
+pub const SCENARIO_BYTES: usize = 4_194_304;
+
+/// The scenario that a text describes, and its service, or the first bad line with the least code that fits it.
+#[tactic(auto, unfolding(crate::specs::Reading::answer_from))]
+pub fn read_scenario(alloc: Global, bytes: &[u8]) -> Result<(Scenario, Service), ScenarioError>
+    requires { length bytes.now + 1 < 2 ^ 32 }
+    ensures says { IfOk result (λ read. Says (answer_of bytes.now) read.0 read.1) }
+    ensures fits { IfOk result (λ read. ScenarioFits read.1 read.0) }
+    ensures refuses { IfErr result (Refuses (answer_of bytes.now)) }
+{
+    if bytes.len() > SCENARIO_BYTES {
+        return Err(ScenarioError::Refused {
+            line: 0,
+            code: ScenarioCode::TooLong,
+        });
+    }
+    let mut reader = Reader::new(alloc);
+    let mut lines = raw_lines(bytes);
+    let mut next = 1;
+    while let Some((number, line)) = lines.next() {
+        match reader.line(number, line) {
+            Ok(()) => next = number + 1,
+            Err(LineFault::Refused(code)) => {
+                return Err(ScenarioError::Refused { line: number, code });
+            }
+            Err(LineFault::OutOfMemory) => return Err(ScenarioError::OutOfMemory),
+        }
+    }
+    if let Some(code) = reader.end_code() {
+        return Err(ScenarioError::Refused { line: next, code });
+    }
+    Ok(reader.finish())
+}
+
+ghost use Rattle.rex_scenario.specs.Law.{EachText};
+
+/// The answer to a text is its first bad line with the least code that fits it, given what the lines above say, or what
+/// its end says.
+pub fn first_bad_line()
+    ensures { EachText }
+{}

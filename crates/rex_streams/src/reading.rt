@@ -1,0 +1,59 @@
+ghost use Rattle.std.specs.Prelude.{◌≡◌, ◌+◌, ◌<◌, ◌≤◌, length, IfOk, IsErrOf};
+ghost use Rattle.std.specs.Io.KnownBytes.{Consumes, IsAtEnd};
+ghost use Rattle.rex_traits.specs.Causes.{Rose, TellsAlike};
+ghost use Rattle.rex_streams.specs.declared.reading.ReadFault.TheVariants as fault;
+
+use rex_traits::Source;
+use std::alloc::Global;
+
+/// Why an input was not read.
+#[derive(Clone, Copy, Debug, PartialEq, Eq)]
+pub enum ReadFault {
+    Failed,
+    OutOfMemory,
+}
+
+/// One byte more than an input may have.
+pub const MOST: usize = 4_194_305;
+
+/// The most bytes that are asked for at once.
+const PIECE: usize = 65_536;
+
+/// What was read, and in how many turns.
+#[derive(Drop)]
+pub struct Input {
+    pub bytes: Vec<u8>,
+    pub turns: usize,
+}
+
+/// Reads a source to its end, or `MOST` bytes of it. Each turn but the last takes at least a byte.
+pub fn read_input<S: Source>(alloc: Global, source: &mut S) -> Result<Input, ReadFault>
+    ensures taken { IfOk result (λ i. Consumes (S.left source.old) (S.left source.new) i.bytes.items) }
+    ensures whole { IfOk result (λ i. length i.bytes.items < 4194305 → IsAtEnd (S.left source.new)) }
+    ensures most { IfOk result (λ i. length i.bytes.items ≤ 4194305) }
+    ensures turns { IfOk result (λ i. i.turns ≤ length i.bytes.items + 1) }
+    ensures few_turns { IfOk result (λ i. i.turns ≤ 4194305) }
+
+    ensures told { TellsAlike (S.left source.old) (S.left source.new) }
+    ensures later { S.faults source.old ≤ S.faults source.new }
+    ensures failed { IsErrOf result fault.Failed → Rose (S.faults source.old) (S.faults source.new) }
+{
+    let mut bytes = Vec::new(alloc);
+    let mut buf = [0; PIECE];
+    for turn in 0..MOST {
+        let room = PIECE.min(MOST - bytes.len());
+        match source.read(&mut buf[..room]) {
+            Ok(0) => return Ok(Input {
+                bytes,
+                turns: turn + 1,
+            }),
+            Ok(count) => {
+                if bytes.extend_from_slice(&buf[..count]).is_err() {
+                    return Err(ReadFault::OutOfMemory);
+                }
+            }
+            Err(_) => return Err(ReadFault::Failed),
+        }
+    }
+    Ok(Input { bytes, turns: MOST })
+}

@@ -1,0 +1,4 @@
+mod Buffers
+mod Examples
+pub mod Spellings
+pub mod Splits

@@ -1,0 +1,31 @@
+use Rattle.std.proofs.Common.{◌≡◌, ℕ, ◌+◌, ◌++◌, List, ◌∷◌, [], length, sym, ap, ◌∙◌, refl, subst, OnOk}
+use Rattle.std.proofs.lemmas.Result.{on_ok_weaker}
+use Rattle.rex_report.specs.declared.effect.Effect.{Effect}
+use Rattle.rex_world.specs.Row as spec
+use Rattle.rex_world.specs.Answering.{answer_in, taken, turn_at, turned_at}
+use Rattle.rex_world.specs.Report.{effects_text}
+use Rattle.rex_world.specs.Running.{Running, IsRunning, with_row, restarted, recorder_after}
+use Rattle.rex_scenario.specs.Fits.{LineFits}
+use Rattle.rex_scenario.specs.declared.scenario.ScheduleLine.TheVariants.{Elect, Submit, Lane, Cut}
+use Rattle.rex_world.proofs.Steps.{step_runs}
+use Rattle.rex_world.proofs.world.World.step.Goals as goal
+
+pub returns-in-Elect-clause-running : goal.returns-in-Elect-clause-running
+returns-in-Elect-clause-running c =
+    step_runs c.args.svc.now c.args.requests.now c.args.seed c.args.self.now (Elect c.in-Elect.node) c.elect.result c.elect.new.self c.declarations-service.ensures.sound c.requires.requests
+    (subst (LineFits 1 (length c.args.requests.now) c.args.svc.now.lanes) c.in-Elect.is c.requires.fits) c.requires.running c.elect.ensures.after
+
+pub returns-in-Submit-clause-running : goal.returns-in-Submit-clause-running
+returns-in-Submit-clause-running c =
+    step_runs c.args.svc.now c.args.requests.now c.args.seed c.args.self.now (Submit c.in-Submit.node c.in-Submit.request) c.submit.result c.submit.new.self c.declarations-service.ensures.sound c.requires.requests
+    (subst (LineFits 1 (length c.args.requests.now) c.args.svc.now.lanes) c.in-Submit.is c.requires.fits) c.requires.running c.submit.ensures.after
+
+pub returns-in-Lane-clause-running : goal.returns-in-Lane-clause-running
+returns-in-Lane-clause-running c =
+    step_runs c.args.svc.now c.args.requests.now c.args.seed c.args.self.now (Lane c.in-Lane.node c.in-Lane.lane) c.lane.result c.lane.new.self c.declarations-service.ensures.sound c.requires.requests
+    (subst (LineFits 1 (length c.args.requests.now) c.args.svc.now.lanes) c.in-Lane.is c.requires.fits) c.requires.running c.lane.ensures.after
+
+pub returns-in-Cut-clause-running : goal.returns-in-Cut-clause-running
+returns-in-Cut-clause-running c =
+    step_runs c.args.svc.now c.args.requests.now c.args.seed c.args.self.now (Cut c.in-Cut.node) c.cut.result c.cut.new.self c.declarations-service.ensures.sound c.requires.requests
+    (subst (LineFits 1 (length c.args.requests.now) c.args.svc.now.lanes) c.in-Cut.is c.requires.fits) c.requires.running c.cut.ensures.after
