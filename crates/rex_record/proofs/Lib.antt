@@ -5,4 +5,5 @@ pub mod Stands
 pub mod Advance
 pub mod Follows
 pub mod Clients
+pub mod Roller
 mod Examples

@@ -8,3 +8,6 @@ mod turns;
 
 pub use recorder::{LIVE_EVENTS, Recorder, Release, Settled};
 pub use turns::Turn;
+
+#[cfg(test)]
+mod tests;
