@@ -1,10 +1,10 @@
 -- What is due for the bytes that were read is due for all that the source had: where some are left, the text is too long.
-use Rattle.std.proofs.Common.{◌≡◌, ℕ, ◌+◌, ◌<◌, ◌≤◌, Bool, true, false, List, [], ◌++◌, length, Option, Some, None, inl, inr, ◌⊎◌, refl, sym, ap, ◌∙◌, subst, arith, length-append, append-nil}
-use Rattle.std.specs.Prelude.{nat_lt, IfSome, Err, if◌then◌else◌}
+use Rattle.std.proofs.Common.{◌≡◌, ℕ, ◌+◌, ◌<◌, ◌≤◌, Bool, true, List, [], ◌++◌, length, Option, Some, None, inl, inr, ◌⊎◌, sym, ap, ◌∙◌, arith, length-append, append-nil}
+use Rattle.std.specs.Prelude.{IfSome, Err, if◌then◌else◌}
 use Rattle.std.specs.Io.KnownBytes.{Consumes, IsAtEnd}
 use Rattle.std.proofs.lemmas.Bool.{cases_lt, lt-ltb}
 use Rattle.rex_text.specs.Text.{numbered, lines_of}
-use Rattle.rex_scenario.specs.Reading.{answer_of, answer_from, no_sections}
+use Rattle.rex_scenario.specs.Reading.{answer_from, no_sections}
 use Rattle.rex_scenario.specs.declared.scenario.ScenarioCode.TheVariants.{TooLong}
 use Rattle.rex_cli.specs.Due.{Due, is_command, due_input, due_refusal, due_usage, due, due_answer}
 

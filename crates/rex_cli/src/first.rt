@@ -14,14 +14,19 @@ use std::alloc::{AllocError, Global};
 fn adds_only(expr: &Expr) -> bool
     ensures { result ≡ spec.adds_only expr.now }
 {
-    expr.rest.as_slice().iter().all(|term| term.operator == Operator::Add)
+    expr.rest
+        .as_slice()
+        .iter()
+        .all(|term| term.operator == Operator::Add)
 }
 
 fn is_first_line(line: &Line) -> bool
     ensures { result ≡ spec.is_first_line line.now }
 {
     match line {
-        Line::Set { value, .. } | Line::Let { value, .. } | Line::Reply { value } => adds_only(value),
+        Line::Set { value, .. } | Line::Let { value, .. } | Line::Reply { value } => adds_only(
+            value,
+        ),
         _ => true,
     }
 }
@@ -29,13 +34,21 @@ fn is_first_line(line: &Line) -> bool
 fn is_first_handler(handler: &Handler) -> bool
     ensures { result ≡ spec.is_first_handler handler.now }
 {
-    handler.lines.as_slice().iter().all(|line| is_first_line(line))
+    handler
+        .lines
+        .as_slice()
+        .iter()
+        .all(|line| is_first_line(line))
 }
 
 fn is_first_service(service: &Declarations) -> bool
     ensures { result ≡ spec.is_first_service service.now }
 {
-    service.handlers.as_slice().iter().all(|handler| is_first_handler(handler))
+    service
+        .handlers
+        .as_slice()
+        .iter()
+        .all(|handler| is_first_handler(handler))
 }
 
 fn are_first_requests(requests: &[Request]) -> bool
@@ -47,7 +60,9 @@ fn are_first_requests(requests: &[Request]) -> bool
 fn has_no_elect(lines: &[ScheduleLine]) -> bool
     ensures { result ≡ list_all spec.is_no_elect lines.now }
 {
-    lines.iter().all(|line| !matches!(line, ScheduleLine::Elect { .. }))
+    lines
+        .iter()
+        .all(|line| !matches!(line, ScheduleLine::Elect { .. }))
 }
 
 // The first line alone asks to lead, if there is one.
@@ -78,7 +93,11 @@ fn submits_once(alloc: Global, schedule: &[ScheduleLine]) -> Result<bool, AllocE
 }
 
 /// Whether a scenario is of the kind that is taken so far, its service's check aside.
-pub(crate) fn is_first(alloc: Global, scenario: &Scenario, service: &Declarations) -> Result<bool, AllocError>
+pub(crate) fn is_first(
+    alloc: Global,
+    scenario: &Scenario,
+    service: &Declarations,
+) -> Result<bool, AllocError>
     ensures { IfOk result (λ first. first ≡ spec.is_simple scenario.now service.now) }
 {
     let simple = is_first_service(service);

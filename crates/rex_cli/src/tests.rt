@@ -72,7 +72,10 @@ fn other_texts_and_words_are_refused(rt: HostRuntime) -> Result<(), Fail> {
     assert_eq!(rt; empty.written.as_slice(), b"refused line 0 S0\n".as_slice());
     let fly = run(&rt, "fly", COUNTER, 0, 0)?;
     assert_eq!(rt; fly.status, 2);
-    assert_eq!(rt; fly.written.as_slice(), b"usage: rex run|trace|check|gen|soak\n".as_slice());
+    assert_eq!(rt;
+        fly.written.as_slice(),
+        b"usage: rex run|trace|check|gen|soak\n".as_slice()
+    );
     Ok(())
 }
 

@@ -20,10 +20,8 @@ use Rattle.rex_parse.specs.declared.language.Meaning.{Meaning}
 use Rattle.rex_parse.specs.declared.language.Meaning.TheVariants as meaning
 use Rattle.rex_parse.specs.declared.language.Form.{Form}
 use Rattle.rex_parse.specs.declared.language.Form.TheVariants as form
-use Rattle.rex_parse.specs.declared.language.ServiceCode.{ServiceCode}
-use Rattle.rex_parse.proofs.Fine.{IsFine, fine_line, fits_not, least_both}
-use Rattle.rex_parse.proofs.Extends.{Extends, slice_get-push, IsLock-more, line_more, lines_more, handler_more}
-use Rattle.rex_parse.proofs.Straight.{matched, shaped, branches}
+use Rattle.rex_parse.proofs.Fine.{IsFine, fits_not, least_both}
+use Rattle.rex_parse.proofs.Extends.{Extends, slice_get-push, IsLock-more, handler_more}
 
 -- ---- what order and place say
 

@@ -1,13 +1,13 @@
 -- Plain lines and a reply make a handler.
-use Rattle.std.proofs.Common.{◌≡◌, ℕ, zero, suc, ◌+◌, ◌<◌, ◌≤◌, Bool, true, false, List, [], ◌∷◌, ◌++◌, length, get_or, Option, Some, None, refl, sym, ap, ◌∙◌, arith, inl, inr, ◌⊎◌, length-append}
+use Rattle.std.proofs.Common.{◌≡◌, ℕ, zero, suc, ◌+◌, ◌<◌, ◌≤◌, true, false, List, [], ◌∷◌, ◌++◌, length, Some, refl, sym, ap, ◌∙◌, arith, inl, inr, ◌⊎◌, length-append}
 use Rattle.std.specs.Prelude.{slice_get}
 use Rattle.std.specs.List.{All}
 use Rattle.std.proofs.lemmas.List.Elements.{All-head, All-tail}
 use Rattle.rex_syntax.specs.declared.expr.Expr.{Expr}
 use Rattle.rex_syntax.specs.declared.line.Line.{Line}
 use Rattle.rex_syntax.specs.declared.line.Line.TheVariants.{Acquire, Share, Release, Try, Busy, EndTry, Wait, Signal, Broadcast, Set, Let, Clock, Random, If, Else, EndIf, Repeat, EndRepeat, Reply}
-use Rattle.rex_syntax.specs.Blocks.{Block, blocks_after, is_reply_line, is_matched_in, is_matched}
-use Rattle.rex_syntax.specs.Shape.{open_after, open_from, open_at, HasNext, LeadsOn, IsShaped, is_divider, HasBranches}
+use Rattle.rex_syntax.specs.Blocks.{blocks_after, is_reply_line, is_matched_in, is_matched}
+use Rattle.rex_syntax.specs.Shape.{open_after, open_from, HasNext, LeadsOn, IsShaped, is_divider, HasBranches}
 use Rattle.std.proofs.lemmas.Option.{same_Some}
 use Rattle.std.proofs.lemmas.Bool.{true≢false}
 use Rattle.rex_parse.specs.Good.{is_plain}

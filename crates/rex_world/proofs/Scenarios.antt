@@ -1,12 +1,11 @@
 -- The headline of a scenario whose service passes the check.
-use Rattle.std.proofs.Common.{◌≡◌, ℕ, length, subst}
+use Rattle.std.proofs.Common.{ℕ, length, subst}
 use Rattle.std.specs.List.{All}
 use Rattle.std.proofs.lemmas.List.Elements.{All-weaker}
 use Rattle.rex_syntax.specs.declared.service.Declarations.{Declarations}
 use Rattle.rex_syntax.specs.Service.{IsService}
 use Rattle.rex_syntax.specs.Check.{IsChecked}
 use Rattle.rex_scenario.specs.declared.scenario.Scenario.{Scenario}
-use Rattle.rex_scenario.specs.declared.scenario.ScheduleLine.{ScheduleLine}
 use Rattle.rex_scenario.specs.Fits.{ScenarioFits, LineFits}
 use Rattle.rex_world.specs.There.{HasLane}
 use Rattle.rex_world.specs.Laws.{Headline}

@@ -1,6 +1,6 @@
 -- What a submit and a lane's turn leave, from the recorder.
 use Rattle.std.proofs.Common.{drop, get_or, suc, ◌<◌, arith, append_assoc, ◌≡◌, ℕ, ◌+◌, Bool, true, false, List, [], ◌∷◌, length, refl, ap, sym, ◌∙◌, subst}
-use Rattle.std.specs.Prelude.{◌++◌, Result, Ok, Err, OnOk, ℤ, Option, Some, slice_get, pos, if◌then◌else◌}
+use Rattle.std.specs.Prelude.{◌++◌, Result, Ok, Err, OnOk, ℤ, Some, slice_get, if◌then◌else◌}
 use Rattle.std.proofs.Math.Seq.{drop-cons}
 use Rattle.std.specs.List.{All}
 use Rattle.rex_syntax.specs.Service.{IsService}
@@ -19,16 +19,15 @@ use Rattle.rex_syntax.specs.declared.service.Declarations.{Declarations}
 use Rattle.rex_event.specs.declared.event.Event.{Event}
 use Rattle.rand_pcg.specs.Pcg.{pcg32}
 use Rattle.rand_pcg.specs.Lcg.{Lcg}
-use Rattle.rex_record.specs.declared.turns.Turn.{Turn}
-use Rattle.rex_record.specs.Turn.{turn_of, does_draw, dice_after}
-use Rattle.rex_record.specs.Value.{RecorderValue, live_after, queue_after, turned as turned_recorder}
+use Rattle.rex_record.specs.Turn.{does_draw, dice_after}
+use Rattle.rex_record.specs.Value.{live_after, queue_after, turned as turned_recorder}
 use Rattle.rex_report.specs.declared.effect.Effect.{Effect}
 use Rattle.rex_scenario.specs.declared.scenario.ScheduleLine.TheVariants as line
 use Rattle.rex_world.specs.World.{WorldValue, is_follower, live_state}
 use Rattle.rex_world.specs.Row as spec
 use Rattle.rex_world.specs.Report.{effects_text, report_from, values_of}
 use Rattle.rex_world.specs.Running.{Running, IsRunning, with_row, recorder_after, running_after}
-use Rattle.rex_world.specs.Answering.{answer_in, taken, turn_at, turned_at, turned_by}
+use Rattle.rex_world.specs.Answering.{answer_in, taken, turn_at, turned_at}
 use Rattle.rex_world.proofs.Bridges.{answer_is, turn_is, draw_is}
 
 -- one more line is done
@@ -105,7 +104,7 @@ pub step_runs : {E : Type 0} (service : Declarations) (requests : List Request) 
 step_runs service requests seed r line result after good fit fits h e =
     on_ok_weaker result
     (λ (t : after ≡ running_after service requests seed r line).
-        subst (IsRunning service) (sym t) (running_keeps service requests seed r line good fit (fits_lane service (length requests) line fits) (fits_node service (length requests) line fits) h))
+    subst (IsRunning service) (sym t) (running_keeps service requests seed r line good fit (fits_lane service (length requests) line fits) (fits_node service (length requests) line fits) h))
     e
 
 -- ---- the report

@@ -128,7 +128,12 @@ impl World {
         answer_of(request, queued, live, known)
     }
 
-    pub(crate) fn lane(&mut self, svc: &Checked, out: &mut Vec<u8>, lane: u8) -> Result<(), AllocError>
+    pub(crate) fn lane(
+        &mut self,
+        svc: &Checked,
+        out: &mut Vec<u8>,
+        lane: u8,
+    ) -> Result<(), AllocError>
         requires running { IsRunning svc.now self.old }
         requires there { lane < svc.now.lanes }
         requires count { self.old.world.done + 2 < 2 ^ 32 }
@@ -158,7 +163,13 @@ impl World {
         Ok(turn_effect(lane, turn))
     }
 
-    pub(crate) fn cut(&mut self, alloc: Global, svc: &Checked, out: &mut Vec<u8>, node: u8) -> Result<(), AllocError>
+    pub(crate) fn cut(
+        &mut self,
+        alloc: Global,
+        svc: &Checked,
+        out: &mut Vec<u8>,
+        node: u8,
+    ) -> Result<(), AllocError>
         requires running { IsRunning svc.now self.old }
         requires count { self.old.world.done + 1 < 2 ^ 32 }
         ensures told { OnOk result (out.new.items ≡ out.old.items ++ effects_text svc.now (self.old.world.done + 1) (spec.cut_row svc.now self.old.world node).effects) }
@@ -177,7 +188,13 @@ impl World {
     }
 
     // The live events become the next known delta.
-    fn agree(&mut self, alloc: Global, svc: &Checked, out: &mut Vec<u8>, node: u8) -> Result<(), AllocError>
+    fn agree(
+        &mut self,
+        alloc: Global,
+        svc: &Checked,
+        out: &mut Vec<u8>,
+        node: u8,
+    ) -> Result<(), AllocError>
         requires running { IsRunning svc.now self.old }
         requires few { length self.old.world.known < 65535 }
         requires count { self.old.world.done + 1 < 2 ^ 32 }

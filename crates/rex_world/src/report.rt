@@ -15,7 +15,12 @@ use rex_syntax::checked::Checked;
 use std::alloc::{AllocError, Global};
 
 // The line for the node.
-fn push_node(out: &mut Vec<u8>, alloc: Global, svc: &Checked, world: &World) -> Result<(), AllocError>
+fn push_node(
+    out: &mut Vec<u8>,
+    alloc: Global,
+    svc: &Checked,
+    world: &World,
+) -> Result<(), AllocError>
     requires running { IsRunning svc.now world.now }
     requires few { length world.now.world.known ≤ 65535 }
     ensures { OnOk result (out.new.items ≡ out.old.items ++ end_text (end_of world.now.world) svc.now.variables (values_of svc.now world.now.world)) }

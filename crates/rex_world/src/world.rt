@@ -40,8 +40,8 @@ impl Model for World {
     ghost Value = { Running };
 
     ghost view = { λ w. record {
-        world = record { done = w.done; ballot = w.ballot; promised = w.promised; known = w.known.items; live = w.recorder.live; queue = w.recorder.queue; dice = w.dice };
-        recorder = w.recorder;
+      world = record { done = w.done; ballot = w.ballot; promised = w.promised; known = w.known.items; live = w.recorder.live; queue = w.recorder.queue; dice = w.dice };
+      recorder = w.recorder;
     } };
 }
 
@@ -85,10 +85,22 @@ impl World {
     {
         let known = self.known.len() as u32;
         if self.is_follower() {
-            End { node: 1, role: Role::Follower, promised: self.promised, known, count: 0 }
+            End {
+                node: 1,
+                role: Role::Follower,
+                promised: self.promised,
+                known,
+                count: 0,
+            }
         } else {
             let count = self.recorder.trace().len() as u32;
-            End { node: 1, role: Role::Active, promised: self.promised, known, count }
+            End {
+                node: 1,
+                role: Role::Active,
+                promised: self.promised,
+                known,
+                count,
+            }
         }
     }
 

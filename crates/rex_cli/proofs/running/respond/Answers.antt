@@ -1,4 +1,4 @@
-use Rattle.std.proofs.Common.{◌≡◌, ℕ, List, map, string_bytes, sym, ap, ◌∙◌}
+use Rattle.std.proofs.Common.{ℕ, List, map, string_bytes, sym, ap, ◌∙◌}
 use Rattle.rex_cli.specs.Due.{Due, due_input}
 use Rattle.rex_cli.proofs.Whole.{for_whole}
 use Rattle.rex_cli.proofs.running.respond.Goals as goal

@@ -1,4 +1,4 @@
-use Rattle.std.proofs.Common.{◌≡◌, ℕ, ◌+◌, ◌≤◌, ◌<◌, List, drop, length, sym, ap, ◌∙◌, refl, subst}
+use Rattle.std.proofs.Common.{ℕ, ◌+◌, ◌≤◌, drop, length, sym, ap, ◌∙◌, subst}
 use Rattle.rex_world.specs.Report.{report_of}
 use Rattle.rex_world.specs.World.{WorldValue}
 use Rattle.rex_world.proofs.Counts.{row_done}

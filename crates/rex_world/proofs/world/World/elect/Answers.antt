@@ -1,10 +1,6 @@
-use Rattle.std.proofs.Common.{◌≡◌, ℕ, ◌+◌, ◌++◌, List, ◌∷◌, [], length, sym, ap, ◌∙◌, refl, subst, OnOk}
-use Rattle.std.proofs.lemmas.Result.{on_ok_weaker}
-use Rattle.rex_report.specs.declared.effect.Effect.{Effect}
+use Rattle.std.proofs.Common.{ℕ, ◌+◌, ◌∷◌, [], ap, ◌∙◌}
 use Rattle.rex_world.specs.Row as spec
-use Rattle.rex_world.specs.Answering.{answer_in, taken, turn_at, turned_at}
-use Rattle.rex_world.specs.Report.{effects_text}
-use Rattle.rex_world.specs.Running.{Running, IsRunning, with_row, restarted, recorder_after}
+use Rattle.rex_world.specs.Running.{Running}
 use Rattle.rex_report.specs.declared.effect.Effect.TheVariants.{Candidate, Active}
 use Rattle.rex_world.proofs.Steps.{told_as}
 use Rattle.rex_world.proofs.world.World.elect.Goals as goal

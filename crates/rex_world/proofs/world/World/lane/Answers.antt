@@ -1,10 +1,6 @@
-use Rattle.std.proofs.Common.{◌≡◌, ℕ, ◌+◌, ◌++◌, List, ◌∷◌, [], length, sym, ap, ◌∙◌, refl, subst, OnOk}
-use Rattle.std.proofs.lemmas.Result.{on_ok_weaker}
+use Rattle.std.proofs.Common.{◌+◌, ◌∷◌, [], sym, ap, ◌∙◌}
 use Rattle.rex_report.specs.declared.effect.Effect.{Effect}
-use Rattle.rex_world.specs.Row as spec
-use Rattle.rex_world.specs.Answering.{answer_in, taken, turn_at, turned_at}
-use Rattle.rex_world.specs.Report.{effects_text}
-use Rattle.rex_world.specs.Running.{Running, IsRunning, with_row, restarted, recorder_after}
+use Rattle.rex_world.specs.Running.{Running}
 use Rattle.rex_world.proofs.Steps.{counted, told_as, told_turn, after_turn, on_ok_always}
 use Rattle.rex_world.proofs.world.World.lane.Goals as goal
 
@@ -13,11 +9,11 @@ returns-clause-told c =
     told_as c.tell.result c.args.out.now.items c.tell.new.out.items c.declarations.ensures.whole
     (ap (λ (x : Running). x.world.done + 1) (c.self.view_is ∙ c.in_ok-effect.ensures.after))
     (ap (λ (e : Effect). e ∷ []) c.in_ok-effect.ensures.effect
-     ∙ sym (told_turn c.args.svc.now c.args.self.now c.requires.running (sym c.is_follower.ensures ∙ c.if-is_follower.false) c.args.lane))
+    ∙ sym (told_turn c.args.svc.now c.args.self.now c.requires.running (sym c.is_follower.ensures ∙ c.if-is_follower.false) c.args.lane))
     c.tell.ensures
 
 pub returns-clause-after : goal.returns-clause-after
 returns-clause-after c =
     on_ok_always c.tell.result
     (ap counted (c.self.view_is ∙ c.in_ok-effect.ensures.after)
-     ∙ after_turn c.args.svc.now c.args.self.now c.requires.running (sym c.is_follower.ensures ∙ c.if-is_follower.false) c.args.lane)
+    ∙ after_turn c.args.svc.now c.args.self.now c.requires.running (sym c.is_follower.ensures ∙ c.if-is_follower.false) c.args.lane)

@@ -1,13 +1,8 @@
-use Rattle.std.proofs.Common.{◌≡◌, ℕ, ◌+◌, ◌++◌, List, ◌∷◌, [], sym, ap, ◌∙◌, refl, subst, OnOk}
-use Rattle.std.specs.Prelude.{Option, None}
-use Rattle.std.proofs.lemmas.Result.{on_ok_weaker}
-use Rattle.rex_report.specs.declared.effect.Effect.{Effect}
+use Rattle.std.proofs.Common.{◌≡◌, sym, ◌∙◌, subst}
+use Rattle.std.specs.Prelude.{None}
 use Rattle.rex_record.specs.Kept.{CanBegin}
 use Rattle.rex_record.specs.Value.{queued_in}
-use Rattle.rex_world.specs.Row as spec
-use Rattle.rex_world.specs.Answering.{answer_in, taken, turn_at, turned_at}
-use Rattle.rex_world.specs.Report.{effects_text}
-use Rattle.rex_world.specs.Running.{Running, IsRunning, with_row, restarted, recorder_after}
+use Rattle.rex_world.specs.Running.{Running}
 use Rattle.rex_world.proofs.Bridges.{queued_begins, queued_none}
 use Rattle.rex_world.proofs.world.World.take.Goals as goal
 
