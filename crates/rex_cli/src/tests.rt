@@ -1,6 +1,8 @@
 use super::*;
 use rex_traits::{MemSink, MemSource, OpenGate};
+use std::alloc::AllocGlobal;
 use std::test::*;
+use std::thread::Threads;
 
 const COUNTER: &[u8] = b"%nodes 1
 %service
@@ -46,7 +48,13 @@ struct Outcome {
 }
 
 // Runs the program over memory. The read and the write of these numbers, from 1, fail; 0 is none.
-fn run(rt: &HostRuntime, word: &str, input: &[u8], read: u64, write: u64) -> Result<Outcome, Fail> {
+fn run<R: Threads + Sync + AllocGlobal>(
+    rt: &R,
+    word: &str,
+    input: &[u8],
+    read: u64,
+    write: u64,
+) -> Result<Outcome, Fail> {
     let alloc = rt.alloc();
     let words = vec![in alloc; "rex".to_string(alloc)?, word.to_string(alloc)?]?;
     let bytes = Vec::from_slice(alloc, input)?;
