@@ -10,7 +10,7 @@ use Rattle.rex_parse.specs.declared.language.ServiceCode.TheVariants as service
 use Rattle.rex_syntax.specs.declared.request.Request.{Request}
 use Rattle.rex_scenario.specs.Requests.{is_repeated, place_code}
 use Rattle.rex_scenario.specs.Schedule.{schedule_code}
-use Rattle.rex_scenario.specs.Reading.{answer_from, answer_of}
+use Rattle.rex_scenario.specs.Reading.{answer_from, answer_of, scenario_of}
 use Rattle.rex_scenario.specs.declared.scenario.ScenarioCode.{ScenarioCode}
 use Rattle.rex_scenario.specs.declared.scenario.ScenarioCode.TheVariants as code
 use Rattle.rex_scenario.specs.declared.scenario.ScheduleLine.{ScheduleLine}
@@ -31,12 +31,30 @@ counter : List (List ℕ)
 counter = counter_service ++ codes "%requests" ∷ codes "1 1 add 5" ∷ codes "%schedule" ∷ codes "elect 1" ∷ codes "submit 1 1" ∷ codes "lane 1 1" ∷ codes "cut 1" ∷ []
 
 said : Result Sections (ℕ × ScenarioCode) → Option (List Request × List ScheduleLine)
-said (Ok s) = Some (s.requests, s.schedule)
+said (Ok s) = Some ((scenario_of s).requests, (scenario_of s).schedule)
 said (Err e) = None
 
 counter_says : said (answer_of (text_of counter)) ≡ Some ((record { client = 1; sequence = 1; handler = 0; arguments = pos 5 ∷ [] }) ∷ [], Elect 1 ∷ Submit 1 0 ∷ Lane 1 0 ∷ Cut 1 ∷ [])
 unfolding text_of counter counter_service said answer_from is_name new_code lock_code variable_code local_code number_code expr_code digits
 counter_says = refl
+
+-- the seed of a text, if it is good
+seed_in : Result Sections (ℕ × ScenarioCode) → Option ℕ
+seed_in (Ok s) = Some (scenario_of s).seed
+seed_in (Err e) = None
+
+-- the counter with a line after `%nodes 1`
+with_line : List ℕ → List (List ℕ) → List (List ℕ)
+with_line line [] = []
+with_line line (first ∷ rest) = first ∷ line ∷ rest
+
+greatest_seed : seed_in (answer_of (text_of (with_line (codes "%seed 4294967295") counter))) ≡ Some 4294967295
+unfolding text_of with_line counter counter_service seed_in answer_from is_name new_code lock_code variable_code local_code number_code expr_code digits
+greatest_seed = refl
+
+no_seed : seed_in (answer_of (text_of counter)) ≡ Some 0
+unfolding text_of counter counter_service seed_in answer_from is_name new_code lock_code variable_code local_code number_code expr_code digits
+no_seed = refl
 
 -- ---- a refusal of each code
 
@@ -65,6 +83,14 @@ other_heading = refl
 two_nodes : refusal (codes "%nodes 2" ∷ []) ≡ Some (1, code.BadHeading)
 unfolding refusal text_of answer_from digits
 two_nodes = refl
+
+seed_above : refusal (codes "%nodes 1" ∷ codes "%seed 4294967296" ∷ []) ≡ Some (2, code.BadHeading)
+unfolding refusal text_of answer_from digits
+seed_above = refl
+
+two_seeds : refusal (codes "%nodes 1" ∷ codes "%seed 1" ∷ codes "%seed 1" ∷ []) ≡ Some (3, code.OutOfPlace)
+unfolding refusal text_of answer_from digits
+two_seeds = refl
 
 bad_service : refusal (codes "%nodes 1" ∷ codes "%service" ∷ codes "lanes 17" ∷ []) ≡ Some (3, code.Service service.NoNumber)
 unfolding refusal text_of answer_from digits

@@ -5,7 +5,7 @@ use Rattle.rex_text.specs.Text.{Word, lines_of, words_of, numbered, is_skipped, 
 use Rattle.rex_parse.specs.Above.{nothing}
 use Rattle.rex_parse.specs.Reading.{raw_code, raw_after, end_code}
 use Rattle.rex_parse.specs.declared.language.ServiceCode.{ServiceCode}
-use Rattle.rex_scenario.specs.Headings.{is_heading, heading_code, next_stage}
+use Rattle.rex_scenario.specs.Headings.{is_heading, heading_code, after_heading}
 use Rattle.rex_scenario.specs.Requests.{or_code, request_code, request_of}
 use Rattle.rex_scenario.specs.Schedule.{schedule_code, step_of, with_step}
 use Rattle.rex_scenario.specs.declared.scenario.ScenarioCode.{ScenarioCode}
@@ -17,7 +17,7 @@ use Rattle.rex_scenario.specs.declared.scenario.Stage.TheVariants as stage
 
 -- before the first line
 abbrev pub no_sections : Sections
-no_sections = record { stage = stage.Start; service = nothing; requests = []; schedule = [] }
+no_sections = record { stage = stage.Start; seed = 0; service = nothing; requests = []; schedule = [] }
 
 -- each byte of a line is allowed
 abbrev pub is_clean : List ℕ → Bool
@@ -63,13 +63,9 @@ code_in _ s line = other_line_code s line
 abbrev pub line_code : Sections → List ℕ → Option ScenarioCode
 line_code s line = code_in s.stage s line
 
--- a good heading begins the next stage
-abbrev pub after_heading : Sections → Sections
-after_heading s = record s { stage = next_stage s.stage }
-
 -- what a good line of the service says, or the heading that ends it
 abbrev pub service_line_after : Sections → ℕ → List ℕ → Sections
-service_line_after s number line = if is_heading (words_of line) then after_heading s else record s { service = raw_after s.service number line }
+service_line_after s number line = if is_heading (words_of line) then after_heading s (words_of line) else record s { service = raw_after s.service number line }
 
 -- what a good line with words outside the service that is no heading says
 abbrev pub after_words : Sections → Stage → List Word → Sections
@@ -81,7 +77,7 @@ after_words s _ ws = s
 abbrev pub other_line_after : Sections → List ℕ → Sections
 other_line_after s line =
     if is_skipped (words_of line) then s
-    else if is_heading (words_of line) then after_heading s
+    else if is_heading (words_of line) then after_heading s (words_of line)
     else after_words s s.stage (words_of line)
 
 -- what a good line at a stage says
@@ -113,6 +109,6 @@ answer_from s next (line ∷ rest) = or_next (line_code s line.1) line.0 (answer
 abbrev pub answer_of : List ℕ → Result Sections (ℕ × ScenarioCode)
 answer_of bytes = if nat_lt 4194304 (length bytes) then Err (0, TooLong) else answer_from no_sections 1 (numbered 1 (lines_of bytes))
 
--- the requests and the schedule of a good text
+-- the seed, the requests and the schedule of a good text
 abbrev pub scenario_of : Sections → Scenario
-scenario_of s = record { nodes = 1; seed = 0; requests = s.requests; schedule = s.schedule }
+scenario_of s = record { nodes = 1; seed = s.seed; requests = s.requests; schedule = s.schedule }

@@ -5,7 +5,7 @@ ghost use Rattle.rex_parse.specs.Answers.{texts};
 ghost use Rattle.rex_text.specs.Text.{words_of};
 ghost use Rattle.rex_scenario.specs.Headings as headings;
 
-use crate::scenario::{ScenarioCode, Stage};
+use crate::scenario::Stage;
 use crate::words::count_of;
 use rex_text::words;
 
@@ -29,58 +29,75 @@ pub(crate) fn is_heading_line(line: &[u8]) -> bool
     }
 }
 
-/// The code that fits a heading at a stage.
-pub(crate) fn heading_code(stage: Stage, words: &[&[u8]]) -> Option<ScenarioCode>
-    ensures { result ≡ headings.heading_code stage (texts words.now) }
+/// The stage that a heading begins, where it is due.
+pub(crate) fn next_stage(stage: Stage, word: &[u8]) -> Option<Stage>
+    ensures { result ≡ headings.next_stage stage word.now }
 {
-    let [first, rest @ ..] = words else {
-        return None;
-    };
-    if *first != due_heading(stage) {
-        return Some(ScenarioCode::OutOfPlace);
-    }
-    if is_whole(stage, rest) {
-        None
+    let next = begun_by(word)?;
+    if is_due(stage, next) {
+        Some(next)
     } else {
-        Some(ScenarioCode::BadHeading)
+        None
     }
 }
 
-/// The stage that a heading begins.
-pub(crate) fn next_stage(stage: Stage) -> Stage
-    ensures { result ≡ headings.next_stage stage }
+// The stage that a heading begins.
+fn begun_by(word: &[u8]) -> Option<Stage>
+    ensures { result ≡ headings.begun_by word.now }
+{
+    if word == b"%nodes".as_slice() {
+        Some(Stage::Nodes)
+    } else if word == b"%seed".as_slice() {
+        Some(Stage::Seed)
+    } else if word == b"%service".as_slice() {
+        Some(Stage::Service)
+    } else if word == b"%requests".as_slice() {
+        Some(Stage::Requests)
+    } else if word == b"%schedule".as_slice() {
+        Some(Stage::Schedule)
+    } else {
+        None
+    }
+}
+
+// Whether a stage may come right after another. The seed alone may be left out.
+fn is_due(stage: Stage, next: Stage) -> bool
+    ensures { result ≡ headings.is_due stage next }
 {
     match stage {
-        Stage::Start => Stage::Nodes,
-        Stage::Nodes => Stage::Service,
-        Stage::Service => Stage::Requests,
-        Stage::Requests => Stage::Schedule,
-        Stage::Schedule => Stage::Schedule,
+        Stage::Start => next == Stage::Nodes,
+        Stage::Nodes => next == Stage::Seed || next == Stage::Service,
+        Stage::Seed => next == Stage::Service,
+        Stage::Service => next == Stage::Requests,
+        Stage::Requests => next == Stage::Schedule,
+        Stage::Schedule => false,
     }
 }
 
-// The heading that is due. After the schedule none is.
-fn due_heading(stage: Stage) -> &'static [u8]
-    ensures { result.now ≡ headings.due_heading stage }
+/// Whether the words after the first of the heading that begins a stage are right.
+pub(crate) fn is_whole(next: Stage, words: &[&[u8]]) -> bool
+    ensures { result ≡ headings.is_whole next (texts words.now) }
 {
-    match stage {
-        Stage::Start => b"%nodes",
-        Stage::Nodes => b"%service",
-        Stage::Service => b"%requests",
-        Stage::Requests => b"%schedule",
-        Stage::Schedule => b"",
+    match (next, words) {
+        (Stage::Nodes, [nodes]) => count_of(1, 1, nodes).is_some(),
+        (Stage::Seed, [seed]) => seed_of(seed).is_some(),
+        (Stage::Nodes | Stage::Seed, _) => false,
+        _ => words.is_empty(),
     }
 }
 
-// Whether the words after a heading's first are right.
-fn is_whole(stage: Stage, words: &[&[u8]]) -> bool
-    ensures { result ≡ headings.is_whole stage (texts words.now) }
+/// The seed that a heading says, and else the one before.
+pub(crate) fn seed_after(next: Stage, words: &[&[u8]], before: u32) -> u32
+    ensures { result ≡ headings.seed_after next (texts words.now) before }
 {
-    if stage != Stage::Start {
-        return words.is_empty();
+    match (next, words) {
+        (Stage::Seed, [seed, ..]) => seed_of(seed).unwrap_or(before),
+        _ => before,
     }
-    match words {
-        [nodes] => count_of(1, 1, nodes).is_some(),
-        _ => false,
-    }
+}
+
+fn seed_of(word: &[u8]) -> Option<u32>
+    ensures value { result ≡ headings.seed_of word.now }
+{
+    Some(count_of(0, 4_294_967_295, word)? as u32)
 }

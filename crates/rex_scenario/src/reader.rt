@@ -4,9 +4,10 @@ ghost use Rattle.std.specs.Prelude.{◌≡◌, None, OnOk};
 ghost use Rattle.rex_parse.specs.Answers.{texts};
 ghost use Rattle.rex_parse.specs.Good.{IsGood};
 ghost use Rattle.rex_parse.specs.After.{service_of};
+ghost use Rattle.rex_text.specs.Text.{words_of};
 ghost use Rattle.rex_scenario.specs.declared.scenario.Stage.TheVariants as stage;
 
-use crate::headings::{heading_code, is_heading, is_heading_line, next_stage};
+use crate::headings::{is_heading, is_heading_line, is_whole, next_stage, seed_after};
 use crate::request_list::RequestList;
 use crate::requests::read_request;
 use crate::scenario::{LineFault, Scenario, ScenarioCode, ScheduleLine, Stage};
@@ -24,6 +25,7 @@ use std::marker::Model;
 pub(crate) struct Reader {
     alloc: Global,
     stage: Stage,
+    seed: u32,
     parser: Parser,
     requests: RequestList,
     schedule: List<ScheduleLine>,
@@ -34,7 +36,7 @@ impl Model for Reader {
 
     ghost Value = { Sections };
 
-    ghost view = { λ r. record { stage = r.stage; service = r.parser; requests = r.requests; schedule = r.schedule } };
+    ghost view = { λ r. record { stage = r.stage; seed = r.seed; service = r.parser; requests = r.requests; schedule = r.schedule } };
 }
 
 impl Reader {
@@ -50,6 +52,7 @@ impl Reader {
         Reader {
             alloc,
             stage: Stage::Start,
+            seed: 0,
             parser: Parser::new(alloc),
             requests: RequestList::new(alloc),
             schedule: List::new(alloc),
@@ -65,9 +68,7 @@ impl Reader {
     {
         match self.stage {
             Stage::Service => self.service_line(number, line),
-            Stage::Start | Stage::Nodes | Stage::Requests | Stage::Schedule => self.other_line(
-                line,
-            ),
+            _ => self.other_line(line),
         }
     }
 
@@ -93,7 +94,7 @@ impl Reader {
     fn end_service(&mut self, line: &[u8]) -> Result<(), LineFault>
         requires { self.old.stage ≡ stage.Service }
         ensures { Takes result (reading.service_end_code self.old line.now)
-            (reading.after_heading self.old) self.new }
+            (headings.after_heading self.old (words_of line.now)) self.new }
     {
         if let Some(code) = self.parser.end_code() {
             return Err(LineFault::Refused(ScenarioCode::Service(code)));
@@ -109,12 +110,19 @@ impl Reader {
 
     fn heading(&mut self, words: &[&[u8]]) -> Result<(), LineFault>
         ensures { Takes result (headings.heading_code self.old.stage (texts words.now))
-            (reading.after_heading self.old) self.new }
+            (headings.after_heading self.old (texts words.now)) self.new }
     {
-        if let Some(code) = heading_code(self.stage, words) {
-            return Err(LineFault::Refused(code));
+        let [first, rest @ ..] = words else {
+            return Ok(());
+        };
+        let Some(next) = next_stage(self.stage, first) else {
+            return Err(LineFault::Refused(ScenarioCode::OutOfPlace));
+        };
+        if !is_whole(next, rest) {
+            return Err(LineFault::Refused(ScenarioCode::BadHeading));
         }
-        self.stage = next_stage(self.stage);
+        self.seed = seed_after(next, rest, self.seed);
+        self.stage = next;
         Ok(())
     }
 
@@ -148,7 +156,7 @@ impl Reader {
         match self.stage {
             Stage::Requests => self.request_line(words),
             Stage::Schedule => self.schedule_line(words),
-            Stage::Start | Stage::Nodes | Stage::Service => {
+            Stage::Start | Stage::Nodes | Stage::Seed | Stage::Service => {
                 Err(LineFault::Refused(ScenarioCode::OutOfPlace))
             }
         }
@@ -218,7 +226,7 @@ impl Reader {
                 Some(code) => Some(ScenarioCode::Service(code)),
                 None => Some(ScenarioCode::OutOfPlace),
             },
-            Stage::Start | Stage::Nodes | Stage::Requests => Some(ScenarioCode::OutOfPlace),
+            _ => Some(ScenarioCode::OutOfPlace),
         }
     }
 
@@ -231,7 +239,7 @@ impl Reader {
     {
         let scenario = Scenario {
             nodes: 1,
-            seed: 0,
+            seed: self.seed,
             requests: self.requests.into_items(),
             schedule: self.schedule,
         };

@@ -80,6 +80,8 @@ pub enum Stage {
     Start,
     /// After `%nodes`.
     Nodes,
+    /// After `%seed`.
+    Seed,
     /// In the service.
     Service,
     Requests,
@@ -90,6 +92,8 @@ pub enum Stage {
 #[derive(Drop)]
 pub struct Sections {
     pub stage: Stage,
+    /// The seed, 0 where no line says it.
+    pub seed: u32,
     pub service: Above,
     pub requests: List<Request>,
     pub schedule: List<ScheduleLine>,
