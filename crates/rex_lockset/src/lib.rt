@@ -33,7 +33,7 @@ pub use answer::{CheckError, check};
 pub use bound::{MOST_STEPS, step_bound};
 pub use laws::refusals_are_exact;
 pub use leads::leads_from;
-pub use refusal::Refused;
+pub use refusal::{Refused, refusal_of};
 
 #[cfg(test)]
 mod tests;

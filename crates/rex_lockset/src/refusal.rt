@@ -129,11 +129,8 @@ fn refusal_in(
     }
 }
 
-/// The first refusal in a service.
-pub(crate) fn refusal_of(
-    alloc: Global,
-    service: &Declarations,
-) -> Result<Option<Refused>, AllocError>
+/// The first refusal in a service, if there is one.
+pub fn refusal_of(alloc: Global, service: &Declarations) -> Result<Option<Refused>, AllocError>
     requires { IsService service.now }
     ensures { IfOk result (λ refused. refused ≡ spec.refusal_of service.now) }
 {

@@ -10,4 +10,5 @@ mod rows;
 pub use effect::{Effect, Role};
 pub use ends::{End, push_end};
 pub use events::push_event;
+pub use pieces::{Piece, push_pieces};
 pub use rows::push_row;
