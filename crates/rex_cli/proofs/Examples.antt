@@ -1,71 +1,84 @@
 -- What the program is to answer, computed.
-use Rattle.std.proofs.Common.{◌≡◌, ℕ, true, false, List, [], ◌∷◌, ◌++◌, refl, codes}
+use Rattle.std.proofs.Common.{◌≡◌, ℕ, List, [], ◌∷◌, ◌++◌, refl, codes}
 use Rattle.std.specs.Fmt.{digits}
 use Rattle.rex_parse.specs.Words.{is_name}
 use Rattle.rex_parse.specs.Table.{new_code, lock_code, variable_code, local_code, number_code, expr_code}
+use Rattle.rex_parse.specs.Reading.{answer_from as service_answer_from}
 use Rattle.rex_scenario.specs.Reading.{answer_from}
-use Rattle.rex_scenario.specs.declared.scenario.ScheduleLine.TheVariants.{Elect, Submit, Lane, Cut}
-use Rattle.rex_cli.specs.First.{leads_first, submits_once}
-use Rattle.rex_cli.specs.Due.{due, due_usage, due_refusal}
+use Rattle.rex_cli.specs.Due.{Due, due, due_usage}
 
 -- lines as a text, each with a LF
 abbrev text_of : List (List ℕ) → List ℕ
 text_of [] = []
 text_of (line ∷ lines) = line ++ 10 ∷ text_of lines
 
-abbrev service : List (List ℕ)
-service =
-    codes "%nodes 1" ∷ codes "%service" ∷ codes "lanes 2" ∷ codes "lock L" ∷ codes "var a on L = 0" ∷ codes "handler add x" ∷ codes "acquire L" ∷ codes "set a = a + x" ∷ codes "let r = a"
-    ∷ codes "release L" ∷ codes "reply r" ∷ []
+-- the words of a command line
+abbrev rex : List ℕ → List (List ℕ)
+rex word = codes "rex" ∷ word ∷ []
 
-abbrev counter : List (List ℕ)
-counter =
-    service ++ codes "%requests" ∷ codes "1 1 add 5" ∷ codes "%schedule" ∷ codes "elect 1" ∷ codes "submit 1 1" ∷ codes "lane 1 1" ∷ codes "lane 1 1" ∷ codes "lane 1 1" ∷ codes "lane 1 1"
-    ∷ codes "cut 1" ∷ []
+-- a status and one line
+abbrev one_line : ℕ → List ℕ → Due
+one_line status line = record { status = status; text = line ++ 10 ∷ [] }
+
+-- a service whose handler adds its argument, and ends with this reply
+abbrev service : List ℕ → List (List ℕ)
+service reply =
+    codes "lanes 2" ∷ codes "lock L" ∷ codes "var a on L = 0" ∷ codes "handler add x" ∷ codes "acquire L" ∷ codes "set a = a + x" ∷ codes "let r = a" ∷ codes "release L" ∷ reply ∷ []
+
+-- a scenario with this service
+abbrev scenario : List ℕ → List (List ℕ)
+scenario reply =
+    codes "%nodes 1" ∷ codes "%service" ∷ (service reply
+    ++ codes "%requests" ∷ codes "1 1 add 5" ∷ codes "%schedule" ∷ codes "elect 1" ∷ codes "submit 1 1" ∷ codes "lane 1 1" ∷ codes "lane 1 1" ∷ codes "lane 1 1" ∷ codes "lane 1 1"
+    ∷ codes "cut 1" ∷ [])
 
 abbrev report : List (List ℕ)
 report =
     codes "1 node 1 candidate ballot 17" ∷ codes "1 node 1 active ballot 17" ∷ codes "2 queued" ∷ codes "3 lane 1 0 begin 1 1 add 5" ∷ codes "4 lane 1 1 acquire L" ∷ codes "5 lane 1 2 release L"
     ∷ codes "6 lane 1 3 reply 1 5" ∷ codes "7 node 1 proposes 1 events 4" ∷ codes "7 node 1 known 1" ∷ codes "7 released 1 1 5" ∷ codes "end node 1 active promised 17 known 1 live 0 a=5" ∷ []
 
+-- ---- run
+
 -- the counter is answered with its report
-counter_runs : due (codes "rex" ∷ codes "run" ∷ []) (text_of counter) ≡ record { status = 0; text = text_of report }
+counter_runs : due (rex (codes "run")) (text_of (scenario (codes "reply r"))) ≡ record { status = 0; text = text_of report }
 unfolding answer_from is_name new_code lock_code variable_code local_code number_code expr_code digits
 counter_runs = refl
 
--- a second request of a client is refused so far
-second_request : due (codes "rex" ∷ codes "run" ∷ []) (text_of (service ++ codes "%requests" ∷ codes "1 2 add 5" ∷ codes "%schedule" ∷ [])) ≡ due_refusal
+-- a reply that reads without the lock is refused by its line in the scenario
+race_is_refused : due (rex (codes "run")) (text_of (scenario (codes "reply a"))) ≡ one_line 3 (codes "refused handler add line 11 C1")
 unfolding answer_from is_name new_code lock_code variable_code local_code number_code expr_code digits
-second_request = refl
+race_is_refused = refl
 
--- no input at all is refused
-nothing_read : due (codes "rex" ∷ codes "run" ∷ []) [] ≡ due_refusal
-unfolding answer_from
-nothing_read = refl
+nothing_is_no_scenario : due (rex (codes "run")) [] ≡ one_line 1 (codes "refused line 1 S3")
+unfolding answer_from digits
+nothing_is_no_scenario = refl
 
--- other words, fewer and more are answered with the usage line
-other_word : due (codes "rex" ∷ codes "fly" ∷ []) (text_of counter) ≡ due_usage
+-- ---- check
+
+counter_is_checked : due (rex (codes "check")) (text_of (service (codes "reply r"))) ≡ one_line 0 (codes "checked handlers 1 locks 1 conditions 0 variables 1")
+unfolding service_answer_from is_name new_code lock_code variable_code local_code number_code expr_code digits
+counter_is_checked = refl
+
+race_is_not_checked : due (rex (codes "check")) (text_of (service (codes "reply a"))) ≡ one_line 3 (codes "refused handler add line 9 C1")
+unfolding service_answer_from is_name new_code lock_code variable_code local_code number_code expr_code digits
+race_is_not_checked = refl
+
+nothing_is_no_service : due (rex (codes "check")) [] ≡ one_line 1 (codes "refused line 1 P14")
+unfolding service_answer_from digits
+nothing_is_no_service = refl
+
+-- a scenario is no service
+scenario_is_no_service : due (rex (codes "check")) (text_of (scenario (codes "reply r"))) ≡ one_line 1 (codes "refused line 1 P2")
+unfolding service_answer_from is_name new_code lock_code variable_code local_code number_code expr_code digits
+scenario_is_no_service = refl
+
+-- ---- other words
+
+other_word : due (rex (codes "fly")) [] ≡ due_usage
 other_word = refl
 
-no_word : due (codes "rex" ∷ []) (text_of counter) ≡ due_usage
+no_word : due (codes "rex" ∷ []) [] ≡ due_usage
 no_word = refl
 
-one_word_more : due (codes "rex" ∷ codes "run" ∷ codes "run" ∷ []) (text_of counter) ≡ due_usage
+one_word_more : due (codes "rex" ∷ codes "run" ∷ codes "run" ∷ []) [] ≡ due_usage
 one_word_more = refl
-
--- the only line that asks to lead is the first one
-second_leader : leads_first (Elect 1 ∷ Cut 1 ∷ Elect 1 ∷ []) ≡ false
-second_leader = refl
-
-no_leader : leads_first (Cut 1 ∷ []) ≡ false
-no_leader = refl
-
-no_line : leads_first [] ≡ true
-no_line = refl
-
--- requests are submitted once
-twice : submits_once (Submit 1 0 ∷ Submit 1 1 ∷ Lane 1 0 ∷ Submit 1 0 ∷ []) ≡ false
-twice = refl
-
-once : submits_once (Submit 1 0 ∷ Submit 1 1 ∷ Lane 1 0 ∷ []) ≡ true
-once = refl

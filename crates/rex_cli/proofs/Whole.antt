@@ -1,32 +1,75 @@
--- What is due for the bytes that were read is due for all that the source had: where some are left, the text is too long.
-use Rattle.std.proofs.Common.{◌≡◌, ℕ, ◌+◌, ◌<◌, ◌≤◌, Bool, true, List, [], ◌++◌, length, Option, Some, None, inl, inr, ◌⊎◌, sym, ap, ◌∙◌, arith, length-append, append-nil}
+-- What holds of the bytes that were read holds of all that the source had: where some are left, the text is too long.
+use Rattle.std.proofs.Common.{◌≡◌, ℕ, ◌+◌, ◌<◌, ◌≤◌, Bool, List, [], ◌++◌, length, Option, Some, None, inl, inr, ◌⊎◌, sym, ap, subst, ◌∙◌, arith, length-append, append-nil}
 use Rattle.std.specs.Prelude.{IfSome, Err, if◌then◌else◌}
 use Rattle.std.specs.Io.KnownBytes.{Consumes, IsAtEnd}
 use Rattle.std.proofs.lemmas.Bool.{cases_lt, lt-ltb}
 use Rattle.rex_text.specs.Text.{numbered, lines_of}
+use Rattle.rex_parse.specs.Reading.{answer_of as service_answer}
 use Rattle.rex_scenario.specs.Reading.{answer_from, no_sections}
 use Rattle.rex_scenario.specs.declared.scenario.ScenarioCode.TheVariants.{TooLong}
-use Rattle.rex_cli.specs.Due.{Due, is_command, due_input, due_refusal, due_usage, due, due_answer}
+use Rattle.rex_cli.specs.Refusals.{scenario_code}
+use Rattle.rex_cli.specs.Due.{Due, due_refused, due_run, due_check, due_command, due_for}
+use Rattle.rex_cli.specs.Causes.{scenario_service, plain_service, service_in, Judges, JudgesFor}
+use Rattle.rex_cli.specs.Headline.{CommittedIn, Committed}
+use Rattle.rex_cli.specs.declared.command.Command.{Command}
+use Rattle.rex_cli.specs.declared.command.Command.TheVariants.{Run, Check}
 
-too_long : (bytes : List ℕ) → 4194304 < length bytes → due_input bytes ≡ due_refusal
-too_long bytes lt = ap (λ (b : Bool). due_answer (if b then Err (0, TooLong) else answer_from no_sections 1 (numbered 1 (lines_of bytes)))) (lt-ltb 4194304 (length bytes) lt)
+-- ---- a text that is too long
 
-all_read : (xs ys bytes : List ℕ) → xs ≡ bytes ++ ys → (length bytes < 4194305 → ys ≡ []) → due_input xs ≡ due_input bytes
-all_read xs ys bytes e end = by (cases_lt (length bytes) 4194305)
+due_long : (command : Command) (bytes : List ℕ) → 4194304 < length bytes → due_command command bytes ≡ due_refused 0 (scenario_code TooLong)
+due_long Run bytes lt = ap (λ (b : Bool). due_run (if b then Err (0, TooLong) else answer_from no_sections 1 (numbered 1 (lines_of bytes)))) (lt-ltb 4194304 (length bytes) lt)
+due_long Check bytes lt = ap (λ (b : Bool). if b then due_refused 0 (scenario_code TooLong) else due_check (service_answer bytes)) (lt-ltb 4194304 (length bytes) lt)
+
+service_long : (command : Command) (bytes : List ℕ) → 4194304 < length bytes → service_in command bytes ≡ None
+service_long Run bytes lt = ap (λ (b : Bool). scenario_service (if b then Err (0, TooLong) else answer_from no_sections 1 (numbered 1 (lines_of bytes)))) (lt-ltb 4194304 (length bytes) lt)
+service_long Check bytes lt = ap (λ (b : Bool). if b then None else plain_service (service_answer bytes)) (lt-ltb 4194304 (length bytes) lt)
+
+committed_long : (bytes : List ℕ) → 4194304 < length bytes → Committed bytes
+committed_long bytes lt = subst (λ (b : Bool). CommittedIn (if b then Err (0, TooLong) else answer_from no_sections 1 (numbered 1 (lines_of bytes)))) (sym (lt-ltb 4194304 (length bytes) lt)) tt
+
+-- ---- from the bytes that were read to all
+
+longer : (a b c : ℕ) → 4194305 ≤ a → c ≡ a + b → 4194304 < c
+longer a b c le e = omega arith
+
+above : (a : ℕ) → 4194305 ≤ a → 4194304 < a
+above a le = omega arith
+
+all_read : (P : List ℕ → Type 0) (xs ys bytes : List ℕ) → ((us vs : List ℕ) → 4194304 < length us → 4194304 < length vs → P us → P vs) → xs ≡ bytes ++ ys → (length bytes < 4194305 → ys ≡ [])
+    → P bytes → (length bytes < 4194305) ⊎ (4194305 ≤ length bytes) → P xs
+all_read P xs ys bytes alike e end p (inl lt) = subst P (sym (e ∙ ap (λ (rest : List ℕ). bytes ++ rest) (end lt) ∙ append-nil bytes)) p
+all_read P xs ys bytes alike e end p (inr le) =
+    alike bytes xs (above (length bytes) le) (longer (length bytes) (length ys) (length xs) le (ap length e ∙ length-append bytes ys)) p
+
+for_whole : (P : List ℕ → Type 0) (old new : Option (List ℕ)) (bytes : List ℕ) → ((us vs : List ℕ) → 4194304 < length us → 4194304 < length vs → P us → P vs) → Consumes old new bytes
+    → (length bytes < 4194305 → IsAtEnd new) → P bytes → IfSome old P
+for_whole P None new bytes alike e end p = tt
+for_whole P (Some xs) None bytes alike e end p = absurd e
+for_whole P (Some xs) (Some ys) bytes alike e end p = all_read P xs ys bytes alike e end p (cases_lt (length bytes) 4194305)
+
+-- what is due
+pub whole_due : (o : Option Command) (command : Command) (d : Due) (old new : Option (List ℕ)) (bytes : List ℕ) → o ≡ Some command → Consumes old new bytes → (length bytes < 4194305 → IsAtEnd new)
+    → d ≡ due_command command bytes → IfSome old (λ input. d ≡ due_for o input)
+whole_due o command d old new bytes is c end e =
+    subst (λ (x : Option Command). IfSome old (λ input. d ≡ due_for x input)) (sym is)
+    (for_whole (λ input. d ≡ due_command command input) old new bytes (λ us vs l m h. h ∙ due_long command us l ∙ sym (due_long command vs m)) c end e)
+
+-- what the status says
+pub whole_judges : (o : Option Command) (command : Command) (status : ℕ) (old new : Option (List ℕ)) (bytes : List ℕ) → o ≡ Some command → Consumes old new bytes
+    → (length bytes < 4194305 → IsAtEnd new) → Judges (service_in command bytes) status → IfSome old (λ input. JudgesFor o input status)
+whole_judges o command status old new bytes is c end j =
+    subst (λ (x : Option Command). IfSome old (λ input. JudgesFor x input status)) (sym is)
+    (for_whole (λ input. Judges (service_in command input) status) old new bytes
+    (λ us vs l m h. subst (λ (s : _). Judges s status) (service_long command us l ∙ sym (service_long command vs m)) h) c end j)
+
+-- the headline
+pub whole_committed : (old new : Option (List ℕ)) (bytes : List ℕ) → Consumes old new bytes → (length bytes < 4194305 → IsAtEnd new) → Committed bytes → IfSome old Committed
+whole_committed old new bytes c end h = for_whole Committed old new bytes (λ us vs l m h. committed_long vs m) c end h
+
+-- where 0 is due, all was read
+pub whole_read : (command : Command) (d : Due) (new : Option (List ℕ)) (bytes : List ℕ) → (length bytes < 4194305 → IsAtEnd new) → d ≡ due_command command bytes → d.status ≡ 0 → IsAtEnd new
+whole_read command d new bytes end e zero = by (cases_lt (length bytes) 4194305)
   where
-    longer : (a b c : ℕ) → 4194305 ≤ a → c ≡ a + b → 4194304 < c
-    longer a b c le e = omega arith
-
-    more : (a : ℕ) → 4194305 ≤ a → 4194304 < a
-    more a le = omega arith
-
-    by : (length bytes < 4194305) ⊎ (4194305 ≤ length bytes) → due_input xs ≡ due_input bytes
-    by (inl lt) = ap due_input (e ∙ ap (λ (rest : List ℕ). bytes ++ rest) (end lt) ∙ append-nil bytes)
-    by (inr le) = too_long xs (longer (length bytes) (length ys) (length xs) le (ap length e ∙ length-append bytes ys)) ∙ sym (too_long bytes (more (length bytes) le))
-
-pub for_whole : {X : Type 0} (f : Due → X) (x : X) (words : List (List ℕ)) (old new : Option (List ℕ)) (bytes : List ℕ) → is_command words ≡ true → Consumes old new bytes → (length bytes < 4194305 → IsAtEnd new)
-    → x ≡ f (due_input bytes) → IfSome old (λ input. x ≡ f (due words input))
-for_whole {X} f x words None new bytes c r end e = tt
-for_whole {X} f x words (Some xs) None bytes c r end e = absurd r
-for_whole {X} f x words (Some xs) (Some ys) bytes c r end e =
-    e ∙ ap f (sym (all_read xs ys bytes r end)) ∙ ap (λ (b : Bool). f (if b then due_input xs else due_usage)) (sym c)
+    by : (length bytes < 4194305) ⊎ (4194305 ≤ length bytes) → IsAtEnd new
+    by (inl lt) = end lt
+    by (inr le) = let one : d.status ≡ 1 = ap (λ (x : Due). x.status) (e ∙ due_long command bytes (above (length bytes) le)) in absurd cc

@@ -1,45 +1,81 @@
 -- What is due: the status and the text that the words and the input ask for.
-use Rattle.std.specs.Prelude.{ℕ, Bool, false, List, [], ◌∷◌, ◌++◌, codes, Result, Ok, Err, if◌then◌else◌}
-use Rattle.std.specs.Str.{bytes_eq}
-use Rattle.rex_parse.specs.After.{service_of}
-use Rattle.rex_scenario.specs.declared.scenario.ScenarioCode.{ScenarioCode}
+use Rattle.std.specs.Prelude.{ℕ, List, [], ◌∷◌, ◌++◌, length, nat_lt, Option, Some, None, Result, Ok, Err, codes, if◌then◌else◌}
+use Rattle.std.specs.Fmt.{decimal}
 use Rattle.rex_syntax.specs.declared.service.Declarations.{Declarations}
+use Rattle.rex_parse.specs.Reading.{answer_of as service_answer}
+use Rattle.rex_parse.specs.After.{service_of}
+use Rattle.rex_parse.specs.declared.language.Above.{Above}
+use Rattle.rex_parse.specs.declared.language.ServiceCode.{ServiceCode}
+use Rattle.rex_scenario.specs.Reading.{answer_of as scenario_answer, scenario_of}
 use Rattle.rex_scenario.specs.declared.scenario.Scenario.{Scenario}
+use Rattle.rex_scenario.specs.declared.scenario.ScenarioCode.{ScenarioCode}
+use Rattle.rex_scenario.specs.declared.scenario.ScenarioCode.TheVariants.{TooLong}
 use Rattle.rex_scenario.specs.declared.scenario.Sections.{Sections}
-use Rattle.rex_scenario.specs.Reading.{answer_of, scenario_of}
+use Rattle.rex_lockset.specs.Refusal.{refusal_of}
+use Rattle.rex_lockset.specs.declared.refusal.Refused.{Refused}
 use Rattle.rex_world.specs.Report.{report_of}
-use Rattle.rex_cli.specs.First.{is_first}
+use Rattle.rex_cli.specs.Command.{command_of}
+use Rattle.rex_cli.specs.Refusals.{service_code, scenario_code, line_of, text_refusal, check_refusal}
+use Rattle.rex_cli.specs.declared.command.Command.{Command}
+use Rattle.rex_cli.specs.declared.command.Command.TheVariants.{Run, Check}
 
 -- a status and a text
 pub record Due : Type 0 where
   pub status : ℕ
   pub text : List ℕ
 
--- the command line: the program's name and `run`
-abbrev pub is_command : List (List ℕ) → Bool
-is_command (name ∷ word ∷ []) = bytes_eq word (codes "run")
-is_command _ = false
-
--- other words are answered so
+-- words that are no command line are answered so
 abbrev pub due_usage : Due
 due_usage = record { status = 2; text = codes "usage: rex run|trace|check|gen|soak" ++ 10 ∷ [] }
 
--- an input that isn't a scenario that is taken so far is answered so
-abbrev pub due_refusal : Due
-due_refusal = record { status = 1; text = codes "refused line 0 S0" ++ 10 ∷ [] }
+-- an input that is refused at a line with a code is answered so
+abbrev pub due_refused : ℕ → List ℕ → Due
+due_refused number code = record { status = 1; text = text_refusal number code }
 
--- a scenario that is taken so far asks for its report
-abbrev pub due_scenario : Scenario → Declarations → Due
-due_scenario s service = if is_first s service then record { status = 0; text = report_of service s } else due_refusal
+-- a service that the check refuses is answered so
+abbrev pub due_unchecked : Declarations → Refused → Due
+due_unchecked service refused = record { status = 3; text = check_refusal service refused }
 
-abbrev pub due_answer : Result Sections (ℕ × ScenarioCode) → Due
-due_answer (Ok s) = due_scenario (scenario_of s) (service_of s.service)
-due_answer (Err e) = due_refusal
+-- a scenario asks for its report, where its service isn't refused
+abbrev pub due_report : Scenario → Declarations → Option Refused → Due
+due_report s service None = record { status = 0; text = report_of service s }
+due_report s service (Some refused) = due_unchecked service refused
 
--- what an input asks for
-abbrev pub due_input : List ℕ → Due
-due_input input = due_answer (answer_of input)
+-- what `run` asks for, given what the input says
+abbrev pub due_run : Result Sections (ℕ × ScenarioCode) → Due
+due_run (Ok s) = due_report (scenario_of s) (service_of s.service) (refusal_of (service_of s.service))
+due_run (Err e) = due_refused e.0 (scenario_code e.1)
+
+-- how many handlers, locks, conditions and variables a service declares
+abbrev pub counts_of : Declarations → List (List ℕ)
+counts_of service =
+    codes "handlers" ∷ decimal (length service.handlers) ∷ codes "locks" ∷ decimal (length service.locks) ∷ codes "conditions" ∷ decimal (length service.conditions)
+    ∷ codes "variables" ∷ decimal (length service.variables) ∷ []
+
+-- the line with its counts
+abbrev pub counts_line : Declarations → List ℕ
+counts_line service = line_of (codes "checked") (counts_of service)
+
+-- a service asks for its counts, where it isn't refused
+abbrev pub due_counts : Declarations → Option Refused → Due
+due_counts service None = record { status = 0; text = counts_line service }
+due_counts service (Some refused) = due_unchecked service refused
+
+-- what `check` asks for, given what the input says
+abbrev pub due_check : Result Above (ℕ × ServiceCode) → Due
+due_check (Ok a) = due_counts (service_of a) (refusal_of (service_of a))
+due_check (Err e) = due_refused e.0 (service_code e.1)
+
+-- what a command asks for; a service may be as long as a scenario
+abbrev pub due_command : Command → List ℕ → Due
+due_command Run input = due_run (scenario_answer input)
+due_command Check input = if nat_lt 4194304 (length input) then due_refused 0 (scenario_code TooLong) else due_check (service_answer input)
+
+-- what a command asks for, if there is one
+abbrev pub due_for : Option Command → List ℕ → Due
+due_for None input = due_usage
+due_for (Some command) input = due_command command input
 
 -- what the words and the input ask for
 abbrev pub due : List (List ℕ) → List ℕ → Due
-due words input = if is_command words then due_input input else due_usage
+due words input = due_for (command_of words) input

@@ -1,4 +1,6 @@
-pub mod First
+pub mod Command
+pub mod Refusals
 pub mod Due
+pub mod Causes
 pub mod Outcome
 pub mod Headline

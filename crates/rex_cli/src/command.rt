@@ -1,14 +1,34 @@
 //! The command line.
 
 ghost use Rattle.std.specs.Prelude.{◌≡◌, map, string_bytes};
-ghost use Rattle.rex_cli.specs.Due as due;
+ghost use Rattle.rex_cli.specs.Command as spec;
 
-/// Whether the words are the program's name and `run`.
-pub(crate) fn is_command(words: &[String]) -> bool
-    ensures { result ≡ due.is_command (map string_bytes words.now) }
+/// What the program is asked to do.
+#[derive(Clone, Copy, PartialEq, Eq, Debug)]
+pub(crate) enum Command {
+    /// To run a scenario.
+    Run,
+    /// To check a service.
+    Check,
+}
+
+/// The command of a command line: the program's name and one word.
+pub(crate) fn command_of(words: &[String]) -> Option<Command>
+    ensures { result ≡ spec.command_of (map string_bytes words.now) }
 {
     match words {
-        [_, word] => word.as_str() == "run",
-        _ => false,
+        [_, word] => command_named(word.as_str()),
+        _ => None,
+    }
+}
+
+// The command that a word names.
+fn command_named(word: &str) -> Option<Command>
+    ensures { result ≡ spec.command_named word.now }
+{
+    match word {
+        "run" => Some(Command::Run),
+        "check" => Some(Command::Check),
+        _ => None,
     }
 }

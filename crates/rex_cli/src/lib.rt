@@ -1,8 +1,9 @@
 //! What the program `rex` does, from its words and a source's bytes to a sink's bytes and a status.
 #![tactic(auto)]
 
+mod answers;
 mod command;
-mod first;
+mod refusals;
 mod running;
 
 pub use running::rex_main;

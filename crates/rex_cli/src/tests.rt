@@ -1,6 +1,7 @@
 use super::*;
 use rex_traits::{MemSink, MemSource, OpenGate};
 use std::alloc::AllocGlobal;
+use std::process::Abort;
 use std::test::*;
 use std::thread::Threads;
 
@@ -40,6 +41,10 @@ const REPORT: &[u8] = b"1 node 1 candidate ballot 17
 end node 1 active promised 17 known 1 live 0 a=5
 ";
 
+// A service whose handler adds its argument, and ends with this reply.
+const SERVICE: &str =
+    "lanes 2\nlock L\nvar a on L = 0\nhandler add x\nacquire L\nset a = a + x\nlet r = a\nrelease L\nreply ";
+
 /// The status, and what was written.
 #[derive(Drop)]
 struct Outcome {
@@ -73,18 +78,96 @@ fn a_request_is_served(rt: HostRuntime) -> Result<(), Fail> {
     Ok(())
 }
 
-#[test]
-fn other_texts_and_words_are_refused(rt: HostRuntime) -> Result<(), Fail> {
-    let empty = run(&rt, "run", b"", 0, 0)?;
-    assert_eq!(rt; empty.status, 1);
-    assert_eq!(rt; empty.written.as_slice(), b"refused line 0 S0\n".as_slice());
-    let fly = run(&rt, "fly", COUNTER, 0, 0)?;
-    assert_eq!(rt; fly.status, 2);
-    assert_eq!(rt;
-        fly.written.as_slice(),
-        b"usage: rex run|trace|check|gen|soak\n".as_slice()
-    );
+// A program's word, its input, and the status and the text that are wanted.
+type Case = (&'static str, &'static str, u8, &'static str);
+
+// Runs the program on each case's input, which begins with these lines.
+fn all_answer<R: Threads + Sync + AllocGlobal + Abort>(
+    rt: &R,
+    head: &str,
+    cases: &[Case],
+) -> Result<(), Fail> {
+    for (word, rest, status, written) in cases {
+        let input = format!(in rt.alloc(); "{head}{rest}")?;
+        let outcome = run(rt, word, input.as_bytes(), 0, 0)?;
+        assert_eq!(rt; outcome.status, *status, "{word} {rest}");
+        assert_eq!(rt;
+            outcome.written.as_slice(),
+            written.as_bytes(),
+            "{word} {rest}"
+        );
+    }
     Ok(())
+}
+
+#[test]
+fn texts_and_words_are_refused(rt: HostRuntime) -> Result<(), Fail> {
+    let usage = "usage: rex run|trace|check|gen|soak\n";
+    all_answer(
+        &rt,
+        "",
+        &[
+            ("run", "", 1, "refused line 1 S3\n"),
+            ("check", "", 1, "refused line 1 P14\n"),
+            ("run", "%nodes 3\n", 1, "refused line 1 S4\n"),
+            (
+                "run",
+                "%nodes 1\n%service\nlanes 0\n",
+                1,
+                "refused line 3 P5\n",
+            ),
+            ("check", "%nodes 1\n", 1, "refused line 1 P2\n"),
+            ("fly", "", 2, usage),
+            ("runs", "", 2, usage),
+        ],
+    )
+}
+
+#[test]
+fn services_are_checked(rt: HostRuntime) -> Result<(), Fail> {
+    all_answer(
+        &rt,
+        SERVICE,
+        &[
+            (
+                "check",
+                "r\n",
+                0,
+                "checked handlers 1 locks 1 conditions 0 variables 1\n",
+            ),
+            ("check", "a\n", 3, "refused handler add line 9 C1\n"),
+            ("check", "r\nreply r\n", 1, "refused line 10 P2\n"),
+        ],
+    )
+}
+
+#[test]
+fn scenarios_are_checked(rt: HostRuntime) -> Result<(), Fail> {
+    let head = format!(in rt.alloc(); "%nodes 1\n%seed 7\n\n%service\n{SERVICE}")?;
+    all_answer(
+        &rt,
+        head.as_str(),
+        &[
+            (
+                "run",
+                "r\n%requests\n%schedule\n",
+                0,
+                "end node 1 follower promised 0 known 0 replayed 0 a=0\n",
+            ),
+            (
+                "run",
+                "a\n%requests\n%schedule\n",
+                3,
+                "refused handler add line 13 C1\n",
+            ),
+            (
+                "run",
+                "a\n%requests\n1 1 sub 5\n",
+                1,
+                "refused line 15 S6\n",
+            ),
+        ],
+    )
 }
 
 #[test]

@@ -1,16 +1,32 @@
-use Rattle.std.proofs.Common.{ℕ, List, map, string_bytes, sym, ap, ◌∙◌}
-use Rattle.rex_cli.specs.Due.{Due, due_input}
-use Rattle.rex_cli.proofs.Whole.{for_whole}
+use Rattle.std.proofs.Common.{◌≡◌, List, ℕ, Some, map, string_bytes, sym, ap, subst, ◌∙◌}
+use Rattle.rex_cli.specs.Command.{command_of}
+use Rattle.rex_cli.specs.Causes.{Judges, service_in}
+use Rattle.rex_cli.specs.Due.{due_command}
+use Rattle.rex_cli.specs.Headline.{Committed}
+use Rattle.rex_cli.specs.declared.command.Command.TheVariants.{Run}
+use Rattle.rex_cli.proofs.Whole.{whole_due, whole_judges, whole_committed, whole_read}
 use Rattle.rex_cli.proofs.running.respond.Goals as goal
 
-pub returns-in-Ok-answer_to-clause-status : goal.returns-in-Ok-answer_to-clause-status
-returns-in-Ok-answer_to-clause-status g c =
-    for_whole (λ (d : Due). d.status) c.in-Ok-answer_to.answer.status (map string_bytes c.args.words.now) (g.S.Source.left c.args.source.now) (g.S.Source.left c.read_input.new.source) c.in-Ok-read_input.input.bytes.items
-    (sym c.is_command.ensures ∙ c.if-not-is_command.false) c.in-Ok-read_input.ensures.taken c.in-Ok-read_input.ensures.whole
-    (c.in-Ok-answer_to.ensures.status ∙ ap (λ (bytes : List ℕ). (due_input bytes).status) c.deref.ensures.value)
+pub returns-in-Ok-answer_to-clause-due : goal.returns-in-Ok-answer_to-clause-due
+returns-in-Ok-answer_to-clause-due g c =
+    whole_due (command_of (map string_bytes c.args.words.now)) c.in-Some.command c.in-Ok-answer_to.answer (g.S.Source.left c.args.source.now) (g.S.Source.left c.read_input.new.source)
+    c.in-Ok-read_input.input.bytes.items (sym c.command_of.ensures ∙ c.in-Some.is) c.in-Ok-read_input.ensures.taken c.in-Ok-read_input.ensures.whole
+    (c.in-Ok-answer_to.ensures.due ∙ ap (λ (bytes : List ℕ). due_command c.in-Some.command bytes) c.deref.ensures.value)
 
-pub returns-in-Ok-answer_to-clause-text : goal.returns-in-Ok-answer_to-clause-text
-returns-in-Ok-answer_to-clause-text g c =
-    for_whole (λ (d : Due). d.text) c.in-Ok-answer_to.answer.text.items (map string_bytes c.args.words.now) (g.S.Source.left c.args.source.now) (g.S.Source.left c.read_input.new.source) c.in-Ok-read_input.input.bytes.items
-    (sym c.is_command.ensures ∙ c.if-not-is_command.false) c.in-Ok-read_input.ensures.taken c.in-Ok-read_input.ensures.whole
-    (c.in-Ok-answer_to.ensures.text ∙ ap (λ (bytes : List ℕ). (due_input bytes).text) c.deref.ensures.value)
+pub returns-in-Ok-answer_to-clause-judges : goal.returns-in-Ok-answer_to-clause-judges
+returns-in-Ok-answer_to-clause-judges g c =
+    whole_judges (command_of (map string_bytes c.args.words.now)) c.in-Some.command c.in-Ok-answer_to.answer.status (g.S.Source.left c.args.source.now) (g.S.Source.left c.read_input.new.source)
+    c.in-Ok-read_input.input.bytes.items (sym c.command_of.ensures ∙ c.in-Some.is) c.in-Ok-read_input.ensures.taken c.in-Ok-read_input.ensures.whole
+    (subst (λ (bytes : List ℕ). Judges (service_in c.in-Some.command bytes) c.in-Ok-answer_to.answer.status) c.deref.ensures.value c.in-Ok-answer_to.ensures.judges)
+
+pub returns-in-Ok-answer_to-clause-headline : goal.returns-in-Ok-answer_to-clause-headline
+returns-in-Ok-answer_to-clause-headline g c runs zero =
+    let named : command_of (map string_bytes c.args.words.now) ≡ Some c.in-Some.command = sym c.command_of.ensures ∙ c.in-Some.is in
+    let is_run : c.in-Some.command ≡ Run = cc in
+    whole_committed (g.S.Source.left c.args.source.now) (g.S.Source.left c.read_input.new.source) c.in-Ok-read_input.input.bytes.items c.in-Ok-read_input.ensures.taken
+    c.in-Ok-read_input.ensures.whole (subst Committed c.deref.ensures.value (c.in-Ok-answer_to.ensures.headline is_run zero))
+
+pub returns-in-Ok-answer_to-clause-whole : goal.returns-in-Ok-answer_to-clause-whole
+returns-in-Ok-answer_to-clause-whole g c zero =
+    whole_read c.in-Some.command c.in-Ok-answer_to.answer (g.S.Source.left c.read_input.new.source) c.in-Ok-read_input.input.bytes.items c.in-Ok-read_input.ensures.whole
+    (c.in-Ok-answer_to.ensures.due ∙ ap (λ (bytes : List ℕ). due_command c.in-Some.command bytes) c.deref.ensures.value) zero

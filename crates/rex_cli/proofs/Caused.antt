@@ -1,0 +1,40 @@
+-- What an answer's status says of the service is what each status is caused by.
+use Rattle.std.proofs.Common.{◌≡◌, ℕ, List, Option, Some, None, inl, inr, refl}
+use Rattle.std.specs.Prelude.{◌↔◌, IfSome}
+use Rattle.rex_syntax.specs.declared.service.Declarations.{Declarations}
+use Rattle.rex_cli.specs.Causes.{Judges, JudgesFor, IsBroken, IsCaused, service_in}
+use Rattle.rex_cli.specs.declared.command.Command.{Command}
+
+-- 1 where there is no service
+unread : (o : Option Declarations) (status : ℕ) → Judges o status → (status ≡ 1) ↔ (o ≡ None)
+unread None status j = (λ _. refl, λ _. j)
+unread (Some s) status (inl j) = (λ one. absurd (let zero = j.0 in cc), λ none. absurd cc)
+unread (Some s) status (inr j) = (λ one. absurd (let three = j.0 in cc), λ none. absurd cc)
+
+-- 3 where there is one that isn't checked
+unchecked : (o : Option Declarations) (status : ℕ) → Judges o status → (status ≡ 3) ↔ IsBroken o
+unchecked None status j = (λ three. absurd cc, λ broken. absurd broken)
+unchecked (Some s) status (inl j) = (λ three. absurd (let zero = j.0 in cc), λ broken. absurd (broken j.1))
+unchecked (Some s) status (inr j) = (λ _. j.1, λ _. j.0)
+
+never_two : (o : Option Declarations) (status : ℕ) → Judges o status → status ≡ 2 → ⊥
+never_two None status j two = cc
+never_two (Some s) status (inl j) two = let zero = j.0 in cc
+never_two (Some s) status (inr j) two = let three = j.0 in cc
+
+caused : (command : Option Command) (input : List ℕ) (status : ℕ) → JudgesFor command input status → IsCaused command input status
+caused None input status j = record {
+  unread = (λ one. absurd cc, λ h. absurd h);
+  usage = (λ _. refl, λ _. j);
+  unchecked = (λ three. absurd cc, λ h. absurd h);
+}
+caused (Some command) input status j = record {
+  unread = unread (service_in command input) status j;
+  usage = (λ two. absurd (never_two (service_in command input) status j two), λ none. absurd cc);
+  unchecked = unchecked (service_in command input) status j;
+}
+
+-- the same of an input that may not be told
+pub caused_if : (left : Option (List ℕ)) (command : Option Command) (status : ℕ) → IfSome left (λ input. JudgesFor command input status) → IfSome left (λ input. IsCaused command input status)
+caused_if None command status h = tt
+caused_if (Some input) command status h = caused command input status h

@@ -1,0 +1,59 @@
+-- What each status below 4 says of the words and the input.
+use Rattle.std.specs.Prelude.{◌≡◌, ◌↔◌, ◌⊎◌, ℕ, List, length, nat_lt, Option, Some, None, Result, Ok, Err, if◌then◌else◌}
+use Rattle.rex_syntax.specs.declared.service.Declarations.{Declarations}
+use Rattle.rex_syntax.specs.Check.{IsChecked}
+use Rattle.rex_parse.specs.Reading.{answer_of as service_answer}
+use Rattle.rex_parse.specs.After.{service_of}
+use Rattle.rex_parse.specs.declared.language.Above.{Above}
+use Rattle.rex_parse.specs.declared.language.ServiceCode.{ServiceCode}
+use Rattle.rex_scenario.specs.Reading.{answer_of as scenario_answer}
+use Rattle.rex_scenario.specs.declared.scenario.ScenarioCode.{ScenarioCode}
+use Rattle.rex_scenario.specs.declared.scenario.Sections.{Sections}
+use Rattle.rex_cli.specs.declared.command.Command.{Command}
+use Rattle.rex_cli.specs.declared.command.Command.TheVariants.{Run, Check}
+
+-- the service of a text that is a scenario
+abbrev pub scenario_service : Result Sections (ℕ × ScenarioCode) → Option Declarations
+scenario_service (Ok s) = Some (service_of s.service)
+scenario_service (Err e) = None
+
+-- the service of a text that is one
+abbrev pub plain_service : Result Above (ℕ × ServiceCode) → Option Declarations
+plain_service (Ok a) = Some (service_of a)
+plain_service (Err e) = None
+
+-- the service that an input declares: `run` asks for a scenario with one, and `check` for one alone
+abbrev pub service_in : Command → List ℕ → Option Declarations
+service_in Run input = scenario_service (scenario_answer input)
+service_in Check input = if nat_lt 4194304 (length input) then None else plain_service (service_answer input)
+
+-- 1 where there is no service, 0 where there is one that is checked, 3 where there is one that isn't
+abbrev pub Judges : Option Declarations → ℕ → Type 0
+Judges None status = status ≡ 1
+Judges (Some service) status = ((status ≡ 0) × IsChecked service) ⊎ ((status ≡ 3) × (IsChecked service → ⊥))
+
+-- the same for words, with 2 where they are no command line
+abbrev pub JudgesFor : Option Command → List ℕ → ℕ → Type 0
+JudgesFor None input status = status ≡ 2
+JudgesFor (Some command) input status = Judges (service_in command input) status
+
+-- the words are a command line, and the input is no scenario or, for `check`, no service
+abbrev pub IsUnread : Option Command → List ℕ → Type 0
+IsUnread None input = ⊥
+IsUnread (Some command) input = service_in command input ≡ None
+
+-- there is a service that isn't checked
+abbrev pub IsBroken : Option Declarations → Type 0
+IsBroken None = ⊥
+IsBroken (Some service) = IsChecked service → ⊥
+
+-- the words are a command line, and the input has a service that isn't checked
+abbrev pub IsUnchecked : Option Command → List ℕ → Type 0
+IsUnchecked None input = ⊥
+IsUnchecked (Some command) input = IsBroken (service_in command input)
+
+-- each of the statuses 1 to 3 comes exactly where its cause does
+pub record IsCaused (command : Option Command) (input : List ℕ) (status : ℕ) : Type 0 where
+  pub unread : (status ≡ 1) ↔ IsUnread command input
+  pub usage : (status ≡ 2) ↔ (command ≡ None)
+  pub unchecked : (status ≡ 3) ↔ IsUnchecked command input

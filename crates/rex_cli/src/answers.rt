@@ -1,0 +1,162 @@
+//! What an input is answered.
+
+ghost use Rattle.std.specs.Prelude.{◌≡◌, ◌≤◌, ◌<◌, None, Some, IfOk, IfSome, option_map, length};
+ghost use Rattle.rex_syntax.specs.Check.{IsChecked};
+ghost use Rattle.rex_syntax.specs.Service.{IsService};
+ghost use Rattle.rex_lockset.specs.Refusal.{refusal_of as refusal};
+ghost use Rattle.rex_scenario.specs.Fits.{ScenarioFits};
+ghost use Rattle.rex_world.specs.Laws.{Headline};
+ghost use Rattle.rex_cli.specs.Due as due;
+ghost use Rattle.rex_cli.specs.Causes.{Judges, service_in};
+ghost use Rattle.rex_cli.specs.Headline.{Committed};
+ghost use Rattle.rex_cli.specs.declared.command.Command.TheVariants as commands;
+
+use crate::command::Command;
+use crate::refusals::{check_refusal, line, scenario_code, service_code, text_refusal};
+use rex_lockset::{refusal_of, refusals_are_exact};
+use rex_parse::{ReadError, read_service};
+use rex_report::Piece;
+use rex_scenario::{SCENARIO_BYTES, Scenario, ScenarioCode, ScenarioError, read_scenario};
+use rex_syntax::checked::Checked;
+use rex_syntax::service::{Declarations, Service};
+use rex_world::report::report;
+use std::alloc::{AllocError, Global};
+use std::marker::Model;
+
+/// A status, and what is to be written before the program ends with it. Contracts see it as what is due.
+#[derive(Drop)]
+pub(crate) struct Answer {
+    pub(crate) status: u8,
+    pub(crate) text: Vec<u8>,
+}
+
+impl Model for Answer {
+    ghost use Rattle.rex_cli.specs.Due.{Due};
+
+    ghost Value = { Due };
+
+    ghost view = { λ a. record { status = a.status; text = a.text.items } };
+}
+
+/// What words are answered that are no command line.
+pub(crate) fn usage(alloc: Global) -> Result<Answer, AllocError>
+    ensures { IfOk result (λ a. a ≡ due.due_usage) }
+{
+    let text = Vec::from_slice(alloc, b"usage: rex run|trace|check|gen|soak\n")?;
+    Ok(Answer { status: 2, text })
+}
+
+// What an input is answered that is refused at a line with a code.
+fn refused(alloc: Global, line: u32, code: &'static [u8]) -> Result<Answer, AllocError>
+    ensures { IfOk result (λ a. a ≡ due.due_refused line code.now) }
+{
+    let text = text_refusal(alloc, line, code)?;
+    Ok(Answer { status: 1, text })
+}
+
+// What a service is answered that the check refuses, if it does.
+fn unchecked(alloc: Global, service: &Declarations) -> Result<Option<Answer>, AllocError>
+    requires { IsService service.now }
+    ensures due { IfOk result (λ a. a ≡ option_map (due.due_unchecked service.now) (refusal service.now)) }
+    ensures broken { IfOk result (λ a. IfSome a (λ _. IsChecked service.now → ⊥)) }
+    ensures checked { IfOk result (λ a. a ≡ None → IsChecked service.now) }
+{
+    refusals_are_exact();
+    match refusal_of(alloc, service)? {
+        None => Ok(None),
+        Some(refused) => {
+            let text = check_refusal(alloc, service, refused)?;
+            Ok(Some(Answer { status: 3, text }))
+        }
+    }
+}
+
+// What a scenario is answered.
+fn run_scenario(alloc: Global, scenario: &Scenario, service: Service) -> Result<Answer, AllocError>
+    requires { ScenarioFits service scenario.now }
+    ensures due { IfOk result (λ a. a ≡ due.due_report scenario.now service (refusal service)) }
+    ensures judges { IfOk result (λ a. Judges (Some service) a.status) }
+    ensures headline { IfOk result (λ a. a.status ≡ 0 → Headline service scenario.now.requests scenario.now.seed scenario.now.schedule) }
+{
+    if let Some(answer) = unchecked(alloc, service.declarations())? {
+        return Ok(answer);
+    }
+    let text = report(alloc, &Checked::of(service), scenario)?;
+    Ok(Answer { status: 0, text })
+}
+
+// What `run` answers.
+fn run_input(alloc: Global, input: &[u8]) -> Result<Answer, AllocError>
+    requires { length input.now ≤ 4194305 }
+    ensures due { IfOk result (λ a. a ≡ due.due_command commands.Run input.now) }
+    ensures judges { IfOk result (λ a. Judges (service_in commands.Run input.now) a.status) }
+    ensures headline { IfOk result (λ a. a.status ≡ 0 → Committed input.now) }
+{
+    match read_scenario(alloc, input) {
+        Ok((scenario, service)) => run_scenario(alloc, &scenario, service),
+        Err(ScenarioError::Refused { line, code }) => refused(alloc, line, scenario_code(code)),
+        Err(ScenarioError::OutOfMemory) => Err(AllocError),
+    }
+}
+
+// How many handlers, locks, conditions and variables a service declares.
+fn counts(alloc: Global, service: &Declarations) -> Result<Vec<u8>, AllocError>
+    ensures { IfOk result (λ text. text.items ≡ due.counts_line service.now) }
+{
+    line(
+        alloc,
+        b"checked",
+        &[
+            Piece::Word(b"handlers"),
+            Piece::Number(service.handlers.len() as u64),
+            Piece::Word(b"locks"),
+            Piece::Number(service.locks.len() as u64),
+            Piece::Word(b"conditions"),
+            Piece::Number(service.conditions.len() as u64),
+            Piece::Word(b"variables"),
+            Piece::Number(service.variables.len() as u64),
+        ],
+    )
+}
+
+// What a service is answered.
+fn check_service(alloc: Global, service: &Declarations) -> Result<Answer, AllocError>
+    requires { IsService service.now }
+    ensures due { IfOk result (λ a. a ≡ due.due_counts service.now (refusal service.now)) }
+    ensures judges { IfOk result (λ a. Judges (Some service.now) a.status) }
+{
+    if let Some(answer) = unchecked(alloc, service)? {
+        return Ok(answer);
+    }
+    let text = counts(alloc, service)?;
+    Ok(Answer { status: 0, text })
+}
+
+// What `check` answers.
+fn check_input(alloc: Global, input: &[u8]) -> Result<Answer, AllocError>
+    requires { length input.now ≤ 4194305 }
+    ensures due { IfOk result (λ a. a ≡ due.due_command commands.Check input.now) }
+    ensures judges { IfOk result (λ a. Judges (service_in commands.Check input.now) a.status) }
+{
+    if input.len() > SCENARIO_BYTES {
+        return refused(alloc, 0, scenario_code(ScenarioCode::TooLong));
+    }
+    match read_service(alloc, input) {
+        Ok(service) => check_service(alloc, service.declarations()),
+        Err(ReadError::Refused { line, code }) => refused(alloc, line, service_code(code)),
+        Err(ReadError::OutOfMemory) => Err(AllocError),
+    }
+}
+
+/// What a command answers to an input.
+pub(crate) fn answer_to(alloc: Global, command: Command, input: &[u8]) -> Result<Answer, AllocError>
+    requires { length input.now ≤ 4194305 }
+    ensures due { IfOk result (λ a. a ≡ due.due_command command input.now) }
+    ensures judges { IfOk result (λ a. Judges (service_in command input.now) a.status) }
+    ensures headline { command ≡ commands.Run → IfOk result (λ a. a.status ≡ 0 → Committed input.now) }
+{
+    match command {
+        Command::Run => run_input(alloc, input),
+        Command::Check => check_input(alloc, input),
+    }
+}

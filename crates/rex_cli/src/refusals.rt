@@ -1,0 +1,156 @@
+//! The texts of codes, and the lines that tell of a refusal.
+
+ghost use Rattle.std.specs.Prelude.{◌≡◌, map, IfOk};
+ghost use Rattle.rex_report.specs.Pieces.{text_of};
+ghost use Rattle.rex_cli.specs.Refusals as spec;
+
+use rex_lockset::Refused;
+use rex_parse::ServiceCode;
+use rex_report::{Piece, push_pieces};
+use rex_scenario::ScenarioCode;
+use rex_syntax::flow::CheckCode;
+use rex_syntax::service::{Declarations, Handler};
+use std::alloc::{AllocError, Global};
+
+/// The code of a line of a service.
+pub(crate) fn service_code(code: ServiceCode) -> &'static [u8]
+    ensures { result.now ≡ spec.service_code code }
+{
+    match code {
+        ServiceCode::BadByte => b"P1",
+        ServiceCode::Misplaced => b"P2",
+        ServiceCode::BadForm => b"P3",
+        ServiceCode::NoName => b"P4",
+        ServiceCode::NoNumber => b"P5",
+        ServiceCode::BadExpression => b"P6",
+        ServiceCode::Undeclared => b"P7",
+        ServiceCode::WrongKind => b"P8",
+        ServiceCode::Taken => b"P9",
+        ServiceCode::TooDeep => b"P10",
+        ServiceCode::TooMany => b"P11",
+        ServiceCode::LanesFirst => b"P12",
+        ServiceCode::ReplyInBlock => b"P13",
+        ServiceCode::Unended => b"P14",
+    }
+}
+
+/// The code of a line of a scenario.
+pub(crate) fn scenario_code(code: ScenarioCode) -> &'static [u8]
+    ensures { result.now ≡ spec.scenario_code code }
+{
+    match code {
+        ScenarioCode::Service(code) => service_code(code),
+        ScenarioCode::TooLong => b"S1",
+        ScenarioCode::BadByte => b"S2",
+        ScenarioCode::OutOfPlace => b"S3",
+        ScenarioCode::BadHeading => b"S4",
+        ScenarioCode::BadRequest => b"S5",
+        ScenarioCode::BadCall => b"S6",
+        ScenarioCode::Repeated => b"S7",
+        ScenarioCode::BadLine => b"S8",
+        ScenarioCode::TooManyLines => b"S9",
+        ScenarioCode::NotThere => b"S10",
+        ScenarioCode::TooManyRequests => b"S11",
+    }
+}
+
+/// The code of the check.
+pub(crate) fn check_code(code: CheckCode) -> &'static [u8]
+    ensures { result.now ≡ spec.check_code code }
+{
+    match code {
+        CheckCode::UnguardedRead => b"C1",
+        CheckCode::UnguardedWrite => b"C2",
+        CheckCode::NotHeld => b"C3",
+        CheckCode::OutOfOrder => b"C4",
+        CheckCode::BranchesDiffer => b"C5",
+        CheckCode::LoopDiffers => b"C6",
+        CheckCode::HeldAtReply => b"C7",
+        CheckCode::ConditionLock => b"C8",
+        CheckCode::TooLong => b"C9",
+    }
+}
+
+/// A line of a word and further words, each after a space.
+pub(crate) fn line(alloc: Global, first: &[u8], rest: &[Piece<'_>]) -> Result<Vec<u8>, AllocError>
+    ensures { IfOk result (λ text. text.items ≡ spec.line_of first.now (map text_of rest.now)) }
+{
+    let mut text = Vec::from_slice(alloc, first)?;
+    push_pieces(&mut text, rest)?;
+    text.push(b'\n')?;
+    Ok(text)
+}
+
+/// The line for a text that is refused at a line with a code.
+pub(crate) fn text_refusal(
+    alloc: Global,
+    number: u32,
+    code: &'static [u8],
+) -> Result<Vec<u8>, AllocError>
+    ensures { IfOk result (λ text. text.items ≡ spec.text_refusal number code.now) }
+{
+    line(
+        alloc,
+        b"refused",
+        &[
+            Piece::Word(b"line"),
+            Piece::Number(number as u64),
+            Piece::Word(code),
+        ],
+    )
+}
+
+// The number in the text of a handler's line, or of the handler itself.
+fn number_in(handler: &Handler, place: Option<u16>) -> u32
+    ensures { result ≡ spec.number_in handler.now place }
+{
+    match place {
+        None => handler.line_number,
+        Some(place) => match handler.line_numbers.as_slice().get(place as usize) {
+            Some(number) => *number,
+            None => 0,
+        },
+    }
+}
+
+// The same of what the check refuses.
+fn refused_number(service: &Declarations, refused: Refused) -> u32
+    ensures { result ≡ spec.number_in (spec.handler_of service.now refused) refused.line }
+{
+    match service.handlers.as_slice().get(refused.handler as usize) {
+        Some(handler) => number_in(handler, refused.line),
+        None => 0,
+    }
+}
+
+// The name of the handler that is refused, or one of whose lines is.
+fn refused_name(service: &Declarations, refused: Refused) -> &[u8]
+    ensures { result.now ≡ (spec.handler_of service.now refused).name }
+{
+    match service.handlers.as_slice().get(refused.handler as usize) {
+        Some(handler) => handler.name.as_slice(),
+        None => &[],
+    }
+}
+
+/// The line for a service that the check refuses.
+pub(crate) fn check_refusal(
+    alloc: Global,
+    service: &Declarations,
+    refused: Refused,
+) -> Result<Vec<u8>, AllocError>
+    ensures { IfOk result (λ text. text.items ≡ spec.check_refusal service.now refused) }
+{
+    let number = refused_number(service, refused) as u64;
+    line(
+        alloc,
+        b"refused",
+        &[
+            Piece::Word(b"handler"),
+            Piece::Name(refused_name(service, refused)),
+            Piece::Word(b"line"),
+            Piece::Number(number),
+            Piece::Word(check_code(refused.code)),
+        ],
+    )
+}
