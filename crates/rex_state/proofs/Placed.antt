@@ -32,7 +32,7 @@ use Rattle.rex_state.proofs.Walks.{ends_at}
 -- ---- what is held is nothing once the only lock is given up
 
 -- from a place on all are free
-drop_free : (ms : List Mode) (n k : ℕ) → list_all is_free_mode (drop n ms) ≡ true → n ≤ k → get_or ms k Free ≡ Free
+pub drop_free : (ms : List Mode) (n k : ℕ) → list_all is_free_mode (drop n ms) ≡ true → n ≤ k → get_or ms k Free ≡ Free
 drop_free ms zero k h l = all_free ms k h
 drop_free [] (suc n) k h l = refl
 drop_free (m ∷ ms) (suc n) zero h l = absurd (omega arith)
