@@ -1,4 +1,3 @@
-pub mod Held
 pub mod Walks
 pub mod Fits
 pub mod Modes

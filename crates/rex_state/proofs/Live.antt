@@ -33,7 +33,7 @@ use Rattle.rex_state.specs.Flows.{CheckedFlows}
 use Rattle.rex_state.specs.Sound.{mode_at, FrameFits, Fits, IsWaiting, FramePlaced, Placed, IsSoundBy, with_flows, IsSound}
 use Rattle.rex_state.specs.Live.{IsGoing, CanGoOn}
 use Rattle.rex_state.proofs.Fits.{IsRight, may_line}
-use Rattle.rex_state.proofs.Held.{only_if_true}
+use Rattle.rex_frame.proofs.Held.{only_if_true}
 use Rattle.rex_state.proofs.Keep.{IsEnabled, next_from}
 use Rattle.rex_state.proofs.Placed.{drop_free}
 use Rattle.rex_state.proofs.Rooms.{frame_in, lock_small, names_line}
