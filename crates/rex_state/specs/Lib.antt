@@ -10,4 +10,5 @@ pub mod Sound
 pub mod Live
 pub mod Laws
 pub mod Room
+pub mod Spare
 pub mod Counter
