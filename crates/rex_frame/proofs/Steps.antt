@@ -1,22 +1,21 @@
-use Rattle.std.proofs.Common.{◌≡◌, ℕ, zero, suc, ◌+◌, ◌-◌, ◌*◌, ◌<◌, ◌≤◌, max, Bool, true, false, cond, List, [], ◌∷◌, ◌++◌, length, take, map, set, refl, ap, sym, ◌∙◌, subst, arith, get_or, length-append, length-take, length-set}
+use Rattle.std.proofs.Common.{◌≡◌, ℕ, ◌+◌, ◌-◌, ◌*◌, ◌<◌, Bool, true, false, List, [], ◌∷◌, ◌++◌, length, take, map, set, refl, ap, sym, ◌∙◌, subst, arith, get_or}
 use Rattle.std.proofs.lemmas.List.{take_more, take_all, take-map, get_or-map, length-map, map-append}
 use Rattle.std.proofs.Math.Seq.{map-set_same}
-use Rattle.std.proofs.lemmas.List.Sums.{sum_by-set, sum_by_push, sum_by-append}
+use Rattle.std.proofs.lemmas.List.Sums.{sum_by-set, sum_by_push}
 use Rattle.std.proofs.lemmas.List.Elements.{All-take, All-set, All-push}
 use Rattle.std.specs.List.{sum_by, All}
-use Rattle.std.specs.Prelude.{Option, Some, None, slice_get, slice_index, slice_index_or, ℤ, pos, nat_le, if◌then◌else◌}
+use Rattle.std.specs.Prelude.{Some, slice_get, slice_index, ℤ, pos, nat_le, if◌then◌else◌}
 use Rattle.std.specs.Ordering.{int_eq}
 use Rattle.rex_syntax.specs.declared.expr.Expr.{Expr}
 use Rattle.std.proofs.lemmas.Bool.Decides.{nat_tests}
-use Rattle.arrayvec.specs.ArrayVec.{ArrayVec, array_vec_len}
 use Rattle.rex_syntax.specs.declared.line.Line.{Line}
 use Rattle.rex_syntax.specs.declared.line.Line.TheVariants.{Acquire, Share, Release, Try, Busy, EndTry, Wait, Signal, Broadcast, Set, Let, Clock, Random, If, Else, EndIf, Repeat, EndRepeat, Reply}
 use Rattle.rex_frame.specs.declared.frame.Frame.{Frame}
 use Rattle.rex_frame.specs.declared.frame.Turn.{Turn}
-use Rattle.rex_frame.specs.Step.{does_stand, frame_after, variables_after, frame_turned, turned_by, innermost, no_turn, at_line, value_in}
-use Rattle.rex_syntax.specs.Shape.{open_at, open_after, after_loop, after_repeat, IsShaped, LeadsOn, IsForward, HasNext, OpensLoop, EndsLoop}
+use Rattle.rex_frame.specs.Step.{does_stand, frame_after, frame_turned, turned_by, innermost, no_turn, at_line, value_in}
+use Rattle.rex_syntax.specs.Shape.{open_at, open_after, after_loop, after_repeat, LeadsOn, IsForward, HasNext, OpensLoop, EndsLoop}
 use Rattle.rex_syntax.specs.Check.{other_of}
-use Rattle.rex_frame.specs.Weights.{weights, weight, weight_of, steps_left, turns_weight, body_of, IsInside}
+use Rattle.rex_frame.specs.Weights.{weight, weight_of, steps_left, turns_weight, body_of, IsInside}
 use Rattle.rex_frame.proofs.Weights.{weight-at}
 use Rattle.rex_frame.proofs.Shape.{open_at-next}
 

@@ -3,6 +3,8 @@
 ghost use Rattle.std.specs.Prelude.{◌≡◌, ◌<◌, ◌↔◌, IsTrue, length, ◌+◌, ◌^◌, ◌≤◌, true};
 ghost use Rattle.arrayvec.specs.ArrayVec.{array_vec_len};
 ghost use Rattle.rex_syntax.specs.Shape.{IsShaped};
+ghost use Rattle.rex_syntax.specs.declared.service.Declarations.{Declarations};
+ghost use Rattle.rex_frame.specs.Guarded.{HoldsItsFlow, ReadsHeld, WritesHeld};
 ghost use Rattle.rex_frame.specs.Weights.{IsInside};
 ghost use Rattle.rex_frame.specs.Segment.{LinesFit, segment, line_at};
 ghost use Rattle.rex_frame.specs.Step.{frame_after, variables_after, frame_turned, LineFits, HasRoom, does_stand};
@@ -103,7 +105,9 @@ impl Frame {
         self.place
     }
 
-    /// Runs the lines from the frame's on, up to the one at which the lane stands.
+    /// Runs the lines from the frame's on, up to the one at which the lane stands. Where the frame holds what a check of
+    /// the lines says, they read only variables whose guards it holds, and write only those whose guards it holds
+    /// exclusively.
     pub fn run_segment(&mut self, lines: &[Line], variables: &mut [i64])
         requires short { length lines.now ≤ 256 }
         requires shaped { IsShaped lines.now }
@@ -112,6 +116,8 @@ impl Frame {
         ensures ran { (self.new, variables.new) ≡ segment lines.now self.old variables.old }
         ensures inside { IsInside lines.now self.new }
         ensures stands { does_stand (line_at lines.now self.new) self.new variables.new ≡ true }
+        ensures reads { (service : Declarations) → HoldsItsFlow service lines.now self.old → ReadsHeld service lines.now self.old variables.old self.new variables.new }
+        ensures writes { (service : Declarations) → HoldsItsFlow service lines.now self.old → WritesHeld service self.old.held variables.old variables.new }
     {
         while !self.stands(&lines[self.place as usize], variables) {
             self.step(&lines[self.place as usize], variables);

@@ -19,6 +19,11 @@ pub record RecorderValue : Type 0 where
   pub state : StateValue
   pub queue : List Request
 
+-- what a recorder holds, and for how many more events it has reserved room
+pub record RecorderRoom : Type 0 where
+  pub value : RecorderValue
+  pub spare : ℕ
+
 -- it begins a request
 abbrev pub is_begin : Kind → Bool
 is_begin (Begin client sequence handler arguments) = true

@@ -28,6 +28,8 @@ pub(crate) fn follow(
     ensures state { state.new ≡ state_after svc.now state.old turn.now }
     ensures live { live.new.items ≡ live_after live.old.items turn.now }
     ensures queue { queue.new.items ≡ queue_after queue.old.items turn.now }
+    ensures capacity { vec_capacity live.new ≡ vec_capacity live.old }
+    ensures len { vec_len live.new ≤ vec_len live.old + 1 }
 {
     if let Turn::Done(event) = turn {
         state.apply(svc, event);

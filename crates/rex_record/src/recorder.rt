@@ -1,6 +1,6 @@
 //! The recorder.
 
-ghost use Rattle.std.specs.Prelude.{◌≡◌, ◌+◌, ◌^◌, ◌<◌, ◌++◌, ◌∷◌, [], length, Some, None, IfOk, OnOk, OnErr, find, ◌==◌};
+ghost use Rattle.std.specs.Prelude.{◌≡◌, ◌+◌, ◌^◌, ◌<◌, ◌≤◌, ◌++◌, ◌∷◌, [], length, Some, None, IfOk, OnOk, OnErr, find, ◌==◌};
 ghost use Rattle.std.specs.Option.{option_copied};
 ghost use Rattle.rand_pcg.specs.Pcg.{pcg32};
 ghost use Rattle.rex_syntax.specs.declared.service.Declarations.{Declarations};
@@ -52,12 +52,16 @@ pub struct Recorder {
 }
 
 impl Model for Recorder {
-    ghost use Rattle.rex_record.specs.Value.{RecorderValue};
+    ghost use Rattle.std.specs.Prelude.{◌-◌, vec_len, vec_capacity};
+    ghost use Rattle.rex_record.specs.Value.{RecorderRoom};
     ghost use Rattle.rex_record.specs.Kept.{AreCounted};
 
-    ghost Value = { RecorderValue };
+    ghost Value = { RecorderRoom };
 
-    ghost view = { λ r. record { start = r.start; live = r.live.items; state = r.state; queue = r.queue.items } };
+    ghost view = { λ r. record {
+      value = record { start = r.start; live = r.live.items; state = r.state; queue = r.queue.items };
+      spare = vec_capacity r.live - vec_len r.live;
+    } };
 
     ghost invariant = { λ r. AreCounted r.live.items };
 }
@@ -72,8 +76,8 @@ fn find_request(queue: &VecDeque<Request>, client: u16) -> Option<&Request>
 impl Recorder {
     /// A recorder that begins at a state, with no live events and no requests.
     pub fn new(alloc: Global, state: State) -> Result<Recorder, AllocError>
-        ensures started { IfOk result (λ r. r ≡ started state) }
-        ensures kept { IfOk result (λ r. (service : Declarations) → IsSound service state → IsRecorder service r) }
+        ensures started { IfOk result (λ r. r.value ≡ started state) }
+        ensures kept { IfOk result (λ r. (service : Declarations) → IsSound service state → IsRecorder service r.value) }
     {
         Ok(Recorder {
             start: state.copy(alloc)?,
@@ -85,28 +89,28 @@ impl Recorder {
 
     /// The state where the live events begin.
     pub fn start(&self) -> &State
-        ensures { result.now ≡ self.now.start }
+        ensures { result.now ≡ self.now.value.start }
     {
         &self.start
     }
 
     /// The state after the live events.
     pub fn state(&self) -> &State
-        ensures { result.now ≡ self.now.state }
+        ensures { result.now ≡ self.now.value.state }
     {
         &self.state
     }
 
     /// The live events.
     pub fn trace(&self) -> &[Event]
-        ensures { result.now ≡ self.now.live }
+        ensures { result.now ≡ self.now.value.live }
     {
         &self.live
     }
 
     /// The sequence of a client's queued request.
     pub fn queued(&self, client: u16) -> Option<u32>
-        ensures { result ≡ queued_in self.now.queue client }
+        ensures { result ≡ queued_in self.now.value.queue client }
     {
         let request = find_request(&self.queue, client)?;
         Some(request.sequence)
@@ -114,15 +118,25 @@ impl Recorder {
 
     /// Appends a request to the queue, or changes nothing where memory is short.
     pub fn queue(&mut self, svc: &Checked, request: Request) -> Result<(), AllocError>
-        requires recorder { IsRecorder svc.now self.old }
-        requires can { CanBegin svc.now self.old.state request }
-        requires new { queued_in self.old.queue request.client ≡ None }
-        ensures ok { OnOk result (self.new ≡ with_request self.old request) }
-        ensures err { OnErr result (self.new ≡ self.old) }
-        ensures kept { IsRecorder svc.now self.new }
+        requires recorder { IsRecorder svc.now self.old.value }
+        requires can { CanBegin svc.now self.old.value.state request }
+        requires new { queued_in self.old.value.queue request.client ≡ None }
+        ensures ok { OnOk result (self.new.value ≡ with_request self.old.value request) }
+        ensures err { OnErr result (self.new.value ≡ self.old.value) }
+        ensures spare { self.new.spare ≡ self.old.spare }
+        ensures kept { IsRecorder svc.now self.new.value }
     {
         self.queue.push_back(request)?;
         Ok(())
+    }
+
+    /// Sees to room for the events of `n` more turns. Room that was there stays, also where memory is short.
+    pub fn reserve(&mut self, n: usize) -> Result<(), AllocError>
+        ensures spare { OnOk result (n ≤ self.new.spare) }
+        ensures more { self.old.spare ≤ self.new.spare }
+        ensures same { self.new.value ≡ self.old.value }
+    {
+        self.live.reserve(n)
     }
 
     /// A lane's turn: its next event, or why it makes none. The clock is what a read of the clock gives, and the dice
@@ -134,34 +148,55 @@ impl Recorder {
         clock: i64,
         dice: &mut Lcg64Xsh32,
     ) -> Result<Turn, AllocError>
-        requires recorder { IsRecorder svc.now self.old }
+        requires recorder { IsRecorder svc.now self.old.value }
         requires there { lane < svc.now.lanes }
-        requires count { (lane_of self.old.state lane).done + 1 < 2 ^ 32 }
-        ensures turn { IfOk result (λ t. t ≡ turn_of svc.now self.old.state self.old.queue (length self.old.live) lane clock (pcg32 dice.old).0) }
-        ensures turned { IfOk result (λ t. self.new ≡ turned svc.now self.old t) }
-        ensures dice { OnOk result (dice.new ≡ dice_after (does_draw svc.now self.old.state (length self.old.live) lane) dice.old) }
-        ensures err { OnErr result ((self.new ≡ self.old) × (dice.new ≡ dice.old)) }
-        ensures kept { IsRecorder svc.now self.new }
+        requires count { (lane_of self.old.value.state lane).done + 1 < 2 ^ 32 }
+        ensures turn { IfOk result (λ t. t ≡ turn_of svc.now self.old.value.state self.old.value.queue (length self.old.value.live) lane clock (pcg32 dice.old).0) }
+        ensures turned { IfOk result (λ t. self.new.value ≡ turned svc.now self.old.value t) }
+        ensures dice { OnOk result (dice.new ≡ dice_after (does_draw svc.now self.old.value.state (length self.old.value.live) lane) dice.old) }
+        ensures err { OnErr result ((self.new.value ≡ self.old.value) × (dice.new ≡ dice.old)) }
+        ensures kept { IsRecorder svc.now self.new.value }
+    {
+        self.reserve(1)?;
+        Ok(self.reserved_step(svc, lane, clock, dice))
+    }
+
+    /// The same turn as [`lane_step`](Recorder::lane_step), in room that was reserved: it takes no memory.
+    pub fn reserved_step(
+        &mut self,
+        svc: &Checked,
+        lane: u8,
+        clock: i64,
+        dice: &mut Lcg64Xsh32,
+    ) -> Turn
+        requires recorder { IsRecorder svc.now self.old.value }
+        requires there { lane < svc.now.lanes }
+        requires count { (lane_of self.old.value.state lane).done + 1 < 2 ^ 32 }
+        requires spare { 0 < self.old.spare }
+        ensures turn { result ≡ turn_of svc.now self.old.value.state self.old.value.queue (length self.old.value.live) lane clock (pcg32 dice.old).0 }
+        ensures turned { self.new.value ≡ turned svc.now self.old.value result }
+        ensures dice { dice.new ≡ dice_after (does_draw svc.now self.old.value.state (length self.old.value.live) lane) dice.old }
+        ensures spare { self.old.spare ≤ self.new.spare + 1 }
+        ensures kept { IsRecorder svc.now self.new.value }
     {
         if self.live.len() >= LIVE_EVENTS {
-            return Ok(Turn::Full);
+            return Turn::Full;
         }
-        self.live.reserve(1)?;
         let service = svc.declarations();
         let turn = lane_turn(&self.state, service, &self.queue, lane, clock, dice);
         follow(svc, &mut self.state, &mut self.live, &mut self.queue, &turn);
-        Ok(turn)
+        turn
     }
 
     /// Hands out the live events, once they are known, with the replies among them. The recorder goes on with none. Where
     /// memory is short nothing changes.
     pub fn settle(&mut self, svc: &Checked, alloc: Global) -> Result<Settled, AllocError>
-        requires recorder { IsRecorder svc.now self.old }
-        ensures events { IfOk result (λ x. x.events ≡ self.old.live) }
-        ensures released { IfOk result (λ x. x.released ≡ releases self.old.start.clients self.old.live) }
-        ensures ok { OnOk result (self.new ≡ settled self.old) }
-        ensures err { OnErr result (self.new ≡ self.old) }
-        ensures kept { IsRecorder svc.now self.new }
+        requires recorder { IsRecorder svc.now self.old.value }
+        ensures events { IfOk result (λ x. x.events ≡ self.old.value.live) }
+        ensures released { IfOk result (λ x. x.released ≡ releases self.old.value.start.clients self.old.value.live) }
+        ensures ok { OnOk result (self.new.value ≡ settled self.old.value) }
+        ensures err { OnErr result (self.new.value ≡ self.old.value) }
+        ensures kept { IsRecorder svc.now self.new.value }
     {
         let mut released = Vec::with_capacity(alloc, self.live.len())?;
         advance(svc, &mut self.start, &self.live, &mut released);

@@ -1,4 +1,4 @@
-ghost use Rattle.std.specs.Prelude.{◌≡◌, IfOk};
+ghost use Rattle.std.specs.Prelude.{◌≡◌, ◌<◌, ◌≤◌, ◌+◌, IfOk};
 ghost use Rattle.rex_record.specs.Kept.{IsRecorder};
 ghost use Rattle.rex_record.specs.Roller.{roll as the_roll, roller as the_roller, roll_for as the_roll_for};
 
@@ -80,7 +80,7 @@ fn roll_for(client: u16) -> Request
 /// A recorder at the start, with a request each of clients 1 and 2.
 fn two_rolls(alloc: Global, svc: &Checked) -> Result<Recorder, AllocError>
     requires { svc.now ≡ the_roller }
-    ensures { IfOk result (λ r. IsRecorder svc.now r) }
+    ensures { IfOk result (λ r. IsRecorder svc.now r.value) }
 {
     let mut recorder = Recorder::new(alloc, State::start(alloc, svc)?)?;
     recorder.queue(svc, roll_for(1))?;
@@ -104,8 +104,8 @@ fn step(
     dice: &mut Lcg64Xsh32,
     expected: &Expected,
 ) -> Result<(), AllocError>
-    requires { IsRecorder svc.now recorder.old }
-    ensures { IsRecorder svc.now recorder.new }
+    requires { IsRecorder svc.now recorder.old.value }
+    ensures { IsRecorder svc.now recorder.new.value }
 {
     let lanes = svc.declarations().lanes;
     assert!(rt; expected.lane < lanes);
@@ -126,13 +126,37 @@ fn run(
     dice: &mut Lcg64Xsh32,
     turns: &[Expected],
 ) -> Result<(), AllocError>
-    requires { IsRecorder svc.now recorder.old }
-    ensures { IsRecorder svc.now recorder.new }
+    requires { IsRecorder svc.now recorder.old.value }
+    ensures { IsRecorder svc.now recorder.new.value }
 {
     for expected in turns {
         step(rt, recorder, svc, dice, expected)?;
     }
     Ok(())
+}
+
+/// Takes a lane's turn in reserved room where the clock is 70, and looks at what came of it.
+fn reserved_step(
+    rt: &impl Abort,
+    recorder: &mut Recorder,
+    svc: &Checked,
+    dice: &mut Lcg64Xsh32,
+    expected: &Expected,
+)
+    requires recorder { IsRecorder svc.now recorder.old.value }
+    requires spare { 0 < recorder.old.spare }
+    ensures recorder { IsRecorder svc.now recorder.new.value }
+    ensures spare { recorder.old.spare ≤ recorder.new.spare + 1 }
+{
+    let lanes = svc.declarations().lanes;
+    assert!(rt; expected.lane < lanes);
+    let done = recorder.state().done(expected.lane);
+    assert!(rt; done < 100);
+    let before = dice.state();
+    let turn = recorder.reserved_step(svc, expected.lane, 70, dice);
+    assert!(rt; turn == expected.turn);
+    let draws = dice.state() != before;
+    assert_eq!(rt; draws, expected.draws);
 }
 
 /// A turn that makes an event and leaves the dice as they are.
@@ -228,5 +252,23 @@ fn settling_releases_the_replies(rt: HostRuntime) -> Result<(), Fail> {
     assert_eq!(rt; settled.released.as_slice(), [reply].as_slice());
     assert!(rt; recorder.trace().is_empty());
     assert_eq!(rt; recorder.start().done(0), 5);
+    Ok(())
+}
+
+#[test]
+fn reserved_turns_are_recorded(rt: HostRuntime) -> Result<(), Fail> {
+    let svc = checked_roller(rt.alloc())?;
+    let mut recorder = two_rolls(rt.alloc(), &svc)?;
+    let mut dice = Lcg64Xsh32::new(42, 54);
+    let acquire = done(0, 1, Kind::AcqEx { lock: 0 });
+    let roll = drawn(0, 2, FIRST_WORD);
+    recorder.reserve(3)?;
+    reserved_step(&rt, &mut recorder, &svc, &mut dice, &done(0, 0, begin(1)));
+    reserved_step(&rt, &mut recorder, &svc, &mut dice, &acquire);
+    reserved_step(&rt, &mut recorder, &svc, &mut dice, &roll);
+    assert_eq!(rt; recorder.trace().len(), 3);
+    assert_eq!(rt; recorder.queued(1), None);
+    assert_eq!(rt; recorder.queued(2), Some(1));
+    assert_eq!(rt; recorder.state().done(0), 3);
     Ok(())
 }

@@ -30,7 +30,7 @@ use Rattle.rex_state.specs.Own.{fresh, moved, started}
 use Rattle.rex_state.specs.Machine.{takes, can_go, own_can, run}
 use Rattle.rex_state.specs.Flows.{CheckedFlows, flow_of, IsFlows}
 use Rattle.rex_state.specs.Sound.{wait_lock, FrameFits, Fits}
-use Rattle.rex_state.proofs.Held.{if_true, only_next, only_other, leads_at}
+use Rattle.rex_frame.proofs.Held.{if_true, only_next, only_other, leads_at}
 
 -- ---- the line of an event
 

@@ -1,4 +1,3 @@
-pub mod Held
 pub mod Walks
 pub mod Fits
 pub mod Modes
@@ -10,5 +9,6 @@ pub mod Starts
 pub mod Run
 pub mod Sounds
 pub mod Rooms
+pub mod Live
 pub mod Counter
 mod Examples

@@ -28,8 +28,9 @@ use Rattle.rex_state.specs.Flows.{CheckedFlows, flow_of}
 use Rattle.rex_state.specs.Sound.{FrameFits, Fits}
 use Rattle.rex_state.specs.Actions.{takes_exclusive, takes_shared, gives_up}
 use Rattle.rex_state.proofs.Fits.{wait_line, lock_is, exclusive_mode, IsRight, right_at, runs_held, may_line, wait_held}
-use Rattle.rex_state.proofs.Held.{HoldsItsLine, only_if_true, if_ok}
-use Rattle.rex_state.proofs.Walks.{Stays, Walked, walked}
+use Rattle.rex_frame.specs.Guarded.{HoldsItsLine}
+use Rattle.rex_frame.proofs.Held.{only_if_true, if_ok}
+use Rattle.rex_frame.proofs.Guarded.{Stays, Walked, walked}
 
 -- ---- the lines after an event
 

@@ -53,7 +53,7 @@ condition_in (x ∷ xs) zero lock h = (omega arith, eqb-true x.lock lock h)
 condition_in (x ∷ xs) (suc c) lock h = let r = condition_in xs c lock h in (let l : c < length xs = r.0 in omega arith, r.1)
 
 module _ (service : Declarations) (good : IsService service) where
-  lock_small : (kind : LockKind) (lock : ℕ) → IsLock service kind lock → lock < 64
+  pub lock_small : (kind : LockKind) (lock : ℕ) → IsLock service kind lock → lock < 64
   lock_small kind lock h = omega (arith, good.locks, slice_get_within service.locks lock h.found h.there)
 
   condition_there : (c lock : ℕ) → is_lock_of service c lock ≡ true → (c < length service.conditions) × (lock < 64)
@@ -78,7 +78,7 @@ module _ (service : Declarations) (good : IsService service) where
       subst (λ (n : ℕ). LineNames service n (line_of service f)) (sym (locals_are f.handler fits.handler))
       (subst (λ (ls : List Line). LineNames service (get_or service.handlers f.handler no_handler).locals (get_or ls f.place EndIf)) (sym lines) ((handler_at f.handler fits.handler).names f.place EndIf place))
 
-  names_line : (f : Frame) (line : Line) → FitsIn service f → line_of service f ≡ line → LineNames service (locals_of service f.handler) line
+  pub names_line : (f : Frame) (line : Line) → FitsIn service f → line_of service f ≡ line → LineNames service (locals_of service f.handler) line
   names_line f line fits e = subst (LineNames service (locals_of service f.handler)) e (names_at f fits)
 
   next_place : (f : Frame) → FitsIn service f → HasNextPlace f

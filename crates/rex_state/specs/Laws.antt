@@ -1,5 +1,5 @@
 -- What the machine keeps.
-use Rattle.std.specs.Prelude.{◌≡◌, List, Some}
+use Rattle.std.specs.Prelude.{◌≡◌, ℕ, List, Some}
 use Rattle.rex_syntax.specs.declared.service.Declarations.{Declarations}
 use Rattle.rex_syntax.specs.Service.{IsService}
 use Rattle.rex_syntax.specs.Check.{IsChecked}
@@ -8,6 +8,7 @@ use Rattle.rex_state.specs.Value.{StateValue}
 use Rattle.rex_state.specs.Machine.{next, run}
 use Rattle.rex_state.specs.Start.{start_of}
 use Rattle.rex_state.specs.Sound.{IsSound}
+use Rattle.rex_state.specs.Live.{IsGoing, CanGoOn}
 
 -- a checked service starts in a sound state
 abbrev pub StartIsSound : Type 0
@@ -20,3 +21,13 @@ EventsKeepSound = (service : Declarations) (s t : StateValue) (e : Event) → Is
 -- events lead from a sound state to a sound one
 abbrev pub RunsKeepSound : Type 0
 RunsKeepSound = (service : Declarations) (s t : StateValue) (es : List Event) → IsService service → IsSound service s → run service s es ≡ Some t → IsSound service t
+
+-- a sound state in which a lane is busy and doesn't wait for a signal can go on
+abbrev pub SoundStatesGoOn : Type 0
+SoundStatesGoOn = (service : Declarations) (s : StateValue) (lane : ℕ) → IsService service → IsSound service s → IsGoing s lane → CanGoOn service s
+
+-- a state that a checked service reaches, and in which a lane is busy and doesn't wait for a signal, can go on
+abbrev pub ReachedStatesGoOn : Type 0
+ReachedStatesGoOn =
+    (service : Declarations) (s : StateValue) (es : List Event) (lane : ℕ) → IsService service → IsChecked service → run service (start_of service) es ≡ Some s → IsGoing s lane
+    → CanGoOn service s

@@ -7,6 +7,8 @@ pub mod Machine
 pub mod Start
 pub mod Flows
 pub mod Sound
+pub mod Live
 pub mod Laws
 pub mod Room
+pub mod Spare
 pub mod Counter

@@ -1,6 +1,6 @@
 //! What the machine keeps. Each function is the statement that its contract makes, and does nothing.
 
-ghost use Rattle.rex_state.specs.Laws.{StartIsSound, EventsKeepSound, RunsKeepSound};
+ghost use Rattle.rex_state.specs.Laws.{StartIsSound, EventsKeepSound, RunsKeepSound, SoundStatesGoOn, ReachedStatesGoOn};
 
 /// A checked service starts in a sound state.
 pub fn start_is_sound()
@@ -15,4 +15,15 @@ pub fn events_keep_sound()
 /// Events lead from a sound state to a sound one.
 pub fn runs_keep_sound()
     ensures { RunsKeepSound }
+{}
+
+/// Where a lane of a sound state is busy and doesn't wait for a signal, some lane has an event that it can make. Locks
+/// rise, and a lane that waits holds none.
+pub fn sound_states_go_on()
+    ensures { SoundStatesGoOn }
+{}
+
+/// The same in each state that a checked service reaches.
+pub fn reached_states_go_on()
+    ensures { ReachedStatesGoOn }
 {}

@@ -1,6 +1,6 @@
 //! States.
 
-ghost use Rattle.std.specs.Prelude.{◌≡◌, ◌<◌, ◌+◌, ◌^◌, Some, IsSome, IfOk, slice_get};
+ghost use Rattle.std.specs.Prelude.{◌≡◌, ◌<◌, ◌≤◌, ◌+◌, ◌^◌, Some, IsSome, IfOk, IsOk, slice_get};
 ghost use Rattle.std.specs.Option.{option_copied};
 ghost use Rattle.rex_syntax.specs.Service.{IsService};
 ghost use Rattle.rex_state.specs.Locks as locks;
@@ -8,6 +8,7 @@ ghost use Rattle.rex_state.specs.Machine as spec;
 ghost use Rattle.rex_state.specs.Start.{start_of};
 ghost use Rattle.rex_state.specs.Sound.{IsSound};
 ghost use Rattle.rex_state.specs.Room.{CanApply};
+ghost use Rattle.rex_state.specs.Spare.{spare_of};
 
 use crate::apply::{change_clients, change_queues};
 use crate::can::{client_allows, is_in, locks_allow, mask, own_can, queue_at, queues_allow};
@@ -190,5 +191,28 @@ impl State {
         ensures sound { IsSound svc.now self.new }
     {
         self.perform(svc.declarations(), event.lane, &event.kind);
+    }
+
+    /// Sees to room for `n` more events. A state has room for any number of them, since applying an event never takes
+    /// memory; so this changes nothing and doesn't fail.
+    pub fn reserve(&mut self, n: usize) -> Result<(), AllocError>
+        ensures ok { IsOk result }
+        ensures spare { n ≤ spare_of self.new }
+        ensures same { self.new ≡ self.old }
+    {
+        Ok(())
+    }
+
+    /// The same as [`apply`](State::apply), which takes no memory either.
+    pub fn reserved_apply(&mut self, svc: &Checked, event: &Event)
+        requires sound { IsSound svc.now self.old }
+        requires next { IsSome (spec.next svc.now self.old event.now) }
+        requires count { event.now.index + 1 < 2 ^ 32 }
+        requires spare { 0 < spare_of self.old }
+        ensures next { spec.next svc.now self.old event.now ≡ Some self.new }
+        ensures sound { IsSound svc.now self.new }
+        ensures spare { spare_of self.old ≤ spare_of self.new + 1 }
+    {
+        self.apply(svc, event);
     }
 }

@@ -149,3 +149,22 @@ fn a_copy_goes_its_own_way(rt: HostRuntime) -> Result<(), Fail> {
     assert_eq!(rt; copy.holder(0), None);
     Ok(())
 }
+
+#[test]
+fn a_reserved_event_is_applied(rt: HostRuntime) -> Result<(), Fail> {
+    let svc = checked_counter(rt.alloc())?;
+    let mut state = State::start(rt.alloc(), &svc)?;
+    state.reserve(1)?;
+    let event = Event {
+        lane: 0,
+        index: 0,
+        kind: begin(5),
+    };
+    assert!(rt; state.done(0) == 0);
+    assert!(rt; state.enabled(&svc, &event));
+    state.reserved_apply(&svc, &event);
+    assert_eq!(rt; state.done(0), 1);
+    assert_eq!(rt; state.entry(1).sequence, 1);
+    assert_eq!(rt; state.variables(), [0].as_slice());
+    Ok(())
+}

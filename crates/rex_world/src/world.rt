@@ -40,8 +40,8 @@ impl Model for World {
     ghost Value = { Running };
 
     ghost view = { λ w. record {
-      world = record { done = w.done; ballot = w.ballot; promised = w.promised; known = w.known.items; live = w.recorder.live; queue = w.recorder.queue; dice = w.dice };
-      recorder = w.recorder;
+      world = record { done = w.done; ballot = w.ballot; promised = w.promised; known = w.known.items; live = w.recorder.value.live; queue = w.recorder.value.queue; dice = w.dice };
+      recorder = w.recorder.value;
     } };
 }
 

@@ -1,7 +1,5 @@
-use Rattle.std.proofs.Common.{◌≡◌}
-use Rattle.arrayvec.specs.ArrayVec.{array_vec_len}
-use Rattle.rex_frame.specs.Weights.{IsInside, steps_left}
-use Rattle.rex_frame.specs.Segment.{segment, LinesFit, IsWalkedFrom}
+use Rattle.rex_frame.specs.Weights.{steps_left}
+use Rattle.rex_frame.specs.Segment.{IsWalkedFrom}
 use Rattle.rex_frame.proofs.frame.Frame.run_segment.Given as goal
 
 abbrev pub invariant-loop-self : goal.invariant-loop-self
