@@ -1,6 +1,7 @@
 //! The service language: its grammar, and a reader that answers the first bad line with the least code that fits.
 #![tactic(auto)]
 
+mod blocks;
 mod codes;
 mod copying;
 mod exprs;
@@ -14,6 +15,7 @@ mod reading;
 mod taking;
 mod words;
 
+pub use blocks::{BlockKind, Blocks, OpenBlock};
 pub use language::{Above, Entry, Fault, Form, Meaning, OpenHandler, ReadError, ServiceCode};
 pub use parser::Parser;
 pub use reading::{first_bad_line, read_service};

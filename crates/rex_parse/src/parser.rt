@@ -54,6 +54,7 @@ impl Above {
             Some(Form::Set) => self.set_line(alloc, number, rest),
             Some(Form::Let) => self.let_line(alloc, number, rest),
             Some(Form::Reply) => self.reply_line(alloc, number, rest),
+            Some(_) => Err(Fault::Refused(ServiceCode::Misplaced)),
         }
     }
 

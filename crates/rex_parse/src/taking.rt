@@ -3,8 +3,10 @@
 ghost use Rattle.std.specs.Prelude.{◌≡◌, ◌≤◌, ◌<◌, ◌∷◌, [], length, OnOk, None};
 ghost use Rattle.rex_parse.specs.Table as table;
 ghost use Rattle.rex_parse.specs.After as after;
+ghost use Rattle.rex_syntax.specs.declared.service.LockKind.TheVariants as service;
 ghost use Rattle.rex_parse.specs.Answers.{texts};
 
+use crate::blocks::Blocks;
 use crate::copying::{own_word, own_words};
 use crate::language::{Above, Entry, Meaning, OpenHandler};
 use rex_list::List;
@@ -43,7 +45,7 @@ impl Above {
 
     pub(crate) fn add_lock(&mut self, alloc: Global, name: &[u8]) -> Result<(), AllocError>
         requires { length self.old.locks < 64 }
-        ensures taken { OnOk result (self.new ≡ after.with_lock self.old name.now) }
+        ensures taken { OnOk result (self.new ≡ after.with_lock self.old service.Plain name.now) }
         ensures locals { self.new.locals ≡ self.old.locals }
     {
         let meaning = Meaning::Lock(self.locks.len() as u8);
@@ -101,6 +103,7 @@ impl Above {
             parameters: parameters.len() as u8,
             lines: List::new(alloc),
             line_numbers: List::new(alloc),
+            blocks: Blocks::new(alloc),
         });
         Ok(())
     }
