@@ -357,7 +357,14 @@ form_code a f ws =
     else if is_misshapen (slots f) ws then Some BadForm
     else least (slots_code a (slots f) ws) (least (limit_code a f ws) (order_code a f))
 
--- the same where no form may have been found
+-- the least code that fits a line of a form without words, which has no limit but that on a handler's lines
+abbrev pub wordless_code : Above → Form → List Word → Option ServiceCode
+wordless_code a f ws =
+    if not (is_placed a f) then Some Misplaced
+    else if is_misshapen [] ws then Some BadForm
+    else least (full_code a) (order_code a form.Busy)
+
+-- the least code that fits a line where no form may have been found
 abbrev pub found_code : Above → Option Form → List Word → Option ServiceCode
 found_code a None ws = Some Misplaced
 found_code a (Some f) ws = form_code a f ws

@@ -1,6 +1,8 @@
 //! The open blocks of a handler's lines.
 
-ghost use Rattle.std.specs.Prelude.{◌≡◌, ◌∷◌, [], drop, length, OnOk};
+ghost use Rattle.std.specs.Prelude.{◌≡◌, ◌∷◌, [], OnOk, MatchOption, count_by};
+ghost use Rattle.rex_parse.specs.Above.{first_kind};
+ghost use Rattle.rex_parse.specs.Table.{is_loop, is_loop_kind};
 
 use std::alloc::{AllocError, Global};
 use std::marker::Model;
@@ -56,5 +58,41 @@ impl Blocks {
     {
         self.blocks.push(block)?;
         Ok(())
+    }
+
+    /// The innermost block ends.
+    pub fn end(&mut self) -> Option<OpenBlock>
+        ensures { MatchOption result ((self.old ≡ []) × (self.new ≡ [])) (λ b. self.old ≡ b ∷ self.new) }
+    {
+        self.blocks.pop()
+    }
+
+    /// What the innermost block is.
+    pub fn innermost(&self) -> Option<BlockKind>
+        ensures { result ≡ first_kind self.now }
+    {
+        match self.blocks.last() {
+            None => None,
+            Some(block) => Some(block.kind),
+        }
+    }
+
+    /// How many of the blocks are loops.
+    pub fn loops(&self) -> usize
+        ensures { result ≡ count_by is_loop self.now }
+    {
+        self.blocks
+            .iter()
+            .rev()
+            .filter(|block| block.kind.is_loop())
+            .count()
+    }
+}
+
+impl BlockKind {
+    fn is_loop(self) -> bool
+        ensures { result ≡ is_loop_kind self }
+    {
+        matches!(self, BlockKind::Loop)
     }
 }

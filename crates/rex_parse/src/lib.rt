@@ -1,6 +1,8 @@
 //! The service language: its grammar, and a reader that answers the first bad line with the least code that fits.
 #![tactic(auto)]
 
+mod block_forms;
+mod block_lines;
 mod blocks;
 mod codes;
 mod copying;
@@ -8,11 +10,14 @@ mod exprs;
 mod forms;
 mod language;
 mod least;
+mod line_forms;
 mod lines;
 mod names;
 mod parser;
+mod placing;
 mod reading;
 mod taking;
+mod targets;
 mod words;
 
 pub use blocks::{BlockKind, Blocks, OpenBlock};
