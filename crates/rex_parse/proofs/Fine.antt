@@ -5,8 +5,7 @@ use Rattle.std.specs.Borrow.{Bor}
 use Rattle.rex_text.specs.Text.{Word}
 use Rattle.rex_parse.specs.Answers.{texts}
 use Rattle.rex_parse.specs.Words.{least, fits}
-use Rattle.rex_parse.specs.Above.{is_open}
-use Rattle.rex_parse.specs.Table.{slots, slots_code, is_misshapen, is_inside, same, limit_code, order_code, form_code, full_code, locals_code}
+use Rattle.rex_parse.specs.Table.{slots, slots_code, is_misshapen, is_placed, limit_code, order_code, form_code, full_code, locals_code}
 use Rattle.rex_parse.specs.declared.language.Above.{Above}
 use Rattle.rex_parse.specs.declared.language.ServiceCode.{ServiceCode}
 use Rattle.rex_parse.specs.declared.language.ServiceCode.TheVariants.{Misplaced, BadForm}
@@ -24,7 +23,7 @@ fits_not false c e = refl
 
 -- a line of a form that no code fits
 pub record IsFine (a : Above) (f : Form) (ws : List Word) : Type 0 where
-  pub placed : same (is_inside f) (is_open a) ≡ true
+  pub placed : is_placed a f ≡ true
   pub shaped : is_misshapen (slots f) ws ≡ false
   pub places : slots_code a (slots f) ws ≡ None
   pub limits : limit_code a f ws ≡ None
@@ -41,7 +40,7 @@ by_tests true false x y z e =
 
 pub fine_line : (a : Above) (f : Form) (ws : List Word) → form_code a f ws ≡ None → IsFine a f ws
 fine_line a f ws e =
-    let t = by_tests (same (is_inside f) (is_open a)) (is_misshapen (slots f) ws) (slots_code a (slots f) ws) (limit_code a f ws) (order_code a f) e in
+    let t = by_tests (is_placed a f) (is_misshapen (slots f) ws) (slots_code a (slots f) ws) (limit_code a f ws) (order_code a f) e in
     record { placed = t.0; shaped = t.1; places = t.2; limits = t.3; order = t.4 }
 
 -- ---- room
