@@ -27,4 +27,6 @@ pub use reading::{first_bad_line, read_service};
 pub use words::is_name;
 
 #[cfg(test)]
+mod code_tests;
+#[cfg(test)]
 mod tests;
