@@ -7,7 +7,11 @@ pub mod Dispatch
 pub mod FirstBad
 pub mod Numbering
 pub mod Extends
-pub mod Straight
+pub mod GoesOn
+pub mod Grows
+pub mod LineRoles
+pub mod Nesting
+pub mod Whole
 pub mod Named
 pub mod Keeps
 pub mod KeepsLines
