@@ -1,23 +1,28 @@
 -- Each good line keeps what good lines keep.
 use Rattle.std.proofs.Common.{◌≡◌, ℕ, ℤ, ◌+◌, ◌<◌, ◌≤◌, Bool, true, false, cond, not, ◌&&◌, ◌||◌, leb, List, [], ◌∷◌, length, Option, Some, None, refl, sym, subst, arith, length-append}
-use Rattle.std.specs.Prelude.{option_and_then, is_some, IfSome, MatchOption}
+use Rattle.std.specs.Prelude.{slice_get, option_and_then, is_some, IfSome, MatchOption}
 use Rattle.std.proofs.lemmas.Bool.{leb-false, leb-true, ltb-false}
 use Rattle.std.proofs.lemmas.List.Elements.{All-nil, All-push, All-weaker}
 use Rattle.rex_text.specs.Text.{Word}
 use Rattle.rex_text.specs.Numbers.{u64_at}
+use Rattle.rex_syntax.specs.declared.line.Line.{Line}
+use Rattle.rex_syntax.specs.declared.service.LockKind.{LockKind}
 use Rattle.rex_syntax.specs.declared.service.LockKind.TheVariants.{Plain}
 use Rattle.rex_syntax.specs.declared.service.Condition.{Condition}
 use Rattle.rex_syntax.specs.declared.service.Variable.{Variable}
 use Rattle.rex_syntax.specs.Service.{IsLock, LineNames, IsHandler}
-use Rattle.rex_parse.specs.Above.{nothing}
+use Rattle.rex_parse.specs.Words.{fits}
+use Rattle.rex_parse.specs.Above.{nothing, is_open}
 use Rattle.rex_parse.specs.Table.{count_of, in_range, order_code, is_lanes, same}
-use Rattle.rex_parse.specs.After.{service_of, with_lock, with_variable, with_heading}
-use Rattle.rex_parse.specs.Good.{MeaningFits, IsOpen, IsGood, is_plain}
+use Rattle.rex_parse.specs.After.{service_of, with_lock, with_condition, with_variable, with_heading}
+use Rattle.rex_parse.specs.Growing.{IsGrowing}
+use Rattle.rex_parse.specs.Good.{MeaningFits, IsOpen, IsGood}
 use Rattle.rex_parse.specs.declared.language.Above.{Above}
 use Rattle.rex_parse.specs.declared.language.OpenHandler.{OpenHandler}
 use Rattle.rex_parse.specs.declared.language.Entry.{Entry}
 use Rattle.rex_parse.specs.declared.language.Meaning.{Meaning}
 use Rattle.rex_parse.specs.declared.language.Meaning.TheVariants as meaning
+use Rattle.rex_parse.specs.declared.language.ServiceCode.TheVariants.{TooMany}
 use Rattle.rex_parse.specs.declared.language.Form.{Form}
 use Rattle.rex_parse.specs.declared.language.Form.TheVariants as form
 use Rattle.rex_parse.proofs.Fine.{IsFine, fits_not, least_both}
@@ -37,7 +42,7 @@ pub still : (o : Option ℕ) (P Q : Type 0) (R : ℕ → Type 0) → is_some o �
 still None P Q R e h = absurd cc
 still (Some n) P Q R e h = h
 
-closed_by : (b : Bool) → same false b ≡ true → b ≡ false
+pub closed_by : (b : Bool) → same false b ≡ true → b ≡ false
 closed_by true e = absurd cc
 closed_by false e = refl
 
@@ -63,24 +68,24 @@ Guarded a v = v.guard < length a.locks
 abbrev OfPlain : Above → Condition → Type 0
 OfPlain a c = IsLock (service_of a) Plain c.lock
 
--- ---- `lock`
+-- ---- `lock` and `rwlock`
 
-lock_extends : (a : Above) (w : Word) → Extends (service_of a) (service_of (with_lock a w))
-lock_extends a w = record {
+lock_extends : (a : Above) (kind : LockKind) (w : Word) → Extends (service_of a) (service_of (with_lock a kind w))
+lock_extends a kind w = record {
   locks = λ n l e. slice_get-push a.locks _ n l e;
-  more_locks = omega (arith, length-append a.locks ((record { name = w; kind = Plain }) ∷ []));
+  more_locks = omega (arith, length-append a.locks ((record { name = w; kind = kind }) ∷ []));
   more_conditions = omega arith;
   more_variables = omega arith;
 }
 
-pub good_lock : (a : Above) (number : ℕ) (w : Word) (ws : List Word) → IsFine a form.Lock (w ∷ ws) → IsGood a → IsGood (with_lock a w)
-good_lock a number w ws fine good =
-    let b : Above = with_lock a w in
-    let x : Extends (service_of a) (service_of b) = lock_extends a w in
-    let room : length a.locks < 64 = leb-false 64 (length a.locks) (fits_not _ _ fine.limits) in
-    let more : length b.locks ≡ length a.locks + 1 = length-append a.locks ((record { name = w; kind = Plain }) ∷ []) in
+pub good_lock : (a : Above) (kind : LockKind) (w : Word) → is_open a ≡ false → fits (leb 64 (length a.locks)) TooMany ≡ None → is_some a.lanes ≡ true → IsGood a → IsGood (with_lock a kind w)
+good_lock a kind w outside limits begun good =
+    let b : Above = with_lock a kind w in
+    let x : Extends (service_of a) (service_of b) = lock_extends a kind w in
+    let room : length a.locks < 64 = leb-false 64 (length a.locks) (fits_not _ _ limits) in
+    let more : length b.locks ≡ length a.locks + 1 = length-append a.locks ((record { name = w; kind = kind }) ∷ []) in
     record {
-      begun = still a.lanes (a ≡ nothing) (b ≡ nothing) _ (began a form.Lock refl fine.order) good.begun;
+      begun = still a.lanes (a ≡ nothing) (b ≡ nothing) _ begun good.begun;
       locks = omega (arith, room, more);
       few_conditions = good.few_conditions;
       few_variables = good.few_variables;
@@ -90,7 +95,7 @@ good_lock a number w ws fine good =
       conditions = All-weaker (OfPlain a) (OfPlain b) (λ c q. IsLock-more _ _ x Plain c.lock q) a.conditions good.conditions;
       variables = All-weaker (Guarded a) (Guarded b) (λ v q. omega (arith, q, more)) a.variables good.variables;
       handlers = All-weaker (IsHandler (service_of a)) (IsHandler (service_of b)) (λ h q. handler_more _ _ x h q) a.handlers good.handlers;
-      opened = no_open a.open_handler _ (closed_by _ fine.placed);
+      opened = no_open a.open_handler _ outside;
     }
 
 -- ---- `lanes`
@@ -175,17 +180,59 @@ good_var a w guard first ws fine there good =
       opened = no_open a.open_handler _ (closed_by _ fine.placed);
     }
 
+-- ---- `cond`
+
+condition_extends : (a : Above) (w : Word) (lock : ℕ) → Extends (service_of a) (service_of (with_condition a w lock))
+condition_extends a w lock = record {
+  locks = λ n l e. e;
+  more_locks = omega arith;
+  more_conditions = omega (arith, length-append a.conditions ((record { name = w; lock = lock }) ∷ []));
+  more_variables = omega arith;
+}
+
+pub good_cond : (a : Above) (w : Word) (lock : ℕ) (ws : List Word) → IsFine a form.Cond ws → IsLock (service_of a) Plain lock → IsGood a → IsGood (with_condition a w lock)
+good_cond a w lock ws fine there good =
+    let b : Above = with_condition a w lock in
+    let x : Extends (service_of a) (service_of b) = condition_extends a w lock in
+    let room : length a.conditions < 64 = leb-false 64 (length a.conditions) (fits_not _ _ fine.limits) in
+    let more : length b.conditions ≡ length a.conditions + 1 = length-append a.conditions ((record { name = w; lock = lock }) ∷ []) in
+    record {
+      begun = still a.lanes (a ≡ nothing) (b ≡ nothing) _ (began a form.Cond refl fine.order) good.begun;
+      locks = good.locks;
+      few_conditions = omega (arith, room, more);
+      few_variables = good.few_variables;
+      few_handlers = good.few_handlers;
+      locals = good.locals;
+      names = All-push (Fit b) a.names _ (All-weaker (Fit a) (Fit b) (λ e q. names_more a b x.more_locks x.more_conditions x.more_variables (omega arith) e.meaning q) a.names good.names) (omega (arith, more));
+      conditions = All-push (OfPlain b) a.conditions _ (All-weaker (OfPlain a) (OfPlain b) (λ c q. IsLock-more _ _ x Plain c.lock q) a.conditions good.conditions) (IsLock-more _ _ x Plain lock there);
+      variables = good.variables;
+      handlers = All-weaker (IsHandler (service_of a)) (IsHandler (service_of b)) (λ h q. handler_more _ _ x h q) a.handlers good.handlers;
+      opened = no_open a.open_handler _ (closed_by _ fine.placed);
+    }
+
 -- ---- `handler`
 
+no_lines : IsGrowing [] []
+no_lines = record {
+  matched = refl;
+  loops = refl;
+  few = omega arith;
+  begun = tt;
+  lead = λ next place line there other. absurd (stop place line there);
+  branches = record { each = λ place line there divides. absurd (stop place line there) };
+} where
+  stop : (place : ℕ) (line : Line) → slice_get [] place ≡ Some line → ⊥
+  stop place line there = cc
+
 heading_opens : (a : Above) (number : ℕ) (w : Word) (ws : List Word) → length ws ≤ 4 → length a.handlers < 64
-    → IsOpen (service_of a) (length ws) (record { name = w; line_number = number; parameters = length ws; lines = []; line_numbers = [] })
+    → IsOpen (service_of a) (length ws) (record { name = w; line_number = number; parameters = length ws; lines = []; line_numbers = []; blocks = [] })
 heading_opens a number w ws few room = record {
   room = room;
   parameters = few;
   fewer = omega arith;
   short = omega arith;
   numbered = refl;
-  plain = All-nil (λ l. is_plain l ≡ true);
+  growing = no_lines;
   names = All-nil (LineNames (service_of a) (length ws));
 }
 

@@ -2,11 +2,16 @@ pub mod Weighing
 pub mod Terms
 pub mod Fine
 pub mod Shapes
+pub mod PlainLines
 pub mod Dispatch
 pub mod FirstBad
 pub mod Numbering
 pub mod Extends
-pub mod Straight
+pub mod GoesOn
+pub mod Grows
+pub mod LineRoles
+pub mod Nesting
+pub mod Whole
 pub mod Named
 pub mod Keeps
 pub mod KeepsLines

@@ -1,6 +1,7 @@
 -- What a word names is there, where no code fits it.
 use Rattle.std.proofs.Common.{◌≡◌, ℕ, ℤ, ◌<◌, Bool, true, false, cond, not, ◌||◌, List, [], ◌∷◌, ◌++◌, length, Option, Some, None, refl, arith}
-use Rattle.std.specs.Prelude.{find, option_map}
+use Rattle.std.specs.Prelude.{find, option_map, slice_get}
+use Rattle.std.proofs.lemmas.Bool.{not-false}
 use Rattle.std.specs.List.{All, list_any, position_or_len}
 use Rattle.std.specs.Str.{bytes_eq}
 use Rattle.std.proofs.lemmas.List.Elements.{All-nil, All-cons, All-head, All-tail}
@@ -9,11 +10,15 @@ use Rattle.std.proofs.lemmas.Slice.Eq.{bytes_eq-Decides}
 use Rattle.rex_text.specs.Text.{Word}
 use Rattle.rex_syntax.specs.declared.expr.Operand.TheVariants.{Number, Local, Variable}
 use Rattle.rex_syntax.specs.declared.expr.Term.{Term}
+use Rattle.rex_syntax.specs.declared.service.Lock.{Lock}
+use Rattle.rex_syntax.specs.declared.service.LockKind.{LockKind}
+use Rattle.rex_syntax.specs.declared.service.LockKind.TheVariants.{Plain, ReadersWriter}
+use Rattle.rex_syntax.specs.Service.{IsLock}
 use Rattle.rex_syntax.specs.Expr.{OperandFits, ExprFits}
 use Rattle.rex_parse.specs.Words.{is_name, least}
 use Rattle.rex_parse.specs.Above.{meaning_in, meaning_of, is_local, local_place}
-use Rattle.rex_parse.specs.Table.{lock_kind_code, lock_code, variable_kind_code, variable_code, begins_number, number_code, operand_code, operator_code, expr_code, whole_expr_code}
-use Rattle.rex_parse.specs.After.{lock_number, variable_number, operand_of, terms_of, expr_of, with_local}
+use Rattle.rex_parse.specs.Table.{lock_kind_code, lock_code, is_same_kind, is_of_kind, lock_of_kind_code, lock_of_code, condition_kind_code, condition_code, variable_kind_code, variable_code, begins_number, number_code, operand_code, operator_code, expr_code, whole_expr_code}
+use Rattle.rex_parse.specs.After.{service_of, lock_number, condition_number, variable_number, operand_of, terms_of, expr_of, with_local}
 use Rattle.rex_parse.specs.Good.{MeaningFits, IsGood}
 use Rattle.rex_parse.specs.declared.language.Above.{Above}
 use Rattle.rex_parse.specs.declared.language.Entry.{Entry}
@@ -21,7 +26,7 @@ use Rattle.rex_parse.specs.declared.language.Meaning.{Meaning}
 use Rattle.rex_parse.specs.declared.language.Meaning.TheVariants as meaning
 use Rattle.rex_parse.specs.declared.language.ServiceCode.{ServiceCode}
 use Rattle.rex_parse.specs.declared.language.ServiceCode.TheVariants.{WrongKind, NoName, BadExpression}
-use Rattle.rex_parse.proofs.Fine.{least_both}
+use Rattle.rex_parse.proofs.Fine.{fits_not, least_both}
 
 -- ---- declared names
 
@@ -53,6 +58,30 @@ variable_at a (Some (meaning.Condition n)) fits e = absurd cc
 variable_at a (Some (meaning.Lock n)) fits e = absurd cc
 variable_at a (Some (meaning.Handler n)) fits e = absurd cc
 
+condition_at : (a : Above) (o : Option Meaning) → ((m : Meaning) → o ≡ Some m → MeaningFits a m) → condition_kind_code o ≡ None → condition_number o < length a.conditions
+condition_at a None fits e = absurd cc
+condition_at a (Some (meaning.Condition n)) fits e = fits (meaning.Condition n) refl
+condition_at a (Some (meaning.Lock n)) fits e = absurd cc
+condition_at a (Some (meaning.Variable n)) fits e = absurd cc
+condition_at a (Some (meaning.Handler n)) fits e = absurd cc
+
+same_kind : (k l : LockKind) → is_same_kind k l ≡ true → l ≡ k
+same_kind Plain Plain e = refl
+same_kind Plain ReadersWriter e = absurd cc
+same_kind ReadersWriter Plain e = absurd cc
+same_kind ReadersWriter ReadersWriter e = refl
+
+of_kind : (a : Above) (kind : LockKind) (n : ℕ) (o : Option Lock) → slice_get a.locks n ≡ o → is_of_kind kind o ≡ true → IsLock (service_of a) kind n
+of_kind a kind n None at e = absurd cc
+of_kind a kind n (Some l) at e = record { found = l; there = at; kind_is = same_kind kind l.kind e }
+
+lock_of_at : (a : Above) (kind : LockKind) (o : Option Meaning) → lock_of_kind_code a kind o ≡ None → IsLock (service_of a) kind (lock_number o)
+lock_of_at a kind None e = absurd cc
+lock_of_at a kind (Some (meaning.Lock n)) e = of_kind a kind n (slice_get a.locks n) refl (not-false (is_of_kind kind (slice_get a.locks n)) (fits_not _ _ e))
+lock_of_at a kind (Some (meaning.Condition n)) e = absurd cc
+lock_of_at a kind (Some (meaning.Variable n)) e = absurd cc
+lock_of_at a kind (Some (meaning.Handler n)) e = absurd cc
+
 by_kind : (named local : Bool) (kind : Option ServiceCode) → cond named (cond local (Some WrongKind) kind) (Some NoName) ≡ None → kind ≡ None
 by_kind true true kind e = absurd cc
 by_kind true false kind e = e
@@ -68,6 +97,14 @@ variable_fits a w good e = variable_at a (meaning_of a w) (λ m is. meaning_fits
 pub variable_there : (a : Above) (w : Word) → IsGood a → variable_code a w ≡ None → variable_number (meaning_of a w) < length a.variables
 unfolding variable_code
 variable_there a w good e = variable_fits a w good (by_kind (is_name w) (is_local a w) (variable_kind_code (meaning_of a w)) e)
+
+pub condition_there : (a : Above) (w : Word) → IsGood a → condition_code a w ≡ None → condition_number (meaning_of a w) < length a.conditions
+unfolding condition_code
+condition_there a w good e = condition_at a (meaning_of a w) (λ m is. meaning_fits a w m good is) (by_kind (is_name w) (is_local a w) (condition_kind_code (meaning_of a w)) e)
+
+pub lock_of_there : (a : Above) (kind : LockKind) (w : Word) → lock_of_code a kind w ≡ None → IsLock (service_of a) kind (lock_number (meaning_of a w))
+unfolding lock_of_code
+lock_of_there a kind w e = lock_of_at a kind (meaning_of a w) (by_kind (is_name w) (is_local a w) (lock_of_kind_code a kind (meaning_of a w)) e)
 
 -- ---- locals
 

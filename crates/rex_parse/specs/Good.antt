@@ -1,8 +1,6 @@
 -- What good lines keep, so that a text that ends well declares a service.
-use Rattle.std.specs.Prelude.{◌≡◌, ℕ, ◌<◌, ◌≤◌, Bool, true, false, length, IfSome, MatchOption}
+use Rattle.std.specs.Prelude.{◌≡◌, ℕ, ◌<◌, ◌≤◌, length, IfSome, MatchOption}
 use Rattle.std.specs.List.{All}
-use Rattle.rex_syntax.specs.declared.line.Line.{Line}
-use Rattle.rex_syntax.specs.declared.line.Line.TheVariants.{Try, Busy, EndTry, If, Else, EndIf, Repeat, EndRepeat, Reply}
 use Rattle.rex_syntax.specs.declared.service.LockKind.TheVariants.{Plain}
 use Rattle.rex_syntax.specs.declared.service.Condition.{Condition}
 use Rattle.rex_syntax.specs.declared.service.Variable.{Variable}
@@ -10,24 +8,12 @@ use Rattle.rex_syntax.specs.declared.service.Declarations.{Declarations}
 use Rattle.rex_syntax.specs.Service.{IsLock, LineNames, IsHandler}
 use Rattle.rex_parse.specs.Above.{nothing}
 use Rattle.rex_parse.specs.After.{service_of}
+use Rattle.rex_parse.specs.Growing.{IsGrowing}
 use Rattle.rex_parse.specs.declared.language.Above.{Above}
 use Rattle.rex_parse.specs.declared.language.Entry.{Entry}
 use Rattle.rex_parse.specs.declared.language.OpenHandler.{OpenHandler}
 use Rattle.rex_parse.specs.declared.language.Meaning.{Meaning}
 use Rattle.rex_parse.specs.declared.language.Meaning.TheVariants as meaning
-
--- a line that leads to the next one alone, and opens and closes nothing
-abbrev pub is_plain : Line → Bool
-is_plain (Try lock busy) = false
-is_plain (Busy end) = false
-is_plain EndTry = false
-is_plain (If test otherwise) = false
-is_plain (Else end) = false
-is_plain EndIf = false
-is_plain (Repeat turns after) = false
-is_plain EndRepeat = false
-is_plain (Reply value) = false
-is_plain _ = true
 
 -- what a name stands for is there, where a handler's name may be that of the open one
 abbrev pub MeaningFits : Above → Meaning → Type 0
@@ -36,14 +22,14 @@ MeaningFits a (meaning.Condition n) = n < length a.conditions
 MeaningFits a (meaning.Variable n) = n < length a.variables
 MeaningFits a (meaning.Handler n) = n ≤ length a.handlers
 
--- an open handler with so many locals: there is room for it, its lines are few and plain, and what they name is there
+-- an open handler with so many locals: there is room for it, its lines are few and lead on save where blocks are open, and what they name is there
 pub record IsOpen (service : Declarations) (locals : ℕ) (h : OpenHandler) : Type 0 where
   pub room : length service.handlers < 64
   pub parameters : h.parameters ≤ 4
   pub fewer : h.parameters ≤ locals
   pub short : length h.lines ≤ 256
   pub numbered : length h.line_numbers ≡ length h.lines
-  pub plain : All (λ l. is_plain l ≡ true) h.lines
+  pub growing : IsGrowing h.lines h.blocks
   pub names : All (LineNames service locals) h.lines
 
 -- nothing is declared, or `lanes` came first; counts are within their limits, names stand for what is there, and each handler is one

@@ -3,6 +3,7 @@ pub mod Above
 pub mod Table
 pub mod After
 pub mod Reading
+pub mod Growing
 pub mod Good
 pub mod Answers
 pub mod Law

@@ -1,17 +1,23 @@
 -- The table of lines: which words a line has, and which codes fit.
-use Rattle.std.specs.Prelude.{◌==◌, ◌&&◌, ◌||◌, ℕ, Bool, true, false, not, List, [], ◌∷◌, ◌++◌, length, nat_lt, nat_le, Option, Some, None, is_some, codes, find, if◌then◌else◌, option_map, option_and_then}
+use Rattle.std.specs.Prelude.{◌==◌, ◌&&◌, ◌||◌, ℕ, Bool, true, false, not, List, [], ◌∷◌, ◌++◌, length, nat_lt, nat_le, Option, Some, None, is_some, codes, find, if◌then◌else◌, option_map, option_and_then, slice_get, count_by}
 use Rattle.std.specs.Str.{bytes_eq}
 use Rattle.std.specs.List.{list_any}
 use Rattle.rex_text.specs.Text.{Word}
 use Rattle.rex_text.specs.Numbers.{u64_at, i64_at}
 use Rattle.rex_syntax.specs.declared.expr.Operator.{Operator}
 use Rattle.rex_syntax.specs.declared.expr.Operator.TheVariants.{Add, Sub, Mul, Div, Rem, Equal, NotEqual, Less, LessEqual, Greater, GreaterEqual}
+use Rattle.rex_syntax.specs.declared.service.Lock.{Lock}
+use Rattle.rex_syntax.specs.declared.service.LockKind.{LockKind}
+use Rattle.rex_syntax.specs.declared.service.LockKind.TheVariants.{Plain, ReadersWriter}
 use Rattle.rex_parse.specs.Words.{is_name, is_digit, least, fits}
-use Rattle.rex_parse.specs.Above.{meaning_of, is_declared, is_local, is_open}
+use Rattle.rex_parse.specs.Above.{meaning_of, is_declared, is_local, is_open, blocks_of, innermost}
 use Rattle.rex_parse.specs.declared.language.Above.{Above}
 use Rattle.rex_parse.specs.declared.language.OpenHandler.{OpenHandler}
+use Rattle.rex_parse.specs.declared.blocks.BlockKind.{BlockKind}
+use Rattle.rex_parse.specs.declared.blocks.BlockKind.TheVariants as block
+use Rattle.rex_parse.specs.declared.blocks.OpenBlock.{OpenBlock}
 use Rattle.rex_parse.specs.declared.language.ServiceCode.{ServiceCode}
-use Rattle.rex_parse.specs.declared.language.ServiceCode.TheVariants.{Misplaced, BadForm, NoName, NoNumber, BadExpression, Undeclared, WrongKind, Taken, TooMany, LanesFirst}
+use Rattle.rex_parse.specs.declared.language.ServiceCode.TheVariants.{Misplaced, BadForm, NoName, NoNumber, BadExpression, Undeclared, WrongKind, Taken, TooDeep, TooMany, LanesFirst, ReplyInBlock}
 use Rattle.rex_parse.specs.declared.language.Form.{Form}
 use Rattle.rex_parse.specs.declared.language.Form.TheVariants as form
 use Rattle.rex_parse.specs.declared.language.Meaning.{Meaning}
@@ -20,8 +26,13 @@ use Rattle.rex_parse.specs.declared.language.Meaning.TheVariants as meaning
 -- the first words of lines
 abbrev pub forms : List (Word × Form)
 forms =
-    (codes "lanes", form.Lanes) ∷ (codes "lock", form.Lock) ∷ (codes "var", form.Var) ∷ (codes "handler", form.Handler)
-    ∷ (codes "acquire", form.Acquire) ∷ (codes "release", form.Release) ∷ (codes "set", form.Set) ∷ (codes "let", form.Let) ∷ (codes "reply", form.Reply) ∷ []
+    (codes "lanes", form.Lanes) ∷ (codes "lock", form.Lock) ∷ (codes "rwlock", form.RwLock) ∷ (codes "cond", form.Cond) ∷ (codes "var", form.Var) ∷ (codes "handler", form.Handler)
+    ∷ (codes "acquire", form.Acquire) ∷ (codes "share", form.Share) ∷ (codes "release", form.Release)
+    ∷ (codes "try", form.Try) ∷ (codes "busy", form.Busy) ∷ (codes "endtry", form.EndTry)
+    ∷ (codes "wait", form.Wait) ∷ (codes "signal", form.Signal) ∷ (codes "broadcast", form.Broadcast)
+    ∷ (codes "set", form.Set) ∷ (codes "let", form.Let) ∷ (codes "clock", form.Clock) ∷ (codes "random", form.Random)
+    ∷ (codes "if", form.If) ∷ (codes "else", form.Else) ∷ (codes "endif", form.EndIf)
+    ∷ (codes "repeat", form.Repeat) ∷ (codes "endrepeat", form.EndRepeat) ∷ (codes "reply", form.Reply) ∷ []
 
 -- the form of a line with this first word
 abbrev pub form_of : Word → Option Form
@@ -31,9 +42,26 @@ form_of w = option_map (λ f. f.1) (find (λ f. bytes_eq w f.0) forms)
 abbrev pub is_inside : Form → Bool
 is_inside form.Lanes = false
 is_inside form.Lock = false
+is_inside form.RwLock = false
+is_inside form.Cond = false
 is_inside form.Var = false
 is_inside form.Handler = false
 is_inside _ = true
+
+-- a line of this form may stand where this block is the innermost open one: each word that divides or closes a block does so to its own kind
+abbrev pub suits : Form → Option BlockKind → Bool
+suits form.Else (Some block.Then) = true
+suits form.Else _ = false
+suits form.EndIf (Some block.Then) = true
+suits form.EndIf (Some block.Otherwise) = true
+suits form.EndIf _ = false
+suits form.Busy (Some block.Got) = true
+suits form.Busy _ = false
+suits form.EndTry (Some block.Missed) = true
+suits form.EndTry _ = false
+suits form.EndRepeat (Some block.Loop) = true
+suits form.EndRepeat _ = false
+suits _ innermost_one = true
 
 -- what may stand in a place of a line
 pub data Slot : Type 0 where
@@ -49,6 +77,10 @@ pub data Slot : Type 0 where
   Heading : Slot
   -- a lock of either kind
   LockName : Slot
+  -- a lock of this kind
+  LockOf : LockKind → Slot
+  -- a condition
+  ConditionName : Slot
   -- a variable
   VariableName : Slot
   -- a local, made if new
@@ -60,12 +92,28 @@ pub data Slot : Type 0 where
 abbrev pub slots : Form → List Slot
 slots form.Lanes = Count 1 16 ∷ []
 slots form.Lock = New ∷ []
+slots form.RwLock = New ∷ []
+slots form.Cond = New ∷ Fixed (codes "on") ∷ LockOf Plain ∷ []
 slots form.Var = New ∷ Fixed (codes "on") ∷ LockName ∷ Fixed (codes "=") ∷ Number ∷ []
 slots form.Handler = Heading ∷ []
 slots form.Acquire = LockName ∷ []
+slots form.Share = LockOf ReadersWriter ∷ []
 slots form.Release = LockName ∷ []
+slots form.Try = LockOf Plain ∷ []
+slots form.Busy = []
+slots form.EndTry = []
+slots form.Wait = ConditionName ∷ Fixed (codes "while") ∷ Expression ∷ []
+slots form.Signal = ConditionName ∷ []
+slots form.Broadcast = ConditionName ∷ []
 slots form.Set = VariableName ∷ Fixed (codes "=") ∷ Expression ∷ []
 slots form.Let = LocalName ∷ Fixed (codes "=") ∷ Expression ∷ []
+slots form.Clock = LocalName ∷ []
+slots form.Random = LocalName ∷ []
+slots form.If = Expression ∷ []
+slots form.Else = []
+slots form.EndIf = []
+slots form.Repeat = Count 1 1000 ∷ []
+slots form.EndRepeat = []
 slots form.Reply = Expression ∷ []
 
 -- the number of words or a fixed word is wrong
@@ -80,6 +128,8 @@ is_misshapen (Count lo hi ∷ ss) (w ∷ ws) = is_misshapen ss ws
 is_misshapen (Number ∷ ss) (w ∷ ws) = is_misshapen ss ws
 is_misshapen (New ∷ ss) (w ∷ ws) = is_misshapen ss ws
 is_misshapen (LockName ∷ ss) (w ∷ ws) = is_misshapen ss ws
+is_misshapen (LockOf kind ∷ ss) (w ∷ ws) = is_misshapen ss ws
+is_misshapen (ConditionName ∷ ss) (w ∷ ws) = is_misshapen ss ws
 is_misshapen (VariableName ∷ ss) (w ∷ ws) = is_misshapen ss ws
 is_misshapen (LocalName ∷ ss) (w ∷ ws) = is_misshapen ss ws
 
@@ -123,6 +173,41 @@ lock_kind_code (Some (meaning.Handler n)) = Some WrongKind
 -- a lock's name
 unfoldable pub lock_code : Above → Word → Option ServiceCode
 lock_code a w = if is_name w then (if is_local a w then Some WrongKind else lock_kind_code (meaning_of a w)) else Some NoName
+
+-- both kinds are the same
+abbrev pub is_same_kind : LockKind → LockKind → Bool
+is_same_kind Plain Plain = true
+is_same_kind ReadersWriter ReadersWriter = true
+is_same_kind _ _ = false
+
+-- there is a lock, and it is of the kind
+abbrev pub is_of_kind : LockKind → Option Lock → Bool
+is_of_kind kind None = false
+is_of_kind kind (Some l) = is_same_kind kind l.kind
+
+-- a name that is due to stand for a lock of a kind stands for this
+abbrev pub lock_of_kind_code : Above → LockKind → Option Meaning → Option ServiceCode
+lock_of_kind_code a kind None = Some Undeclared
+lock_of_kind_code a kind (Some (meaning.Lock n)) = fits (not (is_of_kind kind (slice_get a.locks n))) WrongKind
+lock_of_kind_code a kind (Some (meaning.Condition n)) = Some WrongKind
+lock_of_kind_code a kind (Some (meaning.Variable n)) = Some WrongKind
+lock_of_kind_code a kind (Some (meaning.Handler n)) = Some WrongKind
+
+-- the name of a lock of a kind
+unfoldable pub lock_of_code : Above → LockKind → Word → Option ServiceCode
+lock_of_code a kind w = if is_name w then (if is_local a w then Some WrongKind else lock_of_kind_code a kind (meaning_of a w)) else Some NoName
+
+-- a name that is due to stand for a condition stands for this
+abbrev pub condition_kind_code : Option Meaning → Option ServiceCode
+condition_kind_code None = Some Undeclared
+condition_kind_code (Some (meaning.Condition n)) = None
+condition_kind_code (Some (meaning.Lock n)) = Some WrongKind
+condition_kind_code (Some (meaning.Variable n)) = Some WrongKind
+condition_kind_code (Some (meaning.Handler n)) = Some WrongKind
+
+-- a condition's name
+unfoldable pub condition_code : Above → Word → Option ServiceCode
+condition_code a w = if is_name w then (if is_local a w then Some WrongKind else condition_kind_code (meaning_of a w)) else Some NoName
 
 -- a name that is due to stand for a variable stands for this
 abbrev pub variable_kind_code : Option Meaning → Option ServiceCode
@@ -189,6 +274,8 @@ slot_code a Number w ws = number_code w
 slot_code a New w ws = new_code a w
 slot_code a Heading w ws = heading_code a w ws
 slot_code a LockName w ws = lock_code a w
+slot_code a (LockOf kind) w ws = lock_of_code a kind w
+slot_code a ConditionName w ws = condition_code a w
 slot_code a VariableName w ws = variable_code a w
 slot_code a LocalName w ws = local_code a w
 slot_code a Expression w ws = whole_expr_code a (w ∷ ws)
@@ -213,13 +300,36 @@ abbrev pub locals_code : Above → List Word → Option ServiceCode
 locals_code a [] = None
 locals_code a (w ∷ ws) = fits (not (is_local a w) && nat_le 16 (length a.locals)) TooMany
 
--- a count limit is passed
+-- a block of this kind is a loop
+abbrev pub is_loop_kind : BlockKind → Bool
+is_loop_kind block.Loop = true
+is_loop_kind _ = false
+
+-- the block is a loop
+abbrev pub is_loop : OpenBlock → Bool
+is_loop b = is_loop_kind b.kind
+
+-- a `repeat` inside four open ones
+abbrev pub loops_code : Above → Option ServiceCode
+loops_code a = fits (nat_le 4 (count_by is_loop (blocks_of a))) TooDeep
+
+-- a `reply` inside an open block
+abbrev pub inside_code : Above → Option ServiceCode
+inside_code a = fits (is_some (innermost a)) ReplyInBlock
+
+-- a limit on counts is passed, or a `reply` stands inside a block
 abbrev pub limit_code : Above → Form → List Word → Option ServiceCode
 limit_code a form.Lanes ws = None
 limit_code a form.Lock ws = fits (nat_le 64 (length a.locks)) TooMany
+limit_code a form.RwLock ws = fits (nat_le 64 (length a.locks)) TooMany
+limit_code a form.Cond ws = fits (nat_le 64 (length a.conditions)) TooMany
 limit_code a form.Var ws = fits (nat_le 256 (length a.variables)) TooMany
 limit_code a form.Handler ws = fits (nat_le 64 (length a.handlers)) TooMany
 limit_code a form.Let ws = least (locals_code a ws) (full_code a)
+limit_code a form.Clock ws = least (locals_code a ws) (full_code a)
+limit_code a form.Random ws = least (locals_code a ws) (full_code a)
+limit_code a form.Repeat ws = least (loops_code a) (full_code a)
+limit_code a form.Reply ws = least (full_code a) (inside_code a)
 limit_code a _ ws = full_code a
 
 -- a line of this form says how many lanes there are
@@ -236,14 +346,25 @@ abbrev pub same : Bool → Bool → Bool
 same true b = b
 same false b = not b
 
+-- a line of a form may stand here: inside a handler or outside, and in its own kind of block
+abbrev pub is_placed : Above → Form → Bool
+is_placed a f = same (is_inside f) (is_open a) && suits f (innermost a)
+
 -- the least code that fits a line of a form
 abbrev pub form_code : Above → Form → List Word → Option ServiceCode
 form_code a f ws =
-    if not (same (is_inside f) (is_open a)) then Some Misplaced
+    if not (is_placed a f) then Some Misplaced
     else if is_misshapen (slots f) ws then Some BadForm
     else least (slots_code a (slots f) ws) (least (limit_code a f ws) (order_code a f))
 
--- the same where no form may have been found
+-- the least code that fits a line of a form without words, which has no limit but that on a handler's lines
+abbrev pub wordless_code : Above → Form → List Word → Option ServiceCode
+wordless_code a f ws =
+    if not (is_placed a f) then Some Misplaced
+    else if is_misshapen [] ws then Some BadForm
+    else least (full_code a) (order_code a form.Busy)
+
+-- the least code that fits a line where no form may have been found
 abbrev pub found_code : Above → Option Form → List Word → Option ServiceCode
 found_code a None ws = Some Misplaced
 found_code a (Some f) ws = form_code a f ws

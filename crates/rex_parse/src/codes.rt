@@ -1,13 +1,14 @@
 //! The codes that fit the words of a line.
 
-ghost use Rattle.std.specs.Prelude.{◌≡◌, ◌∷◌, [], ◌<◌, length};
+ghost use Rattle.std.specs.Prelude.{◌≡◌, ◌∷◌, [], ◌<◌, length, slice_get, count_by};
 ghost use Rattle.rex_parse.specs.Table as table;
-ghost use Rattle.rex_parse.specs.Above.{meaning_of};
+ghost use Rattle.rex_parse.specs.Above.{meaning_of, blocks_of};
 ghost use Rattle.rex_parse.specs.Answers.{texts};
 
 use crate::language::{Above, Form, Meaning, ServiceCode};
 use crate::least::{fits, least};
-use crate::words::{begins_number, is_among, is_name, lane_count, operator_of};
+use crate::words::{begins_number, count_of, is_among, is_name, operator_of};
+use rex_syntax::service::LockKind;
 use rex_text::read_i64;
 
 impl Above {
@@ -47,6 +48,54 @@ impl Above {
         match self.meaning_of(word) {
             None => Some(ServiceCode::Undeclared),
             Some(Meaning::Lock(_)) => None,
+            Some(_) => Some(ServiceCode::WrongKind),
+        }
+    }
+
+    // Whether a lock is there and of the kind.
+    fn is_of_kind(&self, kind: LockKind, lock: u8) -> bool
+        ensures { result ≡ table.is_of_kind kind (slice_get self.now.locks lock) }
+    {
+        match self.locks.as_slice().get(lock as usize) {
+            None => false,
+            Some(lock) => is_same_kind(kind, lock.kind),
+        }
+    }
+
+    /// Of the name of a lock of a kind.
+    #[tactic(auto, unfolding(crate::specs::Table::lock_of_code))]
+    pub(crate) fn lock_of_code(&self, kind: LockKind, word: &[u8]) -> Option<ServiceCode>
+        ensures { result ≡ table.lock_of_code self.now kind word.now }
+    {
+        if !is_name(word) {
+            return Some(ServiceCode::NoName);
+        }
+        if self.is_local(word) {
+            return Some(ServiceCode::WrongKind);
+        }
+        match self.meaning_of(word) {
+            None => Some(ServiceCode::Undeclared),
+            Some(Meaning::Lock(lock)) => {
+                fits(!self.is_of_kind(kind, lock), ServiceCode::WrongKind)
+            }
+            Some(_) => Some(ServiceCode::WrongKind),
+        }
+    }
+
+    /// Of a condition's name.
+    #[tactic(auto, unfolding(crate::specs::Table::condition_code))]
+    pub(crate) fn condition_code(&self, word: &[u8]) -> Option<ServiceCode>
+        ensures { result ≡ table.condition_code self.now word.now }
+    {
+        if !is_name(word) {
+            return Some(ServiceCode::NoName);
+        }
+        if self.is_local(word) {
+            return Some(ServiceCode::WrongKind);
+        }
+        match self.meaning_of(word) {
+            None => Some(ServiceCode::Undeclared),
+            Some(Meaning::Condition(_)) => None,
             Some(_) => Some(ServiceCode::WrongKind),
         }
     }
@@ -162,6 +211,35 @@ impl Above {
             Some(handler) => handler.lines.len(),
         }
     }
+
+    /// Of a `repeat` inside four.
+    pub(crate) fn loops_code(&self) -> Option<ServiceCode>
+        ensures { result ≡ table.loops_code self.now }
+    {
+        fits(self.open_loop_count() >= 4, ServiceCode::TooDeep)
+    }
+
+    fn open_loop_count(&self) -> usize
+        ensures { result ≡ count_by table.is_loop (blocks_of self.now) }
+    {
+        match &self.open_handler {
+            None => 0,
+            Some(handler) => handler.blocks.loops(),
+        }
+    }
+
+    /// Of a `reply` inside a block.
+    pub(crate) fn inside_code(&self) -> Option<ServiceCode>
+        ensures { result ≡ table.inside_code self.now }
+    {
+        fits(self.innermost().is_some(), ServiceCode::ReplyInBlock)
+    }
+}
+
+fn is_same_kind(kind: LockKind, other: LockKind) -> bool
+    ensures { result ≡ table.is_same_kind kind other }
+{
+    kind == other
 }
 
 /// Of a signed number.
@@ -172,11 +250,11 @@ pub(crate) fn number_code(word: &[u8]) -> Option<ServiceCode>
     fits(read_i64(word).is_none(), ServiceCode::NoNumber)
 }
 
-/// Of the number of lanes.
-pub(crate) fn lane_count_code(word: &[u8]) -> Option<ServiceCode>
-    ensures { result ≡ table.count_code 1 16 word.now }
+/// Of a number from `least` to `most`.
+pub(crate) fn count_code(least: u64, most: u64, word: &[u8]) -> Option<ServiceCode>
+    ensures { result ≡ table.count_code least most word.now }
 {
-    fits(lane_count(word).is_none(), ServiceCode::NoNumber)
+    fits(count_of(least, most, word).is_none(), ServiceCode::NoNumber)
 }
 
 fn operator_code(word: &[u8]) -> Option<ServiceCode>

@@ -23,6 +23,16 @@ impl Above {
         }
     }
 
+    /// The number of a condition.
+    pub(crate) fn condition_number(&self, word: &[u8]) -> u8
+        ensures { result ≡ after.condition_number (meaning_of self.now word.now) }
+    {
+        match self.meaning_of(word) {
+            Some(Meaning::Condition(number)) => number,
+            _ => 0,
+        }
+    }
+
     /// The number of a variable.
     pub(crate) fn variable_number(&self, word: &[u8]) -> u16
         ensures { result ≡ after.variable_number (meaning_of self.now word.now) }

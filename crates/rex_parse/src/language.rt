@@ -1,5 +1,6 @@
 //! What the lines of a service say and declare.
 
+use crate::blocks::Blocks;
 use rex_list::List;
 use rex_syntax::line::Line;
 use rex_syntax::service::{Condition, Handler, Lock, Variable};
@@ -43,12 +44,28 @@ pub enum ServiceCode {
 pub enum Form {
     Lanes,
     Lock,
+    RwLock,
+    Cond,
     Var,
     Handler,
     Acquire,
+    Share,
     Release,
+    Try,
+    Busy,
+    EndTry,
+    Wait,
+    Signal,
+    Broadcast,
     Set,
     Let,
+    Clock,
+    Random,
+    If,
+    Else,
+    EndIf,
+    Repeat,
+    EndRepeat,
     Reply,
 }
 
@@ -76,6 +93,8 @@ pub struct OpenHandler {
     pub parameters: u8,
     pub lines: List<Line>,
     pub line_numbers: List<u32>,
+    /// The blocks that are open after its lines.
+    pub blocks: Blocks,
 }
 
 /// What the lines above a line have declared.

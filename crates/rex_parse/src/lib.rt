@@ -1,23 +1,32 @@
 //! The service language: its grammar, and a reader that answers the first bad line with the least code that fits.
 #![tactic(auto)]
 
+mod block_forms;
+mod block_lines;
+mod blocks;
 mod codes;
 mod copying;
 mod exprs;
 mod forms;
 mod language;
 mod least;
+mod line_forms;
 mod lines;
 mod names;
 mod parser;
+mod placing;
 mod reading;
 mod taking;
+mod targets;
 mod words;
 
+pub use blocks::{BlockKind, Blocks, OpenBlock};
 pub use language::{Above, Entry, Fault, Form, Meaning, OpenHandler, ReadError, ServiceCode};
 pub use parser::Parser;
 pub use reading::{first_bad_line, read_service};
 pub use words::is_name;
 
+#[cfg(test)]
+mod code_tests;
 #[cfg(test)]
 mod tests;

@@ -1,4 +1,4 @@
-//! A line of each form: taken where no code fits it.
+//! A declaration, or a line of a handler that leads to the next one alone: taken where no code fits it.
 
 ghost use Rattle.std.specs.Prelude.{◌≡◌, ◌≤◌, length};
 ghost use Rattle.rex_parse.specs.Table.{form_code};
@@ -7,8 +7,9 @@ ghost use Rattle.rex_parse.specs.declared.language.Form.TheVariants as form;
 ghost use Rattle.rex_parse.specs.Answers.{texts, Takes};
 
 use crate::language::{Above, Fault};
-use crate::words::lane_count;
+use crate::words::count_of;
 use rex_syntax::line::Line;
+use rex_syntax::service::LockKind;
 use rex_text::read_i64;
 use std::alloc::Global;
 
@@ -23,7 +24,7 @@ impl Above {
             return Err(Fault::Refused(code));
         }
         if let [count, ..] = words {
-            self.lanes = lane_count(count);
+            self.lanes = count_of(1, 16, count);
         }
         Ok(())
     }
@@ -43,7 +44,48 @@ impl Above {
             return Err(Fault::Refused(code));
         }
         if let [name, ..] = words {
-            self.add_lock(alloc, name)?;
+            self.add_lock(alloc, LockKind::Plain, name)?;
+        }
+        Ok(())
+    }
+
+    // `rwlock NAME`
+    pub(crate) fn rwlock_line(
+        &mut self,
+        alloc: Global,
+        number: u32,
+        words: &[&[u8]],
+    ) -> Result<(), Fault>
+        ensures takes { Takes result (form_code self.old form.RwLock (texts words.now))
+            (after_form self.old number form.RwLock (texts words.now)) self.new }
+        ensures locals { self.new.locals ≡ self.old.locals }
+    {
+        if let Some(code) = self.lock_form_code(words) {
+            return Err(Fault::Refused(code));
+        }
+        if let [name, ..] = words {
+            self.add_lock(alloc, LockKind::ReadersWriter, name)?;
+        }
+        Ok(())
+    }
+
+    // `cond NAME on LOCK`
+    pub(crate) fn cond_line(
+        &mut self,
+        alloc: Global,
+        number: u32,
+        words: &[&[u8]],
+    ) -> Result<(), Fault>
+        ensures takes { Takes result (form_code self.old form.Cond (texts words.now))
+            (after_form self.old number form.Cond (texts words.now)) self.new }
+        ensures locals { self.new.locals ≡ self.old.locals }
+    {
+        if let Some(code) = self.cond_code(words) {
+            return Err(Fault::Refused(code));
+        }
+        if let [name, _, lock, ..] = words {
+            let lock = self.lock_number(lock);
+            self.add_condition(alloc, name, lock)?;
         }
         Ok(())
     }
@@ -107,18 +149,89 @@ impl Above {
         Ok(())
     }
 
+    // `share LOCK`
+    pub(crate) fn share_line(&mut self, number: u32, words: &[&[u8]]) -> Result<(), Fault>
+        ensures takes { Takes result (form_code self.old form.Share (texts words.now))
+            (after_form self.old number form.Share (texts words.now)) self.new }
+        ensures locals { self.new.locals ≡ self.old.locals }
+    {
+        if let Some(code) = self.share_code(words) {
+            return Err(Fault::Refused(code));
+        }
+        if let [lock, ..] = words {
+            let lock = self.lock_number(lock);
+            self.push_line(number, Line::Share { lock })?;
+        }
+        Ok(())
+    }
+
     // `release LOCK`
     pub(crate) fn release_line(&mut self, number: u32, words: &[&[u8]]) -> Result<(), Fault>
         ensures takes { Takes result (form_code self.old form.Release (texts words.now))
             (after_form self.old number form.Release (texts words.now)) self.new }
         ensures locals { self.new.locals ≡ self.old.locals }
     {
-        if let Some(code) = self.release_code(words) {
+        if let Some(code) = self.acquire_code(words) {
             return Err(Fault::Refused(code));
         }
         if let [lock, ..] = words {
             let lock = self.lock_number(lock);
             self.push_line(number, Line::Release { lock })?;
+        }
+        Ok(())
+    }
+
+    // `wait COND while EXPR`
+    pub(crate) fn wait_line(
+        &mut self,
+        alloc: Global,
+        number: u32,
+        words: &[&[u8]],
+    ) -> Result<(), Fault>
+        requires { length self.old.locals ≤ 16 }
+        ensures takes { Takes result (form_code self.old form.Wait (texts words.now))
+            (after_form self.old number form.Wait (texts words.now)) self.new }
+        ensures locals { length self.new.locals ≤ 16 }
+    {
+        if let Some(code) = self.wait_code(words) {
+            return Err(Fault::Refused(code));
+        }
+        if let [condition, _, test @ ..] = words {
+            let condition = self.condition_number(condition);
+            let test = self.expr_of(alloc, test)?;
+            self.push_line(number, Line::Wait { condition, test })?;
+        }
+        Ok(())
+    }
+
+    // `signal COND`
+    pub(crate) fn signal_line(&mut self, number: u32, words: &[&[u8]]) -> Result<(), Fault>
+        ensures takes { Takes result (form_code self.old form.Signal (texts words.now))
+            (after_form self.old number form.Signal (texts words.now)) self.new }
+        ensures locals { self.new.locals ≡ self.old.locals }
+    {
+        if let Some(code) = self.signal_code(words) {
+            return Err(Fault::Refused(code));
+        }
+        if let [condition, ..] = words {
+            let condition = self.condition_number(condition);
+            self.push_line(number, Line::Signal { condition })?;
+        }
+        Ok(())
+    }
+
+    // `broadcast COND`
+    pub(crate) fn broadcast_line(&mut self, number: u32, words: &[&[u8]]) -> Result<(), Fault>
+        ensures takes { Takes result (form_code self.old form.Broadcast (texts words.now))
+            (after_form self.old number form.Broadcast (texts words.now)) self.new }
+        ensures locals { self.new.locals ≡ self.old.locals }
+    {
+        if let Some(code) = self.signal_code(words) {
+            return Err(Fault::Refused(code));
+        }
+        if let [condition, ..] = words {
+            let condition = self.condition_number(condition);
+            self.push_line(number, Line::Broadcast { condition })?;
         }
         Ok(())
     }
@@ -170,24 +283,49 @@ impl Above {
         Ok(())
     }
 
-    // `reply EXPR`
-    pub(crate) fn reply_line(
+    // `clock LOCAL`
+    pub(crate) fn clock_line(
         &mut self,
         alloc: Global,
         number: u32,
         words: &[&[u8]],
     ) -> Result<(), Fault>
         requires { length self.old.locals ≤ 16 }
-        ensures takes { Takes result (form_code self.old form.Reply (texts words.now))
-            (after_form self.old number form.Reply (texts words.now)) self.new }
+        ensures takes { Takes result (form_code self.old form.Clock (texts words.now))
+            (after_form self.old number form.Clock (texts words.now)) self.new }
         ensures locals { length self.new.locals ≤ 16 }
     {
-        if let Some(code) = self.reply_code(words) {
+        if let Some(code) = self.clock_code(words) {
             return Err(Fault::Refused(code));
         }
-        let value = self.expr_of(alloc, words)?;
-        self.push_line(number, Line::Reply { value })?;
-        self.end_handler(alloc)?;
+        if let [local, ..] = words {
+            self.make_local(alloc, local)?;
+            let local = self.local_place(local) as u8;
+            self.push_line(number, Line::Clock { local })?;
+        }
+        Ok(())
+    }
+
+    // `random LOCAL`
+    pub(crate) fn random_line(
+        &mut self,
+        alloc: Global,
+        number: u32,
+        words: &[&[u8]],
+    ) -> Result<(), Fault>
+        requires { length self.old.locals ≤ 16 }
+        ensures takes { Takes result (form_code self.old form.Random (texts words.now))
+            (after_form self.old number form.Random (texts words.now)) self.new }
+        ensures locals { length self.new.locals ≤ 16 }
+    {
+        if let Some(code) = self.clock_code(words) {
+            return Err(Fault::Refused(code));
+        }
+        if let [local, ..] = words {
+            self.make_local(alloc, local)?;
+            let local = self.local_place(local) as u8;
+            self.push_line(number, Line::Random { local })?;
+        }
         Ok(())
     }
 }

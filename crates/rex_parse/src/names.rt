@@ -3,6 +3,7 @@
 ghost use Rattle.std.specs.Prelude.{◌≡◌, ◌≤◌, length};
 ghost use Rattle.rex_parse.specs.Above as above;
 
+use crate::blocks::BlockKind;
 use crate::language::{Above, Meaning};
 
 impl Above {
@@ -55,5 +56,15 @@ impl Above {
         ensures { result ≡ above.is_open self.now }
     {
         self.open_handler.is_some()
+    }
+
+    /// What the innermost open block is.
+    pub(crate) fn innermost(&self) -> Option<BlockKind>
+        ensures { result ≡ above.innermost self.now }
+    {
+        match &self.open_handler {
+            None => None,
+            Some(handler) => handler.blocks.innermost(),
+        }
     }
 }

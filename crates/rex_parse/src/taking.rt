@@ -5,15 +5,16 @@ ghost use Rattle.rex_parse.specs.Table as table;
 ghost use Rattle.rex_parse.specs.After as after;
 ghost use Rattle.rex_parse.specs.Answers.{texts};
 
+use crate::blocks::Blocks;
 use crate::copying::{own_word, own_words};
 use crate::language::{Above, Entry, Meaning, OpenHandler};
 use rex_list::List;
 use rex_syntax::line::Line;
-use rex_syntax::service::{Handler, Lock, LockKind, Variable};
+use rex_syntax::service::{Condition, Handler, Lock, LockKind, Variable};
 use std::alloc::{AllocError, Global};
 
 impl OpenHandler {
-    fn push(&mut self, number: u32, line: Line) -> Result<(), AllocError>
+    pub(crate) fn push(&mut self, number: u32, line: Line) -> Result<(), AllocError>
         ensures { OnOk result (self.new ≡ after.more_lines number line self.old) }
     {
         self.lines.push(line)?;
@@ -41,18 +42,42 @@ impl Above {
         self.names.push(Entry { name, meaning })
     }
 
-    pub(crate) fn add_lock(&mut self, alloc: Global, name: &[u8]) -> Result<(), AllocError>
+    pub(crate) fn add_lock(
+        &mut self,
+        alloc: Global,
+        kind: LockKind,
+        name: &[u8],
+    ) -> Result<(), AllocError>
         requires { length self.old.locks < 64 }
-        ensures taken { OnOk result (self.new ≡ after.with_lock self.old name.now) }
+        ensures taken { OnOk result (self.new ≡ after.with_lock self.old kind name.now) }
         ensures locals { self.new.locals ≡ self.old.locals }
     {
         let meaning = Meaning::Lock(self.locks.len() as u8);
         let lock = Lock {
             name: own_word(alloc, name)?,
-            kind: LockKind::Plain,
+            kind,
         };
         self.declare(alloc, name, meaning)?;
         self.locks.push(lock)
+    }
+
+    pub(crate) fn add_condition(
+        &mut self,
+        alloc: Global,
+        name: &[u8],
+        lock: u8,
+    ) -> Result<(), AllocError>
+        requires { length self.old.conditions < 64 }
+        ensures taken { OnOk result (self.new ≡ after.with_condition self.old name.now lock) }
+        ensures locals { self.new.locals ≡ self.old.locals }
+    {
+        let meaning = Meaning::Condition(self.conditions.len() as u8);
+        let condition = Condition {
+            name: own_word(alloc, name)?,
+            lock,
+        };
+        self.declare(alloc, name, meaning)?;
+        self.conditions.push(condition)
     }
 
     pub(crate) fn add_variable(
@@ -101,6 +126,7 @@ impl Above {
             parameters: parameters.len() as u8,
             lines: List::new(alloc),
             line_numbers: List::new(alloc),
+            blocks: Blocks::new(alloc),
         });
         Ok(())
     }

@@ -1,4 +1,5 @@
 use super::*;
+use rex_syntax::line::Line;
 use rex_text::push_u64;
 use std::alloc::Global;
 use std::process::Abort;
@@ -26,7 +27,11 @@ fn text_of(alloc: Global, parts: &Numbered) -> Result<String, Fail> {
 }
 
 // What is read of a short text: nothing, or the line and the code.
-fn answer(rt: &impl Abort, alloc: Global, text: &[u8]) -> Result<Option<(u32, ServiceCode)>, Fail> {
+pub(crate) fn answer(
+    rt: &impl Abort,
+    alloc: Global,
+    text: &[u8],
+) -> Result<Option<(u32, ServiceCode)>, Fail> {
     assert!(rt; text.len() < 1_000_000);
     match read_service(alloc, text) {
         Ok(_) => Ok(None),
@@ -130,10 +135,27 @@ fn each_code_stands_at_its_line(rt: HostRuntime) -> Result<(), Fail> {
 }
 
 #[test]
+fn good_texts_are_taken(rt: HostRuntime) -> Result<(), Fail> {
+    let table: [&[u8]; 7] = [
+        b"lanes 1\nhandler h\nrepeat 1\nendrepeat\nreply 1",
+        b"lanes 1\nhandler h\nrepeat 1000\nendrepeat\nreply 1",
+        b"lanes 1\nhandler h\nif 1\nlet x = 1\nelse\nendif\nreply x",
+        b"lanes 1\nhandler h\nif 1\nendif\nreply 1",
+        b"lanes 1\nlock L\nhandler h\ntry L\nbusy\nendtry\nreply 1",
+        b"lanes 1\nrwlock R\nhandler h\nshare R\nacquire R\nrelease R\nreply 1",
+        b"lanes 1\nlock L\ncond C on L\nhandler h\nclock x\nwait C while x == 1\nsignal C\nbroadcast C\nrandom x\nreply x",
+    ];
+    for text in table {
+        assert_eq!(rt; answer(&rt, rt.alloc(), text)?, None);
+    }
+    Ok(())
+}
+
+#[test]
 fn counts_have_their_limits(rt: HostRuntime) -> Result<(), Fail> {
     let lock = "lanes 1\nlock L\n";
     let end = "handler h\nreply 1\n";
-    let table: [(&str, &str, &str, u64, &str, Option<u32>); 10] = [
+    let table: [(&str, &str, &str, u64, &str, Option<u32>); 17] = [
         ("lanes 1\n", "lock l", "\n", 64, end, None),
         ("lanes 1\n", "lock l", "\n", 65, end, Some(66)),
         (lock, "var v", " on L = 0\n", 256, end, None),
@@ -172,6 +194,34 @@ fn counts_have_their_limits(rt: HostRuntime) -> Result<(), Fail> {
             "reply x",
             Some(259),
         ),
+        (lock, "cond c", " on L\n", 64, end, None),
+        (lock, "cond c", " on L\n", 65, end, Some(67)),
+        ("lanes 1\n", "rwlock l", "\n", 65, end, Some(66)),
+        ("lanes 1\nhandler h\n", "clock x", "\n", 16, "reply 1", None),
+        (
+            "lanes 1\nhandler h\n",
+            "random x",
+            "\n",
+            17,
+            "reply 1",
+            Some(19),
+        ),
+        (
+            "lanes 1\nhandler h\n",
+            "if ",
+            "\nendif\n",
+            127,
+            "clock x\nreply x",
+            None,
+        ),
+        (
+            "lanes 1\nhandler h\n",
+            "if ",
+            "\nendif\n",
+            128,
+            "reply 1",
+            Some(259),
+        ),
     ];
     for (first, before, after, count, last, refused) in table {
         let parts = Numbered {
@@ -186,4 +236,64 @@ fn counts_have_their_limits(rt: HostRuntime) -> Result<(), Fail> {
         assert_eq!(rt; answer(&rt, rt.alloc(), text.as_bytes())?, wanted);
     }
     Ok(())
+}
+
+// The line to which a line leads, where that isn't the next one.
+fn target_of(line: &Line) -> Option<u16> {
+    match line {
+        Line::If { otherwise, .. } => Some(*otherwise),
+        Line::Else { end } => Some(*end),
+        Line::Try { busy, .. } => Some(*busy),
+        Line::Busy { end } => Some(*end),
+        Line::Repeat { after, .. } => Some(*after),
+        _ => None,
+    }
+}
+
+#[test]
+fn blocks_lead_to_their_ends(rt: HostRuntime) -> Result<(), Fail> {
+    let text = b"lanes 1
+        lock L
+        handler h
+        if 1
+          repeat 2
+            try L
+              release L
+            busy
+            endtry
+          endrepeat
+        else
+          clock x
+        endif
+        if x
+        endif
+        reply 1";
+    let wanted = [
+        Some(8),
+        Some(7),
+        Some(5),
+        None,
+        Some(5),
+        None,
+        None,
+        Some(9),
+        None,
+        None,
+        Some(11),
+        None,
+        None,
+    ];
+    match read_service(rt.alloc(), text.as_slice()) {
+        Err(_) => Err(Fail::from("refused")),
+        Ok(service) => {
+            let handlers = service.declarations().handlers.as_slice();
+            assert_eq!(rt; handlers.len(), 1);
+            let lines = handlers[0].lines.as_slice();
+            assert_eq!(rt; lines.len(), wanted.len());
+            for (line, target) in lines.iter().zip(wanted) {
+                assert_eq!(rt; target_of(line), target);
+            }
+            Ok(())
+        }
+    }
 }

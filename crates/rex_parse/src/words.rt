@@ -1,6 +1,6 @@
 //! Names, first words and operators.
 
-ghost use Rattle.std.specs.Prelude.{◌≡◌};
+ghost use Rattle.std.specs.Prelude.{◌≡◌, ◌≤◌, IfSome, unwrap_or};
 ghost use Rattle.std.specs.List.{list_all, list_any};
 ghost use Rattle.std.specs.Str.{bytes_eq};
 ghost use Rattle.rex_parse.specs.Answers.{texts};
@@ -19,18 +19,50 @@ pub(crate) fn form_of(word: &[u8]) -> Option<Form>
         Some(Form::Lanes)
     } else if word == b"lock".as_slice() {
         Some(Form::Lock)
+    } else if word == b"rwlock".as_slice() {
+        Some(Form::RwLock)
+    } else if word == b"cond".as_slice() {
+        Some(Form::Cond)
     } else if word == b"var".as_slice() {
         Some(Form::Var)
     } else if word == b"handler".as_slice() {
         Some(Form::Handler)
     } else if word == b"acquire".as_slice() {
         Some(Form::Acquire)
+    } else if word == b"share".as_slice() {
+        Some(Form::Share)
     } else if word == b"release".as_slice() {
         Some(Form::Release)
+    } else if word == b"try".as_slice() {
+        Some(Form::Try)
+    } else if word == b"busy".as_slice() {
+        Some(Form::Busy)
+    } else if word == b"endtry".as_slice() {
+        Some(Form::EndTry)
+    } else if word == b"wait".as_slice() {
+        Some(Form::Wait)
+    } else if word == b"signal".as_slice() {
+        Some(Form::Signal)
+    } else if word == b"broadcast".as_slice() {
+        Some(Form::Broadcast)
     } else if word == b"set".as_slice() {
         Some(Form::Set)
     } else if word == b"let".as_slice() {
         Some(Form::Let)
+    } else if word == b"clock".as_slice() {
+        Some(Form::Clock)
+    } else if word == b"random".as_slice() {
+        Some(Form::Random)
+    } else if word == b"if".as_slice() {
+        Some(Form::If)
+    } else if word == b"else".as_slice() {
+        Some(Form::Else)
+    } else if word == b"endif".as_slice() {
+        Some(Form::EndIf)
+    } else if word == b"repeat".as_slice() {
+        Some(Form::Repeat)
+    } else if word == b"endrepeat".as_slice() {
+        Some(Form::EndRepeat)
     } else if word == b"reply".as_slice() {
         Some(Form::Reply)
     } else {
@@ -173,12 +205,23 @@ pub(crate) fn begins_number(word: &[u8]) -> bool
     }
 }
 
-/// The number of lanes that a word spells, 1 to 16.
-pub(crate) fn lane_count(word: &[u8]) -> Option<u64>
-    ensures { result ≡ table.count_of 1 16 word.now }
+/// The number from `least` to `most` that a word spells.
+pub(crate) fn count_of(least: u64, most: u64, word: &[u8]) -> Option<u64>
+    ensures count { result ≡ table.count_of least most word.now }
+    ensures within { IfSome result (λ count. count ≤ most) }
 {
     match read_u64(word) {
-        Some(count) if 1 <= count && count <= 16 => Some(count),
+        Some(count) if least <= count && count <= most => Some(count),
         _ => None,
+    }
+}
+
+/// How many turns a word asks for.
+pub(crate) fn turns_of(word: &[u8]) -> u16
+    ensures { result ≡ unwrap_or (table.count_of 1 1000 word.now) 0 }
+{
+    match count_of(1, 1000, word) {
+        None => 0,
+        Some(turns) => turns as u16,
     }
 }

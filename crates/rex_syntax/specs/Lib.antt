@@ -6,3 +6,4 @@ pub mod Service
 pub mod Leads
 pub mod Flow
 pub mod Check
+pub mod Names

@@ -6,5 +6,6 @@ pub mod expr;
 pub mod flow;
 pub mod line;
 pub mod locks;
+pub mod names;
 pub mod request;
 pub mod service;
