@@ -1,5 +1,5 @@
 -- An event reads only variables whose guards its lane holds once it is done, and writes only those whose guards it holds exclusively.
-use Rattle.std.proofs.Common.{◌≡◌, ◌≢◌, ℕ, ◌+◌, ◌<◌, Bool, true, false, not, List, length, refl, ap, sym, ◌∙◌, subst}
+use Rattle.std.proofs.Common.{◌≡◌, ℕ, ◌+◌, Bool, true, false, not, List, length, refl, ap, sym, ◌∙◌, subst}
 use Rattle.std.specs.Prelude.{Option, Some, None, ℤ, slice_set}
 use Rattle.std.specs.Ordering.{int_eq}
 use Rattle.std.proofs.lemmas.Bool.{true≢false, and_parts, and_from}
@@ -8,12 +8,11 @@ use Rattle.rex_syntax.specs.declared.line.Line.TheVariants.{Reply as ReplyAt}
 use Rattle.rex_syntax.specs.declared.locks.Lockset.{Lockset}
 use Rattle.rex_syntax.specs.declared.locks.Mode.{Mode}
 use Rattle.rex_syntax.specs.declared.service.Declarations.{Declarations}
-use Rattle.rex_syntax.specs.Expr.{expr_value}
 use Rattle.rex_syntax.specs.Leads.{guard_of, expr_is_held}
 use Rattle.rex_syntax.specs.Locks.{mode_of, is_empty, is_exclusive, is_free as is_free_mode}
 use Rattle.rex_syntax.specs.Service.{IsService}
 use Rattle.rex_frame.specs.declared.frame.Frame.{Frame}
-use Rattle.rex_frame.specs.Guarded.{may_read, Agree, WritesHeld}
+use Rattle.rex_frame.specs.Guarded.{Agree, WritesHeld}
 use Rattle.rex_frame.specs.Phases.{is_running}
 use Rattle.rex_frame.proofs.Guarded.{Alike, expr_same, segment_alike}
 use Rattle.rex_frame.proofs.Held.{only_if_true, if_ok, if_true}
@@ -26,10 +25,10 @@ use Rattle.rex_state.specs.Locks.{mode_in_frame}
 use Rattle.rex_state.specs.Own.{started, run_frame, run_on, own_after}
 use Rattle.rex_state.specs.Machine.{lane_of, frame_at, can_go, own_can, queues_after, clients_after, after, next}
 use Rattle.rex_state.specs.Flows.{CheckedFlows, flow_of}
-use Rattle.rex_state.specs.Sound.{mode_at, FrameFits, Fits, IsSoundBy, with_flows, IsSound}
+use Rattle.rex_state.specs.Sound.{FrameFits, Fits, IsSoundBy, with_flows, IsSound}
 use Rattle.rex_state.specs.Touches.{held_in, held_at, with_variables, GoesAlike}
 use Rattle.rex_state.proofs.Fits.{IsRight, right_at, may_line, runs_held, starts_fit}
-use Rattle.rex_state.proofs.Keep.{IsEnabled, next_is, next_from, frame_own, Effect, effect}
+use Rattle.rex_state.proofs.Keep.{IsEnabled, next_is, next_from, frame_own, effect}
 use Rattle.rex_state.proofs.Modes.{all_free, no_mode, frame_walked}
 use Rattle.rex_state.proofs.Sounds.{right_flows}
 
