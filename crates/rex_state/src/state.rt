@@ -2,7 +2,6 @@
 
 ghost use Rattle.std.specs.Prelude.{◌≡◌, ◌<◌, ◌≤◌, ◌+◌, ◌^◌, Some, IsSome, IfOk, IsOk, slice_get};
 ghost use Rattle.std.specs.Option.{option_copied};
-ghost use Rattle.rex_syntax.specs.Service.{IsService};
 ghost use Rattle.rex_state.specs.Locks as locks;
 ghost use Rattle.rex_state.specs.Machine as spec;
 ghost use Rattle.rex_state.specs.Start.{start_of};
@@ -18,7 +17,6 @@ use crate::parts::{copy_lanes, copy_queues, empty_queues, first_values, idle_lan
 use rex_event::{Event, Kind};
 use rex_frame::frame::Frame;
 use rex_syntax::checked::Checked;
-use rex_syntax::service::Declarations;
 use std::alloc::{AllocError, Global};
 use std::marker::Model;
 
