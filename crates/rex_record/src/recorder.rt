@@ -42,7 +42,8 @@ pub struct Settled {
 }
 
 /// What an active node executes: the state where its live events begin, these events, the state after them, and the
-/// requests that wait for an idle lane. A recorder serves the one service that its state was made for.
+/// requests that wait for an idle lane. A recorder serves the one service that its state was made for. Beside its value
+/// contracts see its spare: for how many more events it has room.
 #[derive(Drop)]
 pub struct Recorder {
     start: State,

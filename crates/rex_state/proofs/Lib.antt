@@ -10,5 +10,6 @@ pub mod Run
 pub mod Sounds
 pub mod Rooms
 pub mod Live
+pub mod Touches
 pub mod Counter
 mod Examples

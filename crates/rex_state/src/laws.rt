@@ -1,6 +1,6 @@
 //! What the machine keeps. Each function is the statement that its contract makes, and does nothing.
 
-ghost use Rattle.rex_state.specs.Laws.{StartIsSound, EventsKeepSound, RunsKeepSound, SoundStatesGoOn, ReachedStatesGoOn};
+ghost use Rattle.rex_state.specs.Laws.{StartIsSound, EventsKeepSound, RunsKeepSound, SoundStatesGoOn, ReachedStatesGoOn, EventsWriteHeld, EventsReadHeld};
 
 /// A checked service starts in a sound state.
 pub fn start_is_sound()
@@ -26,4 +26,15 @@ pub fn sound_states_go_on()
 /// The same in each state that a checked service reaches.
 pub fn reached_states_go_on()
     ensures { ReachedStatesGoOn }
+{}
+
+/// An event writes only variables whose guards its lane holds exclusively once it is done.
+pub fn events_write_held()
+    ensures { EventsWriteHeld }
+{}
+
+/// An event reads only variables whose guards its lane holds once it is done: with others that agree on these it leads to
+/// the same state, but for the variables, which agree again.
+pub fn events_read_held()
+    ensures { EventsReadHeld }
 {}

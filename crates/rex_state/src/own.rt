@@ -11,6 +11,7 @@ use arrayvec::ArrayVec;
 use rex_event::Kind;
 use rex_frame::frame::{Frame, LOCALS, Phase};
 use rex_list::Arguments;
+use rex_syntax::checked::Checked;
 use rex_syntax::line::Line;
 use rex_syntax::locks::{Lockset, Mode};
 use rex_syntax::service::Declarations;
@@ -118,11 +119,11 @@ fn fresh(
 }
 
 /// The frame from which a lane goes on after an event.
-pub(crate) fn start(own: &mut Option<Frame>, service: &Declarations, kind: &Kind)
-    requires service { IsService service.now }
-    requires can { CanStart service.now kind.now own.old }
-    ensures { own.new ≡ spec.started service.now kind.now own.old }
+pub(crate) fn start(own: &mut Option<Frame>, svc: &Checked, kind: &Kind)
+    requires { CanStart svc.now kind.now own.old }
+    ensures { own.new ≡ spec.started svc.now kind.now own.old }
 {
+    let service = svc.declarations();
     match kind {
         Kind::Begin {
             client,
@@ -142,28 +143,23 @@ pub(crate) fn start(own: &mut Option<Frame>, service: &Declarations, kind: &Kind
 }
 
 /// Runs the lines of a busy lane up to its next event, unless it waits.
-fn run_on(frame: &mut Frame, variables: &mut [i64], service: &Declarations)
-    requires service { IsService service.now }
-    requires fits { FitsIn service.now frame.old }
-    requires variables { length variables.old ≡ length service.now.variables }
-    ensures { (frame.new, variables.new) ≡ spec.ran service.now frame.old variables.old }
+fn run_on(frame: &mut Frame, variables: &mut [i64], svc: &Checked)
+    requires fits { FitsIn svc.now frame.old }
+    requires variables { length variables.old ≡ length svc.now.variables }
+    ensures { (frame.new, variables.new) ≡ spec.ran svc.now frame.old variables.old }
 {
     if frame.is_running() {
-        let lines = service.handlers.as_slice()[frame.handler as usize]
-            .lines
-            .as_slice();
-        frame.run_segment(lines, variables);
+        frame.run_segment(svc, variables);
     }
 }
 
 /// Runs the lines of a lane up to its next event.
-pub(crate) fn run_lane(own: &mut Option<Frame>, variables: &mut [i64], service: &Declarations)
-    requires service { IsService service.now }
-    requires fits { IfSome own.old (FitsIn service.now) }
-    requires variables { length variables.old ≡ length service.now.variables }
-    ensures { (own.new, variables.new) ≡ spec.run_on service.now own.old variables.old }
+pub(crate) fn run_lane(own: &mut Option<Frame>, variables: &mut [i64], svc: &Checked)
+    requires fits { IfSome own.old (FitsIn svc.now) }
+    requires variables { length variables.old ≡ length svc.now.variables }
+    ensures { (own.new, variables.new) ≡ spec.run_on svc.now own.old variables.old }
 {
     if let Some(frame) = own {
-        run_on(frame, variables, service);
+        run_on(frame, variables, svc);
     }
 }

@@ -2,7 +2,6 @@
 
 ghost use Rattle.std.specs.Prelude.{◌≡◌, ◌<◌, ◌≤◌, ◌+◌, ◌^◌, Some, IsSome, IfOk, IsOk, slice_get};
 ghost use Rattle.std.specs.Option.{option_copied};
-ghost use Rattle.rex_syntax.specs.Service.{IsService};
 ghost use Rattle.rex_state.specs.Locks as locks;
 ghost use Rattle.rex_state.specs.Machine as spec;
 ghost use Rattle.rex_state.specs.Start.{start_of};
@@ -18,7 +17,6 @@ use crate::parts::{copy_lanes, copy_queues, empty_queues, first_values, idle_lan
 use rex_event::{Event, Kind};
 use rex_frame::frame::Frame;
 use rex_syntax::checked::Checked;
-use rex_syntax::service::Declarations;
 use std::alloc::{AllocError, Global};
 use std::marker::Model;
 
@@ -169,15 +167,14 @@ impl State {
     }
 
     /// The effect of an event whose parts are all there.
-    fn perform(&mut self, service: &Declarations, lane: u8, kind: &Kind)
-        requires service { IsService service.now }
-        requires can { CanApply service.now lane kind.now self.old }
-        ensures { self.new ≡ spec.after service.now lane kind.now self.old }
+    fn perform(&mut self, svc: &Checked, lane: u8, kind: &Kind)
+        requires { CanApply svc.now lane kind.now self.old }
+        ensures { self.new ≡ spec.after svc.now lane kind.now self.old }
     {
         let own = &mut self.lanes[lane as usize];
         own.done += 1;
-        start(&mut own.frame, service, kind);
-        run_lane(&mut own.frame, &mut self.variables, service);
+        start(&mut own.frame, svc, kind);
+        run_lane(&mut own.frame, &mut self.variables, svc);
         change_queues(&mut self.queues, kind, lane);
         change_clients(&mut self.clients, kind);
     }
@@ -190,7 +187,8 @@ impl State {
         ensures next { spec.next svc.now self.old event.now ≡ Some self.new }
         ensures sound { IsSound svc.now self.new }
     {
-        self.perform(svc.declarations(), event.lane, &event.kind);
+        let _service = svc.declarations();
+        self.perform(svc, event.lane, &event.kind);
     }
 
     /// Sees to room for `n` more events. A state has room for any number of them, since applying an event never takes
