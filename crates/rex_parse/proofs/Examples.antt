@@ -1,19 +1,19 @@
--- A service with one counter, and a refusal of each code.
-use Rattle.std.proofs.Common.{◌≡◌, ℕ, pos, List, [], ◌∷◌, ◌++◌, Option, Some, None, Result, Ok, Err, refl}
+-- Services that are read, with where their blocks lead, and a refusal of each code.
+use Rattle.std.proofs.Common.{◌≡◌, ℕ, pos, negsuc, List, [], ◌∷◌, ◌++◌, Option, Some, None, Result, Ok, Err, refl}
 use Rattle.std.specs.Prelude.{codes}
 use Rattle.std.specs.Fmt.{digits}
-use Rattle.rex_syntax.specs.declared.expr.Operator.TheVariants.{Add}
-use Rattle.rex_syntax.specs.declared.expr.Operand.TheVariants.{Local, Variable}
+use Rattle.rex_syntax.specs.declared.expr.Operator.TheVariants.{Add, Sub, Equal, Greater}
+use Rattle.rex_syntax.specs.declared.expr.Operand.TheVariants.{Number, Local, Variable}
 use Rattle.rex_syntax.specs.declared.line.Line.TheVariants as line
-use Rattle.rex_syntax.specs.declared.service.LockKind.TheVariants.{Plain}
+use Rattle.rex_syntax.specs.declared.service.LockKind.TheVariants.{Plain, ReadersWriter}
 use Rattle.rex_syntax.specs.declared.service.Declarations.{Declarations}
 use Rattle.rex_parse.specs.Words.{is_name}
-use Rattle.rex_parse.specs.Table.{expr_code, new_code, lock_code, variable_code, local_code, number_code}
+use Rattle.rex_parse.specs.Table.{expr_code, new_code, lock_code, lock_of_code, condition_code, variable_code, local_code, number_code}
 use Rattle.rex_parse.specs.After.{service_of}
 use Rattle.rex_parse.specs.Reading.{answer_from, answer_of}
 use Rattle.rex_parse.specs.declared.language.Above.{Above}
 use Rattle.rex_parse.specs.declared.language.ServiceCode.{ServiceCode}
-use Rattle.rex_parse.specs.declared.language.ServiceCode.TheVariants.{BadByte, Misplaced, BadForm, NoName, NoNumber, BadExpression, Undeclared, WrongKind, Taken, TooMany, LanesFirst, Unended}
+use Rattle.rex_parse.specs.declared.language.ServiceCode.TheVariants.{BadByte, Misplaced, BadForm, NoName, NoNumber, BadExpression, Undeclared, WrongKind, Taken, TooDeep, TooMany, LanesFirst, ReplyInBlock, Unended}
 
 -- lines, each with its end
 abbrev text_of : List (List ℕ) → List ℕ
@@ -52,70 +52,260 @@ declared (Err e) = None
 
 -- the counter's text declares the counter
 counter_is_read : declared (answer_of counter_text) ≡ Some counter
-unfolding counter_text counter answer_from is_name expr_code new_code lock_code variable_code local_code number_code digits
+unfolding counter_text counter answer_from is_name expr_code new_code lock_code lock_of_code condition_code variable_code local_code number_code digits
 counter_is_read = refl
+
+-- ---- blocks
+
+-- a branch inside a loop
+branches_text : List ℕ
+branches_text =
+    text_of (codes "lanes 2" ∷ codes "handler sum x" ∷ codes "let s = 0" ∷ codes "repeat 3" ∷ codes "if x > 1" ∷ codes "let s = s + x" ∷ codes "else" ∷ codes "let s = s - 1" ∷ codes "endif" ∷ codes "endrepeat" ∷ codes "reply s" ∷ [])
+
+-- the `if` goes on after the `else`, that at the `endif`, and the loop after the `endrepeat`
+branches : Declarations
+branches = record {
+  lanes = 2;
+  locks = [];
+  conditions = [];
+  variables = [];
+  handlers = (record {
+    name = codes "sum";
+    line_number = 2;
+    parameters = 1;
+    locals = 2;
+    lines =
+        line.Let 1 (record { first = Number (pos 0); rest = [] })
+        ∷ line.Repeat 3 8
+        ∷ line.If (record { first = Local 0; rest = (record { operator = Greater; operand = Number (pos 1) }) ∷ [] }) 5
+        ∷ line.Let 1 (record { first = Local 1; rest = (record { operator = Add; operand = Local 0 }) ∷ [] })
+        ∷ line.Else 6
+        ∷ line.Let 1 (record { first = Local 1; rest = (record { operator = Sub; operand = Number (pos 1) }) ∷ [] })
+        ∷ line.EndIf
+        ∷ line.EndRepeat
+        ∷ line.Reply (record { first = Local 1; rest = [] })
+        ∷ [];
+    line_numbers = 3 ∷ 4 ∷ 5 ∷ 6 ∷ 7 ∷ 8 ∷ 9 ∷ 10 ∷ 11 ∷ [];
+  }) ∷ [];
+}
+
+branches_are_read : declared (answer_of branches_text) ≡ Some branches
+unfolding branches_text branches answer_from is_name expr_code new_code lock_code lock_of_code condition_code variable_code local_code number_code digits
+branches_are_read = refl
+
+-- a lock that is tried
+tries_text : List ℕ
+tries_text =
+    text_of (codes "lanes 1" ∷ codes "lock L" ∷ codes "var a on L = -1" ∷ codes "handler grab" ∷ codes "try L" ∷ codes "set a = a + 1" ∷ codes "release L" ∷ codes "busy" ∷ codes "random r" ∷ codes "endtry" ∷ codes "reply 0" ∷ [])
+
+-- the `try` goes on after the `busy`, and that at the `endtry`
+tries : Declarations
+tries = record {
+  lanes = 1;
+  locks = (record { name = codes "L"; kind = Plain }) ∷ [];
+  conditions = [];
+  variables = (record { name = codes "a"; guard = 0; first = negsuc 0 }) ∷ [];
+  handlers = (record {
+    name = codes "grab";
+    line_number = 4;
+    parameters = 0;
+    locals = 1;
+    lines =
+        line.Try 0 4
+        ∷ line.Set 0 (record { first = Variable 0; rest = (record { operator = Add; operand = Number (pos 1) }) ∷ [] })
+        ∷ line.Release 0
+        ∷ line.Busy 5
+        ∷ line.Random 0
+        ∷ line.EndTry
+        ∷ line.Reply (record { first = Number (pos 0); rest = [] })
+        ∷ [];
+    line_numbers = 5 ∷ 6 ∷ 7 ∷ 8 ∷ 9 ∷ 10 ∷ 11 ∷ [];
+  }) ∷ [];
+}
+
+tries_are_read : declared (answer_of tries_text) ≡ Some tries
+unfolding tries_text tries answer_from is_name expr_code new_code lock_code lock_of_code condition_code variable_code local_code number_code digits
+tries_are_read = refl
+
+-- ---- conditions and readers
+
+-- lanes that wait for one another
+waits_text : List ℕ
+waits_text =
+    text_of (codes "lanes 2" ∷ codes "lock L" ∷ codes "cond C on L" ∷ codes "cond D on L" ∷ codes "var n on L = 0" ∷ codes "handler take" ∷ codes "acquire L" ∷ codes "wait D while n == 0" ∷ codes "set n = n - 1" ∷ codes "signal C" ∷ codes "broadcast D" ∷ codes "release L" ∷ codes "reply 1" ∷ [])
+
+waits : Declarations
+waits = record {
+  lanes = 2;
+  locks = (record { name = codes "L"; kind = Plain }) ∷ [];
+  conditions = (record { name = codes "C"; lock = 0 }) ∷ (record { name = codes "D"; lock = 0 }) ∷ [];
+  variables = (record { name = codes "n"; guard = 0; first = pos 0 }) ∷ [];
+  handlers = (record {
+    name = codes "take";
+    line_number = 6;
+    parameters = 0;
+    locals = 0;
+    lines =
+        line.Acquire 0
+        ∷ line.Wait 1 (record { first = Variable 0; rest = (record { operator = Equal; operand = Number (pos 0) }) ∷ [] })
+        ∷ line.Set 0 (record { first = Variable 0; rest = (record { operator = Sub; operand = Number (pos 1) }) ∷ [] })
+        ∷ line.Signal 0
+        ∷ line.Broadcast 1
+        ∷ line.Release 0
+        ∷ line.Reply (record { first = Number (pos 1); rest = [] })
+        ∷ [];
+    line_numbers = 7 ∷ 8 ∷ 9 ∷ 10 ∷ 11 ∷ 12 ∷ 13 ∷ [];
+  }) ∷ [];
+}
+
+waits_are_read : declared (answer_of waits_text) ≡ Some waits
+unfolding waits_text waits answer_from is_name expr_code new_code lock_code lock_of_code condition_code variable_code local_code number_code digits
+waits_are_read = refl
+
+-- a share of a readers-writer lock
+shares_text : List ℕ
+shares_text =
+    text_of (codes "lanes 2" ∷ codes "lock L" ∷ codes "rwlock R" ∷ codes "var a on R = 7" ∷ codes "handler get" ∷ codes "share R" ∷ codes "let v = a" ∷ codes "release R" ∷ codes "clock t" ∷ codes "reply v" ∷ [])
+
+shares : Declarations
+shares = record {
+  lanes = 2;
+  locks = (record { name = codes "L"; kind = Plain }) ∷ (record { name = codes "R"; kind = ReadersWriter }) ∷ [];
+  conditions = [];
+  variables = (record { name = codes "a"; guard = 1; first = pos 7 }) ∷ [];
+  handlers = (record {
+    name = codes "get";
+    line_number = 5;
+    parameters = 0;
+    locals = 2;
+    lines =
+        line.Share 1
+        ∷ line.Let 0 (record { first = Variable 0; rest = [] })
+        ∷ line.Release 1
+        ∷ line.Clock 1
+        ∷ line.Reply (record { first = Local 0; rest = [] })
+        ∷ [];
+    line_numbers = 6 ∷ 7 ∷ 8 ∷ 9 ∷ 10 ∷ [];
+  }) ∷ [];
+}
+
+shares_are_read : declared (answer_of shares_text) ≡ Some shares
+unfolding shares_text shares answer_from is_name expr_code new_code lock_code lock_of_code condition_code variable_code local_code number_code digits
+shares_are_read = refl
+
+-- ---- refusals
 
 -- a comment's bytes must be allowed, too
 bad_byte : answer_of (text_of (codes "lanes 1" ∷ (35 ∷ 127 ∷ []) ∷ [])) ≡ Err (2, BadByte)
-unfolding answer_from is_name expr_code new_code lock_code variable_code local_code number_code digits
+unfolding answer_from is_name expr_code new_code lock_code lock_of_code condition_code variable_code local_code number_code digits
 bad_byte = refl
 
 -- `set` may not stand outside a handler
 misplaced : answer_of (text_of (codes "lanes 1" ∷ codes "lock L" ∷ codes "var a on L = 0" ∷ codes "set a = 1" ∷ [])) ≡ Err (4, Misplaced)
-unfolding answer_from is_name expr_code new_code lock_code variable_code local_code number_code digits
+unfolding answer_from is_name expr_code new_code lock_code lock_of_code condition_code variable_code local_code number_code digits
 misplaced = refl
 
 -- a variable has a guard
 bad_form : answer_of (text_of (codes "lanes 1" ∷ codes "lock L" ∷ codes "var a on L" ∷ [])) ≡ Err (3, BadForm)
-unfolding answer_from is_name expr_code new_code lock_code variable_code local_code number_code digits
+unfolding answer_from is_name expr_code new_code lock_code lock_of_code condition_code variable_code local_code number_code digits
 bad_form = refl
 
 -- a word of the language names nothing
 no_name : answer_of (text_of (codes "lanes 1" ∷ codes "lock set" ∷ [])) ≡ Err (2, NoName)
-unfolding answer_from is_name expr_code new_code lock_code variable_code local_code number_code digits
+unfolding answer_from is_name expr_code new_code lock_code lock_of_code condition_code variable_code local_code number_code digits
 no_name = refl
 
 -- there are at most 16 lanes
 no_number : answer_of (text_of (codes "lanes 17" ∷ [])) ≡ Err (1, NoNumber)
-unfolding answer_from is_name expr_code new_code lock_code variable_code local_code number_code digits
+unfolding answer_from is_name expr_code new_code lock_code lock_of_code condition_code variable_code local_code number_code digits
 no_number = refl
 
 -- operands stand with an operator between each two
 bad_expression : answer_of (text_of (codes "lanes 1" ∷ codes "handler h" ∷ codes "reply 5 6" ∷ [])) ≡ Err (3, BadExpression)
-unfolding answer_from is_name expr_code new_code lock_code variable_code local_code number_code digits
+unfolding answer_from is_name expr_code new_code lock_code lock_of_code condition_code variable_code local_code number_code digits
 bad_expression = refl
 
 -- a local is new on the line after the one that makes it
 undeclared : answer_of (text_of (codes "lanes 1" ∷ codes "handler h" ∷ codes "let x = x" ∷ [])) ≡ Err (3, Undeclared)
-unfolding answer_from is_name expr_code new_code lock_code variable_code local_code number_code digits
+unfolding answer_from is_name expr_code new_code lock_code lock_of_code condition_code variable_code local_code number_code digits
 undeclared = refl
 
 -- a lock is no variable
 wrong_kind : answer_of (text_of (codes "lanes 1" ∷ codes "lock L" ∷ codes "handler h" ∷ codes "reply L" ∷ [])) ≡ Err (4, WrongKind)
-unfolding answer_from is_name expr_code new_code lock_code variable_code local_code number_code digits
+unfolding answer_from is_name expr_code new_code lock_code lock_of_code condition_code variable_code local_code number_code digits
 wrong_kind = refl
 
 -- a handler's parameter doesn't have its name
 taken : answer_of (text_of (codes "lanes 1" ∷ codes "handler h h" ∷ [])) ≡ Err (2, Taken)
-unfolding answer_from is_name expr_code new_code lock_code variable_code local_code number_code digits
+unfolding answer_from is_name expr_code new_code lock_code lock_of_code condition_code variable_code local_code number_code digits
 taken = refl
 
 -- there are at most 16 parameters and locals
 too_many : answer_of (text_of (codes "lanes 1" ∷ codes "handler own a b c d" ∷ codes "let e = 0" ∷ codes "let f = 0" ∷ codes "let g = 0" ∷ codes "let h = 0" ∷ codes "let i = 0" ∷ codes "let j = 0" ∷ codes "let k = 0" ∷ codes "let l = 0" ∷ codes "let m = 0" ∷ codes "let n = 0" ∷ codes "let o = 0" ∷ codes "let p = 0" ∷ codes "let q = 0" ∷ [])) ≡ Err (15, TooMany)
-unfolding answer_from is_name expr_code new_code lock_code variable_code local_code number_code digits
+unfolding answer_from is_name expr_code new_code lock_code lock_of_code condition_code variable_code local_code number_code digits
 too_many = refl
 
 -- `lanes` comes once
 lanes_again : answer_of (text_of (codes "lanes 1" ∷ codes "lanes 1" ∷ [])) ≡ Err (2, LanesFirst)
-unfolding answer_from is_name expr_code new_code lock_code variable_code local_code number_code digits
+unfolding answer_from is_name expr_code new_code lock_code lock_of_code condition_code variable_code local_code number_code digits
 lanes_again = refl
 
 -- `lanes` comes first
 lanes_first : answer_of (text_of (codes "lock L" ∷ [])) ≡ Err (1, LanesFirst)
-unfolding answer_from is_name expr_code new_code lock_code variable_code local_code number_code digits
+unfolding answer_from is_name expr_code new_code lock_code lock_of_code condition_code variable_code local_code number_code digits
 lanes_first = refl
 
 -- a text ends after a handler
 unended : answer_of (text_of (codes "lanes 1" ∷ codes "handler h" ∷ [])) ≡ Err (3, Unended)
-unfolding answer_from is_name expr_code new_code lock_code variable_code local_code number_code digits
+unfolding answer_from is_name expr_code new_code lock_code lock_of_code condition_code variable_code local_code number_code digits
 unended = refl
+
+-- a word closes the innermost open block alone
+closes_another : answer_of (text_of (codes "lanes 1" ∷ codes "handler h" ∷ codes "if 1" ∷ codes "repeat 2" ∷ codes "endif" ∷ [])) ≡ Err (5, Misplaced)
+unfolding answer_from is_name expr_code new_code lock_code lock_of_code condition_code variable_code local_code number_code digits
+closes_another = refl
+
+-- a second `else` divides nothing
+second_else : answer_of (text_of (codes "lanes 1" ∷ codes "handler h" ∷ codes "if 1" ∷ codes "else" ∷ codes "else" ∷ [])) ≡ Err (5, Misplaced)
+unfolding answer_from is_name expr_code new_code lock_code lock_of_code condition_code variable_code local_code number_code digits
+second_else = refl
+
+-- a `try` has a `busy`
+endtry_first : answer_of (text_of (codes "lanes 1" ∷ codes "lock L" ∷ codes "handler h" ∷ codes "try L" ∷ codes "endtry" ∷ [])) ≡ Err (5, Misplaced)
+unfolding answer_from is_name expr_code new_code lock_code lock_of_code condition_code variable_code local_code number_code digits
+endtry_first = refl
+
+-- outside all blocks nothing is divided
+busy_alone : answer_of (text_of (codes "lanes 1" ∷ codes "handler h" ∷ codes "busy" ∷ [])) ≡ Err (3, Misplaced)
+unfolding answer_from is_name expr_code new_code lock_code lock_of_code condition_code variable_code local_code number_code digits
+busy_alone = refl
+
+-- a fifth loop is too deep, also inside a branch
+too_deep : answer_of (text_of (codes "lanes 1" ∷ codes "handler h" ∷ codes "repeat 1" ∷ codes "repeat 1" ∷ codes "repeat 1" ∷ codes "repeat 1" ∷ codes "if 1" ∷ codes "repeat 1" ∷ [])) ≡ Err (8, TooDeep)
+unfolding answer_from is_name expr_code new_code lock_code lock_of_code condition_code variable_code local_code number_code digits
+too_deep = refl
+
+-- a `reply` stands outside all blocks
+reply_in_block : answer_of (text_of (codes "lanes 1" ∷ codes "handler h" ∷ codes "if 1" ∷ codes "reply 0" ∷ [])) ≡ Err (4, ReplyInBlock)
+unfolding answer_from is_name expr_code new_code lock_code lock_of_code condition_code variable_code local_code number_code digits
+reply_in_block = refl
+
+-- a plain lock has no shares
+plain_share : answer_of (text_of (codes "lanes 1" ∷ codes "lock L" ∷ codes "handler h" ∷ codes "share L" ∷ [])) ≡ Err (4, WrongKind)
+unfolding answer_from is_name expr_code new_code lock_code lock_of_code condition_code variable_code local_code number_code digits
+plain_share = refl
+
+-- a readers-writer lock isn't tried
+try_readers : answer_of (text_of (codes "lanes 1" ∷ codes "rwlock R" ∷ codes "handler h" ∷ codes "try R" ∷ [])) ≡ Err (4, WrongKind)
+unfolding answer_from is_name expr_code new_code lock_code lock_of_code condition_code variable_code local_code number_code digits
+try_readers = refl
+
+-- a condition isn't declared above itself
+condition_of_itself : answer_of (text_of (codes "lanes 1" ∷ codes "cond C on C" ∷ [])) ≡ Err (2, Undeclared)
+unfolding answer_from is_name expr_code new_code lock_code lock_of_code condition_code variable_code local_code number_code digits
+condition_of_itself = refl
+
+-- a loop has 1 to 1,000 turns
+no_turns : answer_of (text_of (codes "lanes 1" ∷ codes "handler h" ∷ codes "repeat 1001" ∷ [])) ≡ Err (3, NoNumber)
+unfolding answer_from is_name expr_code new_code lock_code lock_of_code condition_code variable_code local_code number_code digits
+no_turns = refl

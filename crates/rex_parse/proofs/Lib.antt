@@ -2,6 +2,7 @@ pub mod Weighing
 pub mod Terms
 pub mod Fine
 pub mod Shapes
+pub mod Looking
 pub mod PlainLines
 pub mod Dispatch
 pub mod FirstBad

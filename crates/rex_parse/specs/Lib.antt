@@ -1,4 +1,5 @@
 pub mod Words
+pub mod Entries
 pub mod Above
 pub mod Table
 pub mod After

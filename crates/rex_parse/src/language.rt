@@ -1,6 +1,7 @@
 //! What the lines of a service say and declare.
 
 use crate::blocks::Blocks;
+use crate::name_table::NameTable;
 use rex_list::List;
 use rex_syntax::line::Line;
 use rex_syntax::service::{Condition, Handler, Lock, Variable};
@@ -78,7 +79,7 @@ pub enum Meaning {
     Handler(u8),
 }
 
-/// A declared name.
+/// A declared name, as contracts see it.
 #[derive(Drop)]
 pub struct Entry {
     pub name: List<u8>,
@@ -103,7 +104,7 @@ pub struct Above {
     /// The number of lanes, once it is declared.
     pub lanes: Option<u64>,
     /// What each declared name stands for, in order of declaration.
-    pub names: List<Entry>,
+    pub names: NameTable,
     pub locks: List<Lock>,
     pub conditions: List<Condition>,
     pub variables: List<Variable>,

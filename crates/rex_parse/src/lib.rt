@@ -12,6 +12,7 @@ mod language;
 mod least;
 mod line_forms;
 mod lines;
+mod name_table;
 mod names;
 mod parser;
 mod placing;
@@ -22,6 +23,7 @@ mod words;
 
 pub use blocks::{BlockKind, Blocks, OpenBlock};
 pub use language::{Above, Entry, Fault, Form, Meaning, OpenHandler, ReadError, ServiceCode};
+pub use name_table::NameTable;
 pub use parser::Parser;
 pub use reading::{first_bad_line, read_service};
 pub use words::is_name;

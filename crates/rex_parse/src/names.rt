@@ -11,12 +11,7 @@ impl Above {
     pub fn meaning_of(&self, word: &[u8]) -> Option<Meaning>
         ensures { result ≡ above.meaning_of self.now word.now }
     {
-        for entry in self.names.as_slice() {
-            if entry.name.as_slice() == word {
-                return Some(entry.meaning);
-            }
-        }
-        None
+        self.names.get(word)
     }
 
     pub(crate) fn is_declared(&self, word: &[u8]) -> bool

@@ -11,6 +11,7 @@ ghost use Rattle.rex_parse.specs.Reading.{raw_code, raw_after, end_code};
 ghost use Rattle.rex_parse.specs.Answers.{texts, Takes};
 
 use crate::language::{Above, Fault, Form, ServiceCode};
+use crate::name_table::NameTable;
 use crate::words::form_of;
 use rex_list::List;
 use rex_syntax::service::{Declarations, Service};
@@ -24,7 +25,7 @@ impl Above {
     {
         Above {
             lanes: None,
-            names: List::new(alloc),
+            names: NameTable::new(alloc),
             locks: List::new(alloc),
             conditions: List::new(alloc),
             variables: List::new(alloc),

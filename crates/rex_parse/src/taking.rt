@@ -7,7 +7,7 @@ ghost use Rattle.rex_parse.specs.Answers.{texts};
 
 use crate::blocks::Blocks;
 use crate::copying::{own_word, own_words};
-use crate::language::{Above, Entry, Meaning, OpenHandler};
+use crate::language::{Above, Meaning, OpenHandler};
 use rex_list::List;
 use rex_syntax::line::Line;
 use rex_syntax::service::{Condition, Handler, Lock, LockKind, Variable};
@@ -34,12 +34,12 @@ impl Above {
         }
     }
 
-    fn declare(&mut self, alloc: Global, name: &[u8], meaning: Meaning) -> Result<(), AllocError>
+    fn declare(&mut self, name: &[u8], meaning: Meaning) -> Result<(), AllocError>
+        requires { table.new_code self.old name.now ≡ None }
         ensures taken { OnOk result (self.new ≡ after.with_name self.old name.now meaning) }
         ensures locals { self.new.locals ≡ self.old.locals }
     {
-        let name = own_word(alloc, name)?;
-        self.names.push(Entry { name, meaning })
+        self.names.insert(name, meaning)
     }
 
     pub(crate) fn add_lock(
@@ -48,7 +48,8 @@ impl Above {
         kind: LockKind,
         name: &[u8],
     ) -> Result<(), AllocError>
-        requires { length self.old.locks < 64 }
+        requires room { length self.old.locks < 64 }
+        requires new { table.new_code self.old name.now ≡ None }
         ensures taken { OnOk result (self.new ≡ after.with_lock self.old kind name.now) }
         ensures locals { self.new.locals ≡ self.old.locals }
     {
@@ -57,7 +58,7 @@ impl Above {
             name: own_word(alloc, name)?,
             kind,
         };
-        self.declare(alloc, name, meaning)?;
+        self.declare(name, meaning)?;
         self.locks.push(lock)
     }
 
@@ -67,7 +68,8 @@ impl Above {
         name: &[u8],
         lock: u8,
     ) -> Result<(), AllocError>
-        requires { length self.old.conditions < 64 }
+        requires room { length self.old.conditions < 64 }
+        requires new { table.new_code self.old name.now ≡ None }
         ensures taken { OnOk result (self.new ≡ after.with_condition self.old name.now lock) }
         ensures locals { self.new.locals ≡ self.old.locals }
     {
@@ -76,7 +78,7 @@ impl Above {
             name: own_word(alloc, name)?,
             lock,
         };
-        self.declare(alloc, name, meaning)?;
+        self.declare(name, meaning)?;
         self.conditions.push(condition)
     }
 
@@ -87,7 +89,8 @@ impl Above {
         guard: u8,
         first: i64,
     ) -> Result<(), AllocError>
-        requires { length self.old.variables < 256 }
+        requires room { length self.old.variables < 256 }
+        requires new { table.new_code self.old name.now ≡ None }
         ensures taken { OnOk result (self.new ≡ after.with_variable self.old name.now guard first) }
         ensures locals { self.new.locals ≡ self.old.locals }
     {
@@ -98,7 +101,7 @@ impl Above {
             guard,
             first,
         };
-        self.declare(alloc, name, meaning)?;
+        self.declare(name, meaning)?;
         self.variables.push(variable)
     }
 
@@ -110,6 +113,7 @@ impl Above {
         parameters: &[&[u8]],
     ) -> Result<(), AllocError>
         requires room { length self.old.handlers < 64 }
+        requires new { table.new_code self.old name.now ≡ None }
         requires few { length parameters.now ≤ 4 }
         requires few_locals { length self.old.locals ≤ 16 }
         ensures taken { OnOk result (self.new ≡ after.with_heading self.old number name.now (texts parameters.now)) }
@@ -118,7 +122,7 @@ impl Above {
         let meaning = Meaning::Handler(self.handlers.len() as u8);
         let name_of = own_word(alloc, name)?;
         let locals = own_words(alloc, parameters)?;
-        self.declare(alloc, name, meaning)?;
+        self.declare(name, meaning)?;
         self.locals = locals;
         self.open_handler = Some(OpenHandler {
             name: name_of,

@@ -9,3 +9,5 @@ pub mod locks;
 pub mod names;
 pub mod request;
 pub mod service;
+#[cfg(test)]
+mod tests;

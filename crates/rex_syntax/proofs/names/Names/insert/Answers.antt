@@ -1,6 +1,5 @@
-use Rattle.std.proofs.Common.{◌≡◌, ap, ◌∙◌, map}
+use Rattle.std.proofs.Common.{ap, ◌∙◌, map}
 use Rattle.std.specs.Str.{bytes_eq}
-use Rattle.rex_syntax.specs.Names.{number_of, with_word}
 use Rattle.rex_syntax.proofs.Numbered.{inserted, inserted_at}
 use Rattle.rex_syntax.proofs.names.Names.insert.Goals as goal
 

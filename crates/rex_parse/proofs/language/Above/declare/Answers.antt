@@ -1,0 +1,5 @@
+use Rattle.rex_parse.proofs.Looking.{name_is_new}
+use Rattle.rex_parse.proofs.language.Above.declare.Goals as goal
+
+pub insert-requires : goal.insert-requires
+insert-requires c = name_is_new c.args.self.now c.args.name.now c.requires
