@@ -10,6 +10,6 @@ pub mod Run
 pub mod Sounds
 pub mod Rooms
 pub mod Live
-pub mod Touches
+pub mod Touched
 pub mod Counter
 mod Examples

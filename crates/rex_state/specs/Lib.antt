@@ -8,7 +8,7 @@ pub mod Start
 pub mod Flows
 pub mod Sound
 pub mod Live
-pub mod Touches
+pub mod Touched
 pub mod Laws
 pub mod Room
 pub mod Spare

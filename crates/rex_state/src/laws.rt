@@ -1,6 +1,6 @@
 //! What the machine keeps. Each function is the statement that its contract makes, and does nothing.
 
-ghost use Rattle.rex_state.specs.Laws.{StartIsSound, EventsKeepSound, RunsKeepSound, SoundStatesGoOn, ReachedStatesGoOn, EventsWriteHeld, EventsReadHeld};
+ghost use Rattle.rex_state.specs.Laws.{StartIsSound, EventsKeepSound, RunsKeepSound, SoundStatesGoOn, ReachedStatesGoOn, LinesKeepLocks, EventsWriteHeld, EventsReadHeld};
 
 /// A checked service starts in a sound state.
 pub fn start_is_sound()
@@ -28,13 +28,18 @@ pub fn reached_states_go_on()
     ensures { ReachedStatesGoOn }
 {}
 
-/// An event writes only variables whose guards its lane holds exclusively once it is done.
+/// After an event its lane holds what the event itself left it: the lines up to its next event take and give up no lock.
+pub fn lines_keep_locks()
+    ensures { LinesKeepLocks }
+{}
+
+/// An event changes only variables whose guards its lane holds exclusively after it.
 pub fn events_write_held()
     ensures { EventsWriteHeld }
 {}
 
-/// An event reads only variables whose guards its lane holds once it is done: with others that agree on these it leads to
-/// the same state, but for the variables, which agree again.
+/// What an event does depends only on variables whose guards its lane holds after it: with other values of the others it
+/// is allowed as well, and leads to the same state but for theirs.
 pub fn events_read_held()
     ensures { EventsReadHeld }
 {}

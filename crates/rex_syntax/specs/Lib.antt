@@ -7,3 +7,4 @@ pub mod Leads
 pub mod Flow
 pub mod Check
 pub mod Names
+pub mod Held

@@ -3,7 +3,10 @@
 ghost use Rattle.std.specs.Prelude.{◌≡◌};
 ghost use Rattle.rex_syntax.specs.Service.{IsService};
 ghost use Rattle.rex_syntax.specs.Check.{IsChecked};
+ghost use Rattle.rex_syntax.specs.Held.{HasLine, IsHeldAt};
 
+use crate::held::held_at;
+use crate::locks::Lockset;
 use crate::service::{Declarations, Service};
 use std::marker::Model;
 
@@ -40,5 +43,15 @@ impl Checked {
         ensures checked { IsChecked self.now }
     {
         self.service.declarations()
+    }
+
+    /// What a lane holds when it comes to a line of a handler, as the check says. Both are numbered from 0. It takes
+    /// no memory.
+    pub fn lockset(&self, handler: u8, line: u16) -> Lockset
+        requires { HasLine self.now handler line }
+        ensures { IsHeldAt self.now handler line result }
+    {
+        let handlers = self.declarations().handlers.as_slice();
+        held_at(handlers[handler as usize].lines.as_slice(), line)
     }
 }

@@ -4,6 +4,7 @@
 pub mod checked;
 pub mod expr;
 pub mod flow;
+mod held;
 pub mod line;
 pub mod locks;
 pub mod names;
