@@ -19,7 +19,8 @@ use Rattle.rex_lockset.specs.Known.{known_at, followed}
 use Rattle.rex_lockset.proofs.Noted.{Has}
 use Rattle.rex_lockset.proofs.Forms.{has_form, LeadsInside}
 use Rattle.rex_lockset.proofs.Followed.{length-followed, followed-keeps, followed-before, followed-next, followed-other, not_before, past, any_next, any_later}
-use Rattle.rex_lockset.proofs.Reached.{reply_last, leads_next, leads_branch}
+use Rattle.rex_syntax.proofs.Replies.{reply_last}
+use Rattle.rex_lockset.proofs.Reached.{leads_next, leads_branch}
 
 -- the line at a place was followed with what is known of it
 pub record IsFollowed (service : Declarations) (line : Line) (place : ℕ) (known : List Known) : Type 0 where

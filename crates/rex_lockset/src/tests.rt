@@ -3,11 +3,14 @@ ghost use Rattle.rex_lockset.specs.Counter as spec;
 
 use super::*;
 use rex_list::List;
+use rex_syntax::checked::Checked;
 use rex_syntax::expr::{Expr, Operand, Operator, Term};
 use rex_syntax::flow::CheckCode;
 use rex_syntax::line::Line;
+use rex_syntax::locks::Mode;
 use rex_syntax::service::{Declarations, Handler, Lock, LockKind, Service, Variable};
 use std::alloc::{AllocError, Global};
+use std::process::Abort;
 use std::test::*;
 
 fn just(alloc: Global, operand: Operand) -> Expr
@@ -113,5 +116,24 @@ fn a_counter_without_its_lock_is_refused(rt: HostRuntime) -> Result<(), Fail> {
         check(rt.alloc(), service).err(),
         Some(CheckError::Refused(refused))
     );
+    Ok(())
+}
+
+/// In which mode a lane holds the first lock when it comes to a line of the first handler.
+fn mode_at(rt: &impl Abort, checked: &Checked, line: u16) -> Mode {
+    let handlers = checked.declarations().handlers.as_slice();
+    assert!(rt; !handlers.is_empty());
+    assert!(rt; (line as usize) < handlers[0].lines.len());
+    checked.lockset(0, line).mode(0)
+}
+
+#[test]
+fn the_counter_holds_its_lock_from_line_1_to_3(rt: HostRuntime) -> Result<(), Fail> {
+    let service = counter(rt.alloc(), Line::Acquire { lock: 0 })?;
+    let checked = check(rt.alloc(), service)?;
+    assert_eq!(rt; mode_at(&rt, &checked, 0), Mode::Free);
+    assert_eq!(rt; mode_at(&rt, &checked, 1), Mode::Exclusive);
+    assert_eq!(rt; mode_at(&rt, &checked, 3), Mode::Exclusive);
+    assert_eq!(rt; mode_at(&rt, &checked, 4), Mode::Free);
     Ok(())
 }
