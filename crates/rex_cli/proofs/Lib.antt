@@ -1,3 +1,4 @@
 pub mod Whole
 pub mod Caused
+pub mod There
 mod Examples

@@ -1,10 +1,12 @@
 //! The texts of codes, and the lines that tell of a refusal.
 
-ghost use Rattle.std.specs.Prelude.{◌≡◌, map, IfOk};
+ghost use Rattle.std.specs.Prelude.{◌≡◌, ◌<◌, Some, map, IfOk, IfSome, length};
+ghost use Rattle.rex_syntax.specs.Service.{IsService};
+ghost use Rattle.rex_lockset.specs.Refusal.{refusal_of};
 ghost use Rattle.rex_report.specs.Pieces.{text_of};
 ghost use Rattle.rex_cli.specs.Refusals as spec;
 
-use rex_lockset::Refused;
+use rex_lockset::{Refused, refusals_are_there};
 use rex_parse::ServiceCode;
 use rex_report::{Piece, push_pieces};
 use rex_scenario::ScenarioCode;
@@ -102,34 +104,12 @@ pub(crate) fn text_refusal(
 
 // The number in the text of a handler's line, or of the handler itself.
 fn number_in(handler: &Handler, place: Option<u16>) -> u32
+    requires { IfSome place (λ p. p < length handler.now.line_numbers) }
     ensures { result ≡ spec.number_in handler.now place }
 {
     match place {
         None => handler.line_number,
-        Some(place) => match handler.line_numbers.as_slice().get(place as usize) {
-            Some(number) => *number,
-            None => 0,
-        },
-    }
-}
-
-// The same of what the check refuses.
-fn refused_number(service: &Declarations, refused: Refused) -> u32
-    ensures { result ≡ spec.number_in (spec.handler_of service.now refused) refused.line }
-{
-    match service.handlers.as_slice().get(refused.handler as usize) {
-        Some(handler) => number_in(handler, refused.line),
-        None => 0,
-    }
-}
-
-// The name of the handler that is refused, or one of whose lines is.
-fn refused_name(service: &Declarations, refused: Refused) -> &[u8]
-    ensures { result.now ≡ (spec.handler_of service.now refused).name }
-{
-    match service.handlers.as_slice().get(refused.handler as usize) {
-        Some(handler) => handler.name.as_slice(),
-        None => &[],
+        Some(place) => handler.line_numbers.as_slice()[place as usize],
     }
 }
 
@@ -139,15 +119,19 @@ pub(crate) fn check_refusal(
     service: &Declarations,
     refused: Refused,
 ) -> Result<Vec<u8>, AllocError>
+    requires sound { IsService service.now }
+    requires refused { refusal_of service.now ≡ Some refused }
     ensures { IfOk result (λ text. text.items ≡ spec.check_refusal service.now refused) }
 {
-    let number = refused_number(service, refused) as u64;
+    refusals_are_there();
+    let handler = &service.handlers.as_slice()[refused.handler as usize];
+    let number = number_in(handler, refused.line) as u64;
     line(
         alloc,
         b"refused",
         &[
             Piece::Word(b"handler"),
-            Piece::Name(refused_name(service, refused)),
+            Piece::Name(handler.name.as_slice()),
             Piece::Word(b"line"),
             Piece::Number(number),
             Piece::Word(check_code(refused.code)),

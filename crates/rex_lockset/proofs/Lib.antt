@@ -8,5 +8,6 @@ pub mod Sound
 pub mod Flows
 pub mod Complete
 pub mod Law
+pub mod There
 mod Examples
 pub mod CounterLemmas
