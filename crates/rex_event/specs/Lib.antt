@@ -1,1 +1,4 @@
 pub mod Conflict
+pub mod Order
+pub mod Cuts
+pub mod Causes

@@ -1,10 +1,12 @@
-//! Events of a trace, and which two of them conflict.
+//! Events of a trace, which two of them conflict, and pieces of a trace.
 #![tactic(auto)]
 
 mod conflicts;
+mod delta;
 mod event;
 
 pub use conflicts::conflict;
+pub use delta::{Cause, Cut, Delta};
 pub use event::{Event, Kind};
 
 #[cfg(test)]

@@ -9,6 +9,10 @@ pub mod Flows
 pub mod Sound
 pub mod Live
 pub mod Touched
+pub mod Names
+pub mod Counts
+pub mod Commute
+pub mod Local
 pub mod Laws
 pub mod Room
 pub mod Spare

@@ -12,6 +12,7 @@ use Rattle.rex_syntax.specs.Locks.{mode_of, with_mode}
 use Rattle.rex_syntax.specs.Flow.{entry}
 use Rattle.rex_syntax.specs.Leads.{lock_of}
 use Rattle.rex_frame.specs.declared.frame.Frame.{Frame}
+pub use Rattle.rex_event.specs.Order.{Has}
 use Rattle.rex_frame.specs.Phases.{is_running}
 use Rattle.rex_frame.specs.Weights.{IsInside}
 use Rattle.rex_state.specs.Value.{StateValue}
@@ -81,11 +82,6 @@ pub record IsPlaced (service : Declarations) (s : StateValue) : Type 0 where
   pub each : (lane : ℕ) → Placed service (frame_at s lane)
 
 -- ---- queues
-
--- it is among these
-abbrev pub Has : {X : Type 0} → X → List X → Type 0
-Has x [] = ⊥
-Has x (y ∷ ys) = (y ≡ x) ⊎ Has x ys
 
 -- each lane is there once
 abbrev pub IsOnce : List ℕ → Type 0

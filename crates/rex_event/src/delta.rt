@@ -1,0 +1,25 @@
+use crate::Event;
+use rex_list::List;
+
+/// An event on which another one rests, by its lane and its index.
+#[derive(Clone, Copy, Debug, PartialEq, Eq)]
+pub struct Cause {
+    pub lane: u8,
+    pub index: u32,
+}
+
+/// A moment of a trace: for each lane, from the first on, how many events it did before. Where no event below a cut has a
+/// cause above it the cut is consistent (Chandy and Lamport, 1985).
+#[derive(Drop)]
+pub struct Cut {
+    pub counts: List<u32>,
+}
+
+/// A piece of a trace: for each lane how many events it did before the piece, the events, and for each event its causes
+/// in the piece, rising by lane.
+#[derive(Drop)]
+pub struct Delta {
+    pub bases: List<u32>,
+    pub events: List<Event>,
+    pub causes: List<List<Cause>>,
+}
