@@ -1,0 +1,2 @@
+//! Consistent cuts of a trace, and the deltas that they cut off.
+#![tactic(auto)]

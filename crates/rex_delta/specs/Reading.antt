@@ -1,0 +1,173 @@
+-- Reading a delta from left to right, a field a line, with the first field that is absent, cut short or not allowed.
+use Rattle.std.specs.Prelude.{◌≡◌, ◌==◌, ℕ, zero, suc, ◌+◌, ◌-◌, ◌^◌, ◌&&◌, ℤ, Bool, not, nat_eq, nat_lt, nat_le, List, [], ◌∷◌, length, Option, Some, None, Result, Ok, Err, if◌then◌else◌}
+use Rattle.std.specs.Int.{w8, w16, w32, w64}
+use Rattle.rex_event.specs.declared.event.Kind.{Kind}
+use Rattle.rex_event.specs.declared.event.Kind.TheVariants.{Begin, AcqEx, AcqSh, RelEx, RelSh, TryOk, TryBusy, Wait, Wake, Signal, Broadcast, Clock, Random, Reply}
+use Rattle.rex_event.specs.declared.event.Event.{Event}
+use Rattle.rex_event.specs.declared.delta.Cause.{Cause}
+use Rattle.rex_event.specs.declared.delta.Delta.{Delta}
+use Rattle.rex_event.specs.Cuts.{count_at, counted}
+use Rattle.rex_wire.specs.Reading.{Left, Reading, ◌>>=◌, number_at, signed_at, allowed_at, all_left}
+use Rattle.rex_delta.specs.Spelling.{is_between, greatest_base, has_event, others_below}
+use Rattle.rex_delta.specs.declared.decode.DecodeError.{DecodeError}
+use Rattle.rex_delta.specs.declared.decode.DecodeError.TheVariants.{Bad, OutOfMemory}
+
+-- a number from 1 to 64 as one from 0
+unfoldable pub place_at : Left → Reading ℕ
+place_at l = do
+  n ← allowed_at w8 (is_between 1 64) l
+  Ok (n.0 - 1, n.1)
+
+-- as many arguments
+unfoldable pub arguments_at : ℕ → Left → Reading (List ℤ)
+arguments_at zero l = Ok ([], l)
+arguments_at (suc n) l = do
+  first ← signed_at l
+  others ← arguments_at n first.1
+  Ok (first.0 ∷ others.0, others.1)
+
+unfoldable pub begin_at : Left → Reading Kind
+begin_at l = do
+  client ← allowed_at w16 (is_between 1 256) l
+  sequence ← allowed_at w32 (is_between 1 1000000) client.1
+  handler ← place_at sequence.1
+  count ← allowed_at w8 (is_between 0 4) handler.1
+  arguments ← arguments_at count.0 count.1
+  Ok (Begin client.0 sequence.0 handler.0 arguments.0, arguments.1)
+
+-- a kind of one lock
+unfoldable pub lock_at : (ℕ → Kind) → Left → Reading Kind
+lock_at make l = do
+  lock ← place_at l
+  Ok (make lock.0, lock.1)
+
+-- a kind of a condition and its lock
+unfoldable pub condition_at : (ℕ → ℕ → Kind) → Left → Reading Kind
+condition_at make l = do
+  condition ← place_at l
+  lock ← place_at condition.1
+  Ok (make condition.0 lock.0, lock.1)
+
+-- the lane that a signal woke
+abbrev pub woken_of : ℕ → Option ℕ
+woken_of zero = None
+woken_of (suc lane) = Some lane
+
+unfoldable pub signal_at : ℕ → Left → Reading Kind
+signal_at lanes l = do
+  condition ← place_at l
+  woken ← allowed_at w8 (is_between 0 lanes) condition.1
+  Ok (Signal condition.0 (woken_of woken.0), woken.1)
+
+unfoldable pub broadcast_at : ℕ → Left → Reading Kind
+broadcast_at lanes l = do
+  condition ← place_at l
+  woken ← allowed_at w64 (λ bits. nat_lt bits (2 ^ lanes)) condition.1
+  Ok (Broadcast condition.0 woken.0, woken.1)
+
+unfoldable pub clock_at : Left → Reading Kind
+clock_at l = do
+  value ← signed_at l
+  Ok (Clock value.0, value.1)
+
+unfoldable pub random_at : Left → Reading Kind
+random_at l = do
+  value ← number_at w32 l
+  Ok (Random value.0, value.1)
+
+unfoldable pub reply_at : Left → Reading Kind
+reply_at l = do
+  client ← allowed_at w16 (is_between 1 256) l
+  value ← signed_at client.1
+  Ok (Reply client.0 value.0, value.1)
+
+-- what follows the number of a kind
+abbrev pub content_at : ℕ → ℕ → Left → Reading Kind
+content_at lanes code l =
+    if code == 1 then begin_at l
+    else if code == 2 then lock_at AcqEx l
+    else if code == 3 then lock_at AcqSh l
+    else if code == 4 then lock_at RelEx l
+    else if code == 5 then lock_at RelSh l
+    else if code == 6 then lock_at TryOk l
+    else if code == 7 then lock_at TryBusy l
+    else if code == 8 then condition_at Wait l
+    else if code == 9 then condition_at Wake l
+    else if code == 10 then signal_at lanes l
+    else if code == 11 then broadcast_at lanes l
+    else if code == 12 then clock_at l
+    else if code == 13 then random_at l
+    else reply_at l
+
+unfoldable pub kind_at : ℕ → Left → Reading Kind
+kind_at lanes l = do
+  code ← allowed_at w8 (is_between 1 14) l
+  content_at lanes code.0 code.1
+
+-- it is the number of another lane that has an event between the counts, and is above the one before
+abbrev pub may_be_cause : List ℕ → List ℕ → ℕ → ℕ → ℕ → Bool
+may_be_cause bases counts lane above n =
+    is_between (above + 1) (length counts) n && (not (n == lane + 1) && has_event bases counts (n - 1))
+
+-- it is the index of an event of the lane between the counts
+abbrev pub may_be_index : List ℕ → List ℕ → ℕ → ℕ → Bool
+may_be_index bases counts lane index = nat_le (count_at bases lane) index && nat_lt index (count_at counts lane)
+
+-- so many causes of an event of this lane, whose lanes have numbers above this one
+unfoldable pub causes_at : List ℕ → List ℕ → ℕ → ℕ → ℕ → Left → Reading (List Cause)
+causes_at bases counts lane zero above l = Ok ([], l)
+causes_at bases counts lane (suc n) above l = do
+  of ← allowed_at w8 (may_be_cause bases counts lane above) l
+  index ← allowed_at w32 (may_be_index bases counts (of.0 - 1)) of.1
+  others ← causes_at bases counts lane n of.0 index.1
+  Ok ((record { lane = of.0 - 1; index = index.0 }) ∷ others.0, others.1)
+
+-- an event and its causes, where lanes did so many events before the delta, and so many before this event
+unfoldable pub event_at : List ℕ → List ℕ → Left → Reading (Event × List Cause)
+event_at bases counts l = do
+  number ← allowed_at w8 (is_between 1 (length counts)) l
+  kind ← kind_at (length counts) number.1
+  count ← allowed_at w8 (λ n. nat_le n (others_below bases counts (number.0 - 1) (length counts))) kind.1
+  causes ← causes_at bases counts (number.0 - 1) count.0 0 count.1
+  Ok ((record { lane = number.0 - 1; index = count_at counts (number.0 - 1); kind = kind.0 }, causes.0), causes.1)
+
+-- so many events with their causes
+unfoldable pub events_at : List ℕ → List ℕ → ℕ → Left → Reading (List Event × List (List Cause))
+events_at bases counts zero l = Ok (([], []), l)
+events_at bases counts (suc n) l = do
+  first ← event_at bases counts l
+  others ← events_at bases (counted counts first.0.0) n first.1
+  Ok ((first.0.0 ∷ others.0.0, first.0.1 ∷ others.0.1), others.1)
+
+-- so many bases
+unfoldable pub bases_at : ℕ → Left → Reading (List ℕ)
+bases_at zero l = Ok ([], l)
+bases_at (suc n) l = do
+  first ← allowed_at w32 (λ base. nat_le base greatest_base) l
+  others ← bases_at n first.1
+  Ok (first.0 ∷ others.0, others.1)
+
+-- a delta at the front of bytes
+unfoldable pub delta_at : Left → Reading Delta
+delta_at l = do
+  version ← allowed_at w8 (λ n. n == 1) l
+  lanes ← allowed_at w8 (is_between 1 16) version.1
+  bases ← bases_at lanes.0 lanes.1
+  count ← allowed_at w16 (is_between 1 4096) bases.1
+  events ← events_at bases.0 bases.0 count.0 count.1
+  Ok (record { bases = bases.0; events = events.0.0; causes = events.0.1 }, events.1)
+
+-- a delta that is all of the bytes, or the offset at which the first bad field begins; of bytes after a whole delta that is its length
+unfoldable pub delta_in : List ℕ → Result Delta ℕ
+delta_in bytes = do
+  delta ← delta_at (all_left bytes)
+  if length delta.1.rest == 0 then Ok delta.0 else Err delta.1.at
+
+-- what decoding answers is what reading gives, unless memory runs out
+abbrev pub Fails : {A : Type 0} → DecodeError → Result A ℕ → Type 0
+Fails (Bad at) read = read ≡ Err at
+Fails OutOfMemory read = Unit {0}
+
+abbrev pub Gives : {A : Type 0} → Result A DecodeError → Result A ℕ → Type 0
+Gives (Ok x) read = read ≡ Ok x
+Gives (Err e) read = Fails e read

@@ -1,0 +1,160 @@
+-- Which deltas have a spelling, and what it is.
+use Rattle.std.specs.Prelude.{◌≡◌, ◌≢◌, ℕ, zero, suc, ◌+◌, ◌<◌, ◌≤◌, ◌^◌, ◌&&◌, ℤ, Bool, true, false, not, nat_eq, nat_lt, nat_le, List, [], ◌∷◌, ◌++◌, length, Option, Some, None, IfSome, FitsSigned, if◌then◌else◌}
+use Rattle.std.specs.List.{All, flat_map}
+use Rattle.std.specs.Int.{w16, w32, w64, to_be_bytes}
+use Rattle.rex_event.specs.declared.event.Kind.{Kind}
+use Rattle.rex_event.specs.declared.event.Kind.TheVariants.{Begin, AcqEx, AcqSh, RelEx, RelSh, TryOk, TryBusy, Wait, Wake, Signal, Broadcast, Clock, Random, Reply}
+use Rattle.rex_event.specs.declared.event.Event.{Event}
+use Rattle.rex_event.specs.declared.delta.Cause.{Cause}
+use Rattle.rex_event.specs.declared.delta.Delta.{Delta}
+use Rattle.rex_event.specs.Cuts.{count_at, counted}
+use Rattle.rex_wire.specs.Spelling.{byte, signed}
+
+-- ---- spelling; lanes, handlers, locks and conditions are spelled with numbers from 1
+
+-- the number of a kind
+abbrev pub code_of : Kind → ℕ
+code_of (Begin client sequence handler arguments) = 1
+code_of (AcqEx lock) = 2
+code_of (AcqSh lock) = 3
+code_of (RelEx lock) = 4
+code_of (RelSh lock) = 5
+code_of (TryOk lock) = 6
+code_of (TryBusy lock) = 7
+code_of (Wait condition lock) = 8
+code_of (Wake condition lock) = 9
+code_of (Signal condition woken) = 10
+code_of (Broadcast condition woken) = 11
+code_of (Clock value) = 12
+code_of (Random value) = 13
+code_of (Reply client value) = 14
+
+-- the lane that a signal woke, 0 for none
+abbrev pub woken_number : Option ℕ → ℕ
+woken_number None = 0
+woken_number (Some lane) = lane + 1
+
+-- what follows a kind's number
+abbrev pub content : Kind → List ℕ
+content (Begin client sequence handler arguments) = to_be_bytes w16 client ++ to_be_bytes w32 sequence ++ byte (handler + 1) ++ byte (length arguments) ++ flat_map signed arguments
+content (AcqEx lock) = byte (lock + 1)
+content (AcqSh lock) = byte (lock + 1)
+content (RelEx lock) = byte (lock + 1)
+content (RelSh lock) = byte (lock + 1)
+content (TryOk lock) = byte (lock + 1)
+content (TryBusy lock) = byte (lock + 1)
+content (Wait condition lock) = byte (condition + 1) ++ byte (lock + 1)
+content (Wake condition lock) = byte (condition + 1) ++ byte (lock + 1)
+content (Signal condition woken) = byte (condition + 1) ++ byte (woken_number woken)
+content (Broadcast condition woken) = byte (condition + 1) ++ to_be_bytes w64 woken
+content (Clock value) = signed value
+content (Random value) = to_be_bytes w32 value
+content (Reply client value) = to_be_bytes w16 client ++ signed value
+
+abbrev pub cause_bytes : Cause → List ℕ
+cause_bytes c = byte (c.lane + 1) ++ to_be_bytes w32 c.index
+
+-- an event doesn't spell its index, which is how many events its lane did before
+abbrev pub event_bytes : Event → List Cause → List ℕ
+event_bytes e causes = byte (e.lane + 1) ++ byte (code_of e.kind) ++ content e.kind ++ byte (length causes) ++ flat_map cause_bytes causes
+
+-- events, each with its causes
+abbrev pub events_bytes : List Event → List (List Cause) → List ℕ
+events_bytes [] lists = []
+events_bytes (e ∷ es) [] = []
+events_bytes (e ∷ es) (causes ∷ lists) = event_bytes e causes ++ events_bytes es lists
+
+-- version 1, the lanes with how many events each did before, and the events
+abbrev pub delta_bytes : Delta → List ℕ
+delta_bytes d = byte 1 ++ byte (length d.bases) ++ flat_map (to_be_bytes w32) d.bases ++ to_be_bytes w16 (length d.events) ++ events_bytes d.events d.causes
+
+-- ---- ranges
+
+abbrev pub is_between : ℕ → ℕ → ℕ → Bool
+is_between least greatest n = nat_le least n && nat_le n greatest
+
+abbrev pub IsBetween : ℕ → ℕ → ℕ → Type 0
+IsBetween least greatest n = (least ≤ n) × (n ≤ greatest)
+
+-- the greatest base: a lane's count stays below 2^32 - 1 with 4,096 events more
+abbrev pub greatest_base : ℕ
+greatest_base = 4294963199
+
+-- what a kind names is in its range, where there are so many lanes
+abbrev pub KindFits : ℕ → Kind → Type 0
+KindFits lanes (Begin client sequence handler arguments) = IsBetween 1 256 client × IsBetween 1 1000000 sequence × (handler < 64) × (length arguments ≤ 4)
+KindFits lanes (AcqEx lock) = lock < 64
+KindFits lanes (AcqSh lock) = lock < 64
+KindFits lanes (RelEx lock) = lock < 64
+KindFits lanes (RelSh lock) = lock < 64
+KindFits lanes (TryOk lock) = lock < 64
+KindFits lanes (TryBusy lock) = lock < 64
+KindFits lanes (Wait condition lock) = (condition < 64) × (lock < 64)
+KindFits lanes (Wake condition lock) = (condition < 64) × (lock < 64)
+KindFits lanes (Signal condition woken) = (condition < 64) × IfSome woken (λ lane. lane < lanes)
+KindFits lanes (Broadcast condition woken) = (condition < 64) × (woken < 2 ^ lanes)
+KindFits lanes (Clock value) = Unit {0}
+KindFits lanes (Random value) = Unit {0}
+KindFits lanes (Reply client value) = IsBetween 1 256 client
+
+-- the lane has an event between two counts
+abbrev pub has_event : List ℕ → List ℕ → ℕ → Bool
+has_event bases counts lane = nat_lt (count_at bases lane) (count_at counts lane)
+
+-- how many of the lanes below a number, but for this one, have an event between two counts
+abbrev pub others_below : List ℕ → List ℕ → ℕ → ℕ → ℕ
+others_below bases counts lane zero = 0
+others_below bases counts lane (suc n) = (if has_event bases counts n && not (nat_eq n lane) then 1 else 0) + others_below bases counts lane n
+
+-- a cause is an event of another lane that stands earlier in the delta
+pub record CauseFits (bases counts : List ℕ) (lane : ℕ) (c : Cause) : Type 0 where
+  pub other : c.lane ≢ lane
+  pub there : c.lane < length counts
+  pub from : count_at bases c.lane ≤ c.index
+  pub earlier : c.index < count_at counts c.lane
+
+-- each is of a lane from this one on, and above the one before
+abbrev pub AreRising : ℕ → List Cause → Type 0
+AreRising least [] = Unit {0}
+AreRising least (c ∷ cs) = (least ≤ c.lane) × AreRising (c.lane + 1) cs
+
+-- where lanes did so many events before the delta, and so many before this event
+pub record EventFits (bases counts : List ℕ) (e : Event) (causes : List Cause) : Type 0 where
+  pub lane : e.lane < length counts
+  pub index : e.index ≡ count_at counts e.lane
+  pub kind : KindFits (length counts) e.kind
+  pub few : length causes ≤ others_below bases counts e.lane (length counts)
+  pub each : All (CauseFits bases counts e.lane) causes
+  pub rising : AreRising 0 causes
+
+-- each event fits after those before it
+abbrev pub EventsFit : List ℕ → List ℕ → List Event → List (List Cause) → Type 0
+EventsFit bases counts [] [] = Unit {0}
+EventsFit bases counts [] (causes ∷ lists) = ⊥
+EventsFit bases counts (e ∷ es) [] = ⊥
+EventsFit bases counts (e ∷ es) (causes ∷ lists) = EventFits bases counts e causes × EventsFit bases (counted counts e) es lists
+
+-- a delta whose numbers are in their ranges
+pub record IsDelta (d : Delta) : Type 0 where
+  pub lanes : IsBetween 1 16 (length d.bases)
+  pub bases : All (λ base. base ≤ greatest_base) d.bases
+  pub some : IsBetween 1 4096 (length d.events)
+  pub events : EventsFit d.bases d.bases d.events d.causes
+
+-- ---- numbers that their types keep
+
+-- what an event reads or hands on is a number of its type
+abbrev pub IsTyped : Kind → Type 0
+IsTyped (Begin client sequence handler arguments) = All (FitsSigned w64) arguments
+IsTyped (Clock value) = FitsSigned w64 value
+IsTyped (Random value) = value < 2 ^ 32
+IsTyped (Reply client value) = FitsSigned w64 value
+IsTyped _ = Unit {0}
+
+pub record HasTypedKind (e : Event) : Type 0 where
+  pub kind : IsTyped e.kind
+
+-- a delta that has a spelling
+pub record HasSpelling (d : Delta) : Type 0 where
+  pub delta : IsDelta d
+  pub typed : All HasTypedKind d.events
