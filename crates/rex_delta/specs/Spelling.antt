@@ -8,6 +8,7 @@ use Rattle.rex_event.specs.declared.event.Event.{Event}
 use Rattle.rex_event.specs.declared.delta.Cause.{Cause}
 use Rattle.rex_event.specs.declared.delta.Delta.{Delta}
 use Rattle.rex_event.specs.Cuts.{count_at, counted}
+pub use Rattle.rex_event.specs.Pieces.{has_event, others_below, CauseFits, AreRising}
 use Rattle.rex_wire.specs.Spelling.{byte, signed}
 
 -- ---- spelling; lanes, handlers, locks and conditions are spelled with numbers from 1
@@ -96,27 +97,6 @@ KindFits lanes (Broadcast condition woken) = (condition < 64) × (woken < 2 ^ la
 KindFits lanes (Clock value) = Unit {0}
 KindFits lanes (Random value) = Unit {0}
 KindFits lanes (Reply client value) = IsBetween 1 256 client
-
--- the lane has an event between two counts
-abbrev pub has_event : List ℕ → List ℕ → ℕ → Bool
-has_event bases counts lane = nat_lt (count_at bases lane) (count_at counts lane)
-
--- how many of the lanes below a number, but for this one, have an event between two counts
-abbrev pub others_below : List ℕ → List ℕ → ℕ → ℕ → ℕ
-others_below bases counts lane zero = 0
-others_below bases counts lane (suc n) = (if has_event bases counts n && not (nat_eq n lane) then 1 else 0) + others_below bases counts lane n
-
--- a cause is an event of another lane that stands earlier in the delta
-pub record CauseFits (bases counts : List ℕ) (lane : ℕ) (c : Cause) : Type 0 where
-  pub other : c.lane ≢ lane
-  pub there : c.lane < length counts
-  pub from : count_at bases c.lane ≤ c.index
-  pub earlier : c.index < count_at counts c.lane
-
--- each is of a lane from this one on, and above the one before
-abbrev pub AreRising : ℕ → List Cause → Type 0
-AreRising least [] = Unit {0}
-AreRising least (c ∷ cs) = (least ≤ c.lane) × AreRising (c.lane + 1) cs
 
 -- where lanes did so many events before the delta, and so many before this event
 pub record EventFits (bases counts : List ℕ) (e : Event) (causes : List Cause) : Type 0 where

@@ -2,3 +2,4 @@ pub mod Conflict
 pub mod Order
 pub mod Cuts
 pub mod Causes
+pub mod Pieces
