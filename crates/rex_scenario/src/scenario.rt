@@ -5,7 +5,7 @@ use rex_parse::{Above, ServiceCode};
 use rex_syntax::request::Request;
 
 /// A line of a schedule. Nodes are numbered from 1, lanes and requests from 0.
-#[derive(Clone, Copy, Debug, PartialEq, Eq)]
+#[derive(Drop)]
 pub enum ScheduleLine {
     /// The node asks to lead.
     Elect { node: u8 },
@@ -15,6 +15,8 @@ pub enum ScheduleLine {
     Lane { node: u8, lane: u8 },
     /// The node proposes all its live events.
     Cut { node: u8 },
+    /// The node proposes the greatest consistent cut of its live events with at most so many of each lane.
+    CutBelow { node: u8, limits: List<u32> },
 }
 
 /// The requests and the schedule of a scenario, which its service is read beside.
@@ -55,6 +57,8 @@ pub enum ScenarioCode {
     NotThere,
     /// S11: a request past the 65,536th.
     TooManyRequests,
+    /// S12: limits that aren't as many as the lanes.
+    WrongLimits,
 }
 
 /// Why a line was not taken.

@@ -7,15 +7,17 @@ ghost use Rattle.rex_parse.specs.Table.{in_range};
 ghost use Rattle.rex_scenario.specs.Schedule as schedule;
 
 use crate::scenario::{ScenarioCode, ScheduleLine};
+use rex_list::List;
 use rex_text::read_u64;
 
 /// A schedule line as it is spelled: its numbers are counted from 1, and may be of what isn't there.
-#[derive(Clone, Copy)]
+#[derive(Drop)]
 pub(crate) enum Step {
     Elect(u64),
     Submit(u64, u64),
     Lane(u64, u64),
     Cut(u64),
+    CutBelow(u64, List<u32>),
 }
 
 /// The step that words spell.
