@@ -1,3 +1,6 @@
+ghost use Rattle.std.specs.Prelude.{◌≡◌};
+ghost use Rattle.rex_event.specs.Cuts.{is_below};
+
 use crate::Event;
 use rex_list::List;
 
@@ -13,6 +16,18 @@ pub struct Cause {
 #[derive(Drop)]
 pub struct Cut {
     pub counts: List<u32>,
+}
+
+impl Cut {
+    /// Whether an event is below the cut.
+    pub fn contains(&self, event: &Event) -> bool
+        ensures { result ≡ is_below self.now.counts event.now }
+    {
+        match self.counts.as_slice().get(event.lane as usize) {
+            Some(count) => event.index < *count,
+            None => false,
+        }
+    }
 }
 
 /// A piece of a trace: for each lane how many events it did before the piece, the events, and for each event its causes

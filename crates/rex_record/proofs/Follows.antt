@@ -64,15 +64,3 @@ module _ (service : Declarations) (r : RecorderValue) (lane : ℕ) (clock : ℤ)
       turn_is service r.state r.queue (length r.live) lane clock random few
       ∙ sym (subst (λ (c : ℤ). t ≡ lane_turn service r.state r.queue lane c random (frame_at r.state lane)) now (subst (λ (x : Declarations). t ≡ lane_turn x r.state r.queue lane read random (frame_at r.state lane)) same h))
       )
-
--- a recorder with no live events that starts where its live events led is one
-pub settled_recorder : (service : Declarations) (r : RecorderValue) (s : StateValue) (live : List Event) → IsRecorder service r → IsSound service s → run service r.start r.live ≡ Some s → live ≡ []
-    → IsRecorder service (record { start = s; live = live; state = r.state; queue = r.queue })
-settled_recorder service r s live kept sound runs none =
-    let same : s ≡ r.state = same_Some s r.state (sym runs ∙ kept.runs) in
-    record {
-      sound = sound;
-      runs = rw none (ap Some same);
-      few = rw none (omega arith);
-      queue = kept.queue;
-    }

@@ -4,16 +4,17 @@ ghost use Rattle.std.specs.Prelude.{◌≡◌, ◌+◌, ◌^◌, ◌<◌, ◌≤
 ghost use Rattle.std.specs.Option.{option_copied};
 ghost use Rattle.rand_pcg.specs.Pcg.{pcg32};
 ghost use Rattle.rex_syntax.specs.declared.service.Declarations.{Declarations};
-ghost use Rattle.rex_state.specs.Machine.{lane_of};
+ghost use Rattle.rex_event.specs.Cuts.{below, beyond, IsConsistent};
+ghost use Rattle.rex_state.specs.Machine.{lane_of, run};
 ghost use Rattle.rex_state.specs.Sound.{IsSound};
 ghost use Rattle.rex_record.specs.Turn.{turn_of, does_draw, dice_after};
 ghost use Rattle.rex_record.specs.Value.{started, with_request, turned, settled, releases, queued_in};
 ghost use Rattle.rex_record.specs.Kept.{CanBegin, IsRecorder};
 
-use crate::parts::{advance, follow};
+use crate::parts::{advance, events_below, events_beyond, follow};
 use crate::turns::{Turn, lane_turn};
 use rand_pcg::Lcg64Xsh32;
-use rex_event::Event;
+use rex_event::{Cut, Event};
 use rex_list::List;
 use rex_state::state::State;
 use rex_syntax::checked::Checked;
@@ -21,7 +22,6 @@ use rex_syntax::request::Request;
 use std::alloc::{AllocError, Global};
 use std::collections::VecDeque;
 use std::marker::Model;
-use std::mem;
 
 /// The most live events of a recorder.
 pub const LIVE_EVENTS: usize = 4096;
@@ -32,13 +32,6 @@ pub struct Release {
     pub client: u16,
     pub sequence: u32,
     pub value: i64,
-}
-
-/// The events that were live, and the replies among them in their order.
-#[derive(Drop)]
-pub struct Settled {
-    pub events: List<Event>,
-    pub released: List<Release>,
 }
 
 /// What an active node executes: the state where its live events begin, these events, the state after them, and the
@@ -189,22 +182,29 @@ impl Recorder {
         turn
     }
 
-    /// Hands out the live events, once they are known, with the replies among them. The recorder goes on with none. Where
-    /// memory is short nothing changes.
-    pub fn settle(&mut self, svc: &Checked, alloc: Global) -> Result<Settled, AllocError>
+    /// Takes the live events below a consistent cut off, once they are known, and hands out the replies among them. The
+    /// recorder goes on from the state after them, with the other events in their old order. Where memory is short nothing
+    /// changes.
+    pub fn settle(
+        &mut self,
+        svc: &Checked,
+        alloc: Global,
+        cut: &Cut,
+    ) -> Result<List<Release>, AllocError>
         requires recorder { IsRecorder svc.now self.old.value }
-        ensures events { IfOk result (λ x. x.events ≡ self.old.value.live) }
-        ensures released { IfOk result (λ x. x.released ≡ releases self.old.value.start.clients self.old.value.live) }
-        ensures ok { OnOk result (self.new.value ≡ settled self.old.value) }
+        requires consistent { IsConsistent self.old.value.live cut.now.counts }
+        ensures start { OnOk result (run svc.now self.old.value.start (below cut.now.counts self.old.value.live) ≡ Some self.new.value.start) }
+        ensures rest { OnOk result (run svc.now self.new.value.start (beyond cut.now.counts self.old.value.live) ≡ Some self.old.value.state) }
+        ensures ok { OnOk result (self.new.value ≡ settled svc.now self.old.value cut.now.counts) }
+        ensures released { IfOk result (λ x. x ≡ releases self.old.value.start.clients (below cut.now.counts self.old.value.live)) }
         ensures err { OnErr result (self.new.value ≡ self.old.value) }
         ensures kept { IsRecorder svc.now self.new.value }
     {
-        let mut released = Vec::with_capacity(alloc, self.live.len())?;
-        advance(svc, &mut self.start, &self.live, &mut released);
-        let events = mem::replace(&mut self.live, Vec::new(alloc));
-        Ok(Settled {
-            events: List::from_vec(events),
-            released: List::from_vec(released),
-        })
+        let known = events_below(alloc, cut, &self.live)?;
+        let rest = events_beyond(alloc, cut, &self.live)?;
+        let mut released = Vec::with_capacity(alloc, known.len())?;
+        advance(svc, &mut self.start, &known, &mut released);
+        self.live = rest;
+        Ok(List::from_vec(released))
     }
 }

@@ -1,0 +1,4 @@
+use Rattle.rex_state.specs.Commute.{CutsGoFirst}
+
+pub cuts_go_first : CutsGoFirst
+cuts_go_first = ?
