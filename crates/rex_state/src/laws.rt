@@ -1,6 +1,7 @@
 //! What the machine keeps. Each function is the statement that its contract makes, and does nothing.
 
 ghost use Rattle.rex_state.specs.Laws.{StartIsSound, EventsKeepSound, RunsKeepSound, SoundStatesGoOn, ReachedStatesGoOn, LinesKeepLocks, EventsWriteHeld, EventsReadHeld};
+ghost use Rattle.rex_state.specs.Commute.{NeighboursCommute, CutsGoFirst};
 
 /// A checked service starts in a sound state.
 pub fn start_is_sound()
@@ -42,4 +43,15 @@ pub fn events_write_held()
 /// is allowed as well, and leads to the same state but for theirs.
 pub fn events_read_held()
     ensures { EventsReadHeld }
+{}
+
+/// Two events of a sound state, one after the other, that don't conflict lead to the same state in the other order.
+pub fn neighbours_commute()
+    ensures { NeighboursCommute }
+{}
+
+/// The events below a consistent cut may go first: they run to a state, and the others run on from it to the state of the
+/// whole list.
+pub fn cuts_go_first()
+    ensures { CutsGoFirst }
 {}
