@@ -20,3 +20,4 @@ mod Disjoint
 pub mod Commute
 pub mod Reorder
 pub mod Cuts
+pub mod Local

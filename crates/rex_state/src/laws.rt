@@ -2,6 +2,7 @@
 
 ghost use Rattle.rex_state.specs.Laws.{StartIsSound, EventsKeepSound, RunsKeepSound, SoundStatesGoOn, ReachedStatesGoOn, LinesKeepLocks, EventsWriteHeld, EventsReadHeld};
 ghost use Rattle.rex_state.specs.Commute.{NeighboursCommute, CutsGoFirst};
+ghost use Rattle.rex_state.specs.Local.{EventsAreLocal, SoundStatesExclude};
 
 /// A checked service starts in a sound state.
 pub fn start_is_sound()
@@ -54,4 +55,15 @@ pub fn neighbours_commute()
 /// whole list.
 pub fn cuts_go_first()
     ensures { CutsGoFirst }
+{}
+
+/// What an event takes was free for it, its lane holds then what it held and took, less what it gave up, and other lanes
+/// stay as they were.
+pub fn events_are_local()
+    ensures { EventsAreLocal }
+{}
+
+/// Where a lane of a sound state holds a lock exclusively no other lane holds it.
+pub fn sound_states_exclude()
+    ensures { SoundStatesExclude }
 {}
