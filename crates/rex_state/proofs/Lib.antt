@@ -13,3 +13,11 @@ pub mod Live
 pub mod Touched
 pub mod Counter
 mod Examples
+mod Changes
+mod Apart
+mod Meet
+mod Disjoint
+pub mod Commute
+pub mod Reorder
+pub mod Cuts
+pub mod Local
