@@ -7,5 +7,5 @@ pub mod Follows
 pub mod Clients
 pub mod Roller
 mod Examples
-mod Law
 pub mod Settles
+pub mod Filtered
