@@ -1,4 +1,5 @@
 pub mod World
+pub mod Values
 pub mod Row
 pub mod Report
 pub mod Stands

@@ -1,10 +1,14 @@
 -- What a schedule line does to a world of one node, and the effects that it reports.
-use Rattle.std.specs.Prelude.{ℕ, ◌+◌, ◌-◌, ◌*◌, ◌/◌, ◌==◌, ◌&&◌, ◌||◌, ℤ, pos, List, [], ◌∷◌, ◌++◌, length, map, nat_lt, nat_le, Option, Some, None, is_none, slice_get, if◌then◌else◌, unwrap_or}
+use Rattle.std.specs.Prelude.{ℕ, ◌+◌, ◌-◌, ◌*◌, ◌/◌, ◌==◌, ◌&&◌, ◌||◌, ℤ, pos, List, [], ◌∷◌, ◌++◌, length, map, min, nat_lt, nat_le, Option, Some, None, is_none, slice_get, if◌then◌else◌, unwrap_or}
 use Rattle.rex_syntax.specs.declared.request.Request.{Request}
 use Rattle.rex_syntax.specs.declared.service.Declarations.{Declarations}
 use Rattle.rex_event.specs.declared.event.Event.{Event}
+use Rattle.rex_event.specs.Cuts.{below, beyond}
+use Rattle.rex_cut.specs.Greatest.{greatest_cut}
+use Rattle.rex_cut.specs.Delta.{delta_at}
 use Rattle.rex_state.specs.declared.lane.Entry.{Entry}
 use Rattle.rex_state.specs.Machine.{entry_at, is_replied}
+use Rattle.rex_state.specs.Counts.{counts_of}
 use Rattle.rand_pcg.specs.Lcg.{Lcg}
 use Rattle.rand_pcg.specs.Pcg.{pcg32}
 use Rattle.rex_record.specs.declared.turns.Turn.{Turn}
@@ -16,7 +20,7 @@ use Rattle.rex_report.specs.declared.effect.Effect.{Effect}
 use Rattle.rex_report.specs.declared.effect.Effect.TheVariants.{Candidate, Active, Proposes, Known, Released, Nothing, Queued, Waiting, Old, Gap, Recorded, Idle, Held, Unsignalled, Full, NotActive, Ended}
 use Rattle.rex_report.specs.declared.effect.Role.TheVariants.{Follower}
 use Rattle.rex_scenario.specs.declared.scenario.ScheduleLine.{ScheduleLine}
-use Rattle.rex_scenario.specs.declared.scenario.ScheduleLine.TheVariants.{Elect, Submit, Lane, Cut}
+use Rattle.rex_scenario.specs.declared.scenario.ScheduleLine.TheVariants.{Elect, Submit, Lane, Cut, CutBelow}
 use Rattle.rex_world.specs.World.{WorldValue, dice_of, is_follower, known_state, live_state}
 
 -- a world and what a line reports
@@ -126,22 +130,39 @@ lane_row service w lane = if is_follower w then not_active w else turned service
 abbrev pub release_effect : Release → Effect
 release_effect r = Released r.client r.sequence r.value
 
--- alone the node knows what it proposes at once: the live events are the next delta, and its replies are released
-abbrev pub agreed : Declarations → WorldValue → ℕ → Row
-agreed service w node = record {
-  world = counted (record w { known = w.known ++ w.live ∷ []; live = [] });
-  effects = Proposes node (length w.known + 1) (length w.live) ∷ Known node (length w.known + 1) ∷ map release_effect (releases (known_state service w).clients w.live);
+-- for each lane how many events it did at most at a cut: those before the live ones, and of these as many as its limit
+abbrev pub limits_between : List ℕ → List ℕ → List ℕ → List ℕ
+limits_between (first ∷ firsts) (last ∷ lasts) (limit ∷ limits) = min (first + limit) last ∷ limits_between firsts lasts limits
+limits_between _ _ _ = []
+
+-- all live events
+abbrev pub no_limits : Declarations → WorldValue → List ℕ
+no_limits service w = counts_of (live_state service w)
+
+-- at most so many live events of each lane
+abbrev pub with_limits : Declarations → WorldValue → List ℕ → List ℕ
+with_limits service w limits = limits_between (counts_of (known_state service w)) (counts_of (live_state service w)) limits
+
+-- alone the node knows what it proposes at once: the live events below the cut are the next delta, and its replies are released
+abbrev pub agreed : Declarations → WorldValue → ℕ → List ℕ → Row
+agreed service w node cut = record {
+  world = counted (record w { known = w.known ++ delta_at cut w.live ∷ []; live = beyond cut w.live });
+  effects =
+      Proposes node (length w.known + 1) (length (below cut w.live)) ∷ Known node (length w.known + 1)
+      ∷ map release_effect (releases (known_state service w).clients (below cut w.live));
 }
 
-abbrev pub cut_live : Declarations → WorldValue → ℕ → List Event → Row
-cut_live service w node [] = only w Nothing
-cut_live service w node (e ∷ es) = agreed service w node
+-- a cut below which there is no live event proposes nothing
+abbrev pub cut_live : Declarations → WorldValue → ℕ → List ℕ → List Event → Row
+cut_live service w node cut [] = only w Nothing
+cut_live service w node cut (e ∷ es) = agreed service w node cut
 
-abbrev pub cut_row : Declarations → WorldValue → ℕ → Row
-cut_row service w node =
+-- the node proposes the greatest consistent cut below these counts
+abbrev pub cut_row : Declarations → WorldValue → ℕ → List ℕ → Row
+cut_row service w node counts =
     if is_follower w then not_active w
     else if nat_le 65535 (length w.known) then only w Ended
-    else cut_live service w node w.live
+    else cut_live service w node (greatest_cut counts w.live) (below (greatest_cut counts w.live) w.live)
 
 -- ---- the whole
 
@@ -150,7 +171,8 @@ abbrev pub row : Declarations → List Request → ℕ → WorldValue → Schedu
 row service requests seed w (Elect node) = elect_row seed w node
 row service requests seed w (Submit node request) = submit_row service requests w request
 row service requests seed w (Lane node lane) = lane_row service w lane
-row service requests seed w (Cut node) = cut_row service w node
+row service requests seed w (Cut node) = cut_row service w node (no_limits service w)
+row service requests seed w (CutBelow node limits) = cut_row service w node (with_limits service w limits)
 
 -- the world after lines, one after the other
 abbrev pub after_lines : Declarations → List Request → ℕ → WorldValue → List ScheduleLine → WorldValue

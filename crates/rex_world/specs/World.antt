@@ -3,6 +3,7 @@ use Rattle.std.specs.Prelude.{ℕ, ◌==◌, Bool, List, [], ◌∷◌, ◌++◌
 use Rattle.rex_syntax.specs.declared.request.Request.{Request}
 use Rattle.rex_syntax.specs.declared.service.Declarations.{Declarations}
 use Rattle.rex_event.specs.declared.event.Event.{Event}
+use Rattle.rex_event.specs.declared.delta.Delta.{Delta}
 use Rattle.rex_state.specs.Value.{StateValue}
 use Rattle.rex_state.specs.Start.{start_of}
 use Rattle.rex_state.specs.Machine.{run}
@@ -14,7 +15,7 @@ pub record WorldValue : Type 0 where
   pub done : ℕ
   pub ballot : ℕ
   pub promised : ℕ
-  pub known : List (List Event)
+  pub known : List Delta
   pub live : List Event
   pub queue : List Request
   pub dice : Lcg
@@ -31,10 +32,10 @@ beginning = record { done = 0; ballot = 0; promised = 0; known = []; live = []; 
 abbrev pub is_follower : WorldValue → Bool
 is_follower w = w.ballot == 0
 
--- deltas one after the other
-abbrev pub joined : List (List Event) → List Event
+-- the events of deltas, one delta after the other
+abbrev pub joined : List Delta → List Event
 joined [] = []
-joined (delta ∷ deltas) = delta ++ joined deltas
+joined (delta ∷ deltas) = delta.events ++ joined deltas
 
 -- the state after events from the start; the start itself where they don't run
 abbrev pub state_after : Declarations → List Event → StateValue

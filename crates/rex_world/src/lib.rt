@@ -5,6 +5,7 @@ mod answers;
 mod effects;
 pub mod laws;
 mod lines;
+mod replay;
 pub mod report;
 mod world;
 

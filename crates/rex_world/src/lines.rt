@@ -1,16 +1,20 @@
 //! What each kind of schedule line does.
 
-ghost use Rattle.std.specs.Prelude.{◌≡◌, ◌≤◌, ◌<◌, ◌+◌, ◌^◌, ◌++◌, [], length, IfOk, OnOk};
+ghost use Rattle.std.specs.Prelude.{◌≡◌, ◌≤◌, ◌<◌, ◌+◌, ◌^◌, ◌++◌, [], length, min, IfOk, OnOk};
 ghost use Rattle.std.specs.List.{All};
 ghost use Rattle.rex_scenario.specs.Fits.{RequestFits};
 ghost use Rattle.rex_world.specs.Row as spec;
 
 use crate::answers::answer_of;
 use crate::effects::{tell, tell_both, tell_releases, turn_effect};
+use crate::replay::replay_value;
 use crate::world::{INSTANCES, World};
 use rand_pcg::Lcg64Xsh32;
-use rex_event::Kind;
-use rex_record::{Recorder, Settled};
+use rex_cut::{delta_of, greatest};
+use rex_delta::encode;
+use rex_event::{Cut, Delta, Kind};
+use rex_list::List;
+use rex_record::Recorder;
 use rex_report::{Effect, Role};
 use rex_syntax::checked::Checked;
 use rex_syntax::request::Request;
@@ -29,18 +33,29 @@ fn ballot_above(node: u8, promised: u64) -> u64
     }
 }
 
+/// How many events a lane did at a cut that takes at most so many of its live ones.
+fn count_below(first: u32, last: u32, limit: u32) -> u32
+    ensures { result ≡ min (first + limit) last }
+{
+    (first as u64 + limit as u64).min(last as u64) as u32
+}
+
 impl World {
+    ghost use Rattle.rex_event.specs.Cuts.{IsConsistent};
+    ghost use Rattle.rex_cut.specs.Greatest.{IsCutOf};
+    ghost use Rattle.rex_cut.specs.Delta.{delta_at};
+    ghost use Rattle.rex_state.specs.Counts.{counts_of};
     ghost use Rattle.rex_record.specs.Value.{settled};
     ghost use Rattle.rex_scenario.specs.declared.scenario.ScheduleLine.TheVariants as line;
     ghost use Rattle.rex_world.specs.Answering.{answer_in, taken, turn_at, turned_at};
     ghost use Rattle.rex_world.specs.Report.{effects_text};
-    ghost use Rattle.rex_world.specs.Running.{IsRunning, with_row, restarted, recorder_after};
+    ghost use Rattle.rex_world.specs.Running.{IsRunning, with_row, restarted, recorder_after, recorder_cut, running_after, replayed_all};
 
     // A line that changes nothing, but for the number of lines done.
     fn only(&mut self, svc: &Checked, out: &mut Vec<u8>, effect: Effect) -> Result<(), AllocError>
         requires { self.old.world.done + 1 < 2 ^ 32 }
         ensures told { OnOk result (out.new.items ≡ out.old.items ++ effects_text svc.now (self.old.world.done + 1) (spec.only self.old.world effect).effects) }
-        ensures after { OnOk result (self.new ≡ with_row (spec.only self.old.world effect) self.old.recorder) }
+        ensures after { OnOk result (self.new ≡ with_row self.old (spec.only self.old.world effect) self.old.recorder) }
     {
         self.done += 1;
         tell(out, svc.declarations(), self.done, &effect)
@@ -49,7 +64,7 @@ impl World {
     fn not_active(&mut self, svc: &Checked, out: &mut Vec<u8>) -> Result<(), AllocError>
         requires { self.old.world.done + 1 < 2 ^ 32 }
         ensures told { OnOk result (out.new.items ≡ out.old.items ++ effects_text svc.now (self.old.world.done + 1) (spec.not_active self.old.world).effects) }
-        ensures after { OnOk result (self.new ≡ with_row (spec.not_active self.old.world) self.old.recorder) }
+        ensures after { OnOk result (self.new ≡ with_row self.old (spec.not_active self.old.world) self.old.recorder) }
     {
         let role = Role::Follower;
         self.only(svc, out, Effect::NotActive { role })
@@ -63,13 +78,15 @@ impl World {
         seed: u32,
         node: u8,
     ) -> Result<(), AllocError>
+        requires running { IsRunning svc.now self.old }
         requires promised { self.old.world.promised < 2 ^ 60 }
         requires count { self.old.world.done + 1 < 2 ^ 32 }
         ensures told { OnOk result (out.new.items ≡ out.old.items ++ effects_text svc.now (self.old.world.done + 1) (spec.elect_row seed self.old.world node).effects) }
-        ensures after { OnOk result (self.new ≡ with_row (spec.elect_row seed self.old.world node) (restarted self.old.recorder)) }
+        ensures after { OnOk result (self.new ≡ running_after svc.now [] seed self.old (line.Elect node)) }
     {
         let ballot = ballot_above(node, self.promised);
-        let start = self.recorder.start().copy(alloc)?;
+        self.replay(alloc, svc)?;
+        let start = self.base.copy(alloc)?;
         self.recorder = Recorder::new(alloc, start)?;
         self.ballot = ballot;
         self.promised = ballot;
@@ -78,6 +95,18 @@ impl World {
         let candidate = Effect::Candidate { node, ballot };
         let active = Effect::Active { node, ballot };
         tell_both(out, svc.declarations(), self.done, &candidate, &active)
+    }
+
+    // Replays the known deltas that weren't replayed yet.
+    fn replay(&mut self, alloc: Global, svc: &Checked) -> Result<(), AllocError>
+        requires running { IsRunning svc.now self.old }
+        ensures { OnOk result (self.new ≡ replayed_all self.old) }
+    {
+        for value in &self.known[self.replayed..] {
+            replay_value(alloc, svc, &mut self.base, value.as_slice())?;
+        }
+        self.replayed = self.known.len();
+        Ok(())
     }
 
     pub(crate) fn submit(
@@ -92,7 +121,7 @@ impl World {
         requires there { number < length requests.now }
         requires count { self.old.world.done + 1 < 2 ^ 32 }
         ensures told { OnOk result (out.new.items ≡ out.old.items ++ effects_text svc.now (self.old.world.done + 1) (spec.submit_row svc.now requests.now self.old.world number).effects) }
-        ensures after { OnOk result (self.new ≡ with_row (spec.submit_row svc.now requests.now self.old.world number) (recorder_after svc.now requests.now self.old (line.Submit 1 number))) }
+        ensures after { OnOk result (self.new ≡ with_row self.old (spec.submit_row svc.now requests.now self.old.world number) (recorder_after svc.now requests.now self.old (line.Submit 1 number))) }
     {
         if self.is_follower() {
             return self.not_active(svc, out);
@@ -138,7 +167,7 @@ impl World {
         requires there { lane < svc.now.lanes }
         requires count { self.old.world.done + 2 < 2 ^ 32 }
         ensures told { OnOk result (out.new.items ≡ out.old.items ++ effects_text svc.now (self.old.world.done + 1) (spec.lane_row svc.now self.old.world lane).effects) }
-        ensures after { OnOk result (self.new ≡ with_row (spec.lane_row svc.now self.old.world lane) (recorder_after svc.now [] self.old (line.Lane 1 lane))) }
+        ensures after { OnOk result (self.new ≡ with_row self.old (spec.lane_row svc.now self.old.world lane) (recorder_after svc.now [] self.old (line.Lane 1 lane))) }
     {
         if self.is_follower() {
             return self.not_active(svc, out);
@@ -163,6 +192,7 @@ impl World {
         Ok(turn_effect(lane, turn))
     }
 
+    /// The node proposes all its live events.
     pub(crate) fn cut(
         &mut self,
         alloc: Global,
@@ -172,8 +202,73 @@ impl World {
     ) -> Result<(), AllocError>
         requires running { IsRunning svc.now self.old }
         requires count { self.old.world.done + 1 < 2 ^ 32 }
-        ensures told { OnOk result (out.new.items ≡ out.old.items ++ effects_text svc.now (self.old.world.done + 1) (spec.cut_row svc.now self.old.world node).effects) }
-        ensures after { OnOk result (self.new ≡ with_row (spec.cut_row svc.now self.old.world node) (recorder_after svc.now [] self.old (line.Cut node))) }
+        ensures told { OnOk result (out.new.items ≡ out.old.items ++ effects_text svc.now (self.old.world.done + 1) (spec.row svc.now [] 0 self.old.world (line.Cut node)).effects) }
+        ensures after { OnOk result (self.new ≡ running_after svc.now [] 0 self.old (line.Cut node)) }
+    {
+        let counts = self.all_counts(alloc, svc)?;
+        self.cut_at(alloc, svc, out, node, &counts)
+    }
+
+    /// The node proposes at most so many live events of each lane.
+    pub(crate) fn cut_below(
+        &mut self,
+        alloc: Global,
+        svc: &Checked,
+        out: &mut Vec<u8>,
+        node: u8,
+        limits: &[u32],
+    ) -> Result<(), AllocError>
+        requires running { IsRunning svc.now self.old }
+        requires limits { length limits.now ≡ svc.now.lanes }
+        requires count { self.old.world.done + 1 < 2 ^ 32 }
+        ensures told { OnOk result (out.new.items ≡ out.old.items ++ effects_text svc.now (self.old.world.done + 1) (spec.row svc.now [] 0 self.old.world (line.CutBelow node limits.now)).effects) }
+        ensures after { OnOk result (self.new ≡ running_after svc.now [] 0 self.old (line.CutBelow node limits.now)) }
+    {
+        let counts = self.counts_below(alloc, limits)?;
+        self.cut_at(alloc, svc, out, node, &counts)
+    }
+
+    // How many events each lane did.
+    fn all_counts(&self, alloc: Global, svc: &Checked) -> Result<Vec<u32>, AllocError>
+        requires running { IsRunning svc.now self.now }
+        ensures { IfOk result (λ counts. counts.items ≡ counts_of self.now.recorder.state) }
+    {
+        let mut counts = Vec::new(alloc);
+        for lane in 0..svc.declarations().lanes {
+            counts.push(self.recorder.state().done(lane))?;
+        }
+        Ok(counts)
+    }
+
+    // How many events each lane did before the live ones, and of these as many as its limit allows.
+    fn counts_below(&self, alloc: Global, limits: &[u32]) -> Result<Vec<u32>, AllocError>
+        requires limits { length limits.now ≡ length self.now.recorder.start.lanes }
+        requires lanes { length limits.now ≡ length self.now.recorder.state.lanes }
+        ensures { IfOk result (λ counts. counts.items ≡ spec.limits_between (counts_of self.now.recorder.start) (counts_of self.now.recorder.state) limits.now) }
+    {
+        let mut counts = Vec::new(alloc);
+        for (lane, limit) in limits.iter().enumerate() {
+            let first = self.recorder.start().done(lane as u8);
+            let last = self.recorder.state().done(lane as u8);
+            counts.push(count_below(first, last, *limit))?;
+        }
+        Ok(counts)
+    }
+
+    // The node proposes the greatest consistent cut below these counts.
+    fn cut_at(
+        &mut self,
+        alloc: Global,
+        svc: &Checked,
+        out: &mut Vec<u8>,
+        node: u8,
+        counts: &[u32],
+    ) -> Result<(), AllocError>
+        requires running { IsRunning svc.now self.old }
+        requires cut { IsCutOf self.old.world.live counts.now }
+        requires count { self.old.world.done + 1 < 2 ^ 32 }
+        ensures told { OnOk result (out.new.items ≡ out.old.items ++ effects_text svc.now (self.old.world.done + 1) (spec.cut_row svc.now self.old.world node counts.now).effects) }
+        ensures after { OnOk result (self.new ≡ with_row self.old (spec.cut_row svc.now self.old.world node counts.now) (recorder_cut svc.now self.old counts.now)) }
     {
         if self.is_follower() {
             return self.not_active(svc, out);
@@ -181,35 +276,44 @@ impl World {
         if self.known.len() >= INSTANCES {
             return self.only(svc, out, Effect::Ended);
         }
-        if self.recorder.trace().is_empty() {
+        let cut = greatest(alloc, counts, self.recorder.trace())?;
+        let delta = delta_of(alloc, &cut, self.recorder.trace())?;
+        if delta.events.is_empty() {
             return self.only(svc, out, Effect::Nothing);
         }
-        self.agree(alloc, svc, out, node)
+        self.agree(alloc, svc, out, node, &cut, &delta)
     }
 
-    // The live events become the next known delta.
+    // The live events below the cut become the next known delta.
     fn agree(
         &mut self,
         alloc: Global,
         svc: &Checked,
         out: &mut Vec<u8>,
         node: u8,
+        cut: &Cut,
+        delta: &Delta,
     ) -> Result<(), AllocError>
         requires running { IsRunning svc.now self.old }
+        requires cut { IsCutOf self.old.world.live cut.now.counts }
+        requires consistent { IsConsistent self.old.world.live cut.now.counts }
+        requires delta { delta.now ≡ delta_at cut.now.counts self.old.world.live }
+        requires some { 0 < length delta.now.events }
         requires few { length self.old.world.known < 65535 }
         requires count { self.old.world.done + 1 < 2 ^ 32 }
-        ensures told { OnOk result (out.new.items ≡ out.old.items ++ effects_text svc.now (self.old.world.done + 1) (spec.agreed svc.now self.old.world node).effects) }
-        ensures after { OnOk result (self.new ≡ with_row (spec.agreed svc.now self.old.world node) (settled self.old.recorder)) }
+        ensures told { OnOk result (out.new.items ≡ out.old.items ++ effects_text svc.now (self.old.world.done + 1) (spec.agreed svc.now self.old.world node cut.now.counts).effects) }
+        ensures after { OnOk result (self.new ≡ with_row self.old (spec.agreed svc.now self.old.world node cut.now.counts) (settled svc.now self.old.recorder cut.now.counts)) }
     {
         let instance = self.known.len() as u32 + 1;
-        let count = self.recorder.trace().len() as u32;
-        let Settled { events, released } = self.recorder.settle(svc, alloc)?;
-        self.known.push(events)?;
+        let events = delta.events.len() as u32;
+        let value = encode(alloc, delta)?;
+        let released = self.recorder.settle(svc, alloc, cut)?;
+        self.known.push(List::from_vec(value))?;
         self.done += 1;
         let proposes = Effect::Proposes {
             node,
             instance,
-            events: count,
+            events,
         };
         let known = Effect::Known { node, instance };
         let service = svc.declarations();

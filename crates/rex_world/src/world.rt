@@ -9,7 +9,6 @@ ghost use Rattle.rex_world.specs.Report.{end_of, effects_text};
 ghost use Rattle.rex_world.specs.Running.{IsRunning};
 
 use rand_pcg::Lcg64Xsh32;
-use rex_event::Event;
 use rex_list::List;
 use rex_record::Recorder;
 use rex_report::{End, Role};
@@ -27,7 +26,11 @@ pub const INSTANCES: usize = 65_535;
 #[derive(Drop)]
 pub struct World {
     pub(crate) recorder: Recorder,
-    pub(crate) known: Vec<List<Event>>,
+    /// The bytes of the known deltas.
+    pub(crate) known: Vec<List<u8>>,
+    /// The state after as many known deltas as were replayed.
+    pub(crate) base: State,
+    pub(crate) replayed: usize,
     pub(crate) ballot: u64,
     pub(crate) promised: u64,
     pub(crate) done: u32,
@@ -35,14 +38,20 @@ pub struct World {
 }
 
 impl Model for World {
+    ghost use Rattle.std.specs.Prelude.{map};
     ghost use Rattle.rex_world.specs.Running.{Running};
+    ghost use Rattle.rex_world.specs.Values.{delta_of, AreValues};
 
     ghost Value = { Running };
 
     ghost view = { λ w. record {
-      world = record { done = w.done; ballot = w.ballot; promised = w.promised; known = w.known.items; live = w.recorder.value.live; queue = w.recorder.value.queue; dice = w.dice };
+      world = record { done = w.done; ballot = w.ballot; promised = w.promised; known = map delta_of w.known.items; live = w.recorder.value.live; queue = w.recorder.value.queue; dice = w.dice };
       recorder = w.recorder.value;
+      base = w.base;
+      replayed = w.replayed;
     } };
+
+    ghost invariant = { λ w. AreValues w.known.items };
 }
 
 impl World {
@@ -51,11 +60,14 @@ impl World {
         ensures world { IfOk result (λ w. w.world ≡ beginning) }
         ensures running { IfOk result (λ w. IsRunning svc.now w) }
     {
-        let start = State::start(alloc, svc)?;
+        let base = State::start(alloc, svc)?;
+        let start = base.copy(alloc)?;
         let recorder = Recorder::new(alloc, start)?;
         Ok(World {
             recorder,
             known: Vec::new(alloc),
+            base,
+            replayed: 0,
             ballot: 0,
             promised: 0,
             done: 0,
@@ -137,6 +149,9 @@ impl World {
             }
             ScheduleLine::Lane { lane, .. } => self.lane(svc, out, *lane),
             ScheduleLine::Cut { node } => self.cut(alloc, svc, out, *node),
+            ScheduleLine::CutBelow { node, limits } => {
+                self.cut_below(alloc, svc, out, *node, limits.as_slice())
+            }
         }
     }
 }
