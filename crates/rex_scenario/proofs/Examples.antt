@@ -1,9 +1,10 @@
 -- Scenarios, and what they say.
-use Rattle.std.proofs.Common.{◌≡◌, ℕ, List, [], ◌∷◌, ◌++◌, ◌<◌, ◌≤◌, length, false, Option, Some, None, Result, Ok, Err, refl, codes}
+use Rattle.std.proofs.Common.{◌≡◌, ℕ, List, [], ◌∷◌, ◌++◌, ◌<◌, ◌≤◌, length, map, false, Option, Some, None, Result, Ok, Err, refl, codes}
 use Rattle.std.specs.Prelude.{pos}
 use Rattle.std.specs.Result.{result_err}
 use Rattle.std.proofs.lemmas.Bool.{lt-ltb, le-leb}
 use Rattle.std.specs.Fmt.{digits}
+use Rattle.rex_text.specs.Text.{words_of}
 use Rattle.rex_parse.specs.Words.{is_name}
 use Rattle.rex_parse.specs.Table.{new_code, lock_code, variable_code, local_code, number_code, expr_code}
 use Rattle.rex_parse.specs.declared.language.ServiceCode.TheVariants as service
@@ -14,7 +15,7 @@ use Rattle.rex_scenario.specs.Reading.{answer_from, answer_of, scenario_of}
 use Rattle.rex_scenario.specs.declared.scenario.ScenarioCode.{ScenarioCode}
 use Rattle.rex_scenario.specs.declared.scenario.ScenarioCode.TheVariants as code
 use Rattle.rex_scenario.specs.declared.scenario.ScheduleLine.{ScheduleLine}
-use Rattle.rex_scenario.specs.declared.scenario.ScheduleLine.TheVariants.{Elect, Submit, Lane, Cut}
+use Rattle.rex_scenario.specs.declared.scenario.ScheduleLine.TheVariants.{Elect, Submit, Lane, Cut, CutBelow}
 use Rattle.rex_scenario.specs.declared.scenario.Sections.{Sections}
 
 -- lines as a text, each with a LF
@@ -28,13 +29,13 @@ counter_service =
     ∷ codes "release L" ∷ codes "reply r" ∷ []
 
 counter : List (List ℕ)
-counter = counter_service ++ codes "%requests" ∷ codes "1 1 add 5" ∷ codes "%schedule" ∷ codes "elect 1" ∷ codes "submit 1 1" ∷ codes "lane 1 1" ∷ codes "cut 1" ∷ []
+counter = counter_service ++ codes "%requests" ∷ codes "1 1 add 5" ∷ codes "%schedule" ∷ codes "elect 1" ∷ codes "submit 1 1" ∷ codes "lane 1 1" ∷ codes "cut 1 1 0" ∷ codes "cut 1" ∷ []
 
 said : Result Sections (ℕ × ScenarioCode) → Option (List Request × List ScheduleLine)
 said (Ok s) = Some ((scenario_of s).requests, (scenario_of s).schedule)
 said (Err e) = None
 
-counter_says : said (answer_of (text_of counter)) ≡ Some ((record { client = 1; sequence = 1; handler = 0; arguments = pos 5 ∷ [] }) ∷ [], Elect 1 ∷ Submit 1 0 ∷ Lane 1 0 ∷ Cut 1 ∷ [])
+counter_says : said (answer_of (text_of counter)) ≡ Some ((record { client = 1; sequence = 1; handler = 0; arguments = pos 5 ∷ [] }) ∷ [], Elect 1 ∷ Submit 1 0 ∷ Lane 1 0 ∷ CutBelow 1 (1 ∷ 0 ∷ []) ∷ Cut 1 ∷ [])
 unfolding text_of counter counter_service said answer_from is_name new_code lock_code variable_code local_code number_code expr_code digits
 counter_says = refl
 
@@ -124,7 +125,37 @@ no_request : refusal (schedule_of (codes "submit 1 2" ∷ [])) ≡ Some (15, cod
 unfolding refusal schedule_of requests_of counter_service text_of answer_from is_name new_code lock_code variable_code local_code number_code expr_code digits
 no_request = refl
 
--- ---- the codes of limits
+-- ---- cuts with limits
+
+-- the codes of schedule lines, where a node, a request and two lanes are there and so many schedule lines came before
+codes_of : ℕ → List (List ℕ) → List (Option ScenarioCode)
+codes_of earlier lines = map (λ line. schedule_code 1 1 2 earlier (words_of line)) lines
+
+limits_taken : codes_of 0 (codes "cut 1 0 0" ∷ codes "cut 1 4294967295 0" ∷ []) ≡ None ∷ None ∷ []
+unfolding codes_of digits
+limits_taken = refl
+
+wrong_limits : codes_of 99999 (codes "cut 1 0" ∷ codes "cut 1 0 0 0" ∷ []) ≡ Some code.WrongLimits ∷ Some code.WrongLimits ∷ []
+unfolding codes_of digits
+wrong_limits = refl
+
+-- a node that isn't there comes before wrong limits
+limits_of_no_node : codes_of 0 (codes "cut 2 0" ∷ codes "cut 2 0 0" ∷ codes "cut 0 0 0 0" ∷ []) ≡ Some code.NotThere ∷ Some code.NotThere ∷ Some code.NotThere ∷ []
+unfolding codes_of digits
+limits_of_no_node = refl
+
+-- and one line too many before both
+limits_past_the_last_line : codes_of 100000 (codes "cut 1 0 0" ∷ codes "cut 1 0" ∷ codes "cut 2 0" ∷ []) ≡ Some code.TooManyLines ∷ Some code.TooManyLines ∷ Some code.TooManyLines ∷ []
+unfolding codes_of digits
+limits_past_the_last_line = refl
+
+-- what is no limit comes before all of them
+no_limit : codes_of 100000 (codes "cut 1 x" ∷ codes "cut 2 0 0 x" ∷ codes "cut 1 4294967296 0" ∷ codes "cut 1 18446744073709551616 0" ∷ [])
+    ≡ Some code.BadLine ∷ Some code.BadLine ∷ Some code.BadLine ∷ Some code.BadLine ∷ []
+unfolding codes_of digits
+no_limit = refl
+
+-- ---- the codes of what is too much
 
 too_long : (bytes : List ℕ) → 4194304 < length bytes → answer_of bytes ≡ Err (0, code.TooLong)
 too_long bytes lt = rw (lt-ltb 4194304 (length bytes) lt) refl

@@ -1,7 +1,7 @@
 -- A good request fits the service, and a good schedule line what is there.
 use Rattle.std.proofs.Common.{◌≡◌, ℕ, ◌<◌, ◌≤◌, List, [], ◌∷◌, length, Option, Some, None, Bool, true, false, not, refl, arith, ◌++◌, length-append}
 use Rattle.std.specs.Prelude.{nat_le, is_some, unwrap_or, slice_get, option_and_then, if◌then◌else◌}
-use Rattle.std.proofs.lemmas.Bool.{and_parts, leb-true, leb-false}
+use Rattle.std.proofs.lemmas.Bool.{and_parts, eqb-true, leb-true, leb-false}
 use Rattle.std.proofs.lemmas.List.{length-map}
 use Rattle.std.proofs.lemmas.List.Elements.{All-append, All-cons, All-nil}
 use Rattle.std.proofs.lemmas.Option.{slice_get_within}
@@ -15,9 +15,9 @@ use Rattle.rex_parse.specs.After.{service_of}
 use Rattle.rex_parse.specs.declared.language.Above.{Above}
 use Rattle.rex_scenario.specs.Requests.{client_of, sequence_of, handler_named, takes_so_many, is_call_of, is_call, is_request, request_of, or_code, call_code, place_code, is_repeated, request_code}
 use Rattle.rex_scenario.specs.Fits.{RequestFits, LineFits}
-use Rattle.rex_scenario.specs.Schedule.{is_there, line_of, step_code, with_step}
+use Rattle.rex_scenario.specs.Schedule.{is_there, has_limits, line_of, step_code, with_step}
 use Rattle.rex_scenario.specs.declared.scenario.ScenarioCode.{ScenarioCode}
-use Rattle.rex_scenario.specs.declared.scenario.ScenarioCode.TheVariants.{BadRequest, BadCall, Repeated, TooManyRequests, TooManyLines, NotThere}
+use Rattle.rex_scenario.specs.declared.scenario.ScenarioCode.TheVariants.{BadRequest, BadCall, Repeated, TooManyRequests, TooManyLines, NotThere, WrongLimits}
 use Rattle.rex_scenario.specs.declared.scenario.ScheduleLine.{ScheduleLine}
 use Rattle.rex_scenario.specs.declared.schedule.Step.{Step}
 use Rattle.rex_scenario.specs.declared.schedule.Step.TheVariants as step
@@ -97,34 +97,36 @@ requests_fit a earlier ws e fit =
 
 -- ---- schedule lines
 
--- a step whose numbers are there
-line_fits : (requests lanes : ℕ) (s : Step) → is_there 1 requests lanes s ≡ true → LineFits 1 requests lanes (line_of s)
-line_fits requests lanes (step.Elect n) e = let p = in_range_parts 1 1 n e in (omega (arith, p.0), p.1)
-line_fits requests lanes (step.Cut n) e = let p = in_range_parts 1 1 n e in (omega (arith, p.0), p.1)
-line_fits requests lanes (step.Submit n r) e =
+-- a step whose numbers are there, with limits as many as the lanes
+line_fits : (requests lanes : ℕ) (s : Step) → is_there 1 requests lanes s ≡ true → has_limits lanes s ≡ true → LineFits 1 requests lanes (line_of s)
+line_fits requests lanes (step.Elect n) e whole = let p = in_range_parts 1 1 n e in (omega (arith, p.0), p.1)
+line_fits requests lanes (step.Cut n) e whole = let p = in_range_parts 1 1 n e in (omega (arith, p.0), p.1)
+line_fits requests lanes (step.CutBelow n limits) e whole = let p = in_range_parts 1 1 n e in ((omega (arith, p.0), p.1), eqb-true (length limits) lanes whole)
+line_fits requests lanes (step.Submit n r) e whole =
     let q = and_parts (in_range 1 1 n) (in_range 1 requests r) e in
     let p = in_range_parts 1 1 n q.0 in
     let m = in_range_parts 1 requests r q.1 in
     ((omega (arith, p.0), p.1), omega (arith, m.0, m.1))
-line_fits requests lanes (step.Lane n l) e =
+line_fits requests lanes (step.Lane n l) e whole =
     let q = and_parts (in_range 1 1 n) (in_range 1 lanes l) e in
     let p = in_range_parts 1 1 n q.0 in
     let m = in_range_parts 1 lanes l q.1 in
     ((omega (arith, p.0), p.1), omega (arith, m.0, m.1))
 
-one_line : (requests lanes : ℕ) (earlier : List ScheduleLine) (s : Step) (b c : Bool) → nat_le 100000 (length earlier) ≡ b → is_there 1 requests lanes s ≡ c
-    → (if b then Some TooManyLines else if c then None else Some NotThere) ≡ None → All (LineFits 1 requests lanes) earlier
-    → (length (earlier ++ line_of s ∷ []) ≤ 100000) × All (LineFits 1 requests lanes) (earlier ++ line_of s ∷ [])
-one_line requests lanes earlier s true c e f n fit = absurd cc
-one_line requests lanes earlier s false false e f n fit = absurd cc
-one_line requests lanes earlier s false true e f n fit =
-    let few : length earlier < 100000 = leb-false 100000 (length earlier) e in (
-      omega (arith, length-append earlier (line_of s ∷ [])),
-      All-append (LineFits 1 requests lanes) earlier (line_of s ∷ []) fit (All-one (LineFits 1 requests lanes) (line_of s) (line_fits requests lanes s f)),
-    )
+-- where no code is there
+no_code : (many there whole : Bool) → (if many then Some TooManyLines else if not there then Some NotThere else if whole then None else Some WrongLimits) ≡ None → (many ≡ false) × (there ≡ true) × (whole ≡ true)
+no_code false true true e = (refl, refl, refl)
+no_code true there whole e = absurd cc
+no_code false false whole e = absurd cc
+no_code false true false e = absurd cc
 
 -- the schedule with a good line
 pub schedule_fits : (requests lanes : ℕ) (earlier : List ScheduleLine) (o : Option Step) → step_code 1 requests lanes (length earlier) o ≡ None → All (LineFits 1 requests lanes) earlier
     → (length (with_step earlier o) ≤ 100000) × All (LineFits 1 requests lanes) (with_step earlier o)
 schedule_fits requests lanes earlier None e fit = absurd cc
-schedule_fits requests lanes earlier (Some s) e fit = one_line requests lanes earlier s (nat_le 100000 (length earlier)) (is_there 1 requests lanes s) refl refl e fit
+schedule_fits requests lanes earlier (Some s) e fit =
+    let good = no_code (nat_le 100000 (length earlier)) (is_there 1 requests lanes s) (has_limits lanes s) e in
+    let few : length earlier < 100000 = leb-false 100000 (length earlier) good.0 in (
+      omega (arith, length-append earlier (line_of s ∷ [])),
+      All-append (LineFits 1 requests lanes) earlier (line_of s ∷ []) fit (All-one (LineFits 1 requests lanes) (line_of s) (line_fits requests lanes s good.1 good.2)),
+    )

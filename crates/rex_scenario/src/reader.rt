@@ -102,9 +102,7 @@ impl Reader {
         if !is_clean(line) {
             return Err(LineFault::Refused(ScenarioCode::BadByte));
         }
-        let Ok(words) = words_in(self.alloc, line) else {
-            return Err(LineFault::OutOfMemory);
-        };
+        let words = words_in(self.alloc, line)?;
         self.heading(&words)
     }
 
@@ -135,9 +133,7 @@ impl Reader {
         if !is_clean(line) {
             return Err(LineFault::Refused(ScenarioCode::BadByte));
         }
-        let Ok(words) = words_in(self.alloc, line) else {
-            return Err(LineFault::OutOfMemory);
-        };
+        let words = words_in(self.alloc, line)?;
         if is_skipped(&words) {
             return Ok(());
         }
@@ -175,10 +171,8 @@ impl Reader {
         if let Some(code) = self.place_code(&request) {
             return Err(LineFault::Refused(code));
         }
-        match self.requests.push(request) {
-            Ok(()) => Ok(()),
-            Err(_) => Err(LineFault::OutOfMemory),
-        }
+        self.requests.push(request)?;
+        Ok(())
     }
 
     // The code that fits a request, given the earlier ones.
@@ -201,19 +195,15 @@ impl Reader {
             (reading.after_words self.old stage.Schedule (texts words.now)) self.new }
     {
         let lanes = self.parser.above().lanes.unwrap_or(0);
-        let line = match read_schedule_line(
+        let line = read_schedule_line(
+            self.alloc,
             words,
             self.requests.len(),
             lanes,
             self.schedule.len(),
-        ) {
-            Ok(line) => line,
-            Err(code) => return Err(LineFault::Refused(code)),
-        };
-        match self.schedule.push(line) {
-            Ok(()) => Ok(()),
-            Err(_) => Err(LineFault::OutOfMemory),
-        }
+        )?;
+        self.schedule.push(line)?;
+        Ok(())
     }
 
     /// The code that fits the end of the text.

@@ -3,6 +3,7 @@
 use rex_list::List;
 use rex_parse::{Above, ServiceCode};
 use rex_syntax::request::Request;
+use std::alloc::AllocError;
 
 /// A line of a schedule. Nodes are numbered from 1, lanes and requests from 0.
 #[derive(Drop)]
@@ -66,6 +67,17 @@ pub enum ScenarioCode {
 pub(crate) enum LineFault {
     Refused(ScenarioCode),
     OutOfMemory,
+}
+
+impl From<AllocError> for LineFault {
+    ghost use Rattle.rex_scenario.specs.declared.scenario.LineFault.TheVariants.{OutOfMemory};
+    ghost use Rattle.std.specs.Prelude.{◌≡◌};
+
+    ghost from_gives = { λ _ fault. fault ≡ OutOfMemory };
+
+    fn from(_error: AllocError) -> LineFault {
+        LineFault::OutOfMemory
+    }
 }
 
 /// Why a text is no scenario.

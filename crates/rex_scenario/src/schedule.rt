@@ -1,14 +1,16 @@
 //! Schedule lines.
 
 ghost use Rattle.std.specs.Prelude.{◌≡◌, ◌≤◌, ◌-◌, None, Some, IfOk, option_map, if◌then◌else◌};
-ghost use Rattle.std.specs.Result.{result_err};
 ghost use Rattle.rex_parse.specs.Answers.{texts};
 ghost use Rattle.rex_parse.specs.Table.{in_range};
+ghost use Rattle.rex_text.specs.Numbers.{u64_at};
+ghost use Rattle.rex_scenario.specs.Answers.{Reads};
 ghost use Rattle.rex_scenario.specs.Schedule as schedule;
 
-use crate::scenario::{ScenarioCode, ScheduleLine};
+use crate::scenario::{LineFault, ScenarioCode, ScheduleLine};
 use rex_list::List;
 use rex_text::read_u64;
+use std::alloc::{AllocError, Global};
 
 /// A schedule line as it is spelled: its numbers are counted from 1, and may be of what isn't there.
 #[derive(Drop)]
@@ -20,14 +22,15 @@ pub(crate) enum Step {
     CutBelow(u64, List<u32>),
 }
 
-/// The step that words spell.
-pub(crate) fn step_of(words: &[&[u8]]) -> Option<Step>
-    ensures { result ≡ schedule.step_of (texts words.now) }
+/// The step that words spell. Limits are all that takes memory.
+pub(crate) fn step_of(alloc: Global, words: &[&[u8]]) -> Result<Option<Step>, AllocError>
+    ensures { IfOk result (λ step. step ≡ schedule.step_of (texts words.now)) }
 {
     match words {
-        [word, node] => short_step(word, node),
-        [word, node, number] => long_step(word, node, number),
-        _ => None,
+        [word, node] => Ok(short_step(word, node)),
+        [word, node, limits @ ..] if *word == b"cut".as_slice() => cut_step(alloc, node, limits),
+        [word, node, number] => Ok(long_step(word, node, number)),
+        _ => Ok(None),
     }
 }
 
@@ -57,26 +60,77 @@ fn long_step(word: &[u8], node: &[u8], number: &[u8]) -> Option<Step>
     }
 }
 
+// A cut with limits.
+fn cut_step(alloc: Global, node: &[u8], limits: &[&[u8]]) -> Result<Option<Step>, AllocError>
+    ensures { IfOk result (λ step. step ≡ schedule.with_limits (u64_at node.now) (schedule.limits_at (texts limits.now))) }
+{
+    let Some(node) = read_u64(node) else {
+        return Ok(None);
+    };
+    let Some(limits) = limits_of(alloc, limits)? else {
+        return Ok(None);
+    };
+    Ok(Some(Step::CutBelow(node, limits)))
+}
+
+// The limits that words spell, if each spells one.
+fn limits_of(alloc: Global, words: &[&[u8]]) -> Result<Option<List<u32>>, AllocError>
+    ensures { IfOk result (λ limits. limits ≡ schedule.limits_at (texts words.now)) }
+{
+    let mut limits = List::new(alloc);
+    for word in words {
+        let Some(limit) = limit_of(word) else {
+            return Ok(None);
+        };
+        limits.push(limit)?;
+    }
+    Ok(Some(limits))
+}
+
+fn limit_of(word: &[u8]) -> Option<u32>
+    ensures value { result ≡ schedule.small (u64_at word.now) }
+{
+    u32::try_from(read_u64(word)?).ok()
+}
+
 /// The schedule line that words spell, or the code that fits, where so many requests and lanes are there and so many
 /// schedule lines came before.
 pub(crate) fn read_schedule_line(
+    alloc: Global,
     words: &[&[u8]],
     requests: usize,
     lanes: u64,
     earlier: usize,
-) -> Result<ScheduleLine, ScenarioCode>
+) -> Result<ScheduleLine, LineFault>
     requires requests { requests ≤ 65536 }
     requires lanes { lanes ≤ 16 }
-    ensures code { result_err result ≡ schedule.schedule_code 1 requests lanes earlier (texts words.now) }
-    ensures line { IfOk result (λ l. option_map schedule.line_of (schedule.step_of (texts words.now)) ≡ Some l) }
+    ensures { Reads result (schedule.schedule_code 1 requests lanes earlier (texts words.now))
+        (option_map schedule.line_of (schedule.step_of (texts words.now))) }
 {
-    let Some(step) = step_of(words) else {
-        return Err(ScenarioCode::BadLine);
+    let Some(step) = step_of(alloc, words)? else {
+        return Err(LineFault::Refused(ScenarioCode::BadLine));
     };
     if earlier >= 100_000 {
-        return Err(ScenarioCode::TooManyLines);
+        return Err(LineFault::Refused(ScenarioCode::TooManyLines));
     }
-    placed(step, requests as u64, lanes).ok_or(ScenarioCode::NotThere)
+    let is_complete = has_limits(&step, lanes);
+    let Some(line) = placed(step, requests as u64, lanes) else {
+        return Err(LineFault::Refused(ScenarioCode::NotThere));
+    };
+    if !is_complete {
+        return Err(LineFault::Refused(ScenarioCode::WrongLimits));
+    }
+    Ok(line)
+}
+
+// Whether the limits of a cut are as many as the lanes.
+fn has_limits(step: &Step, lanes: u64) -> bool
+    ensures { result ≡ schedule.has_limits lanes step.now }
+{
+    match step {
+        Step::CutBelow(_, limits) => limits.len() as u64 == lanes,
+        Step::Elect(_) | Step::Submit(_, _) | Step::Lane(_, _) | Step::Cut(_) => true,
+    }
 }
 
 // The schedule line that a step is, if what it names is there.
@@ -91,6 +145,10 @@ fn placed(step: Step, requests: u64, lanes: u64) -> Option<ScheduleLine>
         },
         Step::Cut(node) => ScheduleLine::Cut {
             node: node_of(node)?,
+        },
+        Step::CutBelow(node, limits) => ScheduleLine::CutBelow {
+            node: node_of(node)?,
+            limits,
         },
         Step::Submit(node, request) => ScheduleLine::Submit {
             node: node_of(node)?,

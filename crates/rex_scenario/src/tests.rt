@@ -132,10 +132,20 @@ fn requests_are_of_their_form(rt: HostRuntime) -> Result<(), Fail> {
 
 #[test]
 fn schedule_lines_name_what_is_there(rt: HostRuntime) -> Result<(), Fail> {
-    use ScenarioCode::{BadByte, BadLine, NotThere, OutOfPlace};
+    use ScenarioCode::{BadByte, BadLine, NotThere, OutOfPlace, WrongLimits};
     let table = [
         ("elect 1\nsubmit 1 1\nlane 1 2\ncut 1\nelect 1", None),
-        ("cut 1 0 0", Some((15, BadLine))),
+        ("cut 1 0 0\ncut 1 4294967295 0", None),
+        ("cut 1 0", Some((15, WrongLimits))),
+        ("cut 1 0 0 0", Some((15, WrongLimits))),
+        ("cut 2 0", Some((15, NotThere))),
+        ("cut 0 0 0", Some((15, NotThere))),
+        ("cut 1 x", Some((15, BadLine))),
+        ("cut 2 0 0 x", Some((15, BadLine))),
+        ("cut 1 00 0", Some((15, BadLine))),
+        ("cut 1 4294967296 0", Some((15, BadLine))),
+        ("cut 1 18446744073709551616 0", Some((15, BadLine))),
+        ("cut 18446744073709551616 0 0", Some((15, BadLine))),
         ("deliver 1", Some((15, BadLine))),
         ("flush", Some((15, BadLine))),
         ("keepfail 1 kept", Some((15, BadLine))),
