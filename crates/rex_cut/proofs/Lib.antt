@@ -1,0 +1,7 @@
+pub mod Leads
+pub mod Numbered
+pub mod Lowered
+pub mod Bases
+pub mod Latest
+pub mod Right
+pub mod Fit
