@@ -171,3 +171,15 @@ Fails OutOfMemory read = Unit {0}
 abbrev pub Gives : {A : Type 0} → Result A DecodeError → Result A ℕ → Type 0
 Gives (Ok x) read = read ≡ Ok x
 Gives (Err e) read = Fails e read
+
+-- a cause of an event of this lane, whose lane has a number above this one
+unfoldable pub cause_at : List ℕ → List ℕ → ℕ → ℕ → Left → Reading Cause
+cause_at bases counts lane above l = do
+  of ← allowed_at w8 (may_be_cause bases counts lane above) l
+  index ← allowed_at w32 (may_be_index bases counts (of.0 - 1)) of.1
+  Ok (record { lane = of.0 - 1; index = index.0 }, index.1)
+
+-- what a call answers that reads on, and the reader after it, are what reading gives, unless memory runs out
+abbrev pub ReadsOn : {A : Type 0} → Result A DecodeError → Left → Reading A → Type 0
+ReadsOn (Ok x) new read = read ≡ Ok (x, new)
+ReadsOn (Err e) new read = Fails e read

@@ -1,5 +1,9 @@
-//! Reading a delta.
+//! Why bytes are no delta.
 
+ghost use Rattle.std.specs.Prelude.{◌≡◌};
+ghost use Rattle.rex_delta.specs.declared.decode.DecodeError.TheVariants.{Bad, OutOfMemory};
+
+use rex_wire::{Over, Short};
 use std::alloc::AllocError;
 use thiserror::Error;
 
@@ -12,4 +16,28 @@ pub enum DecodeError {
     Bad { at: usize },
     #[error("out of memory")]
     OutOfMemory,
+}
+
+impl From<Short> for DecodeError {
+    ghost from_gives = { λ short e. e ≡ Bad short.at };
+
+    fn from(short: Short) -> DecodeError {
+        DecodeError::Bad { at: short.at }
+    }
+}
+
+impl From<Over> for DecodeError {
+    ghost from_gives = { λ over e. e ≡ Bad over.at };
+
+    fn from(over: Over) -> DecodeError {
+        DecodeError::Bad { at: over.at }
+    }
+}
+
+impl From<AllocError> for DecodeError {
+    ghost from_gives = { λ _ e. e ≡ OutOfMemory };
+
+    fn from(_e: AllocError) -> DecodeError {
+        DecodeError::OutOfMemory
+    }
 }

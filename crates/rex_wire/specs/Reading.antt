@@ -1,5 +1,6 @@
 -- Reading numbers from the front of bytes, from left to right, with the first field that is bad.
 use Rattle.std.specs.Prelude.{◌≡◌, ℕ, ◌+◌, ℤ, Bool, List, length, take, drop, nat_lt, Result, Ok, Err, if◌then◌else◌}
+use Rattle.std.specs.Borrow.{Bor}
 use Rattle.std.specs.Int.{Width, w64, byte_len, from_be_bytes, cast_signed}
 use Rattle.rex_wire.specs.declared.fault.Short.{Short}
 
@@ -46,3 +47,8 @@ all_left bytes = record { at = 0; rest = bytes }
 abbrev pub Reads : {A : Type 0} → Result A Short → Left → Left → Reading A → Type 0
 Reads (Ok x) old new read = read ≡ Ok (x, new)
 Reads (Err e) old new read = (read ≡ Err e.at) × (new ≡ old)
+
+-- the same of a call that answers bytes
+abbrev pub ReadsBytes : Result (Bor (List ℕ)) Short → Left → Left → Reading (List ℕ) → Type 0
+ReadsBytes (Ok x) old new read = read ≡ Ok (x.now, new)
+ReadsBytes (Err e) old new read = (read ≡ Err e.at) × (new ≡ old)

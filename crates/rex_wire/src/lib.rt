@@ -3,6 +3,8 @@
 
 mod fault;
 mod reader;
+mod writer;
 
 pub use fault::{Over, Short};
 pub use reader::Reader;
+pub use writer::Writer;

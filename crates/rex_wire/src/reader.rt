@@ -1,8 +1,8 @@
 //! Reading.
 
-ghost use Rattle.std.specs.Prelude.{◌≡◌, ◌<◌, length, IfErr, OnOk, OnErr, [], OkIff};
+ghost use Rattle.std.specs.Prelude.{◌≡◌, ◌<◌, ◌≤◌, length, take, [], IfErr, MatchResult};
 ghost use Rattle.std.specs.Int.{w8, w16, w32, w64};
-ghost use Rattle.rex_wire.specs.Reading.{Reads, all_left, bytes_at, number_at, signed_at};
+ghost use Rattle.rex_wire.specs.Reading.{Reads, ReadsBytes, past, all_left, bytes_at, number_at, signed_at};
 
 use crate::fault::{Over, Short};
 use std::marker::Model;
@@ -39,5 +39,64 @@ impl<'a> Reader<'a> {
         ensures { result ≡ self.now.at }
     {
         self.at
+    }
+
+    /// The next bytes, as many as these.
+    pub fn bytes(&mut self, n: usize) -> Result<&'a [u8], Short>
+        ensures { ReadsBytes result self.old self.new (bytes_at n self.old) }
+    {
+        let rest = &self.bytes[self.at..];
+        if rest.len() < n {
+            return Err(Short { at: self.at });
+        }
+        self.at += n;
+        Ok(&rest[..n])
+    }
+
+    pub fn u8(&mut self) -> Result<u8, Short>
+        ensures { Reads result self.old self.new (number_at w8 self.old) }
+    {
+        let field = self.bytes(1)?;
+        Ok(field[0])
+    }
+
+    pub fn u16(&mut self) -> Result<u16, Short>
+        ensures { Reads result self.old self.new (number_at w16 self.old) }
+    {
+        let field = self.bytes(2)?;
+        Ok(u16::from_be_bytes([field[0], field[1]]))
+    }
+
+    pub fn u32(&mut self) -> Result<u32, Short>
+        ensures { Reads result self.old self.new (number_at w32 self.old) }
+    {
+        let field = self.bytes(4)?;
+        Ok(u32::from_be_bytes([field[0], field[1], field[2], field[3]]))
+    }
+
+    pub fn u64(&mut self) -> Result<u64, Short>
+        ensures { Reads result self.old self.new (number_at w64 self.old) }
+    {
+        let field = self.bytes(8)?;
+        Ok(u64::from_be_bytes([
+            field[0], field[1], field[2], field[3], field[4], field[5], field[6], field[7],
+        ]))
+    }
+
+    /// A signed number in two's complement.
+    pub fn i64(&mut self) -> Result<i64, Short>
+        ensures { Reads result self.old self.new (signed_at self.old) }
+    {
+        Ok(self.u64()?.cast_signed())
+    }
+
+    /// Wants no bytes to be left.
+    pub fn end(&self) -> Result<(), Over>
+        ensures { MatchResult result (λ _. self.now.rest ≡ []) (λ e. (0 < length self.now.rest) × (e.at ≡ self.now.at)) }
+    {
+        if self.at < self.bytes.len() {
+            return Err(Over { at: self.at });
+        }
+        Ok(())
     }
 }

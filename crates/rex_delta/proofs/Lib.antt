@@ -1,0 +1,4 @@
+pub mod Repeated
+pub mod Tests
+pub mod Lists
+pub mod Counting

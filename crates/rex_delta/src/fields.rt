@@ -1,0 +1,89 @@
+//! Reading numbers that are allowed.
+
+ghost use Rattle.std.specs.Prelude.{◌≡◌, ◌==◌, ◌<◌, ◌≤◌, nat_le, IfOk};
+ghost use Rattle.std.specs.Int.{w8, w16, w32};
+ghost use Rattle.rex_wire.specs.Reading.{allowed_at, number_at};
+ghost use Rattle.rex_delta.specs.Spelling.{is_between, IsBetween};
+ghost use Rattle.rex_delta.specs.Reading.{ReadsOn, place_at};
+
+use crate::decode::DecodeError;
+use crate::limits::{PLACES, VERSION};
+use rex_wire::Reader;
+
+pub fn u8_between(reader: &mut Reader, least: u8, greatest: u8) -> Result<u8, DecodeError>
+    ensures read { ReadsOn result reader.new (allowed_at w8 (is_between least greatest) reader.old) }
+    ensures between { IfOk result (λ n. IsBetween least greatest n) }
+{
+    let at = reader.at();
+    let n = reader.u8()?;
+    if n < least || greatest < n {
+        return Err(DecodeError::Bad { at });
+    }
+    Ok(n)
+}
+
+pub fn u16_between(reader: &mut Reader, least: u16, greatest: u16) -> Result<u16, DecodeError>
+    ensures read { ReadsOn result reader.new (allowed_at w16 (is_between least greatest) reader.old) }
+    ensures between { IfOk result (λ n. IsBetween least greatest n) }
+{
+    let at = reader.at();
+    let n = reader.u16()?;
+    if n < least || greatest < n {
+        return Err(DecodeError::Bad { at });
+    }
+    Ok(n)
+}
+
+pub fn u32_between(reader: &mut Reader, least: u32, greatest: u32) -> Result<u32, DecodeError>
+    ensures { ReadsOn result reader.new (allowed_at w32 (is_between least greatest) reader.old) }
+{
+    let at = reader.at();
+    let n = reader.u32()?;
+    if n < least || greatest < n {
+        return Err(DecodeError::Bad { at });
+    }
+    Ok(n)
+}
+
+pub fn u8_at_most(reader: &mut Reader, greatest: u8) -> Result<u8, DecodeError>
+    ensures { ReadsOn result reader.new (allowed_at w8 (λ n. nat_le n greatest) reader.old) }
+{
+    let at = reader.at();
+    let n = reader.u8()?;
+    if greatest < n {
+        return Err(DecodeError::Bad { at });
+    }
+    Ok(n)
+}
+
+pub fn u32_at_most(reader: &mut Reader, greatest: u32) -> Result<u32, DecodeError>
+    ensures read { ReadsOn result reader.new (allowed_at w32 (λ n. nat_le n greatest) reader.old) }
+    ensures most { IfOk result (λ n. n ≤ greatest) }
+{
+    let at = reader.at();
+    let n = reader.u32()?;
+    if greatest < n {
+        return Err(DecodeError::Bad { at });
+    }
+    Ok(n)
+}
+
+/// A handler, a lock or a condition.
+#[tactic(auto, unfolding(crate::specs::Reading::place_at))]
+pub fn place(reader: &mut Reader) -> Result<u8, DecodeError>
+    ensures { ReadsOn result reader.new (place_at reader.old) }
+{
+    Ok(u8_between(reader, 1, PLACES)? - 1)
+}
+
+/// The version of the spelling.
+pub fn version(reader: &mut Reader) -> Result<u8, DecodeError>
+    ensures { ReadsOn result reader.new (allowed_at w8 (λ n. n == 1) reader.old) }
+{
+    let at = reader.at();
+    let n = reader.u8()?;
+    if n != VERSION {
+        return Err(DecodeError::Bad { at });
+    }
+    Ok(n)
+}

@@ -1,0 +1,141 @@
+//! Reading what an event did.
+
+ghost use Rattle.std.specs.Prelude.{◌≡◌, ◌<◌, ◌≤◌};
+ghost use Rattle.rex_event.specs.declared.event.Kind.TheVariants.{AcqEx, AcqSh, RelEx, RelSh, TryOk, TryBusy, Wait, Wake};
+ghost use Rattle.rex_delta.specs.Reading.{ReadsOn, place_at, arguments_at, begin_at, lock_at, condition_at, signal_at, broadcast_at, clock_at, random_at, reply_at, content_at, kind_at};
+
+use crate::decode::DecodeError;
+use crate::fields::{place, u8_between, u16_between, u32_between};
+use crate::limits::{ARGUMENTS, CLIENTS, SEQUENCE};
+use rex_event::Kind;
+use rex_list::Arguments;
+use rex_wire::Reader;
+
+fn arguments(reader: &mut Reader, count: u8) -> Result<Arguments, DecodeError>
+    requires { count ≤ 4 }
+    ensures { ReadsOn result reader.new (arguments_at count reader.old) }
+{
+    let mut arguments = Arguments::new();
+    for _ in 0..count {
+        let value = reader.i64()?;
+        arguments.push(value);
+    }
+    Ok(arguments)
+}
+
+#[tactic(auto, unfolding(crate::specs::Reading::begin_at))]
+fn begin(reader: &mut Reader) -> Result<Kind, DecodeError>
+    ensures { ReadsOn result reader.new (begin_at reader.old) }
+{
+    let client = u16_between(reader, 1, CLIENTS)?;
+    let sequence = u32_between(reader, 1, SEQUENCE)?;
+    let handler = place(reader)?;
+    let count = u8_between(reader, 0, ARGUMENTS)?;
+    let arguments = arguments(reader, count)?;
+    Ok(Kind::Begin {
+        client,
+        sequence,
+        handler,
+        arguments,
+    })
+}
+
+#[tactic(auto, unfolding(crate::specs::Reading::signal_at))]
+fn signal(reader: &mut Reader, lanes: u8) -> Result<Kind, DecodeError>
+    ensures { ReadsOn result reader.new (signal_at lanes reader.old) }
+{
+    let condition = place(reader)?;
+    let number = u8_between(reader, 0, lanes)?;
+    let woken = if number == 0 { None } else { Some(number - 1) };
+    Ok(Kind::Signal { condition, woken })
+}
+
+#[tactic(auto, unfolding(crate::specs::Reading::broadcast_at))]
+fn broadcast(reader: &mut Reader, lanes: u8) -> Result<Kind, DecodeError>
+    requires { lanes ≤ 16 }
+    ensures { ReadsOn result reader.new (broadcast_at lanes reader.old) }
+{
+    let condition = place(reader)?;
+    let at = reader.at();
+    let woken = reader.u64()?;
+    if woken >= 1 << lanes {
+        return Err(DecodeError::Bad { at });
+    }
+    Ok(Kind::Broadcast { condition, woken })
+}
+
+#[tactic(auto, unfolding(crate::specs::Reading::clock_at))]
+fn clock(reader: &mut Reader) -> Result<Kind, DecodeError>
+    ensures { ReadsOn result reader.new (clock_at reader.old) }
+{
+    let value = reader.i64()?;
+    Ok(Kind::Clock { value })
+}
+
+#[tactic(auto, unfolding(crate::specs::Reading::random_at))]
+fn random(reader: &mut Reader) -> Result<Kind, DecodeError>
+    ensures { ReadsOn result reader.new (random_at reader.old) }
+{
+    let value = reader.u32()?;
+    Ok(Kind::Random { value })
+}
+
+#[tactic(auto, unfolding(crate::specs::Reading::reply_at))]
+fn reply(reader: &mut Reader) -> Result<Kind, DecodeError>
+    ensures { ReadsOn result reader.new (reply_at reader.old) }
+{
+    let client = u16_between(reader, 1, CLIENTS)?;
+    let value = reader.i64()?;
+    Ok(Kind::Reply { client, value })
+}
+
+#[tactic(auto, unfolding(crate::specs::Reading::condition_at))]
+fn wait(reader: &mut Reader) -> Result<Kind, DecodeError>
+    ensures { ReadsOn result reader.new (condition_at Wait reader.old) }
+{
+    let condition = place(reader)?;
+    let lock = place(reader)?;
+    Ok(Kind::Wait { condition, lock })
+}
+
+#[tactic(auto, unfolding(crate::specs::Reading::condition_at))]
+fn wake(reader: &mut Reader) -> Result<Kind, DecodeError>
+    ensures { ReadsOn result reader.new (condition_at Wake reader.old) }
+{
+    let condition = place(reader)?;
+    let lock = place(reader)?;
+    Ok(Kind::Wake { condition, lock })
+}
+
+/// What follows the number of a kind.
+#[tactic(auto, unfolding(crate::specs::Reading::lock_at))]
+fn content(reader: &mut Reader, lanes: u8, code: u8) -> Result<Kind, DecodeError>
+    requires { lanes ≤ 16 }
+    ensures { ReadsOn result reader.new (content_at lanes code reader.old) }
+{
+    match code {
+        1 => begin(reader),
+        2 => Ok(Kind::AcqEx { lock: place(reader)? }),
+        3 => Ok(Kind::AcqSh { lock: place(reader)? }),
+        4 => Ok(Kind::RelEx { lock: place(reader)? }),
+        5 => Ok(Kind::RelSh { lock: place(reader)? }),
+        6 => Ok(Kind::TryOk { lock: place(reader)? }),
+        7 => Ok(Kind::TryBusy { lock: place(reader)? }),
+        8 => wait(reader),
+        9 => wake(reader),
+        10 => signal(reader, lanes),
+        11 => broadcast(reader, lanes),
+        12 => clock(reader),
+        13 => random(reader),
+        _ => reply(reader),
+    }
+}
+
+#[tactic(auto, unfolding(crate::specs::Reading::kind_at))]
+pub fn kind(reader: &mut Reader, lanes: u8) -> Result<Kind, DecodeError>
+    requires { lanes ≤ 16 }
+    ensures { ReadsOn result reader.new (kind_at lanes reader.old) }
+{
+    let code = u8_between(reader, 1, 14)?;
+    content(reader, lanes, code)
+}
