@@ -1,6 +1,6 @@
 -- The events below a consistent cut may go first.
-use Rattle.std.proofs.Common.{◌≡◌, ℕ, true, false, List, [], ◌∷◌, refl, ap, ◌∙◌}
-use Rattle.std.specs.Prelude.{Option, Some, None}
+use Rattle.std.proofs.Common.{◌≡◌, ℕ, true, false, List, [], ◌∷◌, ap, ◌∙◌}
+use Rattle.std.specs.Prelude.{Option, Some}
 use Rattle.std.proofs.lemmas.Option.{same_Some}
 use Rattle.rex_syntax.specs.declared.service.Declarations.{Declarations}
 use Rattle.rex_syntax.specs.Service.{IsService}
@@ -12,6 +12,7 @@ use Rattle.rex_state.specs.Value.{StateValue}
 use Rattle.rex_state.specs.Machine.{next, run_from, run}
 use Rattle.rex_state.specs.Sound.{IsSound}
 use Rattle.rex_state.specs.Commute.{GoesFirst}
+use Rattle.rex_state.proofs.Run.{run-first}
 use Rattle.rex_state.proofs.Sounds.{next_keeps}
 use Rattle.rex_state.proofs.Commute.{neighbours_commute}
 use Rattle.rex_state.proofs.Reorder.{Runs, kept_first}
@@ -30,19 +31,11 @@ module _ (service : Declarations) (good : IsService service) where
       let w = neighbours_commute service s a b e y good g.0 apart g.1 h.1 in
       (w.between, (g.0, w.first), (next_keeps service s w.between y good g.0 w.first, w.second))
 
-  none_runs : (t : StateValue) (es : List Event) → run_from service None es ≡ Some t → ⊥
-  none_runs t [] h = cc
-  none_runs t (e ∷ es) h = cc
-
-  first_leads : (o : Option StateValue) (s t : StateValue) (e : Event) (es : List Event) → next service s e ≡ o → run_from service o es ≡ Some t → (a : StateValue) × (next service s e ≡ Some a) × (run service a es ≡ Some t)
-  first_leads None s t e es n h = absurd (none_runs t es h)
-  first_leads (Some a) s t e es n h = (a, n, h)
-
   -- a run, step by step
   pub runs_from : (s t : StateValue) (es : List Event) → IsSound service s → run service s es ≡ Some t → Runs Leads s es t
   runs_from s t [] sound h = same_Some s t h
   runs_from s t (e ∷ es) sound h =
-      let r = first_leads (next service s e) s t e es refl h in
+      let r = run-first service s t e es h in
       (r.0, (sound, r.1), runs_from r.0 t es (next_keeps service s r.0 e good sound r.1) r.2)
 
   pub run_from_runs : (s t : StateValue) (es : List Event) → Runs Leads s es t → run service s es ≡ Some t

@@ -21,3 +21,5 @@ pub mod Commute
 pub mod Reorder
 pub mod Cuts
 pub mod Local
+pub mod Names
+pub mod Counts

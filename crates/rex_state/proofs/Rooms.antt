@@ -1,21 +1,16 @@
 -- What an event needs is there in a sound state that allows it.
-use Rattle.std.proofs.Common.{◌≡◌, ◌⊎◌, inl, inr, ℕ, zero, suc, ◌+◌, ◌<◌, ◌≤◌, ◌^◌, Bool, true, false, List, [], ◌∷◌, length, refl, ap, sym, ◌∙◌, subst, arith, get_or, eqb, set, length-set}
-use Rattle.std.specs.Prelude.{Option, Some, None, IfSome, IsSome, ℤ, slice_get}
+use Rattle.std.proofs.Common.{◌≡◌, ◌⊎◌, inl, inr, ℕ, ◌+◌, ◌<◌, ◌≤◌, ◌^◌, Bool, true, false, List, [], ◌∷◌, length, refl, ap, sym, ◌∙◌, subst, arith, get_or, eqb, set, length-set}
+use Rattle.std.specs.Prelude.{Option, Some, None, IfSome, IsSome, ℤ}
 use Rattle.std.specs.List.{All, AllByRecursion, IsDistinct, list_any}
 use Rattle.std.proofs.lemmas.Bool.{and_parts, eqb-true, ltb-true, true≢false, cases_lt}
 use Rattle.std.proofs.lemmas.List.{get_or_past}
 use Rattle.std.proofs.lemmas.List.Elements.{All-set, All-push, All-drop}
-use Rattle.std.proofs.lemmas.Option.{slice_get-get_or, slice_get_within}
 use Rattle.std.proofs.lemmas.Map.Keys.{IsDistinct-cons}
 use Rattle.std.proofs.lemmas.Map.Steps.{length-le_from_distinct_below}
 use Rattle.rex_syntax.specs.declared.line.Line.{Line}
-use Rattle.rex_syntax.specs.declared.line.Line.TheVariants.{Acquire, Share, Release, Try, EndIf, Signal as SignalAt, Broadcast as BroadcastAt, Clock as ClockAt, Random as RandomAt}
+use Rattle.rex_syntax.specs.declared.line.Line.TheVariants.{Clock as ClockAt, Random as RandomAt}
 use Rattle.rex_syntax.specs.declared.service.Declarations.{Declarations}
-use Rattle.rex_syntax.specs.declared.service.Condition.{Condition}
-use Rattle.rex_syntax.specs.declared.service.LockKind.{LockKind}
-use Rattle.rex_syntax.specs.declared.service.LockKind.TheVariants.{Plain}
-use Rattle.rex_syntax.specs.Leads.{no_condition}
-use Rattle.rex_syntax.specs.Service.{IsService, IsHandler, IsLock, LineNames}
+use Rattle.rex_syntax.specs.Service.{IsService}
 use Rattle.rex_frame.specs.declared.frame.Frame.{Frame}
 use Rattle.rex_event.specs.declared.event.Kind.{Kind}
 use Rattle.rex_event.specs.declared.event.Event.{Event}
@@ -23,66 +18,22 @@ use Rattle.rex_event.specs.declared.event.Kind.TheVariants.{Begin, AcqEx, AcqSh,
 use Rattle.rex_state.specs.declared.lane.Lane.{Lane}
 use Rattle.rex_state.specs.declared.lane.Queue.{Queue}
 use Rattle.rex_state.specs.Value.{StateValue}
-use Rattle.rex_state.specs.Lines.{lines_in, locals_in, lines_of, locals_of, line_of, local_of, is_condition_of, is_lock_of}
+use Rattle.rex_state.specs.Lines.{locals_of, line_of, local_of}
 use Rattle.rex_state.specs.Own.{started}
-use Rattle.rex_state.specs.Machine.{no_lane, lane_of, frame_at, can_go, own_can, no_queue, queue_at, queues_after, client_allows, next}
+use Rattle.rex_state.specs.Machine.{lane_of, frame_at, can_go, own_can, no_queue, queue_at, queues_after, client_allows, next}
 use Rattle.rex_state.specs.Flows.{CheckedFlows}
-use Rattle.rex_state.specs.Sound.{FrameFits, Fits, Has, IsOnce, IsQueued, AreServed, with_flows, IsSound}
+use Rattle.rex_state.specs.Sound.{Has, IsOnce, IsQueued, AreServed, with_flows, IsSound}
 use Rattle.rex_state.specs.Room.{IsQueueSmall, IsSmall, FitsIn, HasNextPlace, HasLock, HasLocal, CanMove, HasHandler, CanStart, HasQueue, HasEntry, CanApply}
-use Rattle.rex_state.proofs.Fits.{acquire_line, share_line, release_line, try_line, signal_line, broadcast_line, clock_line, random_line, no_handler, takes_there, IsRight, starts_fit}
+use Rattle.rex_state.specs.Names.{KindNames}
+use Rattle.rex_state.proofs.Fits.{clock_line, random_line, no_handler, takes_there, IsRight, starts_fit}
 use Rattle.rex_state.proofs.Keep.{IsNext, next_is}
+use Rattle.rex_state.proofs.Names.{lane_in, handler_at, lines_are, locals_are, names_line, waiting_there, events_name}
 use Rattle.rex_state.proofs.Queued.{not_queued}
 use Rattle.rex_state.proofs.Sounds.{right_flows}
 
--- ---- frames
-
--- a fitting frame is one in its handler
-pub frame_in : (p : CheckedFlows) (f : Frame) → FrameFits p f → FitsIn p.service f
-frame_in p f fits = record { handler = fits.handler; inside = fits.inside; locals = fits.locals }
-
-pub lane_in : (p : CheckedFlows) (o : Option Frame) → Fits p o → IfSome o (FitsIn p.service)
-lane_in p None fits = tt
-lane_in p (Some f) fits = frame_in p f fits
-
--- ---- what lines name
-
--- a condition's lock is the one that it has
-condition_in : (xs : List Condition) (c lock : ℕ) → is_condition_of (slice_get xs c) lock ≡ true → (c < length xs) × ((get_or xs c no_condition).lock ≡ lock)
-condition_in [] c lock h = absurd (cc)
-condition_in (x ∷ xs) zero lock h = (omega arith, eqb-true x.lock lock h)
-condition_in (x ∷ xs) (suc c) lock h = let r = condition_in xs c lock h in (let l : c < length xs = r.0 in omega arith, r.1)
-
 module _ (service : Declarations) (good : IsService service) where
-  pub lock_small : (kind : LockKind) (lock : ℕ) → IsLock service kind lock → lock < 64
-  lock_small kind lock h = omega (arith, good.locks, slice_get_within service.locks lock h.found h.there)
-
-  condition_there : (c lock : ℕ) → is_lock_of service c lock ≡ true → (c < length service.conditions) × (lock < 64)
-  condition_there c lock h =
-      let r = condition_in service.conditions c lock h in
-      let k : IsLock service Plain (get_or service.conditions c no_condition).lock = good.conditions c no_condition r.0 in
-      (r.0, lock_small Plain lock (subst (IsLock service Plain) r.1 k))
-
-  handler_at : (handler : ℕ) → handler < length service.handlers → IsHandler service (get_or service.handlers handler no_handler)
-  handler_at handler h = good.handlers handler no_handler h
-
-  lines_are : (handler : ℕ) → handler < length service.handlers → lines_of service handler ≡ (get_or service.handlers handler no_handler).lines
-  lines_are handler h = ap lines_in (slice_get-get_or service.handlers handler no_handler h)
-
-  locals_are : (handler : ℕ) → handler < length service.handlers → locals_of service handler ≡ (get_or service.handlers handler no_handler).locals
-  locals_are handler h = ap locals_in (slice_get-get_or service.handlers handler no_handler h)
-
-  names_at : (f : Frame) → FitsIn service f → LineNames service (locals_of service f.handler) (line_of service f)
-  names_at f fits =
-      let lines : lines_of service f.handler ≡ (get_or service.handlers f.handler no_handler).lines = lines_are f.handler fits.handler in
-      let place : f.place < length (get_or service.handlers f.handler no_handler).lines = subst (λ (ls : List Line). f.place < length ls) lines fits.inside.place in
-      subst (λ (n : ℕ). LineNames service n (line_of service f)) (sym (locals_are f.handler fits.handler))
-      (subst (λ (ls : List Line). LineNames service (get_or service.handlers f.handler no_handler).locals (get_or ls f.place EndIf)) (sym lines) ((handler_at f.handler fits.handler).names f.place EndIf place))
-
-  pub names_line : (f : Frame) (line : Line) → FitsIn service f → line_of service f ≡ line → LineNames service (locals_of service f.handler) line
-  names_line f line fits e = subst (LineNames service (locals_of service f.handler)) e (names_at f fits)
-
   next_place : (f : Frame) → FitsIn service f → HasNextPlace f
-  next_place f fits = omega (arith, fits.inside.place, ap length (lines_are f.handler fits.handler), (handler_at f.handler fits.handler).short)
+  next_place f fits = omega (arith, fits.inside.place, ap length (lines_are service good f.handler fits.handler), (handler_at service good f.handler fits.handler).short)
 
   has_lock : (f : Frame) (lock : ℕ) → FitsIn service f → lock < length service.locks → HasLock lock f
   has_lock f lock fits h = (omega (arith, good.locks), next_place f fits)
@@ -92,46 +43,39 @@ module _ (service : Declarations) (good : IsService service) where
 
   -- ---- what an event changes in its lane
 
-  can_move : (kind : Kind) (f : Frame) (vs : List ℤ) → FitsIn service f → can_go service kind (line_of service f) f vs ≡ true → CanMove kind (line_of service f) f
-  can_move (AcqEx lock) f vs fits h = has_lock f lock fits (names_line f (Acquire lock) fits (acquire_line _ lock (and_parts _ _ h).1))
-  can_move (AcqSh lock) f vs fits h = (lock_small _ lock (names_line f (Share lock) fits (share_line _ lock (and_parts _ _ h).1)), next_place f fits)
-  can_move (RelEx lock) f vs fits h = has_lock f lock fits (names_line f (Release lock) fits (release_line _ lock (and_parts _ _ (and_parts _ _ h).1).0))
-  can_move (RelSh lock) f vs fits h = has_lock f lock fits (names_line f (Release lock) fits (release_line _ lock (and_parts _ _ (and_parts _ _ h).1).0))
-  can_move (TryOk lock) f vs fits h = let t = try_line _ lock (and_parts _ _ h).1 in (lock_small _ lock (names_line f (Try lock t.0) fits t.1), next_place f fits)
-  can_move (TryBusy lock) f vs fits h = tt
-  can_move (Wait condition lock) f vs fits h = (condition_there condition lock (and_parts _ _ (and_parts _ _ h).1).1).1
-  can_move (Wake condition lock) f vs fits h = (condition_there condition lock (and_parts _ _ (and_parts _ _ h).1).1).1
-  can_move (Signal condition woken) f vs fits h = next_place f fits
-  can_move (Broadcast condition woken) f vs fits h = next_place f fits
-  can_move (Clock value) f vs fits h = let t = clock_line _ (and_parts _ _ h).1 in has_local f (ClockAt t.0) t.0 fits (names_line f (ClockAt t.0) fits t.1) t.1 refl
-  can_move (Random value) f vs fits h = let t = random_line _ (and_parts _ _ h).1 in has_local f (RandomAt t.0) t.0 fits (names_line f (RandomAt t.0) fits t.1) t.1 refl
-  can_move (Begin client sequence handler arguments) f vs fits h = tt
-  can_move (Reply client value) f vs fits h = tt
+  can_move : (kind : Kind) (f : Frame) (vs : List ℤ) → FitsIn service f → KindNames service kind → can_go service kind (line_of service f) f vs ≡ true → CanMove kind (line_of service f) f
+  can_move (AcqEx lock) f vs fits names h = has_lock f lock fits names
+  can_move (AcqSh lock) f vs fits names h = has_lock f lock fits names
+  can_move (RelEx lock) f vs fits names h = has_lock f lock fits names
+  can_move (RelSh lock) f vs fits names h = has_lock f lock fits names
+  can_move (TryOk lock) f vs fits names h = has_lock f lock fits names
+  can_move (TryBusy lock) f vs fits names h = tt
+  can_move (Wait condition lock) f vs fits names h = omega (arith, good.locks, names.1)
+  can_move (Wake condition lock) f vs fits names h = omega (arith, good.locks, names.1)
+  can_move (Signal condition woken) f vs fits names h = next_place f fits
+  can_move (Broadcast condition woken) f vs fits names h = next_place f fits
+  can_move (Clock value) f vs fits names h = let t = clock_line _ (and_parts _ _ h).1 in has_local f (ClockAt t.0) t.0 fits (names_line service good f (ClockAt t.0) fits t.1) t.1 refl
+  can_move (Random value) f vs fits names h = let t = random_line _ (and_parts _ _ h).1 in has_local f (RandomAt t.0) t.0 fits (names_line service good f (RandomAt t.0) fits t.1) t.1 refl
+  can_move (Begin client sequence handler arguments) f vs fits names h = tt
+  can_move (Reply client value) f vs fits names h = tt
 
   has_handler : (handler count : ℕ) → (handler < length service.handlers) × ((get_or service.handlers handler no_handler).parameters ≡ count) → HasHandler service handler count
-  has_handler handler count t = (t.0, omega (arith, t.1, locals_are handler t.0, (handler_at handler t.0).fewer))
+  has_handler handler count t = (t.0, omega (arith, t.1, locals_are service good handler t.0, (handler_at service good handler t.0).fewer))
 
-  can_start : (kind : Kind) (o : Option Frame) (vs : List ℤ) → IfSome o (FitsIn service) → own_can service kind o vs ≡ true → CanStart service kind o
-  can_start (Begin client sequence handler arguments) None vs fits h = has_handler handler (length arguments) (takes_there service.handlers handler (length arguments) h)
-  can_start (Begin client sequence handler arguments) (Some f) vs fits h = absurd (true≢false (sym h))
-  can_start (Reply client value) o vs fits h = tt
-  can_start kind None vs fits h = tt
-  can_start kind (Some f) vs fits h = (fits, can_move kind f vs fits h)
+  can_start : (kind : Kind) (o : Option Frame) (vs : List ℤ) → IfSome o (FitsIn service) → KindNames service kind → own_can service kind o vs ≡ true → CanStart service kind o
+  can_start (Begin client sequence handler arguments) None vs fits names h = has_handler handler (length arguments) (takes_there service.handlers handler (length arguments) h)
+  can_start (Begin client sequence handler arguments) (Some f) vs fits names h = absurd (true≢false (sym h))
+  can_start (Reply client value) o vs fits names h = tt
+  can_start kind None vs fits names h = tt
+  can_start kind (Some f) vs fits names h = (fits, can_move kind f vs fits names h)
 
-  -- ---- the condition that it names
-
-  condition_named : (kind : Kind) (f : Frame) (vs : List ℤ) → FitsIn service f → can_go service kind (line_of service f) f vs ≡ true → (queues : List Queue) → length queues ≡ length service.conditions
-      → ((condition lock : ℕ) → kind ≡ Wait condition lock → length (queue_at queues condition) < 16) → HasQueue kind queues
-  condition_named (Wait condition lock) f vs fits h queues long room = (subst (λ (n : ℕ). condition < n) (sym long) (condition_there condition lock (and_parts _ _ (and_parts _ _ h).1).1).0, room condition lock refl)
-  condition_named (Signal condition woken) f vs fits h queues long room = omega (arith, long, names_line f (SignalAt condition) fits (signal_line _ condition (and_parts _ _ h).1))
-  condition_named (Broadcast condition woken) f vs fits h queues long room = omega (arith, long, names_line f (BroadcastAt condition) fits (broadcast_line _ condition (and_parts _ _ h).1))
-  condition_named _ f vs fits h queues long room = tt
-
-  has_queue : (kind : Kind) (o : Option Frame) (vs : List ℤ) → IfSome o (FitsIn service) → own_can service kind o vs ≡ true → (queues : List Queue) → length queues ≡ length service.conditions
-      → ((condition lock : ℕ) → kind ≡ Wait condition lock → length (queue_at queues condition) < 16) → HasQueue kind queues
-  has_queue kind (Some f) vs fits h queues long room = condition_named kind f vs fits h queues long room
-  has_queue (Begin client sequence handler arguments) None vs fits h queues long room = tt
-  has_queue kind None vs fits h queues long room = absurd (true≢false (sym h))
+-- the condition that an event names has its queue
+has_queue : (service : Declarations) (kind : Kind) → KindNames service kind → (queues : List Queue) → length queues ≡ length service.conditions
+    → ((condition lock : ℕ) → kind ≡ Wait condition lock → length (queue_at queues condition) < 16) → HasQueue kind queues
+has_queue service (Wait condition lock) names queues long room = (subst (λ (n : ℕ). condition < n) (sym long) names.0, room condition lock refl)
+has_queue service (Signal condition woken) names queues long room = omega (arith, long, names.0)
+has_queue service (Broadcast condition woken) names queues long room = omega (arith, long, names.0)
+has_queue service _ names queues long room = tt
 
 -- ---- a queue has room
 
@@ -160,14 +104,6 @@ has_any q (x ∷ xs) h = by (eqb q x) refl (λ k. has_any q xs k)
 once_few : (xs : List ℕ) (n : ℕ) → IsOnce xs → ((x : ℕ) → Has x xs → x < n) → length xs ≤ n
 once_few xs n once below = length-le_from_distinct_below xs n (distinct_from xs once) (λ q h. below q (has_any q xs h))
 
--- a busy lane is one of the lanes
-lane_there : (s : StateValue) (lane : ℕ) (f : Frame) → frame_at s lane ≡ Some f → lane < length s.lanes
-lane_there s lane f h = by (cases_lt lane (length s.lanes))
-  where
-    by : (lane < length s.lanes) ⊎ (length s.lanes ≤ lane) → lane < length s.lanes
-    by (inl l) = l
-    by (inr l) = absurd (let z : None ≡ Some f = sym (ap (λ (x : Lane). x.frame) (get_or_past s.lanes lane no_lane l)) ∙ h in cc)
-
 -- a queue without one of the lanes has room for it
 queue_room : (service : Declarations) (s : StateValue) (lane condition : ℕ) → IsQueued service s → lane < length s.lanes → length s.lanes ≤ 16 → (Has lane (queue_at s.queues condition) → ⊥) → length (queue_at s.queues condition) < 16
 queue_room service s lane condition queued l few n =
@@ -177,7 +113,7 @@ queue_room service s lane condition queued l few n =
   where
     by : (x : ℕ) → Has x (lane ∷ queue_at s.queues condition) → x < length s.lanes
     by x (inl e) = subst (λ (y : ℕ). y < length s.lanes) e l
-    by x (inr h) = let w = queued.waits condition x h in lane_there s x w.frame w.busy
+    by x (inr h) = waiting_there service s condition x queued h
 
 -- ---- a client has its entry
 
@@ -197,15 +133,16 @@ can_apply service s t e good sound h count =
     let p : CheckedFlows = with_flows service sound.flows in
     let right : IsRight (with_flows service sound.flows) = right_flows service s good sound in
     let fits : IfSome (frame_at s e.lane) (FitsIn service) = lane_in (with_flows service sound.flows) (frame_at s e.lane) (sound.by.fits e.lane) in
+    let names : KindNames service e.kind = (events_name service s t e good sound h).kind in
     let few : length s.lanes ≤ 16 = omega (arith, sound.by.complete.lanes, good.lanes) in
     let index : (lane_of s e.lane).done ≡ e.index = eqb-true _ _ n.index in
     record {
       there = n.enabled.there;
       count = omega arith;
-      start = can_start service good e.kind (frame_at s e.lane) s.variables fits n.enabled.own;
+      start = can_start service good e.kind (frame_at s e.lane) s.variables fits names n.enabled.own;
       fits = lane_in (with_flows service sound.flows) (started service e.kind (frame_at s e.lane)) (starts_fit (with_flows service sound.flows) right e.kind (frame_at s e.lane) s.variables (sound.by.fits e.lane) n.enabled.own);
       variables = sound.by.complete.variables;
-      queue = has_queue service good e.kind (frame_at s e.lane) s.variables fits n.enabled.own s.queues sound.by.complete.queues
+      queue = has_queue service e.kind names s.queues sound.by.complete.queues
           (λ condition lock k. queue_room service s e.lane condition sound.by.queued n.enabled.there few (not_queued service s e n.enabled sound.by.queued condition));
       entry = client_there e.kind s e.lane (frame_at s e.lane) service refl sound.by.served n.enabled.own n.enabled.client;
     }

@@ -1,5 +1,5 @@
 -- How many events each lane did.
-use Rattle.std.specs.Prelude.{◌≡◌, ℕ, List, length, map, Some}
+use Rattle.std.specs.Prelude.{◌≡◌, ℕ, List, map, Some}
 use Rattle.rex_syntax.specs.declared.service.Declarations.{Declarations}
 use Rattle.rex_event.specs.declared.event.Event.{Event}
 use Rattle.rex_event.specs.Cuts.{AreNumbered, counted_all}
