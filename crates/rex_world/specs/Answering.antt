@@ -17,7 +17,7 @@ answer_in r q = answer_of q (queued_in r.recorder.queue q.client) (entry_at r.re
 
 -- the queue after an answer
 abbrev pub taken : Running → Request → Effect → Running
-taken r q answer = record {
+taken r q answer = record r {
   world = record r.world { queue = queue_with r.recorder.queue q answer };
   recorder = record r.recorder { queue = queue_with r.recorder.queue q answer };
 }
@@ -28,7 +28,7 @@ turn_at service r lane = turn_of service r.recorder.state r.recorder.queue (leng
 
 -- after a lane's turn: the dice moved on, where it draws
 abbrev pub turned_by : Declarations → Running → ℕ → Turn → Running
-turned_by service r lane t = record {
+turned_by service r lane t = record r {
   world = record r.world {
     live = live_after r.recorder.live t;
     queue = queue_after r.recorder.queue t;
