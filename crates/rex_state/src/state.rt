@@ -8,12 +8,15 @@ ghost use Rattle.rex_state.specs.Start.{start_of};
 ghost use Rattle.rex_state.specs.Sound.{IsSound};
 ghost use Rattle.rex_state.specs.Room.{CanApply};
 ghost use Rattle.rex_state.specs.Spare.{spare_of};
+ghost use Rattle.rex_state.specs.Counts.{counts_of};
 
 use crate::apply::{change_clients, change_queues};
 use crate::can::{client_allows, is_in, locks_allow, mask, own_can, queue_at, queues_allow};
 use crate::lane::{Entry, Lane, Queue, as_lane, exclusive_holder, holder};
 use crate::own::{run_lane, start};
-use crate::parts::{copy_lanes, copy_queues, empty_queues, first_values, idle_lanes, new_entries};
+use crate::parts::{
+    copy_lanes, copy_queues, empty_queues, first_values, idle_lanes, lane_counts, new_entries,
+};
 use rex_event::{Event, Kind};
 use rex_frame::frame::Frame;
 use rex_syntax::checked::Checked;
@@ -84,6 +87,13 @@ impl State {
             Some(found) => found.done,
             None => 0,
         }
+    }
+
+    /// How many events each lane did.
+    pub fn counts(&self, alloc: Global) -> Result<Vec<u32>, AllocError>
+        ensures { IfOk result (λ counts. counts.items ≡ counts_of self.now) }
+    {
+        lane_counts(alloc, &self.lanes)
     }
 
     /// The frame of a lane, unless it is idle or isn't there.
