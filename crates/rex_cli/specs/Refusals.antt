@@ -44,6 +44,7 @@ scenario_code scenario.BadLine = codes "S8"
 scenario_code scenario.TooManyLines = codes "S9"
 scenario_code scenario.NotThere = codes "S10"
 scenario_code scenario.TooManyRequests = codes "S11"
+scenario_code scenario.WrongLimits = codes "S12"
 
 -- the code of the check
 abbrev pub check_code : CheckCode → List ℕ

@@ -53,6 +53,7 @@ pub(crate) fn scenario_code(code: ScenarioCode) -> &'static [u8]
         ScenarioCode::TooManyLines => b"S9",
         ScenarioCode::NotThere => b"S10",
         ScenarioCode::TooManyRequests => b"S11",
+        ScenarioCode::WrongLimits => b"S12",
     }
 }
 

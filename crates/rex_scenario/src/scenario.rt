@@ -50,7 +50,7 @@ pub enum ScenarioCode {
     BadCall,
     /// S7: client and sequence of an earlier request.
     Repeated,
-    /// S8: a schedule line's words aren't of a form, or a number in it is no number below 2^64.
+    /// S8: a schedule line's words aren't of a form, a number in it is no number below 2^64, or a limit none below 2^32.
     BadLine,
     /// S9: a schedule line past the 100,000th.
     TooManyLines,
