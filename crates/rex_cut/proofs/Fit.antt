@@ -102,10 +102,10 @@ each_from bases counts e ds lane (suc n) c lie h =
 latest_causes_fit : (bases counts : List ℕ) (e : Event) (ds : List Event) (lanes : ℕ) → LieBetween bases counts ds → lanes ≡ length counts → CausesFit bases counts e.lane (latest_causes e ds 0 lanes)
 latest_causes_fit bases counts e ds lanes lie q = record {
   few =
-    let f = few_from bases counts e ds 0 lanes lie in
-    let w : 0 + lanes ≡ length counts = omega arith in
-    let last = ap (others_below bases counts e.lane) w in
-    omega arith;
+      let f = few_from bases counts e ds 0 lanes lie in
+      let w : 0 + lanes ≡ length counts = omega arith in
+      let last = ap (others_below bases counts e.lane) w in
+      omega arith;
   each = all_from_has (CauseFits bases counts e.lane) (latest_causes e ds 0 lanes) (λ c h. each_from bases counts e ds 0 lanes c lie h);
   rising = rising_from bases counts e ds 0 lanes lie;
 }
@@ -115,22 +115,23 @@ latest_causes_fit bases counts e ds lanes lie q = record {
 lie_more : (bases counts : List ℕ) (ds : List Event) (e : Event) → LieBetween bases counts ds → IsWithin counts bases → e.lane < length counts → e.index ≡ count_at counts e.lane → LieBetween bases (counted counts e) (ds ++ e ∷ [])
 lie_more bases counts ds e lie w l i = record {
   from = λ d h.
-    ⊎_elim (λ (a : Has d ds). lie.from d a)
-    (λ (b : Has d (e ∷ [])). ⊎_elim (λ (q : e ≡ d). subst (λ (x : Event). count_at bases x.lane ≤ x.index) q (let v = w e.lane in omega arith)) (λ (z : ⊥). absurd z) b)
-    (has_parts d ds (e ∷ []) h);
+      ⊎_elim (λ (a : Has d ds). lie.from d a)
+      (λ (b : Has d (e ∷ [])). ⊎_elim (λ (q : e ≡ d). subst (λ (x : Event). count_at bases x.lane ≤ x.index) q (let v = w e.lane in omega arith)) (λ (z : ⊥). absurd z) b)
+      (has_parts d ds (e ∷ []) h);
   to = λ d h.
-    ⊎_elim (λ (a : Has d ds). let t = lie.to d a in let m = counted_more counts e d.lane l i in omega arith)
-    (λ (b : Has d (e ∷ [])). ⊎_elim (λ (q : e ≡ d). subst (λ (x : Event). x.index < count_at (counted counts e) x.lane) q (let s = counted_same counts e l in omega arith)) (λ (z : ⊥). absurd z) b)
-    (has_parts d ds (e ∷ []) h);
+      ⊎_elim (λ (a : Has d ds). let t = lie.to d a in let m = counted_more counts e d.lane l i in omega arith)
+      (λ (b : Has d (e ∷ [])). ⊎_elim (λ (q : e ≡ d). subst (λ (x : Event). x.index < count_at (counted counts e) x.lane) q (let s = counted_same counts e l in omega arith)) (λ (z : ⊥). absurd z) b)
+      (has_parts d ds (e ∷ []) h);
 }
 
 all_fit : (bases counts : List ℕ) (lanes : ℕ) (earlier es : List Event) → LieBetween bases counts earlier → IsWithin counts bases → lanes ≡ length counts → AreNumbered counts es → AllCausesFit bases counts es (causes_of lanes earlier es)
 all_fit bases counts lanes earlier [] lie w q n = tt
-all_fit bases counts lanes earlier (e ∷ es) lie w q n =
-    (latest_causes_fit bases counts e earlier lanes lie q,
-    all_fit bases (counted counts e) lanes (earlier ++ e ∷ []) es (lie_more bases counts earlier e lie w n.0 n.1)
-        (λ lane. let a = w lane in let b = counted_more counts e lane n.0 n.1 in omega arith)
-        (q ∙ sym (counted_long counts e)) n.2)
+all_fit bases counts lanes earlier (e ∷ es) lie w q n = (
+  latest_causes_fit bases counts e earlier lanes lie q,
+  all_fit bases (counted counts e) lanes (earlier ++ e ∷ []) es (lie_more bases counts earlier e lie w n.0 n.1)
+      (λ lane. let a = w lane in let b = counted_more counts e lane n.0 n.1 in omega arith)
+      (q ∙ sym (counted_long counts e)) n.2,
+)
 
 -- the causes of numbered events are of other lanes, lie between the bases and the event, and rise
 pub causes_fit : (bases : List ℕ) (es : List Event) → AreNumbered bases es → AllCausesFit bases bases es (causes_of (length bases) [] es)

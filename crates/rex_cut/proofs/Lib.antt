@@ -5,3 +5,6 @@ pub mod Bases
 pub mod Latest
 pub mod Right
 pub mod Fit
+pub mod Deltas
+pub mod Lanes
+mod Steps

@@ -55,10 +55,10 @@ stopped_keeps cut e d h later =
     cond_both (is_below cut e) (slice_set cut e.lane e.index) cut (λ (x : List ℕ). is_below x d ≡ true)
     (λ b.
     ⊎_elim (λ (q : d.lane ≡ e.lane).
-        let s = get_or-set_same cut e.lane e.index 0 (in_range cut e.lane e.index (ltb-true _ _ b)) in
-        let l = later (sym q) in
-        let r = ap (count_at (slice_set cut e.lane e.index)) q in
-        lt-ltb _ _ (omega arith))
+    let s = get_or-set_same cut e.lane e.index 0 (in_range cut e.lane e.index (ltb-true _ _ b)) in
+    let l = later (sym q) in
+    let r = ap (count_at (slice_set cut e.lane e.index)) q in
+    lt-ltb _ _ (omega arith))
     (λ (q : d.lane ≡ e.lane → ⊥). let o = get_or-set_other cut e.lane d.lane e.index 0 q in let l = ltb-true _ _ h in lt-ltb _ _ (omega arith))
     (cases_eq d.lane e.lane))
     (λ b. h)
@@ -164,7 +164,7 @@ follows_kept es out e rest f = record { across = λ d x h k. f.across d x h (inr
 follows_out : (es out : List Event) (e : Event) (rest : List Event) → Follows es out (e ∷ rest) → Follows es (out ++ e ∷ []) rest
 follows_out es out e rest f = record {
   across = λ d x h k.
-    ⊎_elim (λ (l : Has d out). f.across d x l (inr k)) (λ (r : Has d (e ∷ [])). ⊎_elim (λ (q : e ≡ d). f.inside d x (inl (q, k))) (λ (z : ⊥). absurd z) r) (has_parts d out (e ∷ []) h);
+      ⊎_elim (λ (l : Has d out). f.across d x l (inr k)) (λ (r : Has d (e ∷ [])). ⊎_elim (λ (q : e ≡ d). f.inside d x (inl (q, k))) (λ (z : ⊥). absurd z) r) (has_parts d out (e ∷ []) h);
   inside = λ d x p. f.inside d x (inr p);
 }
 
@@ -175,7 +175,7 @@ left_out es out rest cut other e f a w closed b =
     (λ (q : not (meets_any out e) ≡ false).
     let m = met out e (not-false _ q) in
     ⊎_elim (λ (t : is_below other e ≡ true).
-        absurd (true≢false (sym (closed.closed m.0 e ([], record { before = f.across m.0 e m.1 (inl refl); meets = m.2 }) t) ∙ a.each m.0 m.1)))
+    absurd (true≢false (sym (closed.closed m.0 e ([], record { before = f.across m.0 e m.1 (inl refl); meets = m.2 }) t) ∙ a.each m.0 m.1)))
     (λ (t : is_below other e ≡ false). t)
     (cases_Bool (is_below other e)))
     (and_cases _ _ b)
@@ -205,7 +205,7 @@ greatest_is limits es cut = record {
     closed = λ d e led h. leads_back (ConflictsBefore es) (λ (x : Event). is_below (greatest_cut limits es) x ≡ true) (λ x y c b. consistent_step es limits cut.bases x y cut.numbered c b) d e led h;
   };
   greatest = λ other w closed.
-    lowered_greatest es [] limits other es (record { across = λ d e h k. absurd h; inside = λ d e p. p }) (record { each = λ d h. absurd h }) w closed;
+      lowered_greatest es [] limits other es (record { across = λ d e h k. absurd h; inside = λ d e p. p }) (record { each = λ d h. absurd h }) w closed;
 }
 
 pub greatest_cuts : (limits : List ℕ) (es : List Event) → IsCutOf es limits → IsCutOf es (greatest_cut limits es)
