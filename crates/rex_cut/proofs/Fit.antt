@@ -1,9 +1,8 @@
 -- The causes of numbered events fit.
-use Rattle.std.proofs.Common.{◌≡◌, ◌≢◌, ◌⊎◌, inl, inr, ⊎_elim, ℕ, zero, suc, ◌+◌, ◌<◌, ◌≤◌, ◌==◌, ◌&&◌, Bool, true, false, not, cond, List, [], ◌∷◌, ◌++◌, length, get_or, refl, ap, sym, ◌∙◌, subst, arith}
-use Rattle.std.specs.Prelude.{Option, Some, None, nat_eq, nat_lt}
-use Rattle.std.specs.List.{All}
-use Rattle.std.proofs.lemmas.Bool.{cond_both, and_from, cases_lt, lt-ltb, ne_eqb, eqb-false, not_from_false}
-use Rattle.std.proofs.lemmas.List.{length-append, get_or_past}
+use Rattle.std.proofs.Common.{◌≡◌, ◌≢◌, ⊎_elim, ℕ, zero, suc, ◌+◌, ◌<◌, ◌≤◌, ◌==◌, ◌&&◌, true, not, cond, List, [], ◌∷◌, ◌++◌, length, refl, ap, sym, ◌∙◌, subst, arith}
+use Rattle.std.specs.Prelude.{Option, Some, None, nat_eq}
+use Rattle.std.proofs.lemmas.Bool.{cond_both, and_from, lt-ltb, ne_eqb, eqb-false, not_from_false}
+use Rattle.std.proofs.lemmas.List.{length-append}
 use Rattle.rex_event.specs.declared.event.Event.{Event}
 use Rattle.rex_event.specs.declared.delta.Cause.{Cause}
 use Rattle.rex_event.specs.Order.{Has}
@@ -12,7 +11,7 @@ use Rattle.rex_event.specs.Causes.{cause_of}
 use Rattle.rex_event.specs.Pieces.{has_event, others_below, CauseFits, AreRising, CausesFit, AllCausesFit}
 use Rattle.rex_cut.specs.Delta.{latest, as_list, latest_causes, causes_of}
 use Rattle.rex_cut.proofs.Leads.{has_parts, all_from_has}
-use Rattle.rex_cut.proofs.Numbered.{counted_same, counted_long, counted_more}
+use Rattle.rex_cut.proofs.Numbered.{in_range, counted_same, counted_long, counted_more}
 use Rattle.rex_cut.proofs.Latest.{latest_is}
 
 -- each of these events lies between two counts
@@ -31,10 +30,6 @@ record IsOne (bases counts : List ℕ) (own lane : ℕ) (cs : List Cause) : Type
   few : length cs ≤ cond (has_event bases counts lane && not (nat_eq lane own)) 1 0
   rising : (rest : List Cause) → AreRising (lane + 1) rest → AreRising lane (cs ++ rest)
   each : (c : Cause) → Has c cs → CauseFits bases counts own c
-
-in_range : (xs : List ℕ) (k n : ℕ) → n < get_or xs k 0 → k < length xs
-in_range xs k n h =
-    ⊎_elim (λ (q : k < length xs). q) (λ (q : length xs ≤ k). let z = get_or_past xs k 0 q in absurd (omega arith)) (cases_lt k (length xs))
 
 none_fits : (bases counts : List ℕ) (own lane : ℕ) → IsOne bases counts own lane []
 none_fits bases counts own lane = record { few = omega arith; rising = λ rest h. rising_less lane (lane + 1) rest (omega arith) h; each = λ c h. absurd h }

@@ -1,16 +1,16 @@
 -- The events of each lane, and the causes among them.
-use Rattle.std.proofs.Common.{◌≡◌, ◌≢◌, ◌⊎◌, inl, inr, ⊎_elim, ℕ, zero, suc, ◌+◌, ◌<◌, ◌≤◌, ◌==◌, ◌&&◌, Bool, true, false, cond, List, [], ◌∷◌, ◌++◌, length, get_or, set, take, drop, reverse, replicate, refl, ap, sym, ◌∙◌, subst, arith}
-use Rattle.std.specs.Prelude.{Option, Some, None, filter}
+use Rattle.std.proofs.Common.{◌≡◌, ◌≢◌, ℕ, zero, suc, ◌+◌, ◌<◌, ◌≤◌, ◌==◌, ◌&&◌, Bool, true, false, cond, List, [], ◌∷◌, ◌++◌, length, get_or, set, replicate, refl, ap, ◌∙◌, arith}
+use Rattle.std.specs.Prelude.{Option, Some, None}
 use Rattle.std.specs.List.{All}
 use Rattle.std.proofs.lemmas.Bool.{eq-eqb, ne_eqb}
-use Rattle.std.proofs.lemmas.List.{append-nil, append_assoc}
+use Rattle.std.proofs.lemmas.List.{append-nil}
 use Rattle.std.proofs.lemmas.List.Elements.{All-nil, All-cons, All-filter, All-weaker, filter-append}
 use Rattle.rex_event.specs.declared.event.Event.{Event}
 use Rattle.rex_event.specs.declared.delta.Cause.{Cause}
 use Rattle.rex_event.specs.Conflict.{conflict}
 use Rattle.rex_event.specs.Causes.{cause_of}
 use Rattle.rex_cut.specs.Delta.{later_of, latest, as_list, latest_causes}
-use Rattle.rex_cut.specs.Lanes.{HasLane, HaveLanes, of_lane, by_lane, latest_of, cause_in, causes_in}
+use Rattle.rex_cut.specs.Lanes.{HasLane, HaveLanes, of_lane, by_lane, latest_of, causes_in}
 
 -- ---- the latest of a lane
 

@@ -1,6 +1,8 @@
 pub mod Leads
 pub mod Numbered
+pub mod Stopped
 pub mod Lowered
+pub mod Highest
 pub mod Bases
 pub mod Latest
 pub mod Right
@@ -8,3 +10,4 @@ pub mod Fit
 pub mod Deltas
 pub mod Lanes
 mod Steps
+mod Examples

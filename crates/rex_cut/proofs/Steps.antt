@@ -1,6 +1,6 @@
 -- The steps of the loops.
-use Rattle.std.proofs.Common.{◌≡◌, ℕ, zero, suc, ◌+◌, ◌-◌, ◌<◌, ◌≤◌, Bool, true, false, cond, List, [], ◌∷◌, ◌++◌, length, get_or, set, take, drop, reverse, refl, ap, sym, ◌∙◌, subst, arith}
-use Rattle.std.specs.Prelude.{Option, Some, None}
+use Rattle.std.proofs.Common.{◌≡◌, ℕ, ◌+◌, ◌-◌, ◌<◌, true, false, List, [], ◌∷◌, ◌++◌, length, get_or, set, take, drop, reverse, refl, ap, sym, ◌∙◌, subst, arith}
+use Rattle.std.specs.Prelude.{Some, None}
 use Rattle.std.specs.List.{All}
 use Rattle.std.proofs.lemmas.List.{append_assoc, drop_more, drop_all, take_more, take-append-drop, get_or-reverse, length-reverse}
 use Rattle.std.proofs.lemmas.List.Elements.{All-drop, All-head, All-same}
@@ -8,7 +8,7 @@ use Rattle.rex_event.specs.declared.event.Event.{Event}
 use Rattle.rex_event.specs.declared.delta.Cause.{Cause}
 use Rattle.rex_event.specs.Conflict.{conflict}
 use Rattle.rex_event.specs.Causes.{cause_of}
-use Rattle.rex_cut.specs.Delta.{bases_from, later_of, latest_causes, causes_of}
+use Rattle.rex_cut.specs.Delta.{bases_from, latest_causes, causes_of}
 use Rattle.rex_cut.specs.Lanes.{HasLane, by_lane, latest_of, causes_in}
 use Rattle.rex_cut.proofs.Bases.{bases_none, bases_more}
 use Rattle.rex_cut.proofs.Lanes.{causes_by_lane, by_lane_more}

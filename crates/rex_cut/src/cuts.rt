@@ -61,7 +61,7 @@ fn lower(alloc: Global, counts: &mut [u32], events: &[Event]) -> Result<(), Allo
     Ok(())
 }
 
-/// The greatest consistent cut of a trace below limits, which are counts of events by lane (Chandy and Lamport, 1985).
+/// The greatest consistent cut of a trace below limits, which are counts of events by lane.
 pub fn greatest(alloc: Global, limits: &[u32], events: &[Event]) -> Result<Cut, AllocError>
     requires { IsCutOf events.now limits.now }
     ensures is { IfOk result (λ c. c.counts ≡ greatest_cut limits.now events.now) }

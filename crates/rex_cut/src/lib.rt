@@ -8,3 +8,6 @@ pub mod laws;
 
 pub use cuts::greatest;
 pub use delta::delta_of;
+
+#[cfg(test)]
+mod tests;

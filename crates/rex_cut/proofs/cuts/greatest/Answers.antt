@@ -4,7 +4,7 @@ use Rattle.rex_event.specs.Cuts.{IsGreatestCut}
 use Rattle.rex_cut.specs.Greatest.{greatest_cut, IsCutOf}
 use Rattle.rex_cut.proofs.Deltas.{cut_lanes}
 use Rattle.rex_cut.proofs.Lanes.{lanes_below}
-use Rattle.rex_cut.proofs.Lowered.{greatest_is, greatest_cuts}
+use Rattle.rex_cut.proofs.Highest.{greatest_is, greatest_cuts}
 use Rattle.rex_cut.proofs.cuts.greatest.Goals as goal
 
 pub lower-requires-clause-lanes : goal.lower-requires-clause-lanes

@@ -1,11 +1,7 @@
-use Rattle.std.proofs.Common.{◌≡◌, sym, subst, length, arith}
-use Rattle.std.specs.List.{All}
+use Rattle.std.proofs.Common.{◌≡◌, length, arith}
 use Rattle.std.proofs.lemmas.Grind.{common_steps}
 use Rattle.std.proofs.lemmas.List.Elements.{All-filter, All-same}
-use Rattle.rex_event.specs.declared.event.Event.{Event}
-use Rattle.rex_event.specs.Cuts.{AreNumbered, is_below}
-use Rattle.rex_event.specs.Causes.{AreRight}
-use Rattle.rex_event.specs.Pieces.{AllCausesFit}
+use Rattle.rex_event.specs.Cuts.{is_below}
 use Rattle.rex_cut.specs.Delta.{delta_at}
 use Rattle.rex_cut.specs.Lanes.{HasLane}
 use Rattle.rex_cut.proofs.Deltas.{cut_lanes, IsPiece, is_piece}

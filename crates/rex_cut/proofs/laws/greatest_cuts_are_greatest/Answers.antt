@@ -1,4 +1,4 @@
-use Rattle.rex_cut.proofs.Lowered.{greatest_is, greatest_cuts}
+use Rattle.rex_cut.proofs.Highest.{greatest_is, greatest_cuts}
 use Rattle.rex_cut.proofs.laws.greatest_cuts_are_greatest.Goals as goal
 
 pub returns : goal.returns
