@@ -67,8 +67,7 @@ fn keep(by_lane: &mut [List<Event>], event: &Event) -> Result<(), AllocError>
     by_lane[lane as usize].push(Event { lane, index, kind })
 }
 
-/// No events of each lane.
-pub(crate) fn no_events(alloc: Global, lanes: usize) -> Result<Vec<List<Event>>, AllocError>
+fn no_events(alloc: Global, lanes: usize) -> Result<Vec<List<Event>>, AllocError>
     ensures { IfOk result (λ v. v.items ≡ replicate lanes []) }
 {
     let mut by_lane = Vec::new(alloc);
@@ -78,8 +77,8 @@ pub(crate) fn no_events(alloc: Global, lanes: usize) -> Result<Vec<List<Event>>,
     Ok(by_lane)
 }
 
-/// The causes of each event. The lists by lane are empty at first.
-pub(crate) fn causes_of(
+/// The causes of each event, by way of lists of each lane's events, which are empty at first.
+fn collect_causes(
     alloc: Global,
     by_lane: &mut [List<Event>],
     events: &[Event],
@@ -95,4 +94,18 @@ pub(crate) fn causes_of(
         keep(by_lane, event)?;
     }
     Ok(causes)
+}
+
+/// The causes of each event of so many lanes.
+pub(crate) fn causes_of(
+    alloc: Global,
+    lanes: usize,
+    events: &[Event],
+) -> Result<List<List<Cause>>, AllocError>
+    requires few { lanes ≤ 16 }
+    requires lanes { All (HasLane lanes) events.now }
+    ensures { IfOk result (λ lists. lists ≡ spec.causes_of lanes [] events.now) }
+{
+    let mut by_lane = no_events(alloc, lanes)?;
+    collect_causes(alloc, &mut by_lane, events)
 }

@@ -9,7 +9,7 @@ ghost use Rattle.rex_cut.specs.Delta as spec;
 ghost use Rattle.rex_cut.specs.Delta.{delta_at};
 ghost use Rattle.rex_cut.specs.Lanes.{HasLane};
 
-use crate::causes::{causes_of, no_events};
+use crate::causes::causes_of;
 use crate::cuts::is_below;
 use rex_event::{Cut, Delta, Event};
 use rex_list::List;
@@ -50,8 +50,7 @@ pub fn delta_of(alloc: Global, cut: &Cut, events: &[Event]) -> Result<Delta, All
     let mut bases = counts.to_vec(alloc)?;
     lower_to_first(&mut bases, events);
     let events = below(alloc, counts, events)?;
-    let mut by_lane = no_events(alloc, counts.len())?;
-    let causes = causes_of(alloc, &mut by_lane, &events)?;
+    let causes = causes_of(alloc, counts.len(), &events)?;
     Ok(Delta {
         bases: List::from_vec(bases),
         events: List::from_vec(events),

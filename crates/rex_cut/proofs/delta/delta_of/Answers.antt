@@ -24,7 +24,7 @@ causes_of-requires-clause-lanes c =
     All-same (HasLane _) _ _ is
     (lanes_below (length counts) _ (delta_at counts es).events (grind (arith, common_steps)) (All-filter (is_below counts) (HasLane (length counts)) es (cut_lanes counts es c.requires)))
 
-piece : (c : goal.After-drop-by_lane-2) → IsPiece (record { bases = c.from_vec.result; events = c.from_vec-2.result; causes = c.in_ok-causes.causes })
+piece : (c : goal.After-from_vec-2) → IsPiece (record { bases = c.from_vec.result; events = c.from_vec-2.result; causes = c.in_ok-causes.causes })
 piece c = is_piece c.args.cut.now.counts c.args.events.now _ c.requires (grind (arith, common_steps))
 
 pub returns-clause-right : goal.returns-clause-right

@@ -1,7 +1,7 @@
 use Rattle.std.proofs.Common.{◌≡◌, ◌++◌, [], length, take, drop}
 use Rattle.rex_cut.specs.Delta.{causes_of}
 use Rattle.rex_cut.specs.Lanes.{by_lane}
-use Rattle.rex_cut.proofs.causes.causes_of.Given as goal
+use Rattle.rex_cut.proofs.causes.collect_causes.Given as goal
 
 abbrev pub invariant-loop-event : goal.invariant-loop-event
 invariant-loop-event l = record {

@@ -4,7 +4,7 @@ use Rattle.std.proofs.lemmas.List.Elements.{All-take}
 use Rattle.rex_cut.specs.Lanes.{HasLane, HaveLanes, by_lane, causes_in}
 use Rattle.rex_cut.proofs.Lanes.{by_lane_none, by_lane_lanes, lanes_below}
 use Rattle.rex_cut.proofs.Steps.{all_at, causes_more, kept_more}
-use Rattle.rex_cut.proofs.causes.causes_of.Goals as goal
+use Rattle.rex_cut.proofs.causes.collect_causes.Goals as goal
 
 pub loop-event-init : goal.loop-event-init
 loop-event-init c = record {
