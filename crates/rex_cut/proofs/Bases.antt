@@ -1,8 +1,7 @@
 -- The events below a cut are numbered on from the bases.
-use Rattle.std.proofs.Common.{◌≡◌, ◌≢◌, ◌⊎◌, inl, inr, ⊎_elim, ℕ, zero, suc, min, ◌+◌, ◌<◌, ◌≤◌, ◌==◌, Bool, true, false, cond, List, [], ◌∷◌, length, get_or, refl, ap, sym, ◌∙◌, subst, arith}
-use Rattle.std.specs.Prelude.{filter}
-use Rattle.std.proofs.lemmas.Bool.{cond_both, cases_eq, cases_lt, eqb-true, eqb-false, ltb-true, ltb-false}
-use Rattle.std.proofs.lemmas.List.{ext_get_or}
+use Rattle.std.proofs.Common.{◌≡◌, ⊎_elim, ℕ, zero, suc, min, ◌+◌, ◌<◌, ◌≤◌, ◌==◌, List, [], ◌∷◌, length, get_or, set, refl, ap, sym, ◌∙◌, subst, arith}
+use Rattle.std.proofs.lemmas.Bool.{cond_both, cases_eq, eqb-true, eqb-false, ltb-true, ltb-false}
+use Rattle.std.proofs.lemmas.List.{ext_get_or, length-set, get_or-set_same, get_or-set_other}
 use Rattle.rex_event.specs.declared.event.Event.{Event}
 use Rattle.rex_event.specs.Cuts.{count_at, counted, counted_all, AreNumbered, is_below, below}
 use Rattle.rex_cut.specs.Greatest.{IsCutOf}
@@ -53,22 +52,22 @@ cut_kept cut others counts e t l i b =
     record {
       long = counted_long counts e ∙ long ∙ sym (counted_long others e);
       each = λ lane.
-        ⊎_elim (λ (q : lane ≡ e.lane).
-            subst (λ (x : ℕ). count_at (counted counts e) x ≡ min (count_at (counted others e) x) (count_at cut x)) (sym q)
-            (let s = counted_same counts e f in let u = counted_same others e l in omega arith))
-        (λ (q : lane ≡ e.lane → ⊥). let s = counted_other counts e lane q in let u = counted_other others e lane q in let v = t.each lane in omega arith)
-        (cases_eq lane e.lane);
+          ⊎_elim (λ (q : lane ≡ e.lane).
+          subst (λ (x : ℕ). count_at (counted counts e) x ≡ min (count_at (counted others e) x) (count_at cut x)) (sym q)
+          (let s = counted_same counts e f in let u = counted_same others e l in omega arith))
+          (λ (q : lane ≡ e.lane → ⊥). let s = counted_other counts e lane q in let u = counted_other others e lane q in let v = t.each lane in omega arith)
+          (cases_eq lane e.lane);
     }
 
 cut_left : (cut others counts : List ℕ) (e : Event) → AreCutTo cut others counts → e.lane < length others → e.index ≡ count_at others e.lane → count_at cut e.lane ≤ e.index → AreCutTo cut (counted others e) counts
 cut_left cut others counts e t l i b = record {
   long = t.long ∙ sym (counted_long others e);
   each = λ lane.
-    ⊎_elim (λ (q : lane ≡ e.lane).
-        subst (λ (x : ℕ). count_at counts x ≡ min (count_at (counted others e) x) (count_at cut x)) (sym q)
-        (let u = counted_same others e l in let v = t.each e.lane in omega arith))
-    (λ (q : lane ≡ e.lane → ⊥). let u = counted_other others e lane q in let v = t.each lane in omega arith)
-    (cases_eq lane e.lane);
+      ⊎_elim (λ (q : lane ≡ e.lane).
+      subst (λ (x : ℕ). count_at counts x ≡ min (count_at (counted others e) x) (count_at cut x)) (sym q)
+      (let u = counted_same others e l in let v = t.each e.lane in omega arith))
+      (λ (q : lane ≡ e.lane → ⊥). let u = counted_other others e lane q in let v = t.each lane in omega arith)
+      (cases_eq lane e.lane);
 }
 
 pub below_numbered : (cut others counts : List ℕ) (es : List Event) → AreCutTo cut others counts → AreNumbered others es → AreNumbered counts (below cut es)
@@ -87,3 +86,24 @@ pub below_bases : (counts : List ℕ) (es : List Event) → IsCutOf es counts �
 below_bases counts es cut =
     subst (λ (x : List ℕ). AreNumbered x (below counts es)) (sym (bases_are counts es cut))
     (below_numbered counts cut.bases cut.bases es (record { long = refl; each = λ lane. let f = cut.from lane in omega arith }) cut.numbered)
+
+-- ---- bases from the last event to the first
+
+pub bases_none : (lane : ℕ) (counts : List ℕ) → bases_from [] lane counts ≡ counts
+bases_none lane [] = refl
+bases_none lane (c ∷ counts) = ap (λ (x : List ℕ). c ∷ x) (bases_none (lane + 1) counts)
+
+-- with one more event in front its lane's base is its index
+pub bases_more : (e : Event) (es : List Event) (counts : List ℕ) → e.lane < length counts → bases_from (e ∷ es) 0 counts ≡ set (bases_from es 0 counts) e.lane e.index
+bases_more e es counts l =
+    let long = bases_long es 0 counts in
+    let more = bases_long (e ∷ es) 0 counts in
+    ext_get_or 0 (bases_from (e ∷ es) 0 counts) (set (bases_from es 0 counts) e.lane e.index) (more ∙ sym long ∙ sym (length-set (bases_from es 0 counts) e.lane e.index))
+    (λ i k.
+    let w : 0 + i ≡ i = omega arith in
+    base_at (e ∷ es) 0 counts i (omega arith) ∙ ap (λ (x : ℕ). base_of (get_or counts i 0) x (e ∷ es)) w
+    ∙ cond_both (e.lane == i) e.index (base_of (get_or counts i 0) i es) (λ (x : ℕ). x ≡ get_or (set (bases_from es 0 counts) e.lane e.index) i 0)
+    (λ b. sym (subst (λ (x : ℕ). get_or (set (bases_from es 0 counts) e.lane e.index) x 0 ≡ e.index) (eqb-true _ _ b) (get_or-set_same (bases_from es 0 counts) e.lane e.index 0 (omega arith))))
+    (λ b.
+    ap (λ (x : ℕ). base_of (get_or counts i 0) x es) (sym w) ∙ sym (base_at es 0 counts i (omega arith))
+    ∙ sym (get_or-set_other (bases_from es 0 counts) e.lane i e.index 0 (λ q. eqb-false _ _ b (sym q)))))

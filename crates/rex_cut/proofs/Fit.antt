@@ -1,9 +1,8 @@
 -- The causes of numbered events fit.
-use Rattle.std.proofs.Common.{◌≡◌, ◌≢◌, ◌⊎◌, inl, inr, ⊎_elim, ℕ, zero, suc, ◌+◌, ◌<◌, ◌≤◌, ◌==◌, ◌&&◌, Bool, true, false, not, cond, List, [], ◌∷◌, ◌++◌, length, get_or, refl, ap, sym, ◌∙◌, subst, arith}
-use Rattle.std.specs.Prelude.{Option, Some, None, nat_eq, nat_lt}
-use Rattle.std.specs.List.{All}
-use Rattle.std.proofs.lemmas.Bool.{cond_both, and_from, cases_lt, lt-ltb, ne_eqb, eqb-false, not_from_false}
-use Rattle.std.proofs.lemmas.List.{length-append, get_or_past}
+use Rattle.std.proofs.Common.{◌≡◌, ◌≢◌, ⊎_elim, ℕ, zero, suc, ◌+◌, ◌<◌, ◌≤◌, ◌==◌, ◌&&◌, true, not, cond, List, [], ◌∷◌, ◌++◌, length, refl, ap, sym, ◌∙◌, subst, arith}
+use Rattle.std.specs.Prelude.{Option, Some, None, nat_eq}
+use Rattle.std.proofs.lemmas.Bool.{cond_both, and_from, lt-ltb, ne_eqb, eqb-false, not_from_false}
+use Rattle.std.proofs.lemmas.List.{length-append}
 use Rattle.rex_event.specs.declared.event.Event.{Event}
 use Rattle.rex_event.specs.declared.delta.Cause.{Cause}
 use Rattle.rex_event.specs.Order.{Has}
@@ -12,7 +11,7 @@ use Rattle.rex_event.specs.Causes.{cause_of}
 use Rattle.rex_event.specs.Pieces.{has_event, others_below, CauseFits, AreRising, CausesFit, AllCausesFit}
 use Rattle.rex_cut.specs.Delta.{latest, as_list, latest_causes, causes_of}
 use Rattle.rex_cut.proofs.Leads.{has_parts, all_from_has}
-use Rattle.rex_cut.proofs.Numbered.{counted_same, counted_long, counted_more}
+use Rattle.rex_cut.proofs.Numbered.{in_range, counted_same, counted_long, counted_more}
 use Rattle.rex_cut.proofs.Latest.{latest_is}
 
 -- each of these events lies between two counts
@@ -31,10 +30,6 @@ record IsOne (bases counts : List ℕ) (own lane : ℕ) (cs : List Cause) : Type
   few : length cs ≤ cond (has_event bases counts lane && not (nat_eq lane own)) 1 0
   rising : (rest : List Cause) → AreRising (lane + 1) rest → AreRising lane (cs ++ rest)
   each : (c : Cause) → Has c cs → CauseFits bases counts own c
-
-in_range : (xs : List ℕ) (k n : ℕ) → n < get_or xs k 0 → k < length xs
-in_range xs k n h =
-    ⊎_elim (λ (q : k < length xs). q) (λ (q : length xs ≤ k). let z = get_or_past xs k 0 q in absurd (omega arith)) (cases_lt k (length xs))
 
 none_fits : (bases counts : List ℕ) (own lane : ℕ) → IsOne bases counts own lane []
 none_fits bases counts own lane = record { few = omega arith; rising = λ rest h. rising_less lane (lane + 1) rest (omega arith) h; each = λ c h. absurd h }
@@ -102,10 +97,10 @@ each_from bases counts e ds lane (suc n) c lie h =
 latest_causes_fit : (bases counts : List ℕ) (e : Event) (ds : List Event) (lanes : ℕ) → LieBetween bases counts ds → lanes ≡ length counts → CausesFit bases counts e.lane (latest_causes e ds 0 lanes)
 latest_causes_fit bases counts e ds lanes lie q = record {
   few =
-    let f = few_from bases counts e ds 0 lanes lie in
-    let w : 0 + lanes ≡ length counts = omega arith in
-    let last = ap (others_below bases counts e.lane) w in
-    omega arith;
+      let f = few_from bases counts e ds 0 lanes lie in
+      let w : 0 + lanes ≡ length counts = omega arith in
+      let last = ap (others_below bases counts e.lane) w in
+      omega arith;
   each = all_from_has (CauseFits bases counts e.lane) (latest_causes e ds 0 lanes) (λ c h. each_from bases counts e ds 0 lanes c lie h);
   rising = rising_from bases counts e ds 0 lanes lie;
 }
@@ -115,22 +110,23 @@ latest_causes_fit bases counts e ds lanes lie q = record {
 lie_more : (bases counts : List ℕ) (ds : List Event) (e : Event) → LieBetween bases counts ds → IsWithin counts bases → e.lane < length counts → e.index ≡ count_at counts e.lane → LieBetween bases (counted counts e) (ds ++ e ∷ [])
 lie_more bases counts ds e lie w l i = record {
   from = λ d h.
-    ⊎_elim (λ (a : Has d ds). lie.from d a)
-    (λ (b : Has d (e ∷ [])). ⊎_elim (λ (q : e ≡ d). subst (λ (x : Event). count_at bases x.lane ≤ x.index) q (let v = w e.lane in omega arith)) (λ (z : ⊥). absurd z) b)
-    (has_parts d ds (e ∷ []) h);
+      ⊎_elim (λ (a : Has d ds). lie.from d a)
+      (λ (b : Has d (e ∷ [])). ⊎_elim (λ (q : e ≡ d). subst (λ (x : Event). count_at bases x.lane ≤ x.index) q (let v = w e.lane in omega arith)) (λ (z : ⊥). absurd z) b)
+      (has_parts d ds (e ∷ []) h);
   to = λ d h.
-    ⊎_elim (λ (a : Has d ds). let t = lie.to d a in let m = counted_more counts e d.lane l i in omega arith)
-    (λ (b : Has d (e ∷ [])). ⊎_elim (λ (q : e ≡ d). subst (λ (x : Event). x.index < count_at (counted counts e) x.lane) q (let s = counted_same counts e l in omega arith)) (λ (z : ⊥). absurd z) b)
-    (has_parts d ds (e ∷ []) h);
+      ⊎_elim (λ (a : Has d ds). let t = lie.to d a in let m = counted_more counts e d.lane l i in omega arith)
+      (λ (b : Has d (e ∷ [])). ⊎_elim (λ (q : e ≡ d). subst (λ (x : Event). x.index < count_at (counted counts e) x.lane) q (let s = counted_same counts e l in omega arith)) (λ (z : ⊥). absurd z) b)
+      (has_parts d ds (e ∷ []) h);
 }
 
 all_fit : (bases counts : List ℕ) (lanes : ℕ) (earlier es : List Event) → LieBetween bases counts earlier → IsWithin counts bases → lanes ≡ length counts → AreNumbered counts es → AllCausesFit bases counts es (causes_of lanes earlier es)
 all_fit bases counts lanes earlier [] lie w q n = tt
-all_fit bases counts lanes earlier (e ∷ es) lie w q n =
-    (latest_causes_fit bases counts e earlier lanes lie q,
-    all_fit bases (counted counts e) lanes (earlier ++ e ∷ []) es (lie_more bases counts earlier e lie w n.0 n.1)
-        (λ lane. let a = w lane in let b = counted_more counts e lane n.0 n.1 in omega arith)
-        (q ∙ sym (counted_long counts e)) n.2)
+all_fit bases counts lanes earlier (e ∷ es) lie w q n = (
+  latest_causes_fit bases counts e earlier lanes lie q,
+  all_fit bases (counted counts e) lanes (earlier ++ e ∷ []) es (lie_more bases counts earlier e lie w n.0 n.1)
+      (λ lane. let a = w lane in let b = counted_more counts e lane n.0 n.1 in omega arith)
+      (q ∙ sym (counted_long counts e)) n.2,
+)
 
 -- the causes of numbered events are of other lanes, lie between the bases and the event, and rise
 pub causes_fit : (bases : List ℕ) (es : List Event) → AreNumbered bases es → AllCausesFit bases bases es (causes_of (length bases) [] es)

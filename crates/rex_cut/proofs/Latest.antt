@@ -1,7 +1,7 @@
 -- The latest event of a lane that conflicts with an event.
-use Rattle.std.proofs.Common.{◌≡◌, ◌≢◌, ◌⊎◌, inl, inr, ⊎_elim, ℕ, zero, suc, ◌+◌, ◌<◌, ◌≤◌, ◌==◌, ◌&&◌, Bool, true, false, cond, List, [], ◌∷◌, ◌++◌, refl, ap, sym, ◌∙◌, subst, arith}
+use Rattle.std.proofs.Common.{◌≡◌, ◌≢◌, ◌⊎◌, inl, inr, ⊎_elim, ℕ, zero, suc, ◌+◌, ◌<◌, ◌≤◌, ◌==◌, ◌&&◌, Bool, true, false, cond, List, [], ◌∷◌, refl, ap, sym, ◌∙◌, subst, arith}
 use Rattle.std.specs.Prelude.{Option, Some, None}
-use Rattle.std.proofs.lemmas.Bool.{cond_both, and_parts, and_from, cases_eq, eqb-true, eqb-false, eq-eqb, ne_eqb}
+use Rattle.std.proofs.lemmas.Bool.{cond_both, and_parts, and_from, cases_eq, eqb-true, eq-eqb, ne_eqb}
 use Rattle.rex_event.specs.declared.event.Event.{Event}
 use Rattle.rex_event.specs.declared.delta.Cause.{Cause}
 use Rattle.rex_event.specs.Conflict.{conflict}
@@ -32,8 +32,8 @@ pub latest_is : (e : Event) (lane : ℕ) (ds : List Event) (c : Cause) → lates
 latest_is e lane [] c h = absurd (cc)
 latest_is e lane (d ∷ ds) c h =
     ⊎_elim (λ (a : latest e lane ds ≡ Some c).
-        let r = latest_is e lane ds c a in
-        (r.0, record { there = inr r.1.there; of = r.1.of; meets = r.1.meets }, r.2))
+    let r = latest_is e lane ds c a in
+    (r.0, record { there = inr r.1.there; of = r.1.of; meets = r.1.meets }, r.2))
     (λ (b : cond (d.lane == lane && conflict d e) (Some (cause_of d)) None ≡ Some c).
     let s = some_if _ _ _ b in
     let p = and_parts _ _ s.0 in
@@ -45,17 +45,20 @@ pub latest_after : (e : Event) (lane : ℕ) (ds : List Event) (d : Event) → Co
 latest_after e lane [] d h = absurd h.there
 latest_after e lane (y ∷ ds) d h =
     ⊎_elim (λ (q : y ≡ d).
-        let test : (y.lane == lane && conflict y e) ≡ true = subst (λ (z : Event). (z.lane == lane && conflict z e) ≡ true) (sym q) (and_from _ _ (eq-eqb _ _ h.of) h.meets) in
-        ⊎_elim (λ (o : latest e lane ds ≡ None).
-            (y, subst (ConflictsIn e lane (y ∷ ds)) (sym q) h, rw (o, test) refl, inl q))
-        (λ (o : (c : Cause) × (latest e lane ds ≡ Some c)).
-        let r = latest_is e lane ds o.0 o.1 in
-        (r.0, record { there = inr r.1.there; of = r.1.of; meets = r.1.meets }, rw (o.1) (ap Some (sym r.2)), inr (inl (q, r.1.there))))
-        (cases_option (latest e lane ds)))
+    let test : (y.lane == lane && conflict y e) ≡ true = subst (λ (z : Event). (z.lane == lane && conflict z e) ≡ true) (sym q) (and_from _ _ (eq-eqb _ _ h.of) h.meets) in
+    ⊎_elim (λ (o : latest e lane ds ≡ None).
+    (y, subst (ConflictsIn e lane (y ∷ ds)) (sym q) h, rw (o, test) refl, inl q))
+    (λ (o : (c : Cause) × (latest e lane ds ≡ Some c)).
+    let r = latest_is e lane ds o.0 o.1 in
+    (r.0, record { there = inr r.1.there; of = r.1.of; meets = r.1.meets }, rw (o.1) (ap Some (sym r.2)), inr (inl (q, r.1.there))))
+    (cases_option (latest e lane ds)))
     (λ (k : Has d ds).
-    let r = latest_after e lane ds d (record { there = k; of = h.of; meets = h.meets }) in
-    (r.0, record { there = inr r.1.there; of = r.1.of; meets = r.1.meets }, rw (r.2) refl,
-    ⊎_elim (λ (q : r.0 ≡ d). inl q) (λ (p : Precedes d r.0 ds). inr (inr p)) r.3))
+    let r = latest_after e lane ds d (record { there = k; of = h.of; meets = h.meets }) in (
+      r.0,
+      record { there = inr r.1.there; of = r.1.of; meets = r.1.meets },
+      rw (r.2) refl,
+      ⊎_elim (λ (q : r.0 ≡ d). inl q) (λ (p : Precedes d r.0 ds). inr (inr p)) r.3,
+    ))
     h.there
 
 -- ---- the causes of an event
@@ -70,10 +73,10 @@ causes_are e ds lane zero c h = absurd h
 causes_are e ds lane (suc n) c h =
     ⊎_elim
     (cond_both (e.lane == lane) [] (as_list (latest e lane ds)) (λ (x : List Cause). Has c x → (d : Event) × ConflictsIn e c.lane ds d × (cause_of d ≡ c))
-        (λ b z. absurd z)
-        (λ b k.
-        let r = latest_is e lane ds c (has_only c _ k) in
-        (r.0, record { there = r.1.there; of = ap (λ (x : Cause). x.lane) r.2; meets = r.1.meets }, r.2)))
+    (λ b z. absurd z)
+    (λ b k.
+    let r = latest_is e lane ds c (has_only c _ k) in
+    (r.0, record { there = r.1.there; of = ap (λ (x : Cause). x.lane) r.2; meets = r.1.meets }, r.2)))
     (λ (k : Has c (latest_causes e ds (lane + 1) n)). causes_are e ds (lane + 1) n c k)
     (has_parts c (cond (e.lane == lane) [] (as_list (latest e lane ds))) (latest_causes e ds (lane + 1) n) h)
 
@@ -82,8 +85,8 @@ pub has_latest : (e : Event) (ds : List Event) (first n lane : ℕ) (c : Cause) 
 has_latest e ds first zero lane c l h o q = absurd (omega arith)
 has_latest e ds first (suc n) lane c l h o q =
     ⊎_elim (λ (s : lane ≡ first).
-        let t : (e.lane == first) ≡ false = ne_eqb _ _ (λ z. o (z ∙ sym s)) in
-        let k : latest e first ds ≡ Some c = subst (λ (x : ℕ). latest e x ds ≡ Some c) s q in
-        has_left c _ (latest_causes e ds (first + 1) n) (rw (t, k) (inl refl)))
+    let t : (e.lane == first) ≡ false = ne_eqb _ _ (λ z. o (z ∙ sym s)) in
+    let k : latest e first ds ≡ Some c = subst (λ (x : ℕ). latest e x ds ≡ Some c) s q in
+    has_left c _ (latest_causes e ds (first + 1) n) (rw (t, k) (inl refl)))
     (λ (s : lane ≡ first → ⊥). has_right c _ _ (has_latest e ds (first + 1) n lane c (omega arith) (omega arith) o q))
     (cases_eq lane first)

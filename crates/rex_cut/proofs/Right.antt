@@ -1,5 +1,5 @@
 -- The causes of numbered events are right.
-use Rattle.std.proofs.Common.{◌≡◌, ◌≢◌, ◌⊎◌, inl, inr, ⊎_elim, ℕ, suc, ◌+◌, ◌<◌, ◌≤◌, true, List, [], ◌∷◌, ◌++◌, length, refl, ap, sym, ◌∙◌, subst, arith}
+use Rattle.std.proofs.Common.{◌≡◌, ◌≢◌, ◌⊎◌, inl, inr, ⊎_elim, ℕ, suc, ◌<◌, true, List, [], ◌∷◌, ◌++◌, length, refl, ap, sym, ◌∙◌, subst, arith}
 use Rattle.std.proofs.lemmas.Bool.{cases_eq, eq-eqb, or_left}
 use Rattle.std.proofs.lemmas.List.{append_assoc}
 use Rattle.rex_event.specs.declared.event.Event.{Event}
@@ -7,11 +7,11 @@ use Rattle.rex_event.specs.declared.delta.Cause.{Cause}
 use Rattle.rex_event.specs.Conflict.{conflict}
 use Rattle.rex_event.specs.Order.{Has, Precedes, ConflictsBefore, IsLed, IsOrdered}
 use Rattle.rex_event.specs.Cuts.{AreNumbered}
-use Rattle.rex_event.specs.Causes.{cause_of, HasCauses, IsCauseOf, StepsTo, AreRight}
+use Rattle.rex_event.specs.Causes.{cause_of, HasCauses, StepsTo, AreRight}
 use Rattle.rex_cut.specs.Delta.{latest_causes, causes_of}
-use Rattle.rex_cut.proofs.Leads.{leads_through, precedes_first, precedes_second, precedes_across, precedes_left, has_left, has_right}
+use Rattle.rex_cut.proofs.Leads.{leads_through, precedes_first, precedes_across, precedes_left, has_left, has_right}
 use Rattle.rex_cut.proofs.Numbered.{numbered_once, numbered_lane}
-use Rattle.rex_cut.proofs.Latest.{ConflictsIn, latest_after, causes_are, has_latest}
+use Rattle.rex_cut.proofs.Latest.{latest_after, causes_are, has_latest}
 
 pub causes_long : (lanes : ℕ) (earlier es : List Event) → length (causes_of lanes earlier es) ≡ length es
 causes_long lanes earlier [] = refl

@@ -1,9 +1,9 @@
 -- The greatest consistent cut below limits, from the list's first event to its last.
-use Rattle.std.specs.Prelude.{◌≡◌, ℕ, ◌<◌, ◌≤◌, ◌+◌, ◌^◌, ◌&&◌, Bool, not, List, [], ◌∷◌, ◌++◌, length, slice_set, if◌then◌else◌}
-use Rattle.std.specs.List.{All, list_any}
+use Rattle.std.specs.Prelude.{◌≡◌, ℕ, ◌≤◌, ◌&&◌, Bool, not, List, [], ◌∷◌, ◌++◌, length, slice_set, if◌then◌else◌}
+use Rattle.std.specs.List.{list_any}
 use Rattle.rex_event.specs.declared.event.Event.{Event}
 use Rattle.rex_event.specs.Conflict.{conflict}
-use Rattle.rex_event.specs.Cuts.{count_at, counted_all, AreNumbered, is_below, IsWithin}
+use Rattle.rex_event.specs.Cuts.{counted_all, AreNumbered, is_below, IsWithin}
 
 -- an event conflicts with one of these
 abbrev pub meets_any : List Event → Event → Bool

@@ -1,2 +1,5 @@
 pub mod Greatest
 pub mod Delta
+pub mod Lanes
+pub mod Laws
+pub mod Traces
