@@ -1,6 +1,6 @@
 -- Events and their causes: what is read is spelled so.
 use Rattle.std.proofs.Common.{◌≡◌, ◌≢◌, ℕ, zero, suc, ◌+◌, ◌-◌, ◌<◌, ◌≤◌, ◌^◌, Bool, true, false, List, [], ◌∷◌, ◌++◌, length, Result, Ok, Err, refl, sym, ap, subst, ◌∙◌, arith, append_assoc}
-use Rattle.std.specs.Prelude.{◌==◌, nat_le}
+use Rattle.std.specs.Prelude.{◌==◌, nat_le, IfOk}
 use Rattle.std.specs.Int.{w8, w16, w32, to_be_bytes}
 use Rattle.std.specs.List.{flat_map, All}
 use Rattle.std.proofs.lemmas.Bool.{leb-true, eqb-true}
@@ -16,10 +16,11 @@ use Rattle.rex_wire.specs.Spelling.{byte}
 use Rattle.rex_wire.proofs.Fields.{IsBytes, bind_ok, test_ok, ok_is, is_taken, Takes, Takes-none, Takes-then, IsSpelled, IsSpelled-weaker, step}
 use Rattle.rex_wire.proofs.Numbers.{wide8, wide16, wide32, allowed_spelled}
 use Rattle.rex_delta.specs.Spelling.{is_between, IsBetween, greatest_base, code_of, content, cause_bytes, event_bytes, events_bytes, delta_bytes, others_below, CauseFits, AreRising, EventFits, EventsFit, IsDelta, HasTypedKind, HasSpelling}
-use Rattle.rex_delta.specs.Reading.{may_be_cause, may_be_index, cause_at, causes_at, event_at, events_at, bases_at, kind_at, delta_at, delta_in}
+use Rattle.rex_delta.specs.Reading.{may_be_cause, may_be_index, cause_at, causes_at, event_at, events_at, bases_at, kind_at, delta_at, delta_in, Gives}
+use Rattle.rex_delta.specs.declared.fault.DecodeError.{DecodeError}
 use Rattle.rex_delta.proofs.Tests.{is_between-true, may_be_cause-true, may_be_index-true}
 use Rattle.rex_delta.proofs.Lists.{same, base_at, bases_in, bases_repeated, after_cause, causes_in, causes_repeated}
-use Rattle.rex_delta.proofs.ListLaws.{AreEach, list_spelled}
+use Rattle.rex_delta.proofs.ListLaws.{AreEach, AreEach-to_all, list_spelled}
 use Rattle.rex_delta.proofs.KindLaws.{kind_bytes, IsKindOf, kind_spelled}
 
 -- a cause that may follow the lanes below a number
@@ -31,18 +32,18 @@ cause_spelled : (bases counts : List ℕ) (lane above : ℕ) → IsSpelled (caus
 unfolding cause_at
 cause_spelled bases counts lane above = record {
   takes = λ l x bytes e.
-    let of = step (allowed_spelled wide8 (may_be_cause bases counts lane above)) l _ x bytes e in
-    let index = step (allowed_spelled wide32 (may_be_index bases counts (of.value - 1))) of.left _ x of.takes.bytes of.next in
-    let number = may_be_cause-true bases counts lane above of.value of.may in
-    let place = may_be_index-true bases counts (of.value - 1) index.value index.may in
-    let back : (of.value - 1) + 1 ≡ of.value = omega (arith, number.above_it) in
-    let first : Takes l (byte ((of.value - 1) + 1)) of.left = rw back of.takes in
-    let c : Cause = record { lane = of.value - 1; index = index.value } in
-    let is : IsCauseFrom bases counts lane above c = record {
-      fits = record { other = λ same. number.other (omega (arith, same, back)); there = omega (arith, back, number.lane_is); from = place.from; earlier = place.earlier };
-      rises = omega (arith, back, number.above_it);
-    } in
-    is_taken cause_bytes (IsCauseFrom bases counts lane above) l (c, index.left) x index.next (Takes-then l of.left index.left _ _ first index.takes, is);
+      let of = step (allowed_spelled wide8 (may_be_cause bases counts lane above)) l _ x bytes e in
+      let index = step (allowed_spelled wide32 (may_be_index bases counts (of.value - 1))) of.left _ x of.takes.bytes of.next in
+      let number = may_be_cause-true bases counts lane above of.value of.may in
+      let place = may_be_index-true bases counts (of.value - 1) index.value index.may in
+      let back : (of.value - 1) + 1 ≡ of.value = omega (arith, number.above_it) in
+      let first : Takes l (byte ((of.value - 1) + 1)) of.left = rw back of.takes in
+      let c : Cause = record { lane = of.value - 1; index = index.value } in
+      let is : IsCauseFrom bases counts lane above c = record {
+        fits = record { other = λ same. number.other (omega (arith, same, back)); there = omega (arith, back, number.lane_is); from = place.from; earlier = place.earlier };
+        rises = omega (arith, back, number.above_it);
+      } in
+      is_taken cause_bytes (IsCauseFrom bases counts lane above) l (c, index.left) x index.next (Takes-then l of.left index.left _ _ first index.takes, is);
 }
 
 each_fits : (bases counts : List ℕ) (lane above : ℕ) (cs : List Cause) → AreEach after_cause (IsCauseFrom bases counts lane) above cs → All (CauseFits bases counts lane) cs
@@ -98,16 +99,16 @@ pub event_spelled : (bases counts : List ℕ) → IsSpelled (event_at bases coun
 unfolding event_at
 event_spelled bases counts = record {
   takes = λ l x bytes e.
-    let lanes = length counts in
-    let number = step (allowed_spelled wide8 (is_between 1 lanes)) l _ x bytes e in
-    let lane = number.value - 1 in
-    let kind = step (kind_spelled lanes) number.left _ x number.takes.bytes number.next in
-    let count = step (allowed_spelled wide8 (λ n. nat_le n (others_below bases counts lane lanes))) kind.left _ x kind.takes.bytes kind.next in
-    let causes = step (causes_spelled bases counts lane count.value 0) count.left _ x count.takes.bytes count.next in
-    let range = is_between-true 1 lanes number.value number.may in
-    let taken = event_taken bases counts l number.left kind.left count.left causes.left number.value count.value kind.value causes.value number.takes kind.takes count.takes causes.takes range.0 causes.may.1 in
-    let after = event_after bases counts number.value count.value kind.value causes.value range kind.may (leb-true _ _ count.may) causes.may.0 causes.may.1 in
-    is_taken pair_bytes (IsEventAfter bases counts) l ((event_of counts number.value kind.value, causes.value), causes.left) x causes.next (taken, after);
+      let lanes = length counts in
+      let number = step (allowed_spelled wide8 (is_between 1 lanes)) l _ x bytes e in
+      let lane = number.value - 1 in
+      let kind = step (kind_spelled lanes) number.left _ x number.takes.bytes number.next in
+      let count = step (allowed_spelled wide8 (λ n. nat_le n (others_below bases counts lane lanes))) kind.left _ x kind.takes.bytes kind.next in
+      let causes = step (causes_spelled bases counts lane count.value 0) count.left _ x count.takes.bytes count.next in
+      let range = is_between-true 1 lanes number.value number.may in
+      let taken = event_taken bases counts l number.left kind.left count.left causes.left number.value count.value kind.value causes.value number.takes kind.takes count.takes causes.takes range.0 causes.may.1 in
+      let after = event_after bases counts number.value count.value kind.value causes.value range kind.may (leb-true _ _ count.may) causes.may.0 causes.may.1 in
+      is_taken pair_bytes (IsEventAfter bases counts) l ((event_of counts number.value kind.value, causes.value), causes.left) x causes.next (taken, after);
 }
 
 abbrev pub listed_bytes : List Event × List (List Cause) → List ℕ
@@ -123,26 +124,22 @@ pub events_spelled : (bases : List ℕ) (n : ℕ) (counts : List ℕ) → IsSpel
 unfolding events_at
 events_spelled bases zero counts = record {
   takes = λ l x bytes e.
-    is_taken listed_bytes (AreEventsAfter bases counts 0) l (([], []), l) x e (Takes-none l bytes, record { fit = tt; typed = All-nil HasTypedKind; long = refl });
+      is_taken listed_bytes (AreEventsAfter bases counts 0) l (([], []), l) x e (Takes-none l bytes, record { fit = tt; typed = All-nil HasTypedKind; long = refl });
 }
 events_spelled bases (suc n) counts = record {
   takes = λ l x bytes e.
-    let a = step (event_spelled bases counts) l _ x bytes e in
-    let b = step (events_spelled bases n (counted counts a.value.0)) a.left _ x a.takes.bytes a.next in
-    let all : List Event × List (List Cause) = (a.value.0 ∷ b.value.0, a.value.1 ∷ b.value.1) in
-    let are : AreEventsAfter bases counts (suc n) all = record {
-      fit = (a.may.fits, b.may.fit);
-      typed = All-cons HasTypedKind a.value.0 b.value.0 a.may.typed b.may.typed;
-      long = ap suc b.may.long;
-    } in
-    is_taken listed_bytes (AreEventsAfter bases counts (suc n)) l (all, b.left) x b.next (Takes-then l a.left b.left _ _ a.takes b.takes, are);
+      let a = step (event_spelled bases counts) l _ x bytes e in
+      let b = step (events_spelled bases n (counted counts a.value.0)) a.left _ x a.takes.bytes a.next in
+      let all : List Event × List (List Cause) = (a.value.0 ∷ b.value.0, a.value.1 ∷ b.value.1) in
+      let are : AreEventsAfter bases counts (suc n) all = record {
+        fit = (a.may.fits, b.may.fit);
+        typed = All-cons HasTypedKind a.value.0 b.value.0 a.may.typed b.may.typed;
+        long = ap suc b.may.long;
+      } in
+      is_taken listed_bytes (AreEventsAfter bases counts (suc n)) l (all, b.left) x b.next (Takes-then l a.left b.left _ _ a.takes b.takes, are);
 }
 
 -- ---- a delta
-
-small_bases : (s : Unit {0}) (xs : List ℕ) → AreEach same (λ _ base. base ≤ greatest_base) s xs → All (λ base. base ≤ greatest_base) xs
-small_bases s [] each = All-nil (λ base. base ≤ greatest_base)
-small_bases s (x ∷ xs) each = All-cons (λ base. base ≤ greatest_base) x xs each.0 (small_bases s xs each.1)
 
 base_spelled : (s : Unit {0}) → IsSpelled (base_at s) (to_be_bytes w32) (λ base. base ≤ greatest_base)
 base_spelled s = IsSpelled-weaker (λ base. nat_le base greatest_base ≡ true) (λ base. base ≤ greatest_base) (λ base. leb-true base greatest_base) (allowed_spelled wide32 (λ base. nat_le base greatest_base))
@@ -165,7 +162,7 @@ delta_has : (lanes count : ℕ) (bases : List ℕ) (events : List Event) (causes
 delta_has lanes count bases events causes few long small some are = record {
   delta = record {
     lanes = (omega (arith, few.0, long), omega (arith, few.1, long));
-    bases = small_bases (tt {0}) bases small;
+    bases = AreEach-to_all (λ base. base ≤ greatest_base) (tt {0}) bases small;
     some = (omega (arith, some.0, are.long), omega (arith, some.1, are.long));
     events = are.fit;
   };
@@ -176,15 +173,15 @@ pub delta_spelled : IsSpelled delta_at delta_bytes HasSpelling
 unfolding delta_at
 delta_spelled = record {
   takes = λ l x bytes e.
-    let version = step (allowed_spelled wide8 (λ n. n == 1)) l _ x bytes e in
-    let lanes = step (allowed_spelled wide8 (is_between 1 16)) version.left _ x version.takes.bytes version.next in
-    let bases = step (bases_spelled lanes.value) lanes.left _ x lanes.takes.bytes lanes.next in
-    let count = step (allowed_spelled wide16 (is_between 1 4096)) bases.left _ x bases.takes.bytes bases.next in
-    let events = step (events_spelled bases.value count.value bases.value) count.left _ x count.takes.bytes count.next in
-    let d : Delta = record { bases = bases.value; events = events.value.0; causes = events.value.1 } in
-    let taken = delta_taken l version.left lanes.left bases.left count.left events.left version.value lanes.value count.value d version.takes lanes.takes bases.takes count.takes events.takes (eqb-true version.value 1 version.may) bases.may.1 events.may.long in
-    let has = delta_has lanes.value count.value bases.value events.value.0 events.value.1 (is_between-true 1 16 lanes.value lanes.may) bases.may.1 bases.may.0 (is_between-true 1 4096 count.value count.may) events.may in
-    is_taken delta_bytes HasSpelling l (d, events.left) x events.next (taken, has);
+      let version = step (allowed_spelled wide8 (λ n. n == 1)) l _ x bytes e in
+      let lanes = step (allowed_spelled wide8 (is_between 1 16)) version.left _ x version.takes.bytes version.next in
+      let bases = step (bases_spelled lanes.value) lanes.left _ x lanes.takes.bytes lanes.next in
+      let count = step (allowed_spelled wide16 (is_between 1 4096)) bases.left _ x bases.takes.bytes bases.next in
+      let events = step (events_spelled bases.value count.value bases.value) count.left _ x count.takes.bytes count.next in
+      let d : Delta = record { bases = bases.value; events = events.value.0; causes = events.value.1 } in
+      let taken = delta_taken l version.left lanes.left bases.left count.left events.left version.value lanes.value count.value d version.takes lanes.takes bases.takes count.takes events.takes (eqb-true version.value 1 version.may) bases.may.1 events.may.long in
+      let has = delta_has lanes.value count.value bases.value events.value.0 events.value.1 (is_between-true 1 16 lanes.value lanes.may) bases.may.1 bases.may.0 (is_between-true 1 4096 count.value count.may) events.may in
+      is_taken delta_bytes HasSpelling l (d, events.left) x events.next (taken, has);
 }
 
 -- what is read of all of the bytes
@@ -200,3 +197,7 @@ delta_found bytes d fits e =
     let nothing : a.left.rest ≡ [] = nil_from_length a.left.rest (eqb-true _ _ g.0) in
     let whole : bytes ≡ delta_bytes a.value = a.takes.parts ∙ ap (λ (r : List ℕ). delta_bytes a.value ++ r) nothing ∙ append-nil (delta_bytes a.value) in
     subst (λ (v : Delta). IsFound bytes v) g.1 (record { has = a.may; bytes_are = whole })
+
+pub is_found : (bytes : List ℕ) (r : Result Delta DecodeError) → IsBytes bytes → Gives r (delta_in bytes) → IfOk r (λ d. HasSpelling d × (bytes ≡ delta_bytes d))
+is_found bytes (Ok d) fits given = let f = delta_found bytes d fits given in (f.has, f.bytes_are)
+is_found bytes (Err e) fits given = tt

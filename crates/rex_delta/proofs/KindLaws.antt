@@ -15,7 +15,7 @@ use Rattle.rex_delta.specs.Spelling.{code_of, content, woken_number, is_between,
 use Rattle.rex_delta.specs.Reading.{place_at, arguments_at, begin_at, lock_at, condition_at, woken_of, signal_at, broadcast_at, clock_at, random_at, reply_at, content_at, kind_at}
 use Rattle.rex_delta.proofs.Tests.{is_between-true, between-is}
 use Rattle.rex_delta.proofs.Lists.{alone, joined, same, argument_at, arguments_in, arguments_repeated}
-use Rattle.rex_delta.proofs.ListLaws.{AreEach, list_spelled, list_again}
+use Rattle.rex_delta.proofs.ListLaws.{AreEach, AreEach-to_all, list_spelled}
 
 -- ---- what is read is spelled so
 
@@ -26,10 +26,10 @@ pub place_spelled : IsSpelled place_at place_bytes (λ n. n < 64)
 unfolding place_at
 place_spelled = record {
   takes = λ l x bytes e.
-    let a = step (allowed_spelled wide8 (is_between 1 64)) l _ x bytes e in
-    let in_range = is_between-true 1 64 a.value a.may in
-    let back : (a.value - 1) + 1 ≡ a.value = omega (arith, in_range.0) in
-    is_taken place_bytes (λ n. n < 64) l (a.value - 1, a.left) x a.next (rw back a.takes, omega (arith, in_range.0, in_range.1));
+      let a = step (allowed_spelled wide8 (is_between 1 64)) l _ x bytes e in
+      let in_range = is_between-true 1 64 a.value a.may in
+      let back : (a.value - 1) + 1 ≡ a.value = omega (arith, in_range.0) in
+      is_taken place_bytes (λ n. n < 64) l (a.value - 1, a.left) x a.next (rw back a.takes, omega (arith, in_range.0, in_range.1));
 }
 
 -- a kind that was read after its number
@@ -42,23 +42,19 @@ lock_spelled : (lanes code : ℕ) (make : ℕ → Kind) → ((lock : ℕ) → co
 unfolding lock_at
 lock_spelled lanes code make spelled is = record {
   takes = λ l x bytes e.
-    let a = step place_spelled l _ x bytes e in
-    is_taken content (IsKind lanes code) l (make a.value, a.left) x a.next (rw (spelled a.value) a.takes, is a.value a.may);
+      let a = step place_spelled l _ x bytes e in
+      is_taken content (IsKind lanes code) l (make a.value, a.left) x a.next (rw (spelled a.value) a.takes, is a.value a.may);
 }
 
 condition_spelled : (lanes code : ℕ) (make : ℕ → ℕ → Kind) → ((condition lock : ℕ) → content (make condition lock) ≡ place_bytes condition ++ place_bytes lock) → ((condition lock : ℕ) → condition < 64 → lock < 64 → IsKind lanes code (make condition lock)) → IsSpelled (condition_at make) content (IsKind lanes code)
 unfolding condition_at
 condition_spelled lanes code make spelled is = record {
   takes = λ l x bytes e.
-    let a = step place_spelled l _ x bytes e in
-    let b = step place_spelled a.left _ x a.takes.bytes a.next in
-    let t = Takes-then l a.left b.left (place_bytes a.value) (place_bytes b.value) a.takes b.takes in
-    is_taken content (IsKind lanes code) l (make a.value b.value, b.left) x b.next (rw (spelled a.value b.value) t, is a.value b.value a.may b.may);
+      let a = step place_spelled l _ x bytes e in
+      let b = step place_spelled a.left _ x a.takes.bytes a.next in
+      let t = Takes-then l a.left b.left (place_bytes a.value) (place_bytes b.value) a.takes b.takes in
+      is_taken content (IsKind lanes code) l (make a.value b.value, b.left) x b.next (rw (spelled a.value b.value) t, is a.value b.value a.may b.may);
 }
-
-arguments_all : (s : Unit {0}) (xs : List ℤ) → AreEach same (λ _. FitsSigned w64) s xs → All (FitsSigned w64) xs
-arguments_all s [] each = All-nil (FitsSigned w64)
-arguments_all s (x ∷ xs) each = All-cons (FitsSigned w64) x xs each.0 (arguments_all s xs each.1)
 
 arguments_spelled : (n : ℕ) → IsSpelled (arguments_at n) (flat_map signed) (λ xs. AreEach same (λ _. FitsSigned w64) (tt {0}) xs × (length xs ≡ n))
 arguments_spelled n = list_spelled argument_at same arguments_in arguments_repeated signed (λ _. FitsSigned w64) (λ s. signed_spelled) n (tt {0})
@@ -67,25 +63,25 @@ begin_spelled : (lanes : ℕ) → IsSpelled begin_at content (IsKind lanes 1)
 unfolding begin_at
 begin_spelled lanes = record {
   takes = λ l x bytes e.
-    let client = step (allowed_spelled wide16 (is_between 1 256)) l _ x bytes e in
-    let sequence = step (allowed_spelled wide32 (is_between 1 1000000)) client.left _ x client.takes.bytes client.next in
-    let handler = step place_spelled sequence.left _ x sequence.takes.bytes sequence.next in
-    let count = step (allowed_spelled wide8 (is_between 0 4)) handler.left _ x handler.takes.bytes handler.next in
-    let arguments = step (arguments_spelled count.value) count.left _ x count.takes.bytes count.next in
-    let few = is_between-true 0 4 count.value count.may in
-    let long = arguments.may.1 in
-    let counted : Takes handler.left (byte (length arguments.value)) count.left = rw long count.takes in
-    let t4 = Takes-then handler.left count.left arguments.left _ _ counted arguments.takes in
-    let t3 = Takes-then sequence.left handler.left arguments.left _ _ handler.takes t4 in
-    let t2 = Takes-then client.left sequence.left arguments.left _ _ sequence.takes t3 in
-    let t1 = Takes-then l client.left arguments.left _ _ client.takes t2 in
-    let kind = Begin client.value sequence.value handler.value arguments.value in
-    let is : IsKind lanes 1 kind = record {
-      fits = (is_between-true 1 256 client.value client.may, is_between-true 1 1000000 sequence.value sequence.may, handler.may, omega (arith, long, few.1));
-      typed = arguments_all (tt {0}) arguments.value arguments.may.0;
-      code_is = refl;
-    } in
-    is_taken content (IsKind lanes 1) l (kind, arguments.left) x arguments.next (t1, is);
+      let client = step (allowed_spelled wide16 (is_between 1 256)) l _ x bytes e in
+      let sequence = step (allowed_spelled wide32 (is_between 1 1000000)) client.left _ x client.takes.bytes client.next in
+      let handler = step place_spelled sequence.left _ x sequence.takes.bytes sequence.next in
+      let count = step (allowed_spelled wide8 (is_between 0 4)) handler.left _ x handler.takes.bytes handler.next in
+      let arguments = step (arguments_spelled count.value) count.left _ x count.takes.bytes count.next in
+      let few = is_between-true 0 4 count.value count.may in
+      let long = arguments.may.1 in
+      let counted : Takes handler.left (byte (length arguments.value)) count.left = rw long count.takes in
+      let t4 = Takes-then handler.left count.left arguments.left _ _ counted arguments.takes in
+      let t3 = Takes-then sequence.left handler.left arguments.left _ _ handler.takes t4 in
+      let t2 = Takes-then client.left sequence.left arguments.left _ _ sequence.takes t3 in
+      let t1 = Takes-then l client.left arguments.left _ _ client.takes t2 in
+      let kind = Begin client.value sequence.value handler.value arguments.value in
+      let is : IsKind lanes 1 kind = record {
+        fits = (is_between-true 1 256 client.value client.may, is_between-true 1 1000000 sequence.value sequence.may, handler.may, omega (arith, long, few.1));
+        typed = AreEach-to_all (FitsSigned w64) (tt {0}) arguments.value arguments.may.0;
+        code_is = refl;
+      } in
+      is_taken content (IsKind lanes 1) l (kind, arguments.left) x arguments.next (t1, is);
 }
 
 woken-back : (n : ℕ) → woken_number (woken_of n) ≡ n
@@ -100,55 +96,55 @@ signal_spelled : (lanes : ℕ) → IsSpelled (signal_at lanes) content (IsKind l
 unfolding signal_at
 signal_spelled lanes = record {
   takes = λ l x bytes e.
-    let condition = step place_spelled l _ x bytes e in
-    let woken = step (allowed_spelled wide8 (is_between 0 lanes)) condition.left _ x condition.takes.bytes condition.next in
-    let number : Takes condition.left (byte (woken_number (woken_of woken.value))) woken.left = rw (woken-back woken.value) woken.takes in
-    let t = Takes-then l condition.left woken.left _ _ condition.takes number in
-    let kind = Signal condition.value (woken_of woken.value) in
-    let is : IsKind lanes 10 kind = record { fits = (condition.may, woken-fits lanes woken.value (is_between-true 0 lanes woken.value woken.may).1); typed = tt; code_is = refl } in
-    is_taken content (IsKind lanes 10) l (kind, woken.left) x woken.next (t, is);
+      let condition = step place_spelled l _ x bytes e in
+      let woken = step (allowed_spelled wide8 (is_between 0 lanes)) condition.left _ x condition.takes.bytes condition.next in
+      let number : Takes condition.left (byte (woken_number (woken_of woken.value))) woken.left = rw (woken-back woken.value) woken.takes in
+      let t = Takes-then l condition.left woken.left _ _ condition.takes number in
+      let kind = Signal condition.value (woken_of woken.value) in
+      let is : IsKind lanes 10 kind = record { fits = (condition.may, woken-fits lanes woken.value (is_between-true 0 lanes woken.value woken.may).1); typed = tt; code_is = refl } in
+      is_taken content (IsKind lanes 10) l (kind, woken.left) x woken.next (t, is);
 }
 
 broadcast_spelled : (lanes : ℕ) → IsSpelled (broadcast_at lanes) content (IsKind lanes 11)
 unfolding broadcast_at
 broadcast_spelled lanes = record {
   takes = λ l x bytes e.
-    let condition = step place_spelled l _ x bytes e in
-    let woken = step (allowed_spelled wide64 (λ bits. nat_lt bits (2 ^ lanes))) condition.left _ x condition.takes.bytes condition.next in
-    let t = Takes-then l condition.left woken.left _ _ condition.takes woken.takes in
-    let kind = Broadcast condition.value woken.value in
-    let is : IsKind lanes 11 kind = record { fits = (condition.may, ltb-true _ _ woken.may); typed = tt; code_is = refl } in
-    is_taken content (IsKind lanes 11) l (kind, woken.left) x woken.next (t, is);
+      let condition = step place_spelled l _ x bytes e in
+      let woken = step (allowed_spelled wide64 (λ bits. nat_lt bits (2 ^ lanes))) condition.left _ x condition.takes.bytes condition.next in
+      let t = Takes-then l condition.left woken.left _ _ condition.takes woken.takes in
+      let kind = Broadcast condition.value woken.value in
+      let is : IsKind lanes 11 kind = record { fits = (condition.may, ltb-true _ _ woken.may); typed = tt; code_is = refl } in
+      is_taken content (IsKind lanes 11) l (kind, woken.left) x woken.next (t, is);
 }
 
 clock_spelled : (lanes : ℕ) → IsSpelled clock_at content (IsKind lanes 12)
 unfolding clock_at
 clock_spelled lanes = record {
   takes = λ l x bytes e.
-    let value = step signed_spelled l _ x bytes e in
-    let is : IsKind lanes 12 (Clock value.value) = record { fits = tt; typed = value.may; code_is = refl } in
-    is_taken content (IsKind lanes 12) l (Clock value.value, value.left) x value.next (value.takes, is);
+      let value = step signed_spelled l _ x bytes e in
+      let is : IsKind lanes 12 (Clock value.value) = record { fits = tt; typed = value.may; code_is = refl } in
+      is_taken content (IsKind lanes 12) l (Clock value.value, value.left) x value.next (value.takes, is);
 }
 
 random_spelled : (lanes : ℕ) → IsSpelled random_at content (IsKind lanes 13)
 unfolding random_at
 random_spelled lanes = record {
   takes = λ l x bytes e.
-    let value = step (number_spelled wide32) l _ x bytes e in
-    let is : IsKind lanes 13 (Random value.value) = record { fits = tt; typed = value.may; code_is = refl } in
-    is_taken content (IsKind lanes 13) l (Random value.value, value.left) x value.next (value.takes, is);
+      let value = step (number_spelled wide32) l _ x bytes e in
+      let is : IsKind lanes 13 (Random value.value) = record { fits = tt; typed = value.may; code_is = refl } in
+      is_taken content (IsKind lanes 13) l (Random value.value, value.left) x value.next (value.takes, is);
 }
 
 reply_spelled : (lanes : ℕ) → IsSpelled reply_at content (IsKind lanes 14)
 unfolding reply_at
 reply_spelled lanes = record {
   takes = λ l x bytes e.
-    let client = step (allowed_spelled wide16 (is_between 1 256)) l _ x bytes e in
-    let value = step signed_spelled client.left _ x client.takes.bytes client.next in
-    let t = Takes-then l client.left value.left _ _ client.takes value.takes in
-    let kind = Reply client.value value.value in
-    let is : IsKind lanes 14 kind = record { fits = is_between-true 1 256 client.value client.may; typed = value.may; code_is = refl } in
-    is_taken content (IsKind lanes 14) l (kind, value.left) x value.next (t, is);
+      let client = step (allowed_spelled wide16 (is_between 1 256)) l _ x bytes e in
+      let value = step signed_spelled client.left _ x client.takes.bytes client.next in
+      let t = Takes-then l client.left value.left _ _ client.takes value.takes in
+      let kind = Reply client.value value.value in
+      let is : IsKind lanes 14 kind = record { fits = is_between-true 1 256 client.value client.may; typed = value.may; code_is = refl } in
+      is_taken content (IsKind lanes 14) l (kind, value.left) x value.next (t, is);
 }
 
 at_code : (lanes code n : ℕ) {read : Left → Reading Kind} → IsSpelled read content (IsKind lanes n) → (code == n) ≡ true → IsSpelled read content (IsKind lanes code)
@@ -188,8 +184,8 @@ pub kind_spelled : (lanes : ℕ) → IsSpelled (kind_at lanes) kind_bytes (IsKin
 unfolding kind_at
 kind_spelled lanes = record {
   takes = λ l x bytes e.
-    let code = step (allowed_spelled wide8 (is_between 1 14)) l (λ code. content_at lanes code.0 code.1) x bytes e in
-    let t = (content_spelled lanes code.value (is_between-true 1 14 code.value code.may)).takes code.left x code.takes.bytes code.next in
-    let number : Takes l (byte (code_of x.0)) code.left = rw t.1.code_is code.takes in
-    (Takes-then l code.left x.1 _ _ number t.0, record { fits = t.1.fits; typed = t.1.typed });
+      let code = step (allowed_spelled wide8 (is_between 1 14)) l (λ code. content_at lanes code.0 code.1) x bytes e in
+      let t = (content_spelled lanes code.value (is_between-true 1 14 code.value code.may)).takes code.left x code.takes.bytes code.next in
+      let number : Takes l (byte (code_of x.0)) code.left = rw t.1.code_is code.takes in
+      (Takes-then l code.left x.1 _ _ number t.0, record { fits = t.1.fits; typed = t.1.typed });
 }

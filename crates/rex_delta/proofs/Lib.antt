@@ -5,3 +5,6 @@ pub mod Counting
 pub mod ListLaws
 pub mod KindLaws
 pub mod EventLaws
+pub mod KindsAgain
+pub mod EventsAgain
+pub mod Written
