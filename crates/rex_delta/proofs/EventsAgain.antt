@@ -23,7 +23,7 @@ use Rattle.rex_delta.proofs.Lists.{same, base_at, bases_in, bases_repeated, afte
 use Rattle.rex_delta.proofs.ListLaws.{AreEach, AreEach-from_all, list_again}
 use Rattle.rex_delta.proofs.KindLaws.{kind_bytes}
 use Rattle.rex_delta.proofs.KindsAgain.{kind_again}
-use Rattle.rex_delta.proofs.Counting.{counted-small}
+use Rattle.rex_delta.proofs.Counting.{counted-small, others_few}
 use Rattle.rex_delta.proofs.EventLaws.{IsCauseFrom, event_parts, delta_parts}
 
 -- counts at which causes can be spelled: few lanes, none above a limit
@@ -82,14 +82,6 @@ causes_again limit bases counts lane cs below are rising all =
     (λ above c h. cause_again limit bases counts lane above c below are h) 0 cs (each_cause bases counts lane 0 cs rising all)
 
 -- ---- events
-
-one_or_none : (b : Bool) → cond b 1 0 ≤ 1
-one_or_none true = omega arith
-one_or_none false = omega arith
-
-others_few : (bases counts : List ℕ) (lane n : ℕ) → others_below bases counts lane n ≤ n
-others_few bases counts lane zero = omega arith
-others_few bases counts lane (suc n) = omega (arith, one_or_none (has_event bases counts n && not (nat_eq n lane)), others_few bases counts lane n)
 
 -- what is read of an event after its lane
 abbrev causes_then : List ℕ → List ℕ → ℕ → Kind → ℕ × Left → Reading (Event × List Cause)

@@ -8,3 +8,5 @@ pub mod EventLaws
 pub mod KindsAgain
 pub mod EventsAgain
 pub mod Written
+pub mod CanWrite
+pub mod Examples
