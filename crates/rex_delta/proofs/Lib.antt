@@ -2,3 +2,11 @@ pub mod Repeated
 pub mod Tests
 pub mod Lists
 pub mod Counting
+pub mod ListLaws
+pub mod KindLaws
+pub mod EventLaws
+pub mod KindsAgain
+pub mod EventsAgain
+pub mod Written
+pub mod CanWrite
+pub mod Examples

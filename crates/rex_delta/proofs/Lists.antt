@@ -85,7 +85,7 @@ unfolding cause_at causes_at
 causes_repeated bases counts lane = record {
   at_zero = λ above l. refl;
   at_suc = λ above n l. number_first (allowed_at w8 (may_be_cause bases counts lane above) l) (λ of. allowed_at w32 (may_be_index bases counts (of - 1))) (λ of. causes_at bases counts lane n of)
-    (λ x e. let m = may_be_cause-true bases counts lane above x.0 (allowed_is w8 (may_be_cause bases counts lane above) l x e) in omega (arith, m.above_it));
+      (λ x e. let m = may_be_cause-true bases counts lane above x.0 (allowed_is w8 (may_be_cause bases counts lane above) l x e) in omega (arith, m.above_it));
   nothing = λ xs. append-nil xs;
   joined = λ a b c. append_assoc a b c;
 }

@@ -2,8 +2,8 @@
 use Rattle.std.proofs.Common.{◌≡◌, ℕ, zero, suc, ◌-◌, ◌+◌, ◌≤◌, ◌<◌, List, [], ◌∷◌, ◌++◌, Result, Ok, Err, refl, sym, ap, ◌∙◌, append_assoc, arith}
 use Rattle.rex_wire.specs.Reading.{Left, Reading, ◌>>=◌}
 use Rattle.rex_delta.specs.Reading.{Fails}
-use Rattle.rex_delta.specs.declared.decode.DecodeError.{DecodeError}
-use Rattle.rex_delta.specs.declared.decode.DecodeError.TheVariants.{Bad, OutOfMemory}
+use Rattle.rex_delta.specs.declared.fault.DecodeError.{DecodeError}
+use Rattle.rex_delta.specs.declared.fault.DecodeError.TheVariants.{Bad, OutOfMemory}
 
 -- reading goes on by one value at a time; what is read so far is joined to what is read then
 pub record IsRepeated {S A M : Type 0} (read : S → Left → Reading A) (next : S → A → S) (none : M) (one : A → M) (join : M → M → M) (all : S → ℕ → Left → Reading M) : Type 0 where

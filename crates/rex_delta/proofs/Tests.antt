@@ -43,3 +43,12 @@ may_be_cause-true bases counts lane above n e =
     let q = both (not (n == lane + 1)) (has_event bases counts (n - 1)) p.1 in
     let b = is_between-true (above + 1) (length counts) n p.0 in
     record { above_it = omega (arith, b.0); lane_is = b.1; other = differ n (lane + 1) q.0; has = ltb-true _ _ q.1 }
+
+pub record MayIndex (bases counts : List ℕ) (lane index : ℕ) : Type 0 where
+  pub from : count_at bases lane ≤ index
+  pub earlier : index < count_at counts lane
+
+pub may_be_index-true : (bases counts : List ℕ) (lane index : ℕ) → may_be_index bases counts lane index ≡ true → MayIndex bases counts lane index
+may_be_index-true bases counts lane index e =
+    let p = both (nat_le (count_at bases lane) index) (nat_lt index (count_at counts lane)) e in
+    record { from = leb-true _ _ p.0; earlier = ltb-true _ _ p.1 }

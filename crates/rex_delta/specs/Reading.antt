@@ -9,8 +9,8 @@ use Rattle.rex_event.specs.declared.delta.Delta.{Delta}
 use Rattle.rex_event.specs.Cuts.{count_at, counted}
 use Rattle.rex_wire.specs.Reading.{Left, Reading, ◌>>=◌, number_at, signed_at, allowed_at, all_left}
 use Rattle.rex_delta.specs.Spelling.{is_between, greatest_base, has_event, others_below}
-use Rattle.rex_delta.specs.declared.decode.DecodeError.{DecodeError}
-use Rattle.rex_delta.specs.declared.decode.DecodeError.TheVariants.{Bad, OutOfMemory}
+use Rattle.rex_delta.specs.declared.fault.DecodeError.{DecodeError}
+use Rattle.rex_delta.specs.declared.fault.DecodeError.TheVariants.{Bad, OutOfMemory}
 
 -- a number from 1 to 64 as one from 0
 unfoldable pub place_at : Left → Reading ℕ

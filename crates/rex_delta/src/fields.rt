@@ -6,7 +6,7 @@ ghost use Rattle.rex_wire.specs.Reading.{allowed_at, number_at};
 ghost use Rattle.rex_delta.specs.Spelling.{is_between, IsBetween};
 ghost use Rattle.rex_delta.specs.Reading.{ReadsOn, place_at};
 
-use crate::decode::DecodeError;
+use crate::fault::DecodeError;
 use crate::limits::{PLACES, VERSION};
 use rex_wire::Reader;
 

@@ -1,12 +1,22 @@
 //! The bytes of a delta, both ways.
 #![tactic(auto)]
 
-mod decode;
+mod fault;
 mod fields;
 mod lane_counts;
+mod laws;
 mod limits;
 mod read_delta;
 mod read_events;
 mod read_kinds;
+mod write_delta;
+mod write_events;
+mod write_kinds;
 
-pub use decode::DecodeError;
+pub use fault::DecodeError;
+pub use laws::no_spelling_begins_another;
+pub use read_delta::decode;
+pub use write_delta::encode;
+
+#[cfg(test)]
+mod tests;

@@ -1,9 +1,11 @@
 //! Reading a delta.
 
-ghost use Rattle.std.specs.Prelude.{◌≡◌};
+ghost use Rattle.std.specs.Prelude.{◌≡◌, IfOk, Ok};
+ghost use Rattle.rex_event.specs.declared.delta.Delta.{Delta};
+ghost use Rattle.rex_delta.specs.Spelling.{HasSpelling, delta_bytes};
 ghost use Rattle.rex_delta.specs.Reading.{ReadsOn, Gives, delta_at, delta_in};
 
-use crate::decode::DecodeError;
+use crate::fault::DecodeError;
 use crate::fields::{u8_between, u16_between, version};
 use crate::limits::{EVENTS, LANES};
 use crate::read_events::{bases, events};
@@ -29,11 +31,20 @@ fn delta(alloc: Global, reader: &mut Reader) -> Result<Delta, DecodeError>
 
 /// A delta that is all of the bytes.
 #[tactic(auto, unfolding(crate::specs::Reading::delta_in))]
-pub fn whole(alloc: Global, bytes: &[u8]) -> Result<Delta, DecodeError>
+fn whole(alloc: Global, bytes: &[u8]) -> Result<Delta, DecodeError>
     ensures { Gives result (delta_in bytes.now) }
 {
     let mut reader = Reader::new(bytes);
     let delta = delta(alloc, &mut reader)?;
     reader.end()?;
     Ok(delta)
+}
+
+/// The delta that the bytes spell, all of the bytes.
+pub fn decode(alloc: Global, bytes: &[u8]) -> Result<Delta, DecodeError>
+    ensures found { IfOk result (λ d. HasSpelling d × (bytes.now ≡ delta_bytes d)) }
+    ensures only { (d : Delta) → HasSpelling d → bytes.now ≡ delta_bytes d → Gives result (Ok d) }
+    ensures exact { Gives result (delta_in bytes.now) }
+{
+    whole(alloc, bytes)
 }

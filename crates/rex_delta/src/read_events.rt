@@ -6,7 +6,7 @@ ghost use Rattle.rex_event.specs.Cuts.{count_at};
 ghost use Rattle.rex_delta.specs.Spelling.{greatest_base};
 ghost use Rattle.rex_delta.specs.Reading.{ReadsOn, cause_at, causes_at, event_at, events_at, bases_at};
 
-use crate::decode::DecodeError;
+use crate::fault::DecodeError;
 use crate::fields::{u8_at_most, u8_between, u32_at_most};
 use crate::lane_counts::{may_be_cause, may_be_index, others};
 use crate::limits::GREATEST_BASE;
@@ -18,7 +18,13 @@ use std::alloc::Global;
 
 /// A cause of an event of this lane, whose lane has a number above this one.
 #[tactic(auto, unfolding(crate::specs::Reading::cause_at))]
-fn cause(reader: &mut Reader, bases: &[u32], counts: &[u32], lane: u8, above: u8) -> Result<Cause, DecodeError>
+fn cause(
+    reader: &mut Reader,
+    bases: &[u32],
+    counts: &[u32],
+    lane: u8,
+    above: u8,
+) -> Result<Cause, DecodeError>
     requires alike { length bases.now ≡ length counts.now }
     requires few { length counts.now ≤ 16 }
     requires there { lane < length counts.now }
@@ -42,7 +48,14 @@ fn cause(reader: &mut Reader, bases: &[u32], counts: &[u32], lane: u8, above: u8
 }
 
 /// As many causes of an event of this lane.
-fn causes(alloc: Global, reader: &mut Reader, bases: &[u32], counts: &[u32], lane: u8, count: u8) -> Result<List<Cause>, DecodeError>
+fn causes(
+    alloc: Global,
+    reader: &mut Reader,
+    bases: &[u32],
+    counts: &[u32],
+    lane: u8,
+    count: u8,
+) -> Result<List<Cause>, DecodeError>
     requires alike { length bases.now ≡ length counts.now }
     requires few { length counts.now ≤ 16 }
     requires there { lane < length counts.now }
@@ -60,7 +73,12 @@ fn causes(alloc: Global, reader: &mut Reader, bases: &[u32], counts: &[u32], lan
 
 /// An event and its causes, where lanes did so many events before the delta, and so many before this event.
 #[tactic(auto, unfolding(crate::specs::Reading::event_at))]
-fn event(alloc: Global, reader: &mut Reader, bases: &[u32], counts: &[u32]) -> Result<(Event, List<Cause>), DecodeError>
+fn event(
+    alloc: Global,
+    reader: &mut Reader,
+    bases: &[u32],
+    counts: &[u32],
+) -> Result<(Event, List<Cause>), DecodeError>
     requires alike { length bases.now ≡ length counts.now }
     requires few { length counts.now ≤ 16 }
     ensures read { ReadsOn result reader.new (event_at bases.now counts.now reader.old) }
@@ -81,7 +99,12 @@ fn event(alloc: Global, reader: &mut Reader, bases: &[u32], counts: &[u32]) -> R
 }
 
 /// As many events, each with its causes.
-pub fn events(alloc: Global, reader: &mut Reader, bases: &[u32], count: u16) -> Result<(List<Event>, List<List<Cause>>), DecodeError>
+pub fn events(
+    alloc: Global,
+    reader: &mut Reader,
+    bases: &[u32],
+    count: u16,
+) -> Result<(List<Event>, List<List<Cause>>), DecodeError>
     requires few { length bases.now ≤ 16 }
     requires small { All (λ base. base ≤ greatest_base) bases.now }
     requires some { count ≤ 4096 }

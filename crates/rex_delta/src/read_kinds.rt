@@ -4,7 +4,7 @@ ghost use Rattle.std.specs.Prelude.{◌≡◌, ◌<◌, ◌≤◌};
 ghost use Rattle.rex_event.specs.declared.event.Kind.TheVariants.{AcqEx, AcqSh, RelEx, RelSh, TryOk, TryBusy, Wait, Wake};
 ghost use Rattle.rex_delta.specs.Reading.{ReadsOn, place_at, arguments_at, begin_at, lock_at, condition_at, signal_at, broadcast_at, clock_at, random_at, reply_at, content_at, kind_at};
 
-use crate::decode::DecodeError;
+use crate::fault::DecodeError;
 use crate::fields::{place, u8_between, u16_between, u32_between};
 use crate::limits::{ARGUMENTS, CLIENTS, SEQUENCE};
 use rex_event::Kind;
@@ -115,12 +115,24 @@ fn content(reader: &mut Reader, lanes: u8, code: u8) -> Result<Kind, DecodeError
 {
     match code {
         1 => begin(reader),
-        2 => Ok(Kind::AcqEx { lock: place(reader)? }),
-        3 => Ok(Kind::AcqSh { lock: place(reader)? }),
-        4 => Ok(Kind::RelEx { lock: place(reader)? }),
-        5 => Ok(Kind::RelSh { lock: place(reader)? }),
-        6 => Ok(Kind::TryOk { lock: place(reader)? }),
-        7 => Ok(Kind::TryBusy { lock: place(reader)? }),
+        2 => Ok(Kind::AcqEx {
+            lock: place(reader)?,
+        }),
+        3 => Ok(Kind::AcqSh {
+            lock: place(reader)?,
+        }),
+        4 => Ok(Kind::RelEx {
+            lock: place(reader)?,
+        }),
+        5 => Ok(Kind::RelSh {
+            lock: place(reader)?,
+        }),
+        6 => Ok(Kind::TryOk {
+            lock: place(reader)?,
+        }),
+        7 => Ok(Kind::TryBusy {
+            lock: place(reader)?,
+        }),
         8 => wait(reader),
         9 => wake(reader),
         10 => signal(reader, lanes),

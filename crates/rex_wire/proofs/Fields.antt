@@ -1,5 +1,5 @@
 -- Fields one after the other: what is read is spelled so, and what is spelled so is read again.
-use Rattle.std.proofs.Common.{◌≡◌, ℕ, ◌+◌, ◌<◌, Bool, true, false, cond, List, [], ◌++◌, length, get_or, take, drop, Result, Ok, Err, refl, sym, ap, ◌∙◌, append_assoc, arith, inl, inr, length-append}
+use Rattle.std.proofs.Common.{◌≡◌, ℕ, ◌+◌, ◌<◌, Bool, true, false, cond, List, [], ◌++◌, length, get_or, take, drop, Result, Ok, Err, refl, sym, ap, subst, ◌∙◌, append_assoc, arith, inl, inr, length-append}
 use Rattle.std.proofs.lemmas.Bool.{cases_lt}
 use Rattle.std.proofs.lemmas.List.{length-take, get_or-drop, get_or-take, get_or_past}
 use Rattle.rex_wire.specs.Reading.{Left, Reading, ◌>>=◌}
@@ -59,6 +59,18 @@ Takes-then l m n x y p q = record { parts = p.parts ∙ ap (λ (t : List ℕ). x
 pub record IsSpelled {A : Type 0} (read : Left → Reading A) (spell : A → List ℕ) (May : A → Type 0) : Type 0 where
   pub takes : (l : Left) (x : A × Left) → IsBytes l.rest → read l ≡ Ok x → Takes l (spell x.0) x.1 × May x.0
 
+pub IsSpelled-weaker : {A : Type 0} {read : Left → Reading A} {spell : A → List ℕ} (May Also : A → Type 0) → ((x : A) → May x → Also x) → IsSpelled read spell May → IsSpelled read spell Also
+IsSpelled-weaker May Also more h = record { takes = λ l x bytes e. let t = h.takes l x bytes e in (t.0, more x.0 t.1) }
+
+-- what was taken is what was read
+pub is_taken : {A : Type 0} (spell : A → List ℕ) (May : A → Type 0) (l : Left) (made x : A × Left) → done made ≡ done x → Takes l (spell made.0) made.1 × May made.0 → Takes l (spell x.0) x.1 × May x.0
+is_taken spell May l made x e t = subst (λ y. Takes l (spell y.0) y.1 × May y.0) (ok_is made x e) t
+
+-- either way of reading, as a test says
+pub IsSpelled-either : {A : Type 0} (b : Bool) (read other : Left → Reading A) (spell : A → List ℕ) (May : A → Type 0) → (b ≡ true → IsSpelled read spell May) → (b ≡ false → IsSpelled other spell May) → IsSpelled (λ l. cond b (read l) (other l)) spell May
+IsSpelled-either true read other spell May h k = record { takes = (h refl).takes }
+IsSpelled-either false read other spell May h k = record { takes = (k refl).takes }
+
 -- the first field was read, and then the others
 pub record Step {A B : Type 0} (spell : A → List ℕ) (May : A → Type 0) (l : Left) (others : A × Left → Result B ℕ) (y : B) : Type 0 where
   pub value : A
@@ -100,3 +112,7 @@ pub IsRead-last : {A B : Type 0} (read : Left → Reading A) (make : A → B) (s
 IsRead-last read make s a h = record {
   again = λ at rest. ap (λ r. r >>= λ x. Ok (make x.0, x.1)) (h.again at rest);
 }
+
+-- the same by another name
+pub IsRead-same : {A : Type 0} (read other : Left → Reading A) (text : List ℕ) (x : A) → ((l : Left) → read l ≡ other l) → IsRead other text x → IsRead read text x
+IsRead-same read other text x same h = record { again = λ at rest. same (left_at at (text ++ rest)) ∙ h.again at rest }

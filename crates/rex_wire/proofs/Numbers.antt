@@ -8,7 +8,7 @@ use Rattle.std.proofs.lemmas.List.{take_at, drop_at, take-append-drop, length-ta
 use Rattle.std.proofs.lemmas.Nat.{be_bytes_2, be_bytes_4, be_bytes_8, from_be_bytes-to_be_bytes_2, from_be_bytes-to_be_bytes_4, from_be_bytes-to_be_bytes_8}
 use Rattle.rex_wire.specs.Reading.{Left, past, number_at, signed_at, allowed_at}
 use Rattle.rex_wire.specs.Spelling.{byte, signed}
-use Rattle.rex_wire.proofs.Fields.{IsBytes, IsBytes-take, IsBytes-drop, guard_ok, test_ok, ok_is, Takes, IsSpelled, step, IsRead}
+use Rattle.rex_wire.proofs.Fields.{IsBytes, IsBytes-take, IsBytes-drop, guard_ok, test_ok, ok_is, is_taken, Takes, IsSpelled, step, IsRead}
 
 -- numbers below the limit are spelled with as many bytes as the width has, and known from them
 pub record IsWide (w : Width) (limit : ℕ) (spell : ℕ → List ℕ) : Type 0 where
@@ -103,7 +103,7 @@ signed_spelled = record {
       let bits : cast_unsigned w64 (cast_signed w64 s.value) ≡ s.value = of_z-to_z w64 s.value s.may in
       let spelled : Takes l (signed (cast_signed w64 s.value)) s.left = subst (λ (n : ℕ). Takes l (to_be_bytes w64 n) s.left) (sym bits) s.takes in
       let fits : FitsSigned w64 (cast_signed w64 s.value) = omega (arith, ints) in
-      subst (λ (y : ℤ × Left). Takes l (signed y.0) y.1 × FitsSigned w64 y.0) (ok_is (cast_signed w64 s.value, s.left) x s.next) (spelled, fits);
+      is_taken signed (FitsSigned w64) l (cast_signed w64 s.value, s.left) x s.next (spelled, fits);
 }
 
 pub signed_again : (v : ℤ) → FitsSigned w64 v → IsRead signed_at (signed v) v

@@ -1,7 +1,7 @@
 //! Why bytes are no delta.
 
 ghost use Rattle.std.specs.Prelude.{◌≡◌};
-ghost use Rattle.rex_delta.specs.declared.decode.DecodeError.TheVariants.{Bad, OutOfMemory};
+ghost use Rattle.rex_delta.specs.declared.fault.DecodeError.TheVariants.{Bad, OutOfMemory};
 
 use rex_wire::{Over, Short};
 use std::alloc::AllocError;

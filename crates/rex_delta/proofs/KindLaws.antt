@@ -1,0 +1,191 @@
+-- What an event did: what is read is spelled so, and is read again.
+use Rattle.std.proofs.Common.{◌≡◌, ◌≢◌, ℕ, ℤ, zero, suc, ◌+◌, ◌-◌, ◌<◌, ◌≤◌, ◌^◌, Bool, true, false, List, [], ◌∷◌, ◌++◌, length, Option, Some, None, Result, Ok, Err, refl, sym, ap, subst, ◌∙◌, arith, FitsSigned}
+use Rattle.std.specs.Prelude.{◌==◌, IfSome, nat_lt}
+use Rattle.std.specs.Int.{w8, w16, w32, w64, to_be_bytes}
+use Rattle.std.specs.List.{flat_map, All, AllByRecursion}
+use Rattle.std.proofs.lemmas.Bool.{ltb-true, lt-ltb, eqb-true, eqb-false}
+use Rattle.std.proofs.lemmas.List.Elements.{All-cons, All-nil, All-head, All-tail}
+use Rattle.rex_event.specs.declared.event.Kind.{Kind}
+use Rattle.rex_event.specs.declared.event.Kind.TheVariants.{Begin, AcqEx, AcqSh, RelEx, RelSh, TryOk, TryBusy, Wait, Wake, Signal, Broadcast, Clock, Random, Reply}
+use Rattle.rex_wire.specs.Reading.{Left, Reading, ◌>>=◌, number_at, signed_at, allowed_at}
+use Rattle.rex_wire.specs.Spelling.{byte, signed}
+use Rattle.rex_wire.proofs.Fields.{ok_is, is_taken, Takes, Takes-then, IsSpelled, IsSpelled-weaker, IsSpelled-either, step, IsRead, IsRead-then, IsRead-last}
+use Rattle.rex_wire.proofs.Numbers.{wide8, wide16, wide32, wide64, number_spelled, number_again, allowed_spelled, allowed_again, signed_spelled, signed_again}
+use Rattle.rex_delta.specs.Spelling.{code_of, content, woken_number, is_between, IsBetween, KindFits, IsTyped}
+use Rattle.rex_delta.specs.Reading.{place_at, arguments_at, begin_at, lock_at, condition_at, woken_of, signal_at, broadcast_at, clock_at, random_at, reply_at, content_at, kind_at}
+use Rattle.rex_delta.proofs.Tests.{is_between-true, between-is}
+use Rattle.rex_delta.proofs.Lists.{alone, joined, same, argument_at, arguments_in, arguments_repeated}
+use Rattle.rex_delta.proofs.ListLaws.{AreEach, AreEach-to_all, list_spelled}
+
+-- ---- what is read is spelled so
+
+abbrev place_bytes : ℕ → List ℕ
+place_bytes n = byte (n + 1)
+
+pub place_spelled : IsSpelled place_at place_bytes (λ n. n < 64)
+unfolding place_at
+place_spelled = record {
+  takes = λ l x bytes e.
+      let a = step (allowed_spelled wide8 (is_between 1 64)) l _ x bytes e in
+      let in_range = is_between-true 1 64 a.value a.may in
+      let back : (a.value - 1) + 1 ≡ a.value = omega (arith, in_range.0) in
+      is_taken place_bytes (λ n. n < 64) l (a.value - 1, a.left) x a.next (rw back a.takes, omega (arith, in_range.0, in_range.1));
+}
+
+-- a kind that was read after its number
+pub record IsKind (lanes code : ℕ) (kind : Kind) : Type 0 where
+  pub fits : KindFits lanes kind
+  pub typed : IsTyped kind
+  pub code_is : code_of kind ≡ code
+
+lock_spelled : (lanes code : ℕ) (make : ℕ → Kind) → ((lock : ℕ) → content (make lock) ≡ place_bytes lock) → ((lock : ℕ) → lock < 64 → IsKind lanes code (make lock)) → IsSpelled (lock_at make) content (IsKind lanes code)
+unfolding lock_at
+lock_spelled lanes code make spelled is = record {
+  takes = λ l x bytes e.
+      let a = step place_spelled l _ x bytes e in
+      is_taken content (IsKind lanes code) l (make a.value, a.left) x a.next (rw (spelled a.value) a.takes, is a.value a.may);
+}
+
+condition_spelled : (lanes code : ℕ) (make : ℕ → ℕ → Kind) → ((condition lock : ℕ) → content (make condition lock) ≡ place_bytes condition ++ place_bytes lock) → ((condition lock : ℕ) → condition < 64 → lock < 64 → IsKind lanes code (make condition lock)) → IsSpelled (condition_at make) content (IsKind lanes code)
+unfolding condition_at
+condition_spelled lanes code make spelled is = record {
+  takes = λ l x bytes e.
+      let a = step place_spelled l _ x bytes e in
+      let b = step place_spelled a.left _ x a.takes.bytes a.next in
+      let t = Takes-then l a.left b.left (place_bytes a.value) (place_bytes b.value) a.takes b.takes in
+      is_taken content (IsKind lanes code) l (make a.value b.value, b.left) x b.next (rw (spelled a.value b.value) t, is a.value b.value a.may b.may);
+}
+
+arguments_spelled : (n : ℕ) → IsSpelled (arguments_at n) (flat_map signed) (λ xs. AreEach same (λ _. FitsSigned w64) (tt {0}) xs × (length xs ≡ n))
+arguments_spelled n = list_spelled argument_at same arguments_in arguments_repeated signed (λ _. FitsSigned w64) (λ s. signed_spelled) n (tt {0})
+
+begin_spelled : (lanes : ℕ) → IsSpelled begin_at content (IsKind lanes 1)
+unfolding begin_at
+begin_spelled lanes = record {
+  takes = λ l x bytes e.
+      let client = step (allowed_spelled wide16 (is_between 1 256)) l _ x bytes e in
+      let sequence = step (allowed_spelled wide32 (is_between 1 1000000)) client.left _ x client.takes.bytes client.next in
+      let handler = step place_spelled sequence.left _ x sequence.takes.bytes sequence.next in
+      let count = step (allowed_spelled wide8 (is_between 0 4)) handler.left _ x handler.takes.bytes handler.next in
+      let arguments = step (arguments_spelled count.value) count.left _ x count.takes.bytes count.next in
+      let few = is_between-true 0 4 count.value count.may in
+      let long = arguments.may.1 in
+      let counted : Takes handler.left (byte (length arguments.value)) count.left = rw long count.takes in
+      let t4 = Takes-then handler.left count.left arguments.left _ _ counted arguments.takes in
+      let t3 = Takes-then sequence.left handler.left arguments.left _ _ handler.takes t4 in
+      let t2 = Takes-then client.left sequence.left arguments.left _ _ sequence.takes t3 in
+      let t1 = Takes-then l client.left arguments.left _ _ client.takes t2 in
+      let kind = Begin client.value sequence.value handler.value arguments.value in
+      let is : IsKind lanes 1 kind = record {
+        fits = (is_between-true 1 256 client.value client.may, is_between-true 1 1000000 sequence.value sequence.may, handler.may, omega (arith, long, few.1));
+        typed = AreEach-to_all (FitsSigned w64) (tt {0}) arguments.value arguments.may.0;
+        code_is = refl;
+      } in
+      is_taken content (IsKind lanes 1) l (kind, arguments.left) x arguments.next (t1, is);
+}
+
+woken-back : (n : ℕ) → woken_number (woken_of n) ≡ n
+woken-back zero = refl
+woken-back (suc n) = omega arith
+
+woken-fits : (lanes n : ℕ) → n ≤ lanes → IfSome (woken_of n) (λ lane. lane < lanes)
+woken-fits lanes zero le = tt
+woken-fits lanes (suc n) le = omega arith
+
+signal_spelled : (lanes : ℕ) → IsSpelled (signal_at lanes) content (IsKind lanes 10)
+unfolding signal_at
+signal_spelled lanes = record {
+  takes = λ l x bytes e.
+      let condition = step place_spelled l _ x bytes e in
+      let woken = step (allowed_spelled wide8 (is_between 0 lanes)) condition.left _ x condition.takes.bytes condition.next in
+      let number : Takes condition.left (byte (woken_number (woken_of woken.value))) woken.left = rw (woken-back woken.value) woken.takes in
+      let t = Takes-then l condition.left woken.left _ _ condition.takes number in
+      let kind = Signal condition.value (woken_of woken.value) in
+      let is : IsKind lanes 10 kind = record { fits = (condition.may, woken-fits lanes woken.value (is_between-true 0 lanes woken.value woken.may).1); typed = tt; code_is = refl } in
+      is_taken content (IsKind lanes 10) l (kind, woken.left) x woken.next (t, is);
+}
+
+broadcast_spelled : (lanes : ℕ) → IsSpelled (broadcast_at lanes) content (IsKind lanes 11)
+unfolding broadcast_at
+broadcast_spelled lanes = record {
+  takes = λ l x bytes e.
+      let condition = step place_spelled l _ x bytes e in
+      let woken = step (allowed_spelled wide64 (λ bits. nat_lt bits (2 ^ lanes))) condition.left _ x condition.takes.bytes condition.next in
+      let t = Takes-then l condition.left woken.left _ _ condition.takes woken.takes in
+      let kind = Broadcast condition.value woken.value in
+      let is : IsKind lanes 11 kind = record { fits = (condition.may, ltb-true _ _ woken.may); typed = tt; code_is = refl } in
+      is_taken content (IsKind lanes 11) l (kind, woken.left) x woken.next (t, is);
+}
+
+clock_spelled : (lanes : ℕ) → IsSpelled clock_at content (IsKind lanes 12)
+unfolding clock_at
+clock_spelled lanes = record {
+  takes = λ l x bytes e.
+      let value = step signed_spelled l _ x bytes e in
+      let is : IsKind lanes 12 (Clock value.value) = record { fits = tt; typed = value.may; code_is = refl } in
+      is_taken content (IsKind lanes 12) l (Clock value.value, value.left) x value.next (value.takes, is);
+}
+
+random_spelled : (lanes : ℕ) → IsSpelled random_at content (IsKind lanes 13)
+unfolding random_at
+random_spelled lanes = record {
+  takes = λ l x bytes e.
+      let value = step (number_spelled wide32) l _ x bytes e in
+      let is : IsKind lanes 13 (Random value.value) = record { fits = tt; typed = value.may; code_is = refl } in
+      is_taken content (IsKind lanes 13) l (Random value.value, value.left) x value.next (value.takes, is);
+}
+
+reply_spelled : (lanes : ℕ) → IsSpelled reply_at content (IsKind lanes 14)
+unfolding reply_at
+reply_spelled lanes = record {
+  takes = λ l x bytes e.
+      let client = step (allowed_spelled wide16 (is_between 1 256)) l _ x bytes e in
+      let value = step signed_spelled client.left _ x client.takes.bytes client.next in
+      let t = Takes-then l client.left value.left _ _ client.takes value.takes in
+      let kind = Reply client.value value.value in
+      let is : IsKind lanes 14 kind = record { fits = is_between-true 1 256 client.value client.may; typed = value.may; code_is = refl } in
+      is_taken content (IsKind lanes 14) l (kind, value.left) x value.next (t, is);
+}
+
+at_code : (lanes code n : ℕ) {read : Left → Reading Kind} → IsSpelled read content (IsKind lanes n) → (code == n) ≡ true → IsSpelled read content (IsKind lanes code)
+at_code lanes code n {read} h e = subst (λ (k : ℕ). IsSpelled read content (IsKind lanes k)) (sym (eqb-true code n e)) h
+
+lock_kind : (lanes code n : ℕ) (make : ℕ → Kind) → ((lock : ℕ) → content (make lock) ≡ place_bytes lock) → ((lock : ℕ) → lock < 64 → IsKind lanes n (make lock)) → (code == n) ≡ true → IsSpelled (lock_at make) content (IsKind lanes code)
+lock_kind lanes code n make spelled is e = at_code lanes code n (lock_spelled lanes n make spelled is) e
+
+content_spelled : (lanes code : ℕ) → IsBetween 1 14 code → IsSpelled (content_at lanes code) content (IsKind lanes code)
+content_spelled lanes code range =
+    let may = IsKind lanes code in
+    IsSpelled-either (code == 1) begin_at _ content may (at_code lanes code 1 (begin_spelled lanes)) (λ n1.
+    IsSpelled-either (code == 2) (lock_at AcqEx) _ content may (lock_kind lanes code 2 AcqEx (λ lock. refl) (λ lock lt. record { fits = lt; typed = tt; code_is = refl })) (λ n2.
+    IsSpelled-either (code == 3) (lock_at AcqSh) _ content may (lock_kind lanes code 3 AcqSh (λ lock. refl) (λ lock lt. record { fits = lt; typed = tt; code_is = refl })) (λ n3.
+    IsSpelled-either (code == 4) (lock_at RelEx) _ content may (lock_kind lanes code 4 RelEx (λ lock. refl) (λ lock lt. record { fits = lt; typed = tt; code_is = refl })) (λ n4.
+    IsSpelled-either (code == 5) (lock_at RelSh) _ content may (lock_kind lanes code 5 RelSh (λ lock. refl) (λ lock lt. record { fits = lt; typed = tt; code_is = refl })) (λ n5.
+    IsSpelled-either (code == 6) (lock_at TryOk) _ content may (lock_kind lanes code 6 TryOk (λ lock. refl) (λ lock lt. record { fits = lt; typed = tt; code_is = refl })) (λ n6.
+    IsSpelled-either (code == 7) (lock_at TryBusy) _ content may (lock_kind lanes code 7 TryBusy (λ lock. refl) (λ lock lt. record { fits = lt; typed = tt; code_is = refl })) (λ n7.
+    IsSpelled-either (code == 8) (condition_at Wait) _ content may (at_code lanes code 8 (condition_spelled lanes 8 Wait (λ condition lock. refl) (λ condition lock lt less. record { fits = (lt, less); typed = tt; code_is = refl }))) (λ n8.
+    IsSpelled-either (code == 9) (condition_at Wake) _ content may (at_code lanes code 9 (condition_spelled lanes 9 Wake (λ condition lock. refl) (λ condition lock lt less. record { fits = (lt, less); typed = tt; code_is = refl }))) (λ n9.
+    IsSpelled-either (code == 10) (signal_at lanes) _ content may (at_code lanes code 10 (signal_spelled lanes)) (λ n10.
+    IsSpelled-either (code == 11) (broadcast_at lanes) _ content may (at_code lanes code 11 (broadcast_spelled lanes)) (λ n11.
+    IsSpelled-either (code == 12) clock_at _ content may (at_code lanes code 12 (clock_spelled lanes)) (λ n12.
+    IsSpelled-either (code == 13) random_at _ content may (at_code lanes code 13 (random_spelled lanes)) (λ n13.
+    let last : code ≡ 14 = omega (arith, range.0, range.1, eqb-false code 1 n1, eqb-false code 2 n2, eqb-false code 3 n3, eqb-false code 4 n4, eqb-false code 5 n5, eqb-false code 6 n6, eqb-false code 7 n7, eqb-false code 8 n8, eqb-false code 9 n9, eqb-false code 10 n10, eqb-false code 11 n11, eqb-false code 12 n12, eqb-false code 13 n13) in
+    subst (λ (k : ℕ). IsSpelled reply_at content (IsKind lanes k)) (sym last) (reply_spelled lanes))))))))))))))
+
+abbrev pub kind_bytes : Kind → List ℕ
+kind_bytes kind = byte (code_of kind) ++ content kind
+
+-- a kind in its ranges
+pub record IsKindOf (lanes : ℕ) (kind : Kind) : Type 0 where
+  pub fits : KindFits lanes kind
+  pub typed : IsTyped kind
+
+pub kind_spelled : (lanes : ℕ) → IsSpelled (kind_at lanes) kind_bytes (IsKindOf lanes)
+unfolding kind_at
+kind_spelled lanes = record {
+  takes = λ l x bytes e.
+      let code = step (allowed_spelled wide8 (is_between 1 14)) l (λ code. content_at lanes code.0 code.1) x bytes e in
+      let t = (content_spelled lanes code.value (is_between-true 1 14 code.value code.may)).takes code.left x code.takes.bytes code.next in
+      let number : Takes l (byte (code_of x.0)) code.left = rw t.1.code_is code.takes in
+      (Takes-then l code.left x.1 _ _ number t.0, record { fits = t.1.fits; typed = t.1.typed });
+}

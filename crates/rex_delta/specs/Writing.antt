@@ -1,0 +1,24 @@
+-- What an event and its causes have to be for their bytes to be written.
+use Rattle.std.specs.Prelude.{◌<◌, ◌≤◌, List, [], ◌∷◌, length}
+use Rattle.std.specs.List.{All}
+use Rattle.rex_event.specs.declared.event.Event.{Event}
+use Rattle.rex_event.specs.declared.delta.Cause.{Cause}
+use Rattle.rex_delta.specs.Spelling.{KindFits}
+
+-- the cause's lane is one of sixteen
+pub record HasLane (c : Cause) : Type 0 where
+  pub lane : c.lane < 16
+
+-- the numbers of the event and of its causes fit their fields, with sixteen lanes
+pub record CanBeWritten (e : Event) (causes : List Cause) : Type 0 where
+  pub lane : e.lane < 16
+  pub kind : KindFits 16 e.kind
+  pub few : length causes ≤ 16
+  pub each : All HasLane causes
+
+-- each event can be written with its causes
+abbrev pub CanAllBeWritten : List Event → List (List Cause) → Type 0
+CanAllBeWritten [] [] = Unit {0}
+CanAllBeWritten [] (causes ∷ lists) = ⊥
+CanAllBeWritten (e ∷ es) [] = ⊥
+CanAllBeWritten (e ∷ es) (causes ∷ lists) = CanBeWritten e causes × CanAllBeWritten es lists
