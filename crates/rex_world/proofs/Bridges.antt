@@ -13,6 +13,7 @@ use Rattle.rex_record.specs.Kept.{CanBegin}
 use Rattle.rex_report.specs.declared.effect.Effect.TheVariants.{Queued}
 use Rattle.rex_scenario.specs.Fits.{RequestFits}
 use Rattle.rand_pcg.specs.Pcg.{pcg32}
+use Rattle.rex_event.specs.Cuts.{below}
 use Rattle.rex_world.specs.World.{known_state, live_state}
 use Rattle.rex_world.specs.Row.{answer_of, turn_in}
 use Rattle.rex_world.specs.Running.{Running, IsRunning}
@@ -65,8 +66,8 @@ module _ (service : Declarations) (r : Running) (h : IsRunning service r) where
 
   -- ---- cut
 
-  -- the recorder's releases are the world's
-  pub releases_are : releases r.recorder.start.clients r.recorder.live ≡ releases (known_state service r.world).clients r.world.live
-  releases_are =
-      ap (λ (s : StateValue). releases s.clients r.recorder.live) (sym (known_is service r h))
-      ∙ ap (λ (es : List Event). releases (known_state service r.world).clients es) h.live
+  -- the recorder's releases below a cut are the world's
+  pub releases_are : (cut : List ℕ) → releases r.recorder.start.clients (below cut r.recorder.live) ≡ releases (known_state service r.world).clients (below cut r.world.live)
+  releases_are cut =
+      ap (λ (s : StateValue). releases s.clients (below cut r.recorder.live)) (sym (known_is service r h))
+      ∙ ap (λ (es : List Event). releases (known_state service r.world).clients (below cut es)) h.live

@@ -9,14 +9,15 @@ use Rattle.rex_syntax.specs.declared.request.Request.{Request}
 use Rattle.rex_syntax.specs.declared.service.LockKind.TheVariants.{Plain}
 use Rattle.rex_syntax.specs.declared.service.Declarations.{Declarations}
 use Rattle.rex_event.specs.declared.event.Event.{Event}
+use Rattle.rex_event.specs.declared.delta.Delta.{Delta}
 use Rattle.rex_event.specs.declared.event.Kind.{Kind}
 use Rattle.rex_event.specs.declared.event.Kind.TheVariants.{Begin, AcqEx, RelEx, Reply}
 use Rattle.rex_report.specs.declared.effect.Effect.TheVariants.{Candidate, Active, Proposes, Known, Released, Nothing, Queued, Waiting, Recorded, Idle, NotActive}
 use Rattle.rex_report.specs.declared.effect.Role.TheVariants.{Follower}
 use Rattle.rex_scenario.specs.declared.scenario.ScheduleLine.{ScheduleLine}
-use Rattle.rex_scenario.specs.declared.scenario.ScheduleLine.TheVariants.{Elect, Submit, Lane, Cut}
+use Rattle.rex_scenario.specs.declared.scenario.ScheduleLine.TheVariants.{Elect, Submit, Lane, Cut, CutBelow}
 use Rattle.rex_world.specs.World.{beginning}
-use Rattle.rex_world.specs.Row.{effects_of}
+use Rattle.rex_world.specs.Row.{after_lines, effects_of}
 use Rattle.rex_world.specs.Report.{report_of}
 use Rattle.rex_world.specs.Laws.{trace_after}
 
@@ -113,3 +114,53 @@ repeats = refl
 starts_anew : effects_of counter adds_5 7 beginning (Elect 1 ∷ Submit 1 0 ∷ Lane 1 0 ∷ Elect 1 ∷ Cut 1 ∷ Submit 1 0 ∷ []) ≡
     Candidate 1 17 ∷ Active 1 17 ∷ Queued ∷ Recorded (on_lane_0 0 (Begin 1 1 0 (pos 5 ∷ []))) ∷ Candidate 1 33 ∷ Active 1 33 ∷ Nothing ∷ Queued ∷ []
 starts_anew = refl
+
+-- ---- a cut with limits
+
+-- client 1 adds 5, and client 2 adds 3
+abbrev pub both_add : List Request
+both_add = (record { client = 1; sequence = 1; handler = 0; arguments = pos 5 ∷ [] }) ∷ (record { client = 2; sequence = 1; handler = 0; arguments = pos 3 ∷ [] }) ∷ []
+
+-- lane 0 gives up the lock, and then lane 1 takes it
+abbrev pub hands_over : List ScheduleLine
+hands_over = Elect 1 ∷ Submit 1 0 ∷ Submit 1 1 ∷ Lane 1 0 ∷ Lane 1 0 ∷ Lane 1 1 ∷ Lane 1 0 ∷ Lane 1 1 ∷ CutBelow 1 (2 ∷ 2 ∷ []) ∷ []
+
+abbrev pub on_lane_1 : ℕ → Kind → Event
+on_lane_1 index kind = record { lane = 1; index = index; kind = kind }
+
+abbrev pub first_three : List Event
+first_three = on_lane_0 0 (Begin 1 1 0 (pos 5 ∷ [])) ∷ on_lane_0 1 (AcqEx 0) ∷ on_lane_1 0 (Begin 2 1 0 (pos 3 ∷ [])) ∷ []
+
+abbrev pub last_two : List Event
+last_two = on_lane_0 2 (RelEx 0) ∷ on_lane_1 1 (AcqEx 0) ∷ []
+
+-- at most two events of each lane: lane 1 can't take the lock yet, since the event that gives it up is above the limit of lane 0
+cuts_below : effects_of counter both_add 7 beginning hands_over ≡
+    Candidate 1 17 ∷ Active 1 17
+    ∷ Queued
+    ∷ Queued
+    ∷ Recorded (on_lane_0 0 (Begin 1 1 0 (pos 5 ∷ [])))
+    ∷ Recorded (on_lane_0 1 (AcqEx 0))
+    ∷ Recorded (on_lane_1 0 (Begin 2 1 0 (pos 3 ∷ [])))
+    ∷ Recorded (on_lane_0 2 (RelEx 0))
+    ∷ Recorded (on_lane_1 1 (AcqEx 0))
+    ∷ Proposes 1 1 3 ∷ Known 1 1
+    ∷ []
+cuts_below = refl
+
+stay_live : (after_lines counter both_add 7 beginning hands_over).live ≡ last_two
+stay_live = refl
+
+-- the next cut proposes the other two, the second of which has the first as its cause
+abbrev pub deltas : List Delta
+deltas =
+    (record { bases = 0 ∷ 0 ∷ []; events = first_three; causes = [] ∷ [] ∷ [] ∷ [] })
+    ∷ (record { bases = 2 ∷ 1 ∷ []; events = last_two; causes = [] ∷ ((record { lane = 0; index = 2 }) ∷ []) ∷ [] })
+    ∷ []
+
+knows_both : (after_lines counter both_add 7 beginning (hands_over ++ Cut 1 ∷ [])).known ≡ deltas
+knows_both = refl
+
+-- the event of lane 1 that is left rests on the one of lane 0, so without that there is nothing to propose
+proposes_nothing : effects_of counter both_add 7 (after_lines counter both_add 7 beginning hands_over) (CutBelow 1 (0 ∷ 1 ∷ []) ∷ []) ≡ Nothing ∷ []
+proposes_nothing = refl

@@ -1,18 +1,21 @@
 -- What is known only grows at its end.
-use Rattle.std.proofs.Common.{◌≡◌, ℕ, Bool, true, false, List, [], ◌∷◌, ◌++◌, length, refl, ap, sym, ◌∙◌, append-nil, append_assoc}
-use Rattle.std.specs.Prelude.{Option, Some, None, nat_le, slice_get, if◌then◌else◌}
+use Rattle.std.proofs.Common.{◌≡◌, ℕ, Bool, true, false, List, [], ◌∷◌, ◌++◌, refl, ap, sym, ◌∙◌, append-nil, append_assoc}
+use Rattle.std.specs.Prelude.{Option, Some, None, slice_get, if◌then◌else◌}
 use Rattle.rex_syntax.specs.declared.request.Request.{Request}
 use Rattle.rex_syntax.specs.declared.service.Declarations.{Declarations}
 use Rattle.rex_event.specs.declared.event.Event.{Event}
-use Rattle.rex_report.specs.declared.effect.Effect.TheVariants.{Ended}
+use Rattle.rex_event.specs.declared.delta.Delta.{Delta}
+use Rattle.rex_cut.specs.Greatest.{greatest_cut}
+use Rattle.rex_cut.specs.Delta.{delta_at}
 use Rattle.rex_scenario.specs.declared.scenario.ScheduleLine.{ScheduleLine}
-use Rattle.rex_scenario.specs.declared.scenario.ScheduleLine.TheVariants.{Elect, Submit, Lane, Cut}
+use Rattle.rex_scenario.specs.declared.scenario.ScheduleLine.TheVariants.{Elect, Submit, Lane, Cut, CutBelow}
 use Rattle.rex_world.specs.World.{WorldValue, is_follower, joined}
-use Rattle.rex_world.specs.Row.{not_active, only, submit_found, turn_in, turned, cut_live, row, after_lines}
+use Rattle.rex_world.specs.Row.{not_active, submit_found, turn_in, turned, no_limits, with_limits, cut_row, row, after_lines}
+use Rattle.rex_world.proofs.Cutting.{row_comes}
 
 -- the later world knows these deltas too
 pub record Grows (w later : WorldValue) : Type 0 where
-  pub deltas : List (List Event)
+  pub deltas : List Delta
   pub known : later.known ≡ w.known ++ deltas
 
 same_known : (w later : WorldValue) → later.known ≡ w.known → Grows w later
@@ -21,7 +24,7 @@ same_known w later e = record { deltas = []; known = e ∙ sym (append-nil w.kno
 grows_then : (a b c : WorldValue) → Grows a b → Grows b c → Grows a c
 grows_then a b c g h = record {
   deltas = g.deltas ++ h.deltas;
-  known = h.known ∙ ap (λ (ds : List (List Event)). ds ++ h.deltas) g.known ∙ append_assoc a.known g.deltas h.deltas;
+  known = h.known ∙ ap (λ (ds : List Delta). ds ++ h.deltas) g.known ∙ append_assoc a.known g.deltas h.deltas;
 }
 
 submit_grows : (service : Declarations) (w : WorldValue) (b : Bool) (o : Option Request) → Grows w (if b then not_active w else submit_found service w o).world
@@ -33,17 +36,16 @@ lane_grows : (service : Declarations) (w : WorldValue) (lane : ℕ) (b : Bool) �
 lane_grows service w lane true = same_known w _ refl
 lane_grows service w lane false = same_known w _ refl
 
-cut_grows : (service : Declarations) (w : WorldValue) (node : ℕ) (b c : Bool) (es : List Event) → Grows w (if b then not_active w else if c then only w Ended else cut_live service w node es).world
-cut_grows service w node true c es = same_known w _ refl
-cut_grows service w node false true es = same_known w _ refl
-cut_grows service w node false false [] = same_known w _ refl
-cut_grows service w node false false (e ∷ es) = record { deltas = w.live ∷ []; known = refl }
+cut_grows : (service : Declarations) (w : WorldValue) (node : ℕ) (counts : List ℕ) → Grows w (cut_row service w node counts).world
+cut_grows service w node counts =
+    row_comes service w node counts (λ x. Grows w x.world) (same_known w _ refl) (same_known w _ refl) (same_known w _ refl) (λ e. record { deltas = delta_at (greatest_cut counts w.live) w.live ∷ []; known = refl })
 
 pub row_grows : (service : Declarations) (requests : List Request) (seed : ℕ) (w : WorldValue) (line : ScheduleLine) → Grows w (row service requests seed w line).world
 row_grows service requests seed w (Elect node) = same_known w _ refl
 row_grows service requests seed w (Submit node number) = submit_grows service w (is_follower w) (slice_get requests number)
 row_grows service requests seed w (Lane node lane) = lane_grows service w lane (is_follower w)
-row_grows service requests seed w (Cut node) = cut_grows service w node (is_follower w) (nat_le 65535 (length w.known)) w.live
+row_grows service requests seed w (Cut node) = cut_grows service w node (no_limits service w)
+row_grows service requests seed w (CutBelow node limits) = cut_grows service w node (with_limits service w limits)
 
 pub lines_grow : (service : Declarations) (requests : List Request) (seed : ℕ) (w : WorldValue) (lines : List ScheduleLine) → Grows w (after_lines service requests seed w lines)
 lines_grow service requests seed w [] = same_known w _ refl
@@ -53,12 +55,12 @@ lines_grow service requests seed w (line ∷ rest) =
 
 -- ---- traces
 
-joined-append : (front rest : List (List Event)) → joined (front ++ rest) ≡ joined front ++ joined rest
+pub joined-append : (front rest : List Delta) → joined (front ++ rest) ≡ joined front ++ joined rest
 joined-append [] rest = refl
-joined-append (d ∷ ds) rest = ap (λ (es : List Event). d ++ es) (joined-append ds rest) ∙ sym (append_assoc d (joined ds) (joined rest))
+joined-append (d ∷ ds) rest = ap (λ (es : List Event). d.events ++ es) (joined-append ds rest) ∙ sym (append_assoc d.events (joined ds) (joined rest))
 
-pub joined-push : (deltas : List (List Event)) (delta : List Event) → joined (deltas ++ delta ∷ []) ≡ joined deltas ++ delta
-joined-push deltas delta = joined-append deltas (delta ∷ []) ∙ ap (λ (es : List Event). joined deltas ++ es) (append-nil delta)
+pub joined-push : (deltas : List Delta) (delta : Delta) → joined (deltas ++ delta ∷ []) ≡ joined deltas ++ delta.events
+joined-push deltas delta = joined-append deltas (delta ∷ []) ∙ ap (λ (es : List Event). joined deltas ++ es) (append-nil delta.events)
 
 pub trace_grows : (w later : WorldValue) → (g : Grows w later) → joined later.known ≡ joined w.known ++ joined g.deltas
 trace_grows w later g = ap joined g.known ∙ joined-append w.known g.deltas

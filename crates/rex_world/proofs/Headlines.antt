@@ -11,6 +11,8 @@ use Rattle.rex_state.specs.Value.{StateValue}
 use Rattle.rex_state.specs.Start.{start_of}
 use Rattle.rex_state.specs.Machine.{run}
 use Rattle.rex_event.specs.declared.event.Event.{Event}
+use Rattle.rex_state.proofs.Cuts.{cuts_go_first}
+use Rattle.rex_state.proofs.Sounds.{start_keeps}
 use Rattle.rex_scenario.specs.declared.scenario.ScheduleLine.{ScheduleLine}
 use Rattle.rex_scenario.specs.Fits.{RequestFits}
 use Rattle.rex_world.specs.World.{WorldValue, beginning, joined}
@@ -61,6 +63,7 @@ module _ (service : Declarations) (requests : List Request) (seed : ℕ) where
     headline lines there = record {
       prefix = λ earlier later rest e. trace_longer earlier later;
       runs = λ earlier rest e. trace_runs earlier (there_first lines earlier rest e there);
+      cuts = λ earlier rest s cut e leads closed. cuts_go_first service (start_of service) s cut (trace_after service requests seed earlier) good (start_keeps service good checked) closed leads;
       stands = λ earlier later rest client sequence value e among.
           stands_longer earlier later client sequence value
           (lines_stand service requests seed good checked fit client sequence value (running_at_first service) earlier

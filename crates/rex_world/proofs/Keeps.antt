@@ -1,32 +1,41 @@
 -- A recorder that carries a world still does after a line.
-use Rattle.std.proofs.Common.{◌≡◌, ℕ, ◌<◌, Bool, true, false, List, [], ◌∷◌, length, refl, ap, sym, ◌∙◌, subst, arith}
-use Rattle.std.specs.Prelude.{Option, Some, None, ℤ, pos, nat_le, slice_get, if◌then◌else◌}
+use Rattle.std.proofs.Common.{◌≡◌, ℕ, ◌<◌, Bool, true, false, List, length, refl, ap, sym, ◌∙◌, subst, arith}
+use Rattle.std.specs.Prelude.{Option, Some, None, ℤ, pos, slice_get, unwrap_or, if◌then◌else◌}
 use Rattle.std.specs.List.{All}
 use Rattle.std.proofs.lemmas.Option.{slice_get_within, get_or_from_slice_get}
 use Rattle.rex_syntax.specs.declared.request.Request.{Request}
 use Rattle.rex_syntax.specs.declared.service.Declarations.{Declarations}
 use Rattle.rex_syntax.specs.Service.{IsService}
 use Rattle.rex_event.specs.declared.event.Event.{Event}
+use Rattle.rex_event.specs.declared.delta.Delta.{Delta}
+use Rattle.rex_event.specs.Cuts.{below, beyond, IsConsistent}
+use Rattle.rex_cut.specs.Greatest.{greatest_cut}
+use Rattle.rex_cut.specs.Delta.{delta_at}
 use Rattle.rex_state.specs.Value.{StateValue}
 use Rattle.rex_state.specs.Start.{start_of}
 use Rattle.rex_state.specs.Machine.{run, entry_at}
 use Rattle.rex_record.specs.declared.turns.Turn.{Turn}
 use Rattle.rex_record.specs.declared.turns.Turn.TheVariants.{Done, Full, Idle, Held, Unsignalled}
 use Rattle.rex_record.specs.Turn.{turn_of}
-use Rattle.rex_record.specs.Value.{RecorderValue, live_after, queue_after, turned, settled}
+use Rattle.rex_record.specs.Value.{RecorderValue, live_after, queue_after, state_at, turned, settled}
 use Rattle.rex_record.specs.Kept.{AreQueued, IsRecorder}
-use Rattle.rex_report.specs.declared.effect.Effect.TheVariants.{Ended}
 use Rattle.rex_scenario.specs.declared.scenario.ScheduleLine.{ScheduleLine}
-use Rattle.rex_scenario.specs.declared.scenario.ScheduleLine.TheVariants.{Elect, Submit, Lane, Cut}
+use Rattle.rex_scenario.specs.declared.scenario.ScheduleLine.TheVariants.{Elect, Submit, Lane, Cut, CutBelow}
 use Rattle.rex_scenario.specs.Fits.{RequestFits}
 use Rattle.rand_pcg.specs.Pcg.{pcg32}
 use Rattle.rex_world.specs.World.{WorldValue, is_follower, joined, known_state, live_state}
-use Rattle.rex_world.specs.Row.{Row, counted, not_active, submit_found, submit_row, turn_in, turned as turned_row, only, cut_live, agreed}
+use Rattle.rex_world.specs.Row.{Row, counted, not_active, submit_found, submit_row, turn_in, turned as turned_row, no_limits, with_limits, agreed, cut_row}
 use Rattle.rex_world.specs.There.{HasLane}
-use Rattle.rex_world.specs.Running.{Running, settled_if, running_after}
+use Rattle.rex_world.specs.Running.{Running, recorder_cut, running_after, with_row}
+use Rattle.rex_world.specs.Limits.{IsLiveCut}
 use Rattle.rex_world.proofs.Growth.{joined-push}
+use Rattle.rex_state.proofs.Cuts.{cuts_go_first}
+use Rattle.rex_state.proofs.Run.{run-then}
 use Rattle.rex_record.proofs.Goes.{turn_goes_on}
-use Rattle.rex_world.proofs.Carried.{Carries, carried_run, carried_live, carried_sound}
+use Rattle.rex_record.proofs.Settles.{settles}
+use Rattle.rex_world.proofs.Carried.{Carries, carried_live, carried_sound}
+use Rattle.rex_world.proofs.Cutting.{cut_comes}
+use Rattle.rex_world.proofs.Limits.{no_limits_live, with_limits_live, live_cut, greatest_consistent}
 use Rattle.rex_world.proofs.Queues.{queue_after_answer}
 
 -- ---- submit
@@ -74,7 +83,7 @@ submit_carries service requests seed r node number good fit h =
         few = h.recorder.few;
         queue = subst (λ (s : StateValue). AreQueued service s (submit_row service requests r.world number).world.queue) same k.queue;
       };
-      known = subst (λ (ds : List (List Event)). run service (start_of service) (joined ds) ≡ Some r.recorder.start) (sym k.known) h.known;
+      known = subst (λ (ds : List Delta). run service (start_of service) (joined ds) ≡ Some r.recorder.start) (sym k.known) h.known;
       live = h.live ∙ sym k.live;
       queue = refl;
     }
@@ -99,7 +108,7 @@ lane_carries : (service : Declarations) (requests : List Request) (seed : ℕ) (
     → Carries service (running_after service requests seed r (Lane node lane))
 lane_carries service requests seed r node lane good there h = by (is_follower r.world)
   where
-    by : (b : Bool) → Carries service (record { world = (if b then not_active r.world else turned_row service r.world lane (turn_in service r.world lane)).world; recorder = if b then r.recorder else turned service r.recorder (turn_in service r.world lane) })
+    by : (b : Bool) → Carries service (record { world = (if b then not_active r.world else turned_row service r.world lane (turn_in service r.world lane)).world; recorder = if b then r.recorder else turned service r.recorder (turn_in service r.world lane); base = r.base; replayed = r.replayed })
     by true = record { recorder = h.recorder; known = h.known; live = h.live; queue = h.queue }
     by false = record {
       recorder = turn_keeps service r.recorder lane (pos r.world.done) (pcg32 r.world.dice).0 (turn_in service r.world lane) good h.recorder there (turn_same service r lane h);
@@ -110,30 +119,38 @@ lane_carries service requests seed r node lane good there h = by (is_follower r.
 
 -- ---- cut
 
--- the live events are known after a cut
-agreed_carries : (service : Declarations) (r : Running) (node : ℕ) → IsService service → Carries service r → Carries service (record { world = (agreed service r.world node).world; recorder = settled r.recorder })
-agreed_carries service r node good h = record {
-  recorder = record { sound = carried_sound service r good h; runs = refl; few = omega arith; queue = h.recorder.queue };
-  known = ap (run service (start_of service)) (joined-push r.world.known r.world.live) ∙ carried_run service r h;
-  live = refl;
-  queue = h.queue;
-}
+module _ (service : Declarations) (r : Running) (cut : List ℕ) (good : IsService service) (h : Carries service r) (closed : IsConsistent r.world.live cut) where
+  closed_live : IsConsistent r.recorder.live cut
+  closed_live = subst (λ (es : List Event). IsConsistent es cut) (sym h.live) closed
 
-cut_carries : (service : Declarations) (requests : List Request) (seed : ℕ) (r : Running) (node : ℕ) → IsService service → Carries service r → Carries service (running_after service requests seed r (Cut node))
-cut_carries service requests seed r node good h = by (is_follower r.world) (nat_le 65535 (length r.world.known))
+  -- the live events below a consistent cut lead to the state at it
+  cut_runs : run service r.recorder.start (below cut r.recorder.live) ≡ Some (state_at service r.recorder cut)
+  cut_runs =
+      let g = cuts_go_first service r.recorder.start r.recorder.state cut r.recorder.live good h.recorder.sound closed_live h.recorder.runs in
+      g.first ∙ ap Some (sym (ap (λ (o : Option StateValue). unwrap_or o r.recorder.start) g.first))
+
+  pub below_runs : run service r.recorder.start (below cut r.world.live) ≡ Some (state_at service r.recorder cut)
+  below_runs = subst (λ (es : List Event). run service r.recorder.start (below cut es) ≡ Some (state_at service r.recorder cut)) h.live cut_runs
+
+  -- they are known after the cut, and the others are live
+  agreed_carries : (node : ℕ) → Carries service (with_row r (agreed service r.world node cut) (settled service r.recorder cut))
+  agreed_carries node = record {
+    recorder = settles service r.recorder cut good h.recorder closed_live (below cut r.recorder.live) (beyond cut r.recorder.live) refl refl (state_at service r.recorder cut) cut_runs;
+    known =
+        ap (run service (start_of service)) (joined-push r.world.known (delta_at cut r.world.live))
+        ∙ run-then service (start_of service) r.recorder.start (joined r.world.known) (below cut r.world.live) h.known
+        ∙ below_runs;
+    live = ap (beyond cut) h.live;
+    queue = h.queue;
+  }
+
+cut_carries : (service : Declarations) (r : Running) (node : ℕ) (counts : List ℕ) → IsService service → Carries service r → IsLiveCut r counts → Carries service (with_row r (cut_row service r.world node counts) (recorder_cut service r counts))
+cut_carries service r node counts good h cut =
+    cut_comes service r node counts (λ row recorder. Carries service (with_row r row recorder)) same same same
+    (λ e some. agreed_carries service r (greatest_cut counts r.world.live) good h (greatest_consistent r.world.live counts (live_cut service r good h counts cut)) node)
   where
-    same : Carries service (record { world = counted r.world; recorder = r.recorder })
+    same : Carries service (record r { world = counted r.world })
     same = record { recorder = h.recorder; known = h.known; live = h.live; queue = h.queue }
-
-    cut : (es : List Event) → Carries service (record { world = (cut_live service r.world node es).world; recorder = settled_if es r.recorder })
-    cut [] = same
-    cut (e ∷ es) = agreed_carries service r node good h
-
-    by : (b c : Bool)
-        → Carries service (record { world = (if b then not_active r.world else if c then only r.world Ended else cut_live service r.world node r.world.live).world; recorder = if b then r.recorder else if c then r.recorder else settled_if r.world.live r.recorder })
-    by true c = same
-    by false true = same
-    by false false = cut r.world.live
 
 -- ---- elect
 
@@ -152,4 +169,5 @@ pub carries_after : (service : Declarations) (requests : List Request) (seed : �
 carries_after service requests seed r (Elect node) good fit there h = elect_carries service requests seed r node h
 carries_after service requests seed r (Submit node number) good fit there h = submit_carries service requests seed r node number good fit h
 carries_after service requests seed r (Lane node lane) good fit there h = lane_carries service requests seed r node lane good there h
-carries_after service requests seed r (Cut node) good fit there h = cut_carries service requests seed r node good h
+carries_after service requests seed r (Cut node) good fit there h = cut_carries service r node (no_limits service r.world) good h (no_limits_live service r good h)
+carries_after service requests seed r (CutBelow node limits) good fit there h = cut_carries service r node (with_limits service r.world limits) good h (with_limits_live service r good h limits there)

@@ -25,6 +25,7 @@ use Rattle.rex_report.specs.declared.effect.Effect.{Effect}
 use Rattle.rex_scenario.specs.declared.scenario.ScheduleLine.TheVariants as line
 use Rattle.rex_world.specs.World.{WorldValue, is_follower, live_state}
 use Rattle.rex_world.specs.Row as spec
+use Rattle.rex_report.specs.Rows.{row_text}
 use Rattle.rex_world.specs.Report.{effects_text, report_from, values_of}
 use Rattle.rex_world.specs.Running.{Running, IsRunning, with_row, recorder_after, running_after}
 use Rattle.rex_world.specs.Answering.{answer_in, taken, turn_at, turned_at}
@@ -46,12 +47,12 @@ module _ (service : Declarations) (r : Running) (h : IsRunning service r) (leads
     told_answer = ap (λ (x : spec.Row). x.effects) submit_is
 
     abbrev queued_as : List Request → Running
-    queued_as queue = record { world = spec.counted (record r.world { queue = queue }); recorder = record r.recorder { queue = queue } }
+    queued_as queue = record r { world = spec.counted (record r.world { queue = queue }); recorder = record r.recorder { queue = queue } }
 
-    pub after_answer : counted (taken r q (answer_in r q)) ≡ with_row (spec.submit_row service requests r.world number) (recorder_after service requests r (line.Submit 1 number))
+    pub after_answer : counted (taken r q (answer_in r q)) ≡ with_row r (spec.submit_row service requests r.world number) (recorder_after service requests r (line.Submit 1 number))
     after_answer =
         ap (λ (queue : List Request). queued_as (spec.queue_with queue q (answer_in r q))) h.queue
-        ∙ sym (ap (λ (x : spec.Row). with_row x (record r.recorder { queue = x.world.queue })) submit_is)
+        ∙ sym (ap (λ (x : spec.Row). with_row r x (record r.recorder { queue = x.world.queue })) submit_is)
 
   module _ (lane : ℕ) where
     lane_is : spec.lane_row service r.world lane ≡ spec.turned service r.world lane (turn_at service r lane)
@@ -75,18 +76,18 @@ module _ (service : Declarations) (r : Running) (h : IsRunning service r) (leads
     dice_are = ap (λ (b : Bool). dice_after b r.world.dice) (draw_is service r h lane) ∙ same_dice (does_draw service (live_state service r.world) (length r.world.live) lane) r.world.dice
 
     abbrev turned_as : List Event → List Request → Lcg → Running
-    turned_as live queue dice = record {
+    turned_as live queue dice = record r {
       world = spec.counted (record r.world { live = live_after live (turn_at service r lane); queue = queue_after queue (turn_at service r lane); dice = dice });
       recorder = turned_recorder service r.recorder (turn_at service r lane);
     }
 
-    pub after_turn : counted (turned_at service r lane) ≡ with_row (spec.lane_row service r.world lane) (recorder_after service [] r (line.Lane 1 lane))
+    pub after_turn : counted (turned_at service r lane) ≡ with_row r (spec.lane_row service r.world lane) (recorder_after service [] r (line.Lane 1 lane))
     after_turn =
         ap (λ (live : List Event). turned_as live r.recorder.queue (dice_after (does_draw service r.recorder.state (length r.recorder.live) lane) r.world.dice)) h.live
         ∙ ap (λ (queue : List Request). turned_as r.world.live queue (dice_after (does_draw service r.recorder.state (length r.recorder.live) lane) r.world.dice)) h.queue
         ∙ ap (turned_as r.world.live r.world.queue) dice_are
-        ∙ ap (with_row (spec.turned service r.world lane (turn_at service r lane))) (sym same_recorder)
-        ∙ ap (λ (x : spec.Row). with_row x (recorder_after service [] r (line.Lane 1 lane))) (sym lane_is)
+        ∙ ap (with_row r (spec.turned service r.world lane (turn_at service r lane))) (sym same_recorder)
+        ∙ ap (λ (x : spec.Row). with_row r x (recorder_after service [] r (line.Lane 1 lane))) (sym lane_is)
 
 -- what holds anyway holds at Ok
 pub on_ok_always : {E P : Type 0} (r : Result (Unit {0}) E) → P → OnOk r P
@@ -97,6 +98,23 @@ on_ok_always (Err e) p = tt
 pub told_as : {E : Type 0} {service other : Declarations} {n m : ℕ} {es others : List Effect} (r : Result (Unit {0}) E) (before after : List ℕ) → other ≡ service → m ≡ n → others ≡ es
     → OnOk r (after ≡ before ++ effects_text other m others) → OnOk r (after ≡ before ++ effects_text service n es)
 told_as {E} {service} {other} {n} {m} {es} {others} r before after d k e h = on_ok_weaker r (λ (t : after ≡ before ++ effects_text other m others). cc) h
+
+-- two effects that are told, and then others, in other terms
+pub told_then : {E : Type 0} {service other : Declarations} {n m : ℕ} {first second p q : Effect} {es others : List Effect} (r : Result (Unit {0}) E) (before middle after : List ℕ) → other ≡ service → m ≡ n → p ≡ first → q ≡ second → others ≡ es
+    → middle ≡ before ++ effects_text other m (p ∷ q ∷ []) → OnOk r (after ≡ middle ++ effects_text other m others) → OnOk r (after ≡ before ++ effects_text service n (first ∷ second ∷ es))
+told_then {E} {service} {other} {n} {m} {first} {second} {p} {q} {es} {others} r before middle after d k e f g mid h =
+    on_ok_weaker r
+    (λ (t : after ≡ middle ++ effects_text other m others).
+    t ∙ ap (λ (x : List ℕ). x ++ effects_text other m others) mid ∙ joined_text before (row_text other m p) (row_text other m q) (effects_text other m others)
+    ∙ ap (λ (x : List Effect). before ++ effects_text other m (p ∷ q ∷ x)) g
+    ∙ ap (λ (x : Effect). before ++ effects_text other m (x ∷ q ∷ es)) e
+    ∙ ap (λ (x : Effect). before ++ effects_text other m (first ∷ x ∷ es)) f
+    ∙ ap (λ (x : ℕ). before ++ effects_text other x (first ∷ second ∷ es)) k
+    ∙ ap (λ (x : Declarations). before ++ effects_text x n (first ∷ second ∷ es)) d)
+    h
+  where
+    joined_text : (b x y z : List ℕ) → (b ++ (x ++ (y ++ []))) ++ z ≡ b ++ (x ++ (y ++ z))
+    joined_text b x y z = append_assoc b (x ++ (y ++ [])) z ∙ ap (λ (t : List ℕ). b ++ t) (append_assoc x (y ++ []) z ∙ ap (λ (t : List ℕ). x ++ t) (append_assoc y [] z))
 
 -- a line that does what the definitions say keeps the world running
 pub step_runs : {E : Type 0} (service : Declarations) (requests : List Request) (seed : ℕ) (r : Running) (line : ScheduleLine) (result : Result (Unit {0}) E) (after : Running) → IsService service → All (RequestFits service) requests

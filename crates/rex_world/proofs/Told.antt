@@ -1,5 +1,5 @@
 -- Along a run from the start the trace says of every client what its entry says.
-use Rattle.std.proofs.Common.{◌≡◌, ◌⊎◌, inl, inr, ℕ, ◌<◌, true, List, [], ◌∷◌, ◌++◌, length, refl, ap, sym, subst, arith, append-nil, append_assoc}
+use Rattle.std.proofs.Common.{◌≡◌, ◌⊎◌, inl, inr, ℕ, zero, suc, ◌<◌, true, List, [], ◌∷◌, ◌++◌, length, replicate, get_or, refl, ap, sym, subst, arith, append-nil, append_assoc}
 use Rattle.std.specs.Prelude.{Option, Some, None, ℤ}
 use Rattle.std.proofs.lemmas.Bool.{true≢false, and_parts, eqb-true, ltb-true, cases_eq}
 use Rattle.std.proofs.lemmas.List.{get_or-set_same}
@@ -19,7 +19,6 @@ use Rattle.rex_state.specs.Sound.{AreServed, IsSound}
 use Rattle.rex_state.proofs.Keep.{IsEnabled, next_is, client_other}
 use Rattle.rex_state.proofs.Sounds.{next_keeps, start_keeps}
 use Rattle.rex_world.specs.Stands.{Begins, Replies}
-use Rattle.rex_world.proofs.Carrying.{same_at}
 use Rattle.rex_world.proofs.Traces.{Told, told_other, told_begin, told_reply}
 
 -- every client's entry is told by the trace
@@ -34,7 +33,8 @@ pub record IsAwaited (s : StateValue) (client : ℕ) : Type 0 where
   pub some : 0 < (entry_at s.clients client).sequence
   pub open_yet : (entry_at s.clients client).reply ≡ None
 
-there_or_not : {F : Type 0} (o : Option F) → (o ≡ None) ⊎ ((f : F) × (o ≡ Some f))
+-- a frame is there or not
+pub there_or_not : {F : Type 0} (o : Option F) → (o ≡ None) ⊎ ((f : F) × (o ≡ Some f))
 there_or_not None = inl refl
 there_or_not (Some f) = inr (f, refl)
 
@@ -59,8 +59,8 @@ is_some_of (Some a) c = by (cases_eq a c)
     by (inl e) = inl (ap Some e)
     by (inr n) = inr (λ z. n (same_Some a c z))
 
-none_some : {X : Type 0} (c : ℕ) → None ≡ Some c → X
-none_some c h = absurd (cc)
+pub none_some : {X Y : Type 0} (y : Y) → None ≡ Some y → X
+none_some y h = absurd (cc)
 
 module _ (service : Declarations) (trace : List Event) (s : StateValue) (e : Event) (sound : IsSound service s) (n : IsEnabled service e.lane e.kind s) (told : AreTold trace s.clients) where
   -- the entry of a reply's client has it
@@ -107,6 +107,12 @@ told_run service trace (e ∷ es) s t good sound told h = by (next service s e) 
         subst (λ (x : List Event). AreTold x t.clients) (append_assoc trace (e ∷ []) es) (go u (next_keeps service s u e good sound n) (told_next service trace s u e sound told n) k)
 
 -- ---- from the start
+
+-- a list of one value has it everywhere, past its end too
+pub same_at : {X : Type 0} (n : ℕ) (x : X) (i : ℕ) → get_or (replicate n x) i x ≡ x
+same_at zero x i = refl
+same_at (suc n) x zero = refl
+same_at (suc n) x (suc i) = same_at n x i
 
 nothing_sent : {X : Type 0} (service : Declarations) (client : ℕ) → 0 < (entry_at (start_of service).clients client).sequence → X
 nothing_sent service client h = absurd (let z : (entry_at (start_of service).clients client).sequence ≡ 0 = ap (λ (x : Entry). x.sequence) (same_at 257 no_entry client) in omega arith)

@@ -5,5 +5,6 @@ pub mod Report
 pub mod Stands
 pub mod There
 pub mod Running
+pub mod Limits
 pub mod Answering
 pub mod Laws

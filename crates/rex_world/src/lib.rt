@@ -2,11 +2,12 @@
 #![tactic(auto)]
 
 mod answers;
+mod bounds;
 mod effects;
 pub mod laws;
 mod lines;
-mod replay;
 pub mod report;
+mod values;
 mod world;
 
 pub use world::World;

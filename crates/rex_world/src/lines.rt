@@ -6,14 +6,13 @@ ghost use Rattle.rex_scenario.specs.Fits.{RequestFits};
 ghost use Rattle.rex_world.specs.Row as spec;
 
 use crate::answers::answer_of;
+use crate::bounds::limits_between;
 use crate::effects::{tell, tell_both, tell_releases, turn_effect};
-use crate::replay::replay_value;
+use crate::values::{replay_values, value_of};
 use crate::world::{INSTANCES, World};
 use rand_pcg::Lcg64Xsh32;
 use rex_cut::{delta_of, greatest};
-use rex_delta::encode;
-use rex_event::{Cut, Delta, Kind};
-use rex_list::List;
+use rex_event::{Cut, Delta, Event, Kind};
 use rex_record::Recorder;
 use rex_report::{Effect, Role};
 use rex_syntax::checked::Checked;
@@ -33,20 +32,14 @@ fn ballot_above(node: u8, promised: u64) -> u64
     }
 }
 
-/// How many events a lane did at a cut that takes at most so many of its live ones.
-fn count_below(first: u32, last: u32, limit: u32) -> u32
-    ensures { result ≡ min (first + limit) last }
-{
-    (first as u64 + limit as u64).min(last as u64) as u32
-}
-
 impl World {
     ghost use Rattle.rex_event.specs.Cuts.{IsConsistent};
-    ghost use Rattle.rex_cut.specs.Greatest.{IsCutOf};
     ghost use Rattle.rex_cut.specs.Delta.{delta_at};
+    ghost use Rattle.rex_delta.specs.Spelling.{IsDelta};
     ghost use Rattle.rex_state.specs.Counts.{counts_of};
     ghost use Rattle.rex_record.specs.Value.{settled};
     ghost use Rattle.rex_scenario.specs.declared.scenario.ScheduleLine.TheVariants as line;
+    ghost use Rattle.rex_world.specs.Limits.{IsLiveCut};
     ghost use Rattle.rex_world.specs.Answering.{answer_in, taken, turn_at, turned_at};
     ghost use Rattle.rex_world.specs.Report.{effects_text};
     ghost use Rattle.rex_world.specs.Running.{IsRunning, with_row, restarted, recorder_after, recorder_cut, running_after, replayed_all};
@@ -84,8 +77,8 @@ impl World {
         ensures told { OnOk result (out.new.items ≡ out.old.items ++ effects_text svc.now (self.old.world.done + 1) (spec.elect_row seed self.old.world node).effects) }
         ensures after { OnOk result (self.new ≡ running_after svc.now [] seed self.old (line.Elect node)) }
     {
-        let ballot = ballot_above(node, self.promised);
         self.replay(alloc, svc)?;
+        let ballot = ballot_above(node, self.promised);
         let start = self.base.copy(alloc)?;
         self.recorder = Recorder::new(alloc, start)?;
         self.ballot = ballot;
@@ -102,9 +95,8 @@ impl World {
         requires running { IsRunning svc.now self.old }
         ensures { OnOk result (self.new ≡ replayed_all self.old) }
     {
-        for value in &self.known[self.replayed..] {
-            replay_value(alloc, svc, &mut self.base, value.as_slice())?;
-        }
+        let _service = svc.declarations();
+        replay_values(alloc, svc, &mut self.base, &self.known[self.replayed..])?;
         self.replayed = self.known.len();
         Ok(())
     }
@@ -173,8 +165,8 @@ impl World {
             return self.not_active(svc, out);
         }
         let effect = self.turn(svc, lane)?;
-        // The checker loses sight of an event's kinds in a function that names none.
-        let _kind: Option<Kind> = None;
+        // The checker loses sight of events and their kinds in a function that names none.
+        let _event: Option<(Event, Kind)> = None;
         self.done += 1;
         tell(out, svc.declarations(), self.done, &effect)
     }
@@ -205,7 +197,8 @@ impl World {
         ensures told { OnOk result (out.new.items ≡ out.old.items ++ effects_text svc.now (self.old.world.done + 1) (spec.row svc.now [] 0 self.old.world (line.Cut node)).effects) }
         ensures after { OnOk result (self.new ≡ running_after svc.now [] 0 self.old (line.Cut node)) }
     {
-        let counts = self.all_counts(alloc, svc)?;
+        let _service = svc.declarations();
+        let counts = self.recorder.state().counts(alloc)?;
         self.cut_at(alloc, svc, out, node, &counts)
     }
 
@@ -224,35 +217,11 @@ impl World {
         ensures told { OnOk result (out.new.items ≡ out.old.items ++ effects_text svc.now (self.old.world.done + 1) (spec.row svc.now [] 0 self.old.world (line.CutBelow node limits.now)).effects) }
         ensures after { OnOk result (self.new ≡ running_after svc.now [] 0 self.old (line.CutBelow node limits.now)) }
     {
-        let counts = self.counts_below(alloc, limits)?;
+        let _service = svc.declarations();
+        let firsts = self.recorder.start().counts(alloc)?;
+        let lasts = self.recorder.state().counts(alloc)?;
+        let counts = limits_between(alloc, &firsts, &lasts, limits)?;
         self.cut_at(alloc, svc, out, node, &counts)
-    }
-
-    // How many events each lane did.
-    fn all_counts(&self, alloc: Global, svc: &Checked) -> Result<Vec<u32>, AllocError>
-        requires running { IsRunning svc.now self.now }
-        ensures { IfOk result (λ counts. counts.items ≡ counts_of self.now.recorder.state) }
-    {
-        let mut counts = Vec::new(alloc);
-        for lane in 0..svc.declarations().lanes {
-            counts.push(self.recorder.state().done(lane))?;
-        }
-        Ok(counts)
-    }
-
-    // How many events each lane did before the live ones, and of these as many as its limit allows.
-    fn counts_below(&self, alloc: Global, limits: &[u32]) -> Result<Vec<u32>, AllocError>
-        requires limits { length limits.now ≡ length self.now.recorder.start.lanes }
-        requires lanes { length limits.now ≡ length self.now.recorder.state.lanes }
-        ensures { IfOk result (λ counts. counts.items ≡ spec.limits_between (counts_of self.now.recorder.start) (counts_of self.now.recorder.state) limits.now) }
-    {
-        let mut counts = Vec::new(alloc);
-        for (lane, limit) in limits.iter().enumerate() {
-            let first = self.recorder.start().done(lane as u8);
-            let last = self.recorder.state().done(lane as u8);
-            counts.push(count_below(first, last, *limit))?;
-        }
-        Ok(counts)
     }
 
     // The node proposes the greatest consistent cut below these counts.
@@ -265,11 +234,12 @@ impl World {
         counts: &[u32],
     ) -> Result<(), AllocError>
         requires running { IsRunning svc.now self.old }
-        requires cut { IsCutOf self.old.world.live counts.now }
+        requires cut { IsLiveCut self.old counts.now }
         requires count { self.old.world.done + 1 < 2 ^ 32 }
         ensures told { OnOk result (out.new.items ≡ out.old.items ++ effects_text svc.now (self.old.world.done + 1) (spec.cut_row svc.now self.old.world node counts.now).effects) }
         ensures after { OnOk result (self.new ≡ with_row self.old (spec.cut_row svc.now self.old.world node counts.now) (recorder_cut svc.now self.old counts.now)) }
     {
+        let _service = svc.declarations();
         if self.is_follower() {
             return self.not_active(svc, out);
         }
@@ -295,10 +265,9 @@ impl World {
         delta: &Delta,
     ) -> Result<(), AllocError>
         requires running { IsRunning svc.now self.old }
-        requires cut { IsCutOf self.old.world.live cut.now.counts }
         requires consistent { IsConsistent self.old.world.live cut.now.counts }
         requires delta { delta.now ≡ delta_at cut.now.counts self.old.world.live }
-        requires some { 0 < length delta.now.events }
+        requires fits { IsDelta delta.now }
         requires few { length self.old.world.known < 65535 }
         requires count { self.old.world.done + 1 < 2 ^ 32 }
         ensures told { OnOk result (out.new.items ≡ out.old.items ++ effects_text svc.now (self.old.world.done + 1) (spec.agreed svc.now self.old.world node cut.now.counts).effects) }
@@ -306,9 +275,9 @@ impl World {
     {
         let instance = self.known.len() as u32 + 1;
         let events = delta.events.len() as u32;
-        let value = encode(alloc, delta)?;
+        let value = value_of(alloc, delta)?;
         let released = self.recorder.settle(svc, alloc, cut)?;
-        self.known.push(List::from_vec(value))?;
+        self.known.push(value)?;
         self.done += 1;
         let proposes = Effect::Proposes {
             node,

@@ -1,10 +1,11 @@
-use Rattle.std.proofs.Common.{ℕ, ◌+◌, ◌≤◌, drop, length, sym, ap, ◌∙◌, subst}
+use Rattle.std.proofs.Common.{ℕ, ◌+◌, ◌≤◌, ◌∷◌, drop, length, sym, ap, ◌∙◌, subst}
 use Rattle.rex_world.specs.Report.{report_of}
 use Rattle.rex_world.specs.World.{WorldValue}
 use Rattle.rex_world.proofs.Counts.{row_done}
 use Rattle.rex_world.proofs.Few.{keeps_few}
 use Rattle.rex_world.proofs.Scenarios.{scenario_headline}
 use Rattle.rex_world.proofs.Steps.{line_told, drop_next}
+use Rattle.rex_scenario.specs.declared.scenario.ScheduleLine.{ScheduleLine}
 use Rattle.rex_world.proofs.report.report.Goals as goal
 
 pub loop-line-preserved : goal.loop-line-preserved
@@ -15,7 +16,8 @@ loop-line-preserved c = record {
   told =
       line_told c.args.svc.now c.as_slice-requests.result.now c.args.scenario.now.seed c.loop-line.world.world c.step.new.self.world _ (drop (c.loop-line.line-index + 1) c.args.scenario.now.schedule)
       (drop c.loop-line.line-index c.args.scenario.now.schedule) c.loop-line.out.items c.step.new.out.items (report_of c.args.svc.now c.args.scenario.now)
-      (drop_next c.args.scenario.now.schedule c.as_slice-line-items.result.now c.loop-line.line-index _ c.as_slice-line-items.ensures c.loop-line-test.true) c.in_ok-step.ensures.world c.in_ok-step.ensures.told c.loop-line.invariant.told;
+      (drop_next c.args.scenario.now.schedule c.as_slice-line-items.result.now c.loop-line.line-index c.line-item.result c.as_slice-line-items.ensures c.loop-line-test.true
+      ∙ ap (λ (l : ScheduleLine). l ∷ drop (c.loop-line.line-index + 1) c.args.scenario.now.schedule) (sym c.line-item.is)) c.in_ok-step.ensures.world c.in_ok-step.ensures.told c.loop-line.invariant.told;
 }
 
 pub returns-in_err-world-clause-headline : goal.returns-in_err-world-clause-headline

@@ -1,6 +1,7 @@
-use Rattle.std.proofs.Common.{length, subst}
+use Rattle.std.proofs.Common.{◌≡◌, ℕ, List, [], OnOk, length, subst}
 use Rattle.rex_scenario.specs.Fits.{LineFits}
-use Rattle.rex_scenario.specs.declared.scenario.ScheduleLine.TheVariants.{Elect, Submit, Lane, Cut}
+use Rattle.rex_scenario.specs.declared.scenario.ScheduleLine.TheVariants.{Elect, Submit, Lane, Cut, CutBelow}
+use Rattle.rex_world.specs.Running.{running_after}
 use Rattle.rex_world.proofs.Steps.{step_runs}
 use Rattle.rex_world.proofs.world.World.step.Goals as goal
 
@@ -23,3 +24,9 @@ pub returns-in-Cut-clause-running : goal.returns-in-Cut-clause-running
 returns-in-Cut-clause-running c =
     step_runs c.args.svc.now c.args.requests.now c.args.seed c.args.self.now (Cut c.in-Cut.node) c.cut.result c.cut.new.self c.declarations-service.ensures.sound c.requires.requests
     (subst (LineFits 1 (length c.args.requests.now) c.args.svc.now.lanes) c.in-Cut.is c.requires.fits) c.requires.running c.cut.ensures.after
+
+pub returns-in-CutBelow-clause-running : goal.returns-in-CutBelow-clause-running
+returns-in-CutBelow-clause-running c =
+    step_runs c.args.svc.now c.args.requests.now c.args.seed c.args.self.now (CutBelow c.in-CutBelow.node c.in-CutBelow.limits) c.cut_below.result c.cut_below.new.self c.declarations-service.ensures.sound c.requires.requests
+    (subst (LineFits 1 (length c.args.requests.now) c.args.svc.now.lanes) c.in-CutBelow.is c.requires.fits) c.requires.running
+    (subst (λ (limits : List ℕ). OnOk c.cut_below.result (c.cut_below.new.self ≡ running_after c.args.svc.now [] 0 c.args.self.now (CutBelow c.in-CutBelow.node limits))) c.as_slice.ensures c.cut_below.ensures.after)
