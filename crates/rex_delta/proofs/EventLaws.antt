@@ -18,7 +18,7 @@ use Rattle.rex_wire.proofs.Numbers.{wide8, wide16, wide32, allowed_spelled}
 use Rattle.rex_delta.specs.Spelling.{is_between, IsBetween, greatest_base, code_of, content, cause_bytes, event_bytes, events_bytes, delta_bytes, others_below, CauseFits, AreRising, EventFits, EventsFit, IsDelta, HasTypedKind, HasSpelling}
 use Rattle.rex_delta.specs.Reading.{may_be_cause, may_be_index, cause_at, causes_at, event_at, events_at, bases_at, kind_at, delta_at, delta_in, Gives}
 use Rattle.rex_delta.specs.declared.fault.DecodeError.{DecodeError}
-use Rattle.rex_delta.proofs.Tests.{is_between-true, may_be_cause-true, may_be_index-true}
+use Rattle.rex_delta.proofs.Allowed.{is_between-true, may_be_cause-true, may_be_index-true}
 use Rattle.rex_delta.proofs.Lists.{same, base_at, bases_in, bases_repeated, after_cause, causes_in, causes_repeated}
 use Rattle.rex_delta.proofs.ListLaws.{AreEach, AreEach-to_all, list_spelled}
 use Rattle.rex_delta.proofs.KindLaws.{kind_bytes, IsKindOf, kind_spelled}

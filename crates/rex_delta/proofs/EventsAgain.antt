@@ -18,7 +18,7 @@ use Rattle.rex_wire.proofs.Numbers.{wide8, wide16, wide32, allowed_again}
 use Rattle.rex_delta.specs.Spelling.{is_between, IsBetween, greatest_base, has_event, cause_bytes, event_bytes, events_bytes, delta_bytes, others_below, CauseFits, AreRising, EventFits, EventsFit, IsDelta, IsTyped, HasTypedKind, HasSpelling}
 use Rattle.rex_delta.specs.Reading.{may_be_cause, may_be_index, cause_at, causes_at, event_at, events_at, bases_at, kind_at, delta_at, delta_in}
 use Rattle.rex_delta.specs.Laws.{NoSpellingBeginsAnother}
-use Rattle.rex_delta.proofs.Tests.{between-is}
+use Rattle.rex_delta.proofs.Allowed.{between-is}
 use Rattle.rex_delta.proofs.Lists.{same, base_at, bases_in, bases_repeated, after_cause, causes_in, causes_repeated}
 use Rattle.rex_delta.proofs.ListLaws.{AreEach, AreEach-from_all, list_again}
 use Rattle.rex_delta.proofs.KindLaws.{kind_bytes}

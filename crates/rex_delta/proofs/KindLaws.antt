@@ -13,7 +13,7 @@ use Rattle.rex_wire.proofs.Fields.{ok_is, is_taken, Takes, Takes-then, IsSpelled
 use Rattle.rex_wire.proofs.Numbers.{wide8, wide16, wide32, wide64, number_spelled, number_again, allowed_spelled, allowed_again, signed_spelled, signed_again}
 use Rattle.rex_delta.specs.Spelling.{code_of, content, woken_number, is_between, IsBetween, KindFits, IsTyped}
 use Rattle.rex_delta.specs.Reading.{place_at, arguments_at, begin_at, lock_at, condition_at, woken_of, signal_at, broadcast_at, clock_at, random_at, reply_at, content_at, kind_at}
-use Rattle.rex_delta.proofs.Tests.{is_between-true, between-is}
+use Rattle.rex_delta.proofs.Allowed.{is_between-true, between-is}
 use Rattle.rex_delta.proofs.Lists.{alone, joined, same, argument_at, arguments_in, arguments_repeated}
 use Rattle.rex_delta.proofs.ListLaws.{AreEach, AreEach-to_all, list_spelled}
 
