@@ -1,7 +1,8 @@
-ghost use Rattle.std.specs.Prelude.{◌≡◌, ◌+◌, ◌≤◌, length, OnOk};
+ghost use Rattle.std.specs.Prelude.{◌+◌, ◌≤◌, length, IfOk};
+ghost use Rattle.rex_delta.specs.Spelling.{IsDelta};
 
 use super::*;
-use rex_event::{Event, Kind};
+use rex_event::{Delta, Event, Kind};
 use rex_list::Arguments;
 use std::alloc::{AllocError, Global};
 use std::test::*;
@@ -62,6 +63,15 @@ const CHANGES: [(u8, &[u8], usize); 28] = [
     (66, &[3], 63),
 ];
 
+fn delta_of(alloc: Global, bytes: &[u8]) -> Result<Delta, &'static str>
+    ensures { IfOk result (λ d. IsDelta d) }
+{
+    match decode(alloc, bytes) {
+        Ok(delta) => Ok(delta),
+        Err(_) => Err("the bytes are no delta"),
+    }
+}
+
 fn bad_at(alloc: Global, bytes: &[u8]) -> Option<usize> {
     match decode(alloc, bytes) {
         Err(DecodeError::Bad { at }) => Some(at),
@@ -87,9 +97,7 @@ fn event(index: u32, kind: Kind) -> Event {
 
 #[test]
 fn deltas_are_read_and_written(rt: HostRuntime) -> Result<(), Fail> {
-    let delta = decode(rt.alloc(), &REQUEST)
-        .ok()
-        .ok_or("the bytes are a delta")?;
+    let delta = delta_of(rt.alloc(), &REQUEST)?;
     let mut arguments = Arguments::new();
     arguments.push(5);
     let begin = Kind::Begin {
@@ -113,9 +121,7 @@ fn deltas_are_read_and_written(rt: HostRuntime) -> Result<(), Fail> {
     assert_eq!(rt; delta.causes.len(), 4);
     let bytes = encode(rt.alloc(), &delta)?;
     assert_eq!(rt; bytes.as_slice(), REQUEST.as_slice());
-    let delta = decode(rt.alloc(), &HANDED_ON)
-        .ok()
-        .ok_or("the bytes are a delta")?;
+    let delta = delta_of(rt.alloc(), &HANDED_ON)?;
     let bytes = encode(rt.alloc(), &delta)?;
     assert_eq!(rt; bytes.as_slice(), HANDED_ON.as_slice());
     Ok(())
