@@ -1,7 +1,7 @@
 -- Events and their causes: what is read is spelled so.
-use Rattle.std.proofs.Common.{◌≡◌, ◌≢◌, ℕ, zero, suc, ◌+◌, ◌-◌, ◌<◌, ◌≤◌, ◌^◌, Bool, true, false, List, [], ◌∷◌, ◌++◌, length, Result, Ok, Err, refl, sym, ap, subst, ◌∙◌, arith, append_assoc}
+use Rattle.std.proofs.Common.{◌≡◌, ℕ, zero, suc, ◌+◌, ◌-◌, ◌≤◌, true, List, [], ◌∷◌, ◌++◌, length, Result, Ok, Err, refl, sym, ap, subst, ◌∙◌, arith, append_assoc}
 use Rattle.std.specs.Prelude.{◌==◌, nat_le, IfOk}
-use Rattle.std.specs.Int.{w8, w16, w32, to_be_bytes}
+use Rattle.std.specs.Int.{w16, w32, to_be_bytes}
 use Rattle.std.specs.List.{flat_map, All}
 use Rattle.std.proofs.lemmas.Bool.{leb-true, eqb-true}
 use Rattle.std.proofs.lemmas.List.{append-nil, nil_from_length}
@@ -11,14 +11,14 @@ use Rattle.rex_event.specs.declared.event.Event.{Event}
 use Rattle.rex_event.specs.declared.delta.Cause.{Cause}
 use Rattle.rex_event.specs.declared.delta.Delta.{Delta}
 use Rattle.rex_event.specs.Cuts.{count_at, counted}
-use Rattle.rex_wire.specs.Reading.{Left, Reading, ◌>>=◌, allowed_at, all_left}
+use Rattle.rex_wire.specs.Reading.{Left, all_left}
 use Rattle.rex_wire.specs.Spelling.{byte}
-use Rattle.rex_wire.proofs.Fields.{IsBytes, bind_ok, test_ok, ok_is, is_taken, Takes, Takes-none, Takes-then, IsSpelled, IsSpelled-weaker, step}
+use Rattle.rex_wire.proofs.Fields.{IsBytes, test_ok, is_taken, Takes, Takes-none, Takes-then, IsSpelled, IsSpelled-weaker, step}
 use Rattle.rex_wire.proofs.Numbers.{wide8, wide16, wide32, allowed_spelled}
-use Rattle.rex_delta.specs.Spelling.{is_between, IsBetween, greatest_base, code_of, content, cause_bytes, event_bytes, events_bytes, delta_bytes, others_below, CauseFits, AreRising, EventFits, EventsFit, IsDelta, HasTypedKind, HasSpelling}
-use Rattle.rex_delta.specs.Reading.{may_be_cause, may_be_index, cause_at, causes_at, event_at, events_at, bases_at, kind_at, delta_at, delta_in, Gives}
+use Rattle.rex_delta.specs.Spelling.{is_between, IsBetween, greatest_base, code_of, content, cause_bytes, event_bytes, events_bytes, delta_bytes, others_below, CauseFits, AreRising, EventFits, EventsFit, HasTypedKind, HasSpelling}
+use Rattle.rex_delta.specs.Reading.{may_be_cause, may_be_index, cause_at, causes_at, event_at, events_at, bases_at, delta_at, delta_in, Gives}
 use Rattle.rex_delta.specs.declared.fault.DecodeError.{DecodeError}
-use Rattle.rex_delta.proofs.Tests.{is_between-true, may_be_cause-true, may_be_index-true}
+use Rattle.rex_delta.proofs.Allowed.{is_between-true, may_be_cause-true, may_be_index-true}
 use Rattle.rex_delta.proofs.Lists.{same, base_at, bases_in, bases_repeated, after_cause, causes_in, causes_repeated}
 use Rattle.rex_delta.proofs.ListLaws.{AreEach, AreEach-to_all, list_spelled}
 use Rattle.rex_delta.proofs.KindLaws.{kind_bytes, IsKindOf, kind_spelled}

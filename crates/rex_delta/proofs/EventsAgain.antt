@@ -1,6 +1,6 @@
 -- Events, their causes and deltas are read again from their spelling.
-use Rattle.std.proofs.Common.{◌≡◌, ◌≢◌, ◌⊎◌, ℕ, zero, suc, ◌+◌, ◌-◌, ◌<◌, ◌≤◌, ◌^◌, Bool, true, false, cond, List, [], ◌∷◌, ◌++◌, length, get_or, Ok, Err, refl, sym, ap, subst, ◌∙◌, arith, inl, inr, length-set}
-use Rattle.std.specs.Prelude.{◌==◌, ◌&&◌, not, nat_le, nat_eq, nat_lt}
+use Rattle.std.proofs.Common.{◌≡◌, ◌≢◌, ℕ, ◌+◌, ◌-◌, ◌<◌, ◌≤◌, ◌^◌, true, cond, List, [], ◌∷◌, ◌++◌, length, Ok, Err, refl, sym, ap, subst, ◌∙◌, arith, inl, inr, length-set}
+use Rattle.std.specs.Prelude.{◌==◌, not, nat_le, nat_eq, nat_lt}
 use Rattle.std.specs.Int.{w8, w16, w32, to_be_bytes}
 use Rattle.std.specs.List.{flat_map, All}
 use Rattle.std.proofs.lemmas.Bool.{cases_lt, le-leb, lt-ltb}
@@ -15,10 +15,10 @@ use Rattle.rex_wire.specs.Reading.{Left, Reading, ◌>>=◌, allowed_at, all_lef
 use Rattle.rex_wire.specs.Spelling.{byte}
 use Rattle.rex_wire.proofs.Fields.{ok_is, IsRead, IsRead-none, IsRead-then, IsRead-last, left_at}
 use Rattle.rex_wire.proofs.Numbers.{wide8, wide16, wide32, allowed_again}
-use Rattle.rex_delta.specs.Spelling.{is_between, IsBetween, greatest_base, has_event, cause_bytes, event_bytes, events_bytes, delta_bytes, others_below, CauseFits, AreRising, EventFits, EventsFit, IsDelta, IsTyped, HasTypedKind, HasSpelling}
+use Rattle.rex_delta.specs.Spelling.{is_between, greatest_base, has_event, cause_bytes, event_bytes, events_bytes, delta_bytes, others_below, CauseFits, AreRising, EventFits, EventsFit, IsTyped, HasTypedKind, HasSpelling}
 use Rattle.rex_delta.specs.Reading.{may_be_cause, may_be_index, cause_at, causes_at, event_at, events_at, bases_at, kind_at, delta_at, delta_in}
 use Rattle.rex_delta.specs.Laws.{NoSpellingBeginsAnother}
-use Rattle.rex_delta.proofs.Tests.{between-is}
+use Rattle.rex_delta.proofs.Allowed.{between-is}
 use Rattle.rex_delta.proofs.Lists.{same, base_at, bases_in, bases_repeated, after_cause, causes_in, causes_repeated}
 use Rattle.rex_delta.proofs.ListLaws.{AreEach, AreEach-from_all, list_again}
 use Rattle.rex_delta.proofs.KindLaws.{kind_bytes}

@@ -1,20 +1,19 @@
 -- What an event did: what is read is spelled so, and is read again.
-use Rattle.std.proofs.Common.{◌≡◌, ◌≢◌, ℕ, ℤ, zero, suc, ◌+◌, ◌-◌, ◌<◌, ◌≤◌, ◌^◌, Bool, true, false, List, [], ◌∷◌, ◌++◌, length, Option, Some, None, Result, Ok, Err, refl, sym, ap, subst, ◌∙◌, arith, FitsSigned}
+use Rattle.std.proofs.Common.{◌≡◌, ℕ, zero, suc, ◌+◌, ◌-◌, ◌<◌, ◌≤◌, ◌^◌, true, List, ◌++◌, length, refl, sym, subst, arith, FitsSigned}
 use Rattle.std.specs.Prelude.{◌==◌, IfSome, nat_lt}
-use Rattle.std.specs.Int.{w8, w16, w32, w64, to_be_bytes}
-use Rattle.std.specs.List.{flat_map, All, AllByRecursion}
-use Rattle.std.proofs.lemmas.Bool.{ltb-true, lt-ltb, eqb-true, eqb-false}
-use Rattle.std.proofs.lemmas.List.Elements.{All-cons, All-nil, All-head, All-tail}
+use Rattle.std.specs.Int.{w64}
+use Rattle.std.specs.List.{flat_map}
+use Rattle.std.proofs.lemmas.Bool.{ltb-true, eqb-true, eqb-false}
 use Rattle.rex_event.specs.declared.event.Kind.{Kind}
 use Rattle.rex_event.specs.declared.event.Kind.TheVariants.{Begin, AcqEx, AcqSh, RelEx, RelSh, TryOk, TryBusy, Wait, Wake, Signal, Broadcast, Clock, Random, Reply}
-use Rattle.rex_wire.specs.Reading.{Left, Reading, ◌>>=◌, number_at, signed_at, allowed_at}
+use Rattle.rex_wire.specs.Reading.{Left, Reading}
 use Rattle.rex_wire.specs.Spelling.{byte, signed}
-use Rattle.rex_wire.proofs.Fields.{ok_is, is_taken, Takes, Takes-then, IsSpelled, IsSpelled-weaker, IsSpelled-either, step, IsRead, IsRead-then, IsRead-last}
-use Rattle.rex_wire.proofs.Numbers.{wide8, wide16, wide32, wide64, number_spelled, number_again, allowed_spelled, allowed_again, signed_spelled, signed_again}
+use Rattle.rex_wire.proofs.Fields.{is_taken, Takes, Takes-then, IsSpelled, IsSpelled-either, step}
+use Rattle.rex_wire.proofs.Numbers.{wide8, wide16, wide32, wide64, number_spelled, allowed_spelled, signed_spelled}
 use Rattle.rex_delta.specs.Spelling.{code_of, content, woken_number, is_between, IsBetween, KindFits, IsTyped}
 use Rattle.rex_delta.specs.Reading.{place_at, arguments_at, begin_at, lock_at, condition_at, woken_of, signal_at, broadcast_at, clock_at, random_at, reply_at, content_at, kind_at}
-use Rattle.rex_delta.proofs.Tests.{is_between-true, between-is}
-use Rattle.rex_delta.proofs.Lists.{alone, joined, same, argument_at, arguments_in, arguments_repeated}
+use Rattle.rex_delta.proofs.Allowed.{is_between-true}
+use Rattle.rex_delta.proofs.Lists.{same, argument_at, arguments_in, arguments_repeated}
 use Rattle.rex_delta.proofs.ListLaws.{AreEach, AreEach-to_all, list_spelled}
 
 -- ---- what is read is spelled so

@@ -1,5 +1,5 @@
 pub mod Repeated
-pub mod Tests
+pub mod Allowed
 pub mod Lists
 pub mod Counting
 pub mod ListLaws

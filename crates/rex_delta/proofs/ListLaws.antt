@@ -1,9 +1,9 @@
 -- Lists of values that are read one after the other: each is spelled so, and is read again.
-use Rattle.std.proofs.Common.{◌≡◌, ℕ, zero, suc, List, [], ◌∷◌, ◌++◌, length, Ok, refl, sym, ap, subst, ◌∙◌}
+use Rattle.std.proofs.Common.{◌≡◌, ℕ, zero, suc, List, [], ◌∷◌, ◌++◌, length, Ok, refl, sym, ap, ◌∙◌}
 use Rattle.std.specs.List.{flat_map, All}
 use Rattle.std.proofs.lemmas.List.Elements.{All-nil, All-cons, All-head, All-tail}
 use Rattle.rex_wire.specs.Reading.{Left, Reading, ◌>>=◌}
-use Rattle.rex_wire.proofs.Fields.{is_taken, Takes, Takes-none, Takes-then, IsSpelled, step, IsRead, IsRead-none, IsRead-then, IsRead-last, IsRead-same}
+use Rattle.rex_wire.proofs.Fields.{is_taken, Takes-none, Takes-then, IsSpelled, step, IsRead, IsRead-none, IsRead-then, IsRead-last, IsRead-same}
 use Rattle.rex_delta.proofs.Repeated.{IsRepeated}
 use Rattle.rex_delta.proofs.Lists.{alone, joined, same}
 

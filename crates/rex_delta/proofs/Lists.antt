@@ -1,5 +1,5 @@
 -- Lists that are read by one value at a time.
-use Rattle.std.proofs.Common.{◌≡◌, ℕ, ℤ, zero, suc, ◌+◌, ◌-◌, ◌≤◌, ◌<◌, List, [], ◌∷◌, ◌++◌, Result, Ok, Err, refl, sym, ap, ◌∙◌, append_assoc, arith}
+use Rattle.std.proofs.Common.{◌≡◌, ℕ, ℤ, ◌+◌, ◌-◌, List, [], ◌∷◌, ◌++◌, Ok, Err, refl, sym, ap, append_assoc, arith}
 use Rattle.std.specs.Prelude.{nat_le}
 use Rattle.std.specs.Int.{w8, w32}
 use Rattle.std.proofs.lemmas.List.{append-nil}
@@ -10,7 +10,7 @@ use Rattle.rex_wire.specs.Reading.{Left, Reading, ◌>>=◌, signed_at, allowed_
 use Rattle.rex_delta.specs.Spelling.{greatest_base}
 use Rattle.rex_delta.specs.Reading.{arguments_at, bases_at, cause_at, causes_at, event_at, events_at, may_be_cause, may_be_index}
 use Rattle.rex_delta.proofs.Repeated.{IsRepeated}
-use Rattle.rex_delta.proofs.Tests.{allowed_is, may_be_cause-true}
+use Rattle.rex_delta.proofs.Allowed.{allowed_is, may_be_cause-true}
 
 -- ---- lists
 

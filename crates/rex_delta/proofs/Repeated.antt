@@ -1,5 +1,5 @@
 -- Reading values one after the other, as a loop does.
-use Rattle.std.proofs.Common.{◌≡◌, ℕ, zero, suc, ◌-◌, ◌+◌, ◌≤◌, ◌<◌, List, [], ◌∷◌, ◌++◌, Result, Ok, Err, refl, sym, ap, ◌∙◌, append_assoc, arith}
+use Rattle.std.proofs.Common.{◌≡◌, ℕ, zero, suc, ◌-◌, ◌+◌, ◌≤◌, ◌<◌, Ok, Err, refl, sym, ap, ◌∙◌, arith}
 use Rattle.rex_wire.specs.Reading.{Left, Reading, ◌>>=◌}
 use Rattle.rex_delta.specs.Reading.{Fails}
 use Rattle.rex_delta.specs.declared.fault.DecodeError.{DecodeError}

@@ -35,7 +35,11 @@ fn event(writer: &mut Writer, event: &Event, its: &[Cause]) -> Result<(), AllocE
 }
 
 /// Events, each with its causes.
-pub fn events(writer: &mut Writer, events: &[Event], lists: &[List<Cause>]) -> Result<(), AllocError>
+pub fn events(
+    writer: &mut Writer,
+    events: &[Event],
+    lists: &[List<Cause>],
+) -> Result<(), AllocError>
     requires { CanAllBeWritten events.now lists.now }
     ensures spelled { OnOk result (writer.new ≡ writer.old ++ events_bytes events.now lists.now) }
     ensures typed { OnOk result (All HasTypedKind events.now) }

@@ -8,7 +8,7 @@ use Rattle.std.proofs.lemmas.List.{take_at, drop_at, take-append-drop, length-ta
 use Rattle.std.proofs.lemmas.Nat.{be_bytes_2, be_bytes_4, be_bytes_8, from_be_bytes-to_be_bytes_2, from_be_bytes-to_be_bytes_4, from_be_bytes-to_be_bytes_8}
 use Rattle.rex_wire.specs.Reading.{Left, past, number_at, signed_at, allowed_at}
 use Rattle.rex_wire.specs.Spelling.{byte, signed}
-use Rattle.rex_wire.proofs.Fields.{IsBytes, IsBytes-take, IsBytes-drop, guard_ok, test_ok, ok_is, is_taken, Takes, IsSpelled, step, IsRead}
+use Rattle.rex_wire.proofs.Fields.{IsBytes, IsBytes-take, IsBytes-drop, guard_ok, test_ok, is_taken, Takes, IsSpelled, step, IsRead}
 
 -- numbers below the limit are spelled with as many bytes as the width has, and known from them
 pub record IsWide (w : Width) (limit : ℕ) (spell : ℕ → List ℕ) : Type 0 where

@@ -1,4 +1,4 @@
-use Rattle.std.proofs.Common.{◌≡◌, [], arith}
+use Rattle.std.proofs.Common.{[]}
 use Rattle.std.proofs.lemmas.Result.{err_from_is_err_and}
 use Rattle.rex_delta.specs.Reading.{cause_at, causes_at}
 use Rattle.rex_delta.proofs.Repeated.{goes_on, fails, is_done}

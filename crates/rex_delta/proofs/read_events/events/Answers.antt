@@ -1,4 +1,4 @@
-use Rattle.std.proofs.Common.{◌≡◌, ◌≤◌, ◌+◌, ◌++◌, ◌∷◌, [], length, arith, ◌∙◌, length-set}
+use Rattle.std.proofs.Common.{◌+◌, arith, ◌∙◌, length-set}
 use Rattle.std.proofs.lemmas.Result.{err_from_is_err_and}
 use Rattle.rex_delta.specs.Spelling.{greatest_base}
 use Rattle.rex_delta.specs.Reading.{event_at, events_at}

@@ -1,4 +1,4 @@
-use Rattle.std.proofs.Common.{◌≡◌, ◌-◌, ◌≤◌, length}
+use Rattle.std.proofs.Common.{◌≡◌, ◌-◌, length}
 use Rattle.rex_delta.specs.Reading.{arguments_at}
 use Rattle.rex_delta.proofs.Repeated.{with_front}
 use Rattle.rex_delta.proofs.Lists.{joined}

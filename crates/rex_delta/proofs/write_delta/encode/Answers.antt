@@ -1,4 +1,4 @@
-use Rattle.std.proofs.Common.{◌≡◌, ◌++◌, ℕ, List, ap, ◌∙◌}
+use Rattle.std.proofs.Common.{◌++◌, ℕ, List, ap, ◌∙◌}
 use Rattle.rex_delta.specs.Spelling.{delta_bytes}
 use Rattle.rex_delta.specs.Reading.{delta_in}
 use Rattle.rex_delta.proofs.EventsAgain.{delta_read}

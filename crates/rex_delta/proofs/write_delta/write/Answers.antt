@@ -1,4 +1,3 @@
-use Rattle.std.proofs.Common.{◌≡◌}
 use Rattle.rex_delta.proofs.CanWrite.{can_all_be_written}
 use Rattle.rex_delta.proofs.write_delta.write.Goals as goal
 

@@ -1,8 +1,8 @@
-use Rattle.std.proofs.Common.{rules, ◌++◌, ◌≡◌}
+use Rattle.std.proofs.Common.{rules, ◌++◌}
 use Rattle.std.proofs.lemmas.Slice.Zip.{Zip-more, either_empty_from_Zip}
 use Rattle.std.specs.Iterator.Adapters.{zip_first, zip_second}
 use Rattle.std.specs.Slice.Iter.{iter_rest}
-use Rattle.rex_delta.specs.Spelling.{event_bytes, events_bytes}
+use Rattle.rex_delta.specs.Spelling.{events_bytes}
 use Rattle.rex_delta.proofs.Written.{IsWriting-more, IsWriting-done}
 use Rattle.rex_delta.proofs.write_events.events.Goals as goal
 

@@ -1,4 +1,4 @@
-use Rattle.std.proofs.Common.{◌≡◌, FitsSigned, w64, slice_index_or, pos, rules}
+use Rattle.std.proofs.Common.{FitsSigned, w64, slice_index_or, pos, rules}
 use Rattle.std.proofs.lemmas.Int.{to_z-of_z}
 use Rattle.std.proofs.lemmas.List.Elements.{All-more}
 use Rattle.rex_wire.specs.Spelling.{signed}

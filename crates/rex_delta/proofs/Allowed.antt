@@ -1,13 +1,13 @@
 -- What tests that held say.
-use Rattle.std.proofs.Common.{◌≡◌, ◌≢◌, ℕ, ◌+◌, ◌-◌, ◌<◌, ◌≤◌, Bool, true, false, List, length, Result, Ok, Err, refl, sym, ◌∙◌, arith, eqb, leb, ltb}
+use Rattle.std.proofs.Common.{◌≡◌, ◌≢◌, ℕ, ◌+◌, ◌-◌, ◌<◌, ◌≤◌, Bool, true, false, List, length, Ok, Err, refl, arith}
 use Rattle.std.specs.Prelude.{◌==◌, ◌&&◌, not, nat_eq, nat_le, nat_lt, cond}
-use Rattle.std.proofs.lemmas.Bool.{leb-true, le-leb, ltb-true, lt-ltb, eqb-true, ltb-false}
+use Rattle.std.proofs.lemmas.Bool.{leb-true, le-leb, ltb-true}
 use Rattle.rex_event.specs.Cuts.{count_at}
-use Rattle.rex_wire.specs.Reading.{Left, Reading, allowed_at, number_at, ◌>>=◌}
+use Rattle.rex_wire.specs.Reading.{Left, allowed_at, number_at}
 use Rattle.std.specs.Int.{Width}
 use Rattle.rex_delta.specs.Spelling.{is_between, IsBetween, has_event}
 use Rattle.rex_delta.specs.Reading.{may_be_cause, may_be_index}
-use Rattle.rex_wire.proofs.Fields.{bind_ok, test_ok, ok_is}
+use Rattle.rex_wire.proofs.Fields.{bind_ok, test_ok}
 
 pub both : (a b : Bool) → (a && b) ≡ true → (a ≡ true) × (b ≡ true)
 both true b e = (refl, e)
