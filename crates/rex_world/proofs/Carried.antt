@@ -1,6 +1,7 @@
 -- A recorder that carries a world: what the world's definitions compute is in it.
 use Rattle.std.proofs.Common.{◌≡◌, List, ◌++◌, ap, ◌∙◌, subst}
 use Rattle.std.specs.Prelude.{Option, Some, unwrap_or}
+use Rattle.std.specs.List.{All}
 use Rattle.rex_syntax.specs.declared.service.Declarations.{Declarations}
 use Rattle.rex_syntax.specs.Service.{IsService}
 use Rattle.rex_event.specs.declared.event.Event.{Event}
@@ -11,7 +12,7 @@ use Rattle.rex_state.specs.Sound.{IsSound}
 use Rattle.rex_state.proofs.Run.{run-then}
 use Rattle.rex_state.proofs.Sounds.{run_keeps}
 use Rattle.rex_record.specs.Kept.{IsRecorder}
-use Rattle.rex_world.specs.World.{joined, known_state, live_state}
+use Rattle.rex_world.specs.World.{HasRightCauses, joined, known_state, live_state}
 use Rattle.rex_world.specs.Running.{Running, IsRunning}
 
 -- what is kept of a world and its recorder, but for what the lines done count
@@ -20,9 +21,10 @@ pub record Carries (service : Declarations) (r : Running) : Type 0 where
   pub known : run service (start_of service) (joined r.world.known) ≡ Some r.recorder.start
   pub live : r.recorder.live ≡ r.world.live
   pub queue : r.recorder.queue ≡ r.world.queue
+  pub causes : All HasRightCauses r.world.known
 
 pub running_carries : (service : Declarations) (r : Running) → IsRunning service r → Carries service r
-running_carries service r h = record { recorder = h.recorder; known = h.known; live = h.live; queue = h.queue }
+running_carries service r h = record { recorder = h.recorder; known = h.known; live = h.live; queue = h.queue; causes = h.causes }
 
 -- a run that comes to a state says what the state after the events is
 run_value : (service : Declarations) (s : StateValue) (es : List Event) → run service (start_of service) es ≡ Some s → unwrap_or (run service (start_of service) es) (start_of service) ≡ s

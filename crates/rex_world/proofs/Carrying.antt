@@ -19,7 +19,7 @@ use Rattle.rex_state.proofs.Sounds.{start_keeps}
 use Rattle.rex_scenario.specs.declared.scenario.ScheduleLine.{ScheduleLine}
 use Rattle.rex_scenario.specs.declared.scenario.ScheduleLine.TheVariants.{Elect, Submit, Lane, Cut, CutBelow}
 use Rattle.rex_scenario.specs.Fits.{RequestFits, LineFits}
-use Rattle.rex_world.specs.World.{WorldValue, joined}
+use Rattle.rex_world.specs.World.{WorldValue, HasRightCauses, joined}
 use Rattle.rex_world.specs.Row.{row, after_lines}
 use Rattle.rex_world.specs.There.{HasLane, HasNode}
 use Rattle.rex_world.specs.Running.{Running, IsRunning, HasClient, running_at_first, base_after, replayed_after, recorder_after, running_after}
@@ -78,6 +78,7 @@ running_keeps service requests seed r line good fit lane node h =
     record {
       recorder = k.recorder;
       known = k.known;
+      causes = k.causes;
       live = k.live;
       queue = k.queue;
       counts = λ l. subst (λ (n : ℕ). (lane_of (recorder_after service requests r line).state l).done ≤ n) (sym (row_done service requests seed r.world line)) (counts_after service requests r line l h);
@@ -101,6 +102,7 @@ pub begins_running : (service : Declarations) → IsService service → IsChecke
 begins_running service good checked = record {
   recorder = record { sound = start_keeps service good checked; runs = refl; few = omega arith; queue = tt };
   known = refl;
+  causes = All-nil HasRightCauses;
   live = refl;
   queue = refl;
   counts = λ lane. zero_le _ (ap (λ (x : StateLane). x.done) (same_at service.lanes no_lane lane));

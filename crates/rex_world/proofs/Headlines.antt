@@ -15,7 +15,7 @@ use Rattle.rex_state.proofs.Cuts.{cuts_go_first}
 use Rattle.rex_state.proofs.Sounds.{start_keeps}
 use Rattle.rex_scenario.specs.declared.scenario.ScheduleLine.{ScheduleLine}
 use Rattle.rex_scenario.specs.Fits.{RequestFits}
-use Rattle.rex_world.specs.World.{WorldValue, beginning, joined}
+use Rattle.rex_world.specs.World.{WorldValue, HasRightCauses, beginning, joined}
 use Rattle.rex_world.specs.Row.{after_lines}
 use Rattle.rex_world.specs.There.{HasLane}
 use Rattle.rex_world.specs.Running.{running_at_first}
@@ -56,6 +56,12 @@ module _ (service : Declarations) (requests : List Request) (seed : ℕ) where
         let c = carried_lines service requests seed (running_at_first service) lines good fit there carried_first in
         (c.running.recorder.start, subst (λ (w : WorldValue). run service (start_of service) (joined w.known) ≡ Some c.running.recorder.start) c.world c.carries.known)
 
+    -- the causes of what is known are right
+    causes_right : (lines : List ScheduleLine) → All (HasLane service) lines → All HasRightCauses (after_lines service requests seed beginning lines).known
+    causes_right lines there =
+        let c = carried_lines service requests seed (running_at_first service) lines good fit there carried_first in
+        subst (λ (w : WorldValue). All HasRightCauses w.known) c.world c.carries.causes
+
     there_first : (lines earlier rest : List ScheduleLine) → lines ≡ earlier ++ rest → All (HasLane service) lines → All (HasLane service) earlier
     there_first lines earlier rest e there = all_front (HasLane service) earlier rest (subst (λ (ls : List ScheduleLine). All (HasLane service) ls) e there)
 
@@ -64,6 +70,7 @@ module _ (service : Declarations) (requests : List Request) (seed : ℕ) where
       prefix = λ earlier later rest e. trace_longer earlier later;
       runs = λ earlier rest e. trace_runs earlier (there_first lines earlier rest e there);
       cuts = λ earlier rest s cut e leads closed. cuts_go_first service (start_of service) s cut (trace_after service requests seed earlier) good (start_keeps service good checked) closed leads;
+      causes = λ earlier rest e. causes_right earlier (there_first lines earlier rest e there);
       stands = λ earlier later rest client sequence value e among.
           stands_longer earlier later client sequence value
           (lines_stand service requests seed good checked fit client sequence value (running_at_first service) earlier

@@ -9,7 +9,9 @@ use Rattle.rex_syntax.specs.Service.{IsService}
 use Rattle.rex_event.specs.declared.event.Event.{Event}
 use Rattle.rex_event.specs.declared.delta.Delta.{Delta}
 use Rattle.rex_event.specs.Cuts.{below, beyond, IsConsistent}
-use Rattle.rex_cut.specs.Greatest.{greatest_cut}
+use Rattle.std.proofs.lemmas.List.Elements.{All-push}
+use Rattle.rex_cut.proofs.Deltas.{delta_right}
+use Rattle.rex_cut.specs.Greatest.{greatest_cut, IsCutOf}
 use Rattle.rex_cut.specs.Delta.{delta_at}
 use Rattle.rex_state.specs.Value.{StateValue}
 use Rattle.rex_state.specs.Start.{start_of}
@@ -23,7 +25,7 @@ use Rattle.rex_scenario.specs.declared.scenario.ScheduleLine.{ScheduleLine}
 use Rattle.rex_scenario.specs.declared.scenario.ScheduleLine.TheVariants.{Elect, Submit, Lane, Cut, CutBelow}
 use Rattle.rex_scenario.specs.Fits.{RequestFits}
 use Rattle.rand_pcg.specs.Pcg.{pcg32}
-use Rattle.rex_world.specs.World.{WorldValue, is_follower, joined, known_state, live_state}
+use Rattle.rex_world.specs.World.{WorldValue, HasRightCauses, is_follower, joined, known_state, live_state}
 use Rattle.rex_world.specs.Row.{Row, counted, not_active, submit_found, submit_row, turn_in, turned as turned_row, no_limits, with_limits, agreed, cut_row}
 use Rattle.rex_world.specs.There.{HasLane}
 use Rattle.rex_world.specs.Running.{Running, recorder_cut, running_after, with_row}
@@ -35,7 +37,7 @@ use Rattle.rex_record.proofs.Goes.{turn_goes_on}
 use Rattle.rex_record.proofs.Settles.{settles}
 use Rattle.rex_world.proofs.Carried.{Carries, carried_live, carried_sound}
 use Rattle.rex_world.proofs.Cutting.{cut_comes}
-use Rattle.rex_world.proofs.Limits.{no_limits_live, with_limits_live, live_cut, greatest_consistent}
+use Rattle.rex_world.proofs.Limits.{no_limits_live, with_limits_live, live_cut, greatest_live, greatest_consistent}
 use Rattle.rex_world.proofs.Queues.{queue_after_answer}
 
 -- ---- submit
@@ -84,6 +86,7 @@ submit_carries service requests seed r node number good fit h =
         queue = subst (λ (s : StateValue). AreQueued service s (submit_row service requests r.world number).world.queue) same k.queue;
       };
       known = subst (λ (ds : List Delta). run service (start_of service) (joined ds) ≡ Some r.recorder.start) (sym k.known) h.known;
+      causes = subst (All HasRightCauses) (sym k.known) h.causes;
       live = h.live ∙ sym k.live;
       queue = refl;
     }
@@ -109,10 +112,11 @@ lane_carries : (service : Declarations) (requests : List Request) (seed : ℕ) (
 lane_carries service requests seed r node lane good there h = by (is_follower r.world)
   where
     by : (b : Bool) → Carries service (record { world = (if b then not_active r.world else turned_row service r.world lane (turn_in service r.world lane)).world; recorder = if b then r.recorder else turned service r.recorder (turn_in service r.world lane); base = r.base; replayed = r.replayed })
-    by true = record { recorder = h.recorder; known = h.known; live = h.live; queue = h.queue }
+    by true = record { recorder = h.recorder; known = h.known; live = h.live; queue = h.queue; causes = h.causes }
     by false = record {
       recorder = turn_keeps service r.recorder lane (pos r.world.done) (pcg32 r.world.dice).0 (turn_in service r.world lane) good h.recorder there (turn_same service r lane h);
       known = h.known;
+      causes = h.causes;
       live = ap (λ (es : List Event). live_after es (turn_in service r.world lane)) h.live;
       queue = ap (λ (q : List Request). queue_after q (turn_in service r.world lane)) h.queue;
     }
@@ -133,13 +137,14 @@ module _ (service : Declarations) (r : Running) (cut : List ℕ) (good : IsServi
   below_runs = subst (λ (es : List Event). run service r.recorder.start (below cut es) ≡ Some (state_at service r.recorder cut)) h.live cut_runs
 
   -- they are known after the cut, and the others are live
-  agreed_carries : (node : ℕ) → Carries service (with_row r (agreed service r.world node cut) (settled service r.recorder cut))
-  agreed_carries node = record {
+  agreed_carries : (node : ℕ) → IsCutOf r.world.live cut → Carries service (with_row r (agreed service r.world node cut) (settled service r.recorder cut))
+  agreed_carries node of_live = record {
     recorder = settles service r.recorder cut good h.recorder closed_live (below cut r.recorder.live) (beyond cut r.recorder.live) refl refl (state_at service r.recorder cut) cut_runs;
     known =
         ap (run service (start_of service)) (joined-push r.world.known (delta_at cut r.world.live))
         ∙ run-then service (start_of service) r.recorder.start (joined r.world.known) (below cut r.world.live) h.known
         ∙ below_runs;
+    causes = All-push HasRightCauses r.world.known (delta_at cut r.world.live) h.causes (record { right = delta_right cut r.world.live of_live });
     live = ap (beyond cut) h.live;
     queue = h.queue;
   }
@@ -147,10 +152,11 @@ module _ (service : Declarations) (r : Running) (cut : List ℕ) (good : IsServi
 cut_carries : (service : Declarations) (r : Running) (node : ℕ) (counts : List ℕ) → IsService service → Carries service r → IsLiveCut r counts → Carries service (with_row r (cut_row service r.world node counts) (recorder_cut service r counts))
 cut_carries service r node counts good h cut =
     cut_comes service r node counts (λ row recorder. Carries service (with_row r row recorder)) same same same
-    (λ e some. agreed_carries service r (greatest_cut counts r.world.live) good h (greatest_consistent r.world.live counts (live_cut service r good h counts cut)) node)
+    (λ e some. agreed_carries service r (greatest_cut counts r.world.live) good h (greatest_consistent r.world.live counts (live_cut service r good h counts cut)) node
+    (live_cut service r good h (greatest_cut counts r.world.live) (greatest_live service r good h counts cut)))
   where
     same : Carries service (record r { world = counted r.world })
-    same = record { recorder = h.recorder; known = h.known; live = h.live; queue = h.queue }
+    same = record { recorder = h.recorder; known = h.known; live = h.live; queue = h.queue; causes = h.causes }
 
 -- ---- elect
 
@@ -158,6 +164,7 @@ elect_carries : (service : Declarations) (requests : List Request) (seed : ℕ) 
 elect_carries service requests seed r node h = record {
   recorder = record { sound = h.recorder.sound; runs = refl; few = omega arith; queue = tt };
   known = h.known;
+  causes = h.causes;
   live = refl;
   queue = refl;
 }

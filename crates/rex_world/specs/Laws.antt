@@ -15,7 +15,7 @@ use Rattle.rex_report.specs.declared.effect.Effect.{Effect}
 use Rattle.rex_report.specs.declared.effect.Effect.TheVariants.{Released}
 use Rattle.rex_scenario.specs.declared.scenario.ScheduleLine.{ScheduleLine}
 use Rattle.rex_scenario.specs.Fits.{RequestFits}
-use Rattle.rex_world.specs.World.{beginning, joined}
+use Rattle.rex_world.specs.World.{HasRightCauses, beginning, joined}
 use Rattle.rex_world.specs.Row.{after_lines, effects_of}
 use Rattle.rex_world.specs.Stands.{Stands}
 use Rattle.rex_world.specs.There.{HasLane, HasNode}
@@ -35,7 +35,7 @@ IsAmong effect (first ∷ rest) = (first ≡ effect) ⊎ IsAmong effect rest
 abbrev pub trace_after : Declarations → List Request → ℕ → List ScheduleLine → List Event
 trace_after service requests seed lines = joined (after_lines service requests seed beginning lines).known
 
--- of every two moments the earlier agreed trace is a prefix of the later one, each runs from the start on one thread, as do the events below each of its consistent cuts, from which the others lead to the same state, and every reply that was released stands in the agreed trace from then on
+-- of every two moments the earlier agreed trace is a prefix of the later one, each runs from the start on one thread, as do the events below each of its consistent cuts, from which the others lead to the same state, the causes of each agreed delta are right, and every reply that was released stands in the agreed trace from then on
 pub record Headline (service : Declarations) (requests : List Request) (seed : ℕ) (lines : List ScheduleLine) : Type 0 where
   pub prefix : (earlier later rest : List ScheduleLine) → lines ≡ (earlier ++ later) ++ rest
       → IsPrefix (trace_after service requests seed earlier) (trace_after service requests seed (earlier ++ later))
@@ -45,6 +45,8 @@ pub record Headline (service : Declarations) (requests : List Request) (seed : �
       → run service (start_of service) (trace_after service requests seed earlier) ≡ Some s
       → IsConsistent (trace_after service requests seed earlier) cut
       → GoesFirst service (start_of service) s cut (trace_after service requests seed earlier)
+  pub causes : (earlier rest : List ScheduleLine) → lines ≡ earlier ++ rest
+      → All HasRightCauses (after_lines service requests seed beginning earlier).known
   pub stands : (earlier later rest : List ScheduleLine) (client sequence : ℕ) (value : ℤ) → lines ≡ (earlier ++ later) ++ rest
       → IsAmong (Released client sequence value) (effects_of service requests seed beginning earlier)
       → Stands (trace_after service requests seed (earlier ++ later)) client sequence value

@@ -18,7 +18,7 @@ use Rattle.rex_record.specs.Kept.{IsRecorder}
 use Rattle.rex_scenario.specs.declared.scenario.ScheduleLine.{ScheduleLine}
 use Rattle.rex_scenario.specs.declared.scenario.ScheduleLine.TheVariants.{Elect, Submit, Lane, Cut, CutBelow}
 use Rattle.rex_scenario.specs.Fits.{RequestFits}
-use Rattle.rex_world.specs.World.{WorldValue, beginning, is_follower, joined}
+use Rattle.rex_world.specs.World.{WorldValue, HasRightCauses, beginning, is_follower, joined}
 use Rattle.rex_world.specs.Row.{Row, submit_row, turn_in, no_limits, with_limits, row}
 
 -- a world, the recorder of its node, and the state after as many known deltas as were replayed
@@ -41,12 +41,13 @@ pub record HasClient (e : Event) : Type 0 where
 abbrev pub IsUnused : List Entry → Type 0
 IsUnused clients = (entry_at clients 0).sequence ≡ 0
 
--- the recorder starts at the state after the known deltas, and has the world's live events and queue; requests, events and counts are in their ranges
+-- the recorder starts at the state after the known deltas, whose causes are right, and has the world's live events and queue; requests, events and counts are in their ranges
 pub record IsRunning (service : Declarations) (r : Running) : Type 0 where
   pub recorder : IsRecorder service r.recorder
   pub known : run service (start_of service) (joined r.world.known) ≡ Some r.recorder.start
   pub live : r.recorder.live ≡ r.world.live
   pub queue : r.recorder.queue ≡ r.world.queue
+  pub causes : All HasRightCauses r.world.known
   pub counts : (lane : ℕ) → (lane_of r.recorder.state lane).done ≤ r.world.done
   pub promised : r.world.promised ≤ 17 * r.world.done
   pub base : run service (start_of service) (joined (take r.replayed r.world.known)) ≡ Some r.base

@@ -4,6 +4,7 @@ use Rattle.rex_syntax.specs.declared.request.Request.{Request}
 use Rattle.rex_syntax.specs.declared.service.Declarations.{Declarations}
 use Rattle.rex_event.specs.declared.event.Event.{Event}
 use Rattle.rex_event.specs.declared.delta.Delta.{Delta}
+use Rattle.rex_event.specs.Causes.{AreRight}
 use Rattle.rex_state.specs.Value.{StateValue}
 use Rattle.rex_state.specs.Start.{start_of}
 use Rattle.rex_state.specs.Machine.{run}
@@ -31,6 +32,10 @@ beginning = record { done = 0; ballot = 0; promised = 0; known = []; live = []; 
 -- the node follows: it has no ballot of its own
 abbrev pub is_follower : WorldValue → Bool
 is_follower w = w.ballot == 0
+
+-- the causes of a delta's events tell their order
+pub record HasRightCauses (d : Delta) : Type 0 where
+  pub right : AreRight d.events d.causes
 
 -- the events of deltas, one delta after the other
 abbrev pub joined : List Delta → List Event
