@@ -113,6 +113,13 @@ may_be_cause bases counts lane above n =
 abbrev pub may_be_index : List ℕ → List ℕ → ℕ → ℕ → Bool
 may_be_index bases counts lane index = nat_le (count_at bases lane) index && nat_lt index (count_at counts lane)
 
+-- a cause of an event of this lane, whose lane has a number above this one
+unfoldable pub cause_at : List ℕ → List ℕ → ℕ → ℕ → Left → Reading Cause
+cause_at bases counts lane above l = do
+  of ← allowed_at w8 (may_be_cause bases counts lane above) l
+  index ← allowed_at w32 (may_be_index bases counts (of.0 - 1)) of.1
+  Ok (record { lane = of.0 - 1; index = index.0 }, index.1)
+
 -- so many causes of an event of this lane, whose lanes have numbers above this one
 unfoldable pub causes_at : List ℕ → List ℕ → ℕ → ℕ → ℕ → Left → Reading (List Cause)
 causes_at bases counts lane zero above l = Ok ([], l)
@@ -171,13 +178,6 @@ Fails OutOfMemory read = Unit {0}
 abbrev pub Gives : {A : Type 0} → Result A DecodeError → Result A ℕ → Type 0
 Gives (Ok x) read = read ≡ Ok x
 Gives (Err e) read = Fails e read
-
--- a cause of an event of this lane, whose lane has a number above this one
-unfoldable pub cause_at : List ℕ → List ℕ → ℕ → ℕ → Left → Reading Cause
-cause_at bases counts lane above l = do
-  of ← allowed_at w8 (may_be_cause bases counts lane above) l
-  index ← allowed_at w32 (may_be_index bases counts (of.0 - 1)) of.1
-  Ok (record { lane = of.0 - 1; index = index.0 }, index.1)
 
 -- what a call answers that reads on, and the reader after it, are what reading gives, unless memory runs out
 abbrev pub ReadsOn : {A : Type 0} → Result A DecodeError → Left → Reading A → Type 0

@@ -10,6 +10,7 @@ use crate::fault::DecodeError;
 use crate::limits::{PLACES, VERSION};
 use rex_wire::Reader;
 
+/// A number of 8 bits in a range.
 pub fn u8_between(reader: &mut Reader, least: u8, greatest: u8) -> Result<u8, DecodeError>
     ensures read { ReadsOn result reader.new (allowed_at w8 (is_between least greatest) reader.old) }
     ensures between { IfOk result (λ n. IsBetween least greatest n) }
@@ -22,6 +23,7 @@ pub fn u8_between(reader: &mut Reader, least: u8, greatest: u8) -> Result<u8, De
     Ok(n)
 }
 
+/// A number of 16 bits in a range.
 pub fn u16_between(reader: &mut Reader, least: u16, greatest: u16) -> Result<u16, DecodeError>
     ensures read { ReadsOn result reader.new (allowed_at w16 (is_between least greatest) reader.old) }
     ensures between { IfOk result (λ n. IsBetween least greatest n) }
@@ -34,6 +36,7 @@ pub fn u16_between(reader: &mut Reader, least: u16, greatest: u16) -> Result<u16
     Ok(n)
 }
 
+/// A number of 32 bits in a range.
 pub fn u32_between(reader: &mut Reader, least: u32, greatest: u32) -> Result<u32, DecodeError>
     ensures { ReadsOn result reader.new (allowed_at w32 (is_between least greatest) reader.old) }
 {
@@ -45,6 +48,7 @@ pub fn u32_between(reader: &mut Reader, least: u32, greatest: u32) -> Result<u32
     Ok(n)
 }
 
+/// A number of 8 bits up to a greatest one.
 pub fn u8_at_most(reader: &mut Reader, greatest: u8) -> Result<u8, DecodeError>
     ensures { ReadsOn result reader.new (allowed_at w8 (λ n. nat_le n greatest) reader.old) }
 {
@@ -56,6 +60,7 @@ pub fn u8_at_most(reader: &mut Reader, greatest: u8) -> Result<u8, DecodeError>
     Ok(n)
 }
 
+/// A number of 32 bits up to a greatest one.
 pub fn u32_at_most(reader: &mut Reader, greatest: u32) -> Result<u32, DecodeError>
     ensures read { ReadsOn result reader.new (allowed_at w32 (λ n. nat_le n greatest) reader.old) }
     ensures most { IfOk result (λ n. n ≤ greatest) }
@@ -68,7 +73,7 @@ pub fn u32_at_most(reader: &mut Reader, greatest: u32) -> Result<u32, DecodeErro
     Ok(n)
 }
 
-/// A handler, a lock or a condition.
+/// A handler, a lock or a condition, numbered from 0.
 #[tactic(auto, unfolding(crate::specs::Reading::place_at))]
 pub fn place(reader: &mut Reader) -> Result<u8, DecodeError>
     ensures { ReadsOn result reader.new (place_at reader.old) }

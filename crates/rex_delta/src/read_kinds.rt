@@ -143,6 +143,7 @@ fn content(reader: &mut Reader, lanes: u8, code: u8) -> Result<Kind, DecodeError
     }
 }
 
+/// What an event did, of so many lanes.
 #[tactic(auto, unfolding(crate::specs::Reading::kind_at))]
 pub fn kind(reader: &mut Reader, lanes: u8) -> Result<Kind, DecodeError>
     requires { lanes ≤ 16 }

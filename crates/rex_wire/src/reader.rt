@@ -41,7 +41,7 @@ impl<'a> Reader<'a> {
         self.at
     }
 
-    /// The next bytes, as many as these.
+    /// The next `n` bytes.
     pub fn bytes(&mut self, n: usize) -> Result<&'a [u8], Short>
         ensures { ReadsBytes result self.old self.new (bytes_at n self.old) }
     {
@@ -53,6 +53,7 @@ impl<'a> Reader<'a> {
         Ok(&rest[..n])
     }
 
+    /// A number of 8 bits.
     pub fn u8(&mut self) -> Result<u8, Short>
         ensures { Reads result self.old self.new (number_at w8 self.old) }
     {
@@ -60,6 +61,7 @@ impl<'a> Reader<'a> {
         Ok(field[0])
     }
 
+    /// A number of 16 bits.
     pub fn u16(&mut self) -> Result<u16, Short>
         ensures { Reads result self.old self.new (number_at w16 self.old) }
     {
@@ -67,6 +69,7 @@ impl<'a> Reader<'a> {
         Ok(u16::from_be_bytes([field[0], field[1]]))
     }
 
+    /// A number of 32 bits.
     pub fn u32(&mut self) -> Result<u32, Short>
         ensures { Reads result self.old self.new (number_at w32 self.old) }
     {
@@ -74,6 +77,7 @@ impl<'a> Reader<'a> {
         Ok(u32::from_be_bytes([field[0], field[1], field[2], field[3]]))
     }
 
+    /// A number of 64 bits.
     pub fn u64(&mut self) -> Result<u64, Short>
         ensures { Reads result self.old self.new (number_at w64 self.old) }
     {
@@ -83,7 +87,7 @@ impl<'a> Reader<'a> {
         ]))
     }
 
-    /// A signed number in two's complement.
+    /// A signed number of 64 bits, in two's complement.
     pub fn i64(&mut self) -> Result<i64, Short>
         ensures { Reads result self.old self.new (signed_at self.old) }
     {

@@ -32,6 +32,7 @@ impl Writer {
         }
     }
 
+    /// Bytes as they are.
     pub fn bytes(&mut self, bytes: &[u8]) -> Result<(), AllocError>
         ensures ok { OnOk result (self.new ≡ self.old ++ bytes.now) }
         ensures err { OnErr result (self.new ≡ self.old) }
@@ -40,6 +41,7 @@ impl Writer {
         Ok(())
     }
 
+    /// A number of 8 bits.
     pub fn u8(&mut self, n: u8) -> Result<(), AllocError>
         ensures ok { OnOk result (self.new ≡ self.old ++ byte n) }
         ensures err { OnErr result (self.new ≡ self.old) }
@@ -47,6 +49,7 @@ impl Writer {
         self.bytes(&[n])
     }
 
+    /// A number of 16 bits.
     pub fn u16(&mut self, n: u16) -> Result<(), AllocError>
         ensures ok { OnOk result (self.new ≡ self.old ++ to_be_bytes w16 n) }
         ensures err { OnErr result (self.new ≡ self.old) }
@@ -54,6 +57,7 @@ impl Writer {
         self.bytes(&n.to_be_bytes())
     }
 
+    /// A number of 32 bits.
     pub fn u32(&mut self, n: u32) -> Result<(), AllocError>
         ensures ok { OnOk result (self.new ≡ self.old ++ to_be_bytes w32 n) }
         ensures err { OnErr result (self.new ≡ self.old) }
@@ -61,6 +65,7 @@ impl Writer {
         self.bytes(&n.to_be_bytes())
     }
 
+    /// A number of 64 bits.
     pub fn u64(&mut self, n: u64) -> Result<(), AllocError>
         ensures ok { OnOk result (self.new ≡ self.old ++ to_be_bytes w64 n) }
         ensures err { OnErr result (self.new ≡ self.old) }
@@ -68,7 +73,7 @@ impl Writer {
         self.bytes(&n.to_be_bytes())
     }
 
-    /// A signed number in two's complement.
+    /// A signed number of 64 bits, in two's complement.
     pub fn i64(&mut self, n: i64) -> Result<(), AllocError>
         ensures ok { OnOk result (self.new ≡ self.old ++ signed n) }
         ensures err { OnErr result (self.new ≡ self.old) }
