@@ -1,7 +1,7 @@
 -- Cuts: a count of events for each lane.
-use Rattle.std.specs.Prelude.{◌≡◌, ℕ, ◌+◌, ◌<◌, ◌≤◌, Bool, true, not, List, [], ◌∷◌, length, nat_eq, nat_lt, slice_index_or, slice_set, filter, if◌then◌else◌}
+use Rattle.std.specs.Prelude.{◌≡◌, ℕ, ◌+◌, ◌<◌, ◌≤◌, Bool, true, not, List, [], ◌∷◌, length, nat_lt, slice_index_or, slice_set, filter}
 use Rattle.rex_event.specs.declared.event.Event.{Event}
-use Rattle.rex_event.specs.Order.{Has, IsOrdered}
+use Rattle.rex_event.specs.Order.{IsOrdered}
 
 -- the count of a lane; 0 where there is none
 abbrev pub count_at : List ℕ → ℕ → ℕ

@@ -1,6 +1,7 @@
 ghost use Rattle.std.specs.Prelude.{◌≡◌};
 
 use super::*;
+use rex_list::List;
 use std::test::*;
 
 fn event(lane: u8, kind: Kind) -> Event
@@ -72,4 +73,16 @@ fn events_conflict(rt: HostRuntime) {
         )
     );
     assert!(rt; !conflict(&reply, &other));
+}
+
+#[test]
+fn a_cut_contains_the_events_before_its_counts(rt: HostRuntime) -> Result<(), Fail> {
+    let counts = List::from_vec(vec![in rt.alloc(); 2, 0]?);
+    let cut = Cut { counts };
+    let table = [(0, 1, true), (0, 2, false), (1, 0, false), (2, 0, false)];
+    for (lane, index, contained) in table {
+        let kind = Kind::AcqEx { lock: 0 };
+        assert_eq!(rt; cut.contains(&Event { lane, index, kind }), contained);
+    }
+    Ok(())
 }
