@@ -13,7 +13,6 @@ use Rattle.rex_state.specs.Machine.{run}
 use Rattle.rex_state.specs.Sound.{IsSound}
 use Rattle.rex_state.specs.Commute.{GoesFirst}
 use Rattle.rex_state.proofs.Sounds.{run_keeps}
-
 use Rattle.rex_record.specs.Value.{RecorderValue, state_at, settled}
 use Rattle.rex_record.specs.Kept.{IsRecorder, AreCounted, CanAdvance}
 use Rattle.rex_state.proofs.Cuts.{cuts_go_first}
