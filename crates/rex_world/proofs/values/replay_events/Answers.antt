@@ -1,4 +1,3 @@
-use Rattle.std.proofs.Common.{length}
 use Rattle.rex_world.proofs.Replays.{is_next}
 use Rattle.rex_world.proofs.values.replay_events.Goals as goal
 

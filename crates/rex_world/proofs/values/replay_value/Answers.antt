@@ -1,5 +1,4 @@
-use Rattle.std.proofs.Common.{◌≡◌, sym, ap, subst, ◌∙◌}
-use Rattle.rex_event.specs.declared.event.Event.{Event}
+use Rattle.std.proofs.Common.{sym, subst}
 use Rattle.rex_record.specs.Kept.{AreCounted}
 use Rattle.rex_world.proofs.Spelled.{spelled_counted}
 use Rattle.rex_world.proofs.values.replay_value.Goals as goal

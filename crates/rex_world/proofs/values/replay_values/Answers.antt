@@ -1,4 +1,4 @@
-use Rattle.std.proofs.Common.{◌≡◌, Some, IsSome, List, ℕ, sym, ap, subst, ◌∙◌}
+use Rattle.std.proofs.Common.{◌≡◌, Some, IsSome, List, ℕ, sym, subst}
 use Rattle.rex_state.specs.Machine.{run}
 use Rattle.rex_world.specs.Values.{delta_of}
 use Rattle.rex_world.proofs.Replays.{value_runs, values_go_on}

@@ -1,4 +1,4 @@
-use Rattle.std.proofs.Common.{◌≡◌, Ok, ap, ◌∙◌}
+use Rattle.std.proofs.Common.{ap, ◌∙◌}
 use Rattle.rex_delta.specs.Reading.{delta_in}
 use Rattle.rex_world.proofs.values.value_of.Goals as goal
 

@@ -1,11 +1,9 @@
-use Rattle.std.proofs.Common.{◌≡◌, ℕ, List, ◌+◌, length, map, sym, ap, subst, ◌∙◌, rules}
+use Rattle.std.proofs.Common.{◌≡◌, ℕ, ◌+◌, length, map, sym, ap, subst, ◌∙◌, rules}
 use Rattle.std.proofs.lemmas.List.Elements.{All-push}
 use Rattle.std.proofs.lemmas.List.{length-map}
 use Rattle.rex_event.specs.Cuts.{below}
 use Rattle.rex_event.specs.declared.delta.Delta.{Delta}
-use Rattle.rex_record.specs.declared.recorder.Release.{Release}
 use Rattle.rex_record.specs.Value.{releases}
-use Rattle.rex_report.specs.declared.effect.Effect.{Effect}
 use Rattle.rex_report.specs.declared.effect.Effect.TheVariants.{Proposes, Known}
 use Rattle.rex_world.specs.Row.{release_effect}
 use Rattle.rex_world.specs.Values.{IsValue, AreValues, delta_of}

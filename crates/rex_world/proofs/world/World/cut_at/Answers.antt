@@ -1,4 +1,4 @@
-use Rattle.std.proofs.Common.{◌≡◌, ◌+◌, ◌++◌, ◌<◌, ℕ, rules, arith, List, OnOk, length, sym, ap, subst, ◌∙◌}
+use Rattle.std.proofs.Common.{◌≡◌, ◌+◌, ◌++◌, ◌<◌, ℕ, rules, arith, OnOk, length, sym, ap, subst, ◌∙◌}
 use Rattle.std.proofs.lemmas.List.{length-map}
 use Rattle.rex_event.specs.Cuts.{below}
 use Rattle.rex_cut.specs.Greatest.{greatest_cut}
@@ -6,7 +6,7 @@ use Rattle.rex_record.specs.Value.{RecorderValue, settled}
 use Rattle.rex_world.specs.Row as spec
 use Rattle.rex_world.specs.Values.{delta_of}
 use Rattle.rex_world.specs.Report.{effects_text}
-use Rattle.rex_world.specs.Running.{Running, with_row, recorder_cut}
+use Rattle.rex_world.specs.Running.{Running, with_row}
 use Rattle.rex_world.proofs.Agreeing.{has_some, has_events, cut_greatest, fits_whole, trace_cut, may_know, row_agrees, recorder_agrees}
 use Rattle.rex_world.proofs.world.World.cut_at.Goals as goal
 

@@ -1,12 +1,9 @@
-use Rattle.std.proofs.Common.{◌≡◌, ℕ, List, map, take, drop, length, ◌-◌, Some, IsSome, sym, ap, subst, ◌∙◌}
+use Rattle.std.proofs.Common.{◌≡◌, ℕ, map, length, sym, ap, subst, ◌∙◌}
 use Rattle.std.proofs.lemmas.List.{length-map}
-use Rattle.rex_event.specs.declared.delta.Delta.{Delta}
-use Rattle.rex_state.specs.Machine.{run}
 use Rattle.rex_state.specs.Sound.{IsSound}
 use Rattle.rex_state.specs.Value.{StateValue}
-use Rattle.rex_world.specs.World.{joined}
 use Rattle.rex_world.specs.Values.{delta_of}
-use Rattle.rex_world.specs.Running.{Running, replayed_all}
+use Rattle.rex_world.specs.Running.{Running}
 use Rattle.rex_world.proofs.Replays.{base_sound, values_run, replay_ends}
 use Rattle.rex_world.proofs.world.World.replay.Goals as goal
 
