@@ -7,6 +7,3 @@ mod refusals;
 mod running;
 
 pub use running::rex_main;
-
-#[cfg(test)]
-mod tests;

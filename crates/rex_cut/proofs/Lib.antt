@@ -10,4 +10,4 @@ pub mod Fit
 pub mod Deltas
 pub mod Lanes
 mod Steps
-mod Examples
+pub mod Examples

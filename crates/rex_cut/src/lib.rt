@@ -8,6 +8,3 @@ pub mod laws;
 
 pub use cuts::greatest;
 pub use delta::delta_of;
-
-#[cfg(test)]
-mod tests;

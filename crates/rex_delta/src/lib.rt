@@ -17,6 +17,3 @@ pub use fault::DecodeError;
 pub use laws::no_spelling_begins_another;
 pub use read_delta::decode;
 pub use write_delta::encode;
-
-#[cfg(test)]
-mod tests;

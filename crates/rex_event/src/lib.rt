@@ -8,6 +8,3 @@ mod event;
 pub use conflicts::conflict;
 pub use delta::{Cause, Cut, Delta};
 pub use event::{Event, Kind};
-
-#[cfg(test)]
-mod tests;

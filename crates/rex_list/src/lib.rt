@@ -6,6 +6,3 @@ mod list;
 
 pub use arguments::{ARGUMENTS, Arguments};
 pub use list::List;
-
-#[cfg(test)]
-mod tests;

@@ -10,4 +10,3 @@ pub mod Complete
 pub mod Law
 pub mod There
 mod Examples
-pub mod CounterLemmas

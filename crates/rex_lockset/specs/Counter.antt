@@ -1,11 +1,11 @@
 -- The counter: a service whose one handler adds its argument to a variable.
-use Rattle.std.specs.Prelude.{◌≡◌, ◌⊎◌, pos, List, [], ◌∷◌}
+use Rattle.std.specs.Prelude.{pos, List, [], ◌∷◌}
 use Rattle.rex_syntax.specs.declared.expr.Operator.TheVariants.{Add}
 use Rattle.rex_syntax.specs.declared.expr.Operand.{Operand}
 use Rattle.rex_syntax.specs.declared.expr.Operand.TheVariants.{Local, Variable}
 use Rattle.rex_syntax.specs.declared.expr.Expr.{Expr}
 use Rattle.rex_syntax.specs.declared.line.Line.{Line}
-use Rattle.rex_syntax.specs.declared.line.Line.TheVariants.{Acquire, Release, Set, Let, Reply}
+use Rattle.rex_syntax.specs.declared.line.Line.TheVariants.{Release, Set, Let, Reply}
 use Rattle.rex_syntax.specs.declared.service.LockKind.TheVariants.{Plain}
 use Rattle.rex_syntax.specs.declared.service.Handler.{Handler}
 use Rattle.rex_syntax.specs.declared.service.Declarations.{Declarations}
@@ -35,7 +35,3 @@ counter first = record {
   variables = record { name = []; guard = 0; first = pos 0 } ∷ [];
   handlers = adder first ∷ [];
 }
-
--- the line takes the variable's lock or gives it up
-abbrev pub UsesLock : Line → Type 0
-UsesLock first = (first ≡ Acquire 0) ⊎ (first ≡ Release 0)

@@ -34,6 +34,3 @@ pub use bound::{MOST_STEPS, step_bound};
 pub use laws::{refusals_are_exact, refusals_are_there};
 pub use leads::leads_from;
 pub use refusal::{Refused, refusal_of};
-
-#[cfg(test)]
-mod tests;

@@ -15,6 +15,10 @@ use Rattle.rex_parse.specs.declared.language.ReadError.TheVariants as read_error
 abbrev pub texts : List (Bor Word) → List Word
 texts ws = map (λ w. w.now) ws
 
+-- a table's words, each with what stands beside it
+abbrev pub rows : {T : Type 0} → List (Bor Word × T) → List (Word × T)
+rows rs = map (λ r. (r.0.now, r.1)) rs
+
 -- a refusal names the code that fits
 abbrev pub Names : Fault → Option ServiceCode → Type 0
 Names OutOfMemory code = Unit {0}

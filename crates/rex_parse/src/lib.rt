@@ -27,8 +27,3 @@ pub use name_table::NameTable;
 pub use parser::Parser;
 pub use reading::{first_bad_line, read_service};
 pub use words::is_name;
-
-#[cfg(test)]
-mod code_tests;
-#[cfg(test)]
-mod tests;

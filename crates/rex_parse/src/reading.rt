@@ -1,8 +1,10 @@
 //! A whole text.
 
-ghost use Rattle.std.specs.Prelude.{◌+◌, ◌<◌, ◌^◌, length};
-ghost use Rattle.rex_parse.specs.Answers.{Reads};
-ghost use Rattle.rex_parse.specs.Reading.{answer_of};
+ghost use Rattle.std.specs.Prelude.{◌≡◌, ◌+◌, ◌<◌, ◌^◌, length, None, Ok, IfErr, OnOk};
+ghost use Rattle.rex_parse.specs.Above.{nothing};
+ghost use Rattle.rex_parse.specs.Answers.{Reads, Fails};
+ghost use Rattle.rex_parse.specs.Good.{IsGood};
+ghost use Rattle.rex_parse.specs.Reading.{answer_of, end_code};
 ghost use Rattle.rex_parse.specs.Law.{EachText};
 
 use crate::language::{Fault, ReadError};
@@ -11,13 +13,17 @@ use rex_syntax::service::Service;
 use rex_text::raw_lines;
 use std::alloc::Global;
 
-/// The service that a text declares, or its first bad line with the least code that fits.
+/// Reads a whole text, line by line.
 #[tactic(auto, unfolding(crate::specs::Reading::answer_from))]
-pub fn read_service(alloc: Global, bytes: &[u8]) -> Result<Service, ReadError>
-    requires { length bytes.now + 1 < 2 ^ 32 }
-    ensures { Reads result (answer_of bytes.now) }
+fn read_text(parser: &mut Parser, bytes: &[u8]) -> Result<(), ReadError>
+    requires start { parser.old ≡ nothing }
+    requires good { IsGood parser.old }
+    requires short { length bytes.now + 1 < 2 ^ 32 }
+    ensures read { OnOk result (answer_of bytes.now ≡ Ok parser.new) }
+    ensures ended { OnOk result (end_code parser.new ≡ None) }
+    ensures good { OnOk result (IsGood parser.new) }
+    ensures refused { IfErr result (λ e. Fails e (answer_of bytes.now)) }
 {
-    let mut parser = Parser::new(alloc);
     let mut lines = raw_lines(bytes);
     let mut next = 1;
     while let Some((number, line)) = lines.next() {
@@ -27,9 +33,19 @@ pub fn read_service(alloc: Global, bytes: &[u8]) -> Result<Service, ReadError>
             Err(Fault::OutOfMemory) => return Err(ReadError::OutOfMemory),
         }
     }
-    if let Some(code) = parser.end_code() {
-        return Err(ReadError::Refused { line: next, code });
+    match parser.end_code() {
+        Some(code) => Err(ReadError::Refused { line: next, code }),
+        None => Ok(()),
     }
+}
+
+/// The service that a text declares, or its first bad line with the least code that fits.
+pub fn read_service(alloc: Global, bytes: &[u8]) -> Result<Service, ReadError>
+    requires { length bytes.now + 1 < 2 ^ 32 }
+    ensures { Reads result (answer_of bytes.now) }
+{
+    let mut parser = Parser::new(alloc);
+    read_text(&mut parser, bytes)?;
     Ok(parser.finish())
 }
 

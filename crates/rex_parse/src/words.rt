@@ -1,9 +1,9 @@
 //! Names, first words and operators.
 
-ghost use Rattle.std.specs.Prelude.{◌≡◌, ◌≤◌, IfSome, unwrap_or};
+ghost use Rattle.std.specs.Prelude.{◌≡◌, ◌≤◌, IfSome, unwrap_or, option_map, find};
 ghost use Rattle.std.specs.List.{list_all, list_any};
 ghost use Rattle.std.specs.Str.{bytes_eq};
-ghost use Rattle.rex_parse.specs.Answers.{texts};
+ghost use Rattle.rex_parse.specs.Answers.{texts, rows};
 ghost use Rattle.rex_parse.specs.Words as spec;
 ghost use Rattle.rex_parse.specs.Table as table;
 
@@ -11,94 +11,72 @@ use crate::language::Form;
 use rex_syntax::expr::Operator;
 use rex_text::read_u64;
 
+/// What stands beside a word in a table of words.
+fn entry_of<T: Copy>(table: &[(&[u8], T)], word: &[u8]) -> Option<T>
+    ensures { result ≡ option_map (λ e. e.1) (find (λ e. bytes_eq word.now e.0) (rows table.now)) }
+{
+    for (other, entry) in table {
+        if word == *other {
+            return Some(*entry);
+        }
+    }
+    None
+}
+
+const FORMS: [(&[u8], Form); 25] = [
+    (b"lanes", Form::Lanes),
+    (b"lock", Form::Lock),
+    (b"rwlock", Form::RwLock),
+    (b"cond", Form::Cond),
+    (b"var", Form::Var),
+    (b"handler", Form::Handler),
+    (b"acquire", Form::Acquire),
+    (b"share", Form::Share),
+    (b"release", Form::Release),
+    (b"try", Form::Try),
+    (b"busy", Form::Busy),
+    (b"endtry", Form::EndTry),
+    (b"wait", Form::Wait),
+    (b"signal", Form::Signal),
+    (b"broadcast", Form::Broadcast),
+    (b"set", Form::Set),
+    (b"let", Form::Let),
+    (b"clock", Form::Clock),
+    (b"random", Form::Random),
+    (b"if", Form::If),
+    (b"else", Form::Else),
+    (b"endif", Form::EndIf),
+    (b"repeat", Form::Repeat),
+    (b"endrepeat", Form::EndRepeat),
+    (b"reply", Form::Reply),
+];
+
 /// What the first word of a line says.
 pub(crate) fn form_of(word: &[u8]) -> Option<Form>
     ensures { result ≡ table.form_of word.now }
 {
-    if word == b"lanes".as_slice() {
-        Some(Form::Lanes)
-    } else if word == b"lock".as_slice() {
-        Some(Form::Lock)
-    } else if word == b"rwlock".as_slice() {
-        Some(Form::RwLock)
-    } else if word == b"cond".as_slice() {
-        Some(Form::Cond)
-    } else if word == b"var".as_slice() {
-        Some(Form::Var)
-    } else if word == b"handler".as_slice() {
-        Some(Form::Handler)
-    } else if word == b"acquire".as_slice() {
-        Some(Form::Acquire)
-    } else if word == b"share".as_slice() {
-        Some(Form::Share)
-    } else if word == b"release".as_slice() {
-        Some(Form::Release)
-    } else if word == b"try".as_slice() {
-        Some(Form::Try)
-    } else if word == b"busy".as_slice() {
-        Some(Form::Busy)
-    } else if word == b"endtry".as_slice() {
-        Some(Form::EndTry)
-    } else if word == b"wait".as_slice() {
-        Some(Form::Wait)
-    } else if word == b"signal".as_slice() {
-        Some(Form::Signal)
-    } else if word == b"broadcast".as_slice() {
-        Some(Form::Broadcast)
-    } else if word == b"set".as_slice() {
-        Some(Form::Set)
-    } else if word == b"let".as_slice() {
-        Some(Form::Let)
-    } else if word == b"clock".as_slice() {
-        Some(Form::Clock)
-    } else if word == b"random".as_slice() {
-        Some(Form::Random)
-    } else if word == b"if".as_slice() {
-        Some(Form::If)
-    } else if word == b"else".as_slice() {
-        Some(Form::Else)
-    } else if word == b"endif".as_slice() {
-        Some(Form::EndIf)
-    } else if word == b"repeat".as_slice() {
-        Some(Form::Repeat)
-    } else if word == b"endrepeat".as_slice() {
-        Some(Form::EndRepeat)
-    } else if word == b"reply".as_slice() {
-        Some(Form::Reply)
-    } else {
-        None
-    }
+    entry_of(&FORMS, word)
 }
+
+const OPERATORS: [(&[u8], Operator); 11] = [
+    (b"+", Operator::Add),
+    (b"-", Operator::Sub),
+    (b"*", Operator::Mul),
+    (b"/", Operator::Div),
+    (b"%", Operator::Rem),
+    (b"==", Operator::Equal),
+    (b"!=", Operator::NotEqual),
+    (b"<", Operator::Less),
+    (b"<=", Operator::LessEqual),
+    (b">", Operator::Greater),
+    (b">=", Operator::GreaterEqual),
+];
 
 /// The operator that a word is.
 pub(crate) fn operator_of(word: &[u8]) -> Option<Operator>
     ensures { result ≡ table.operator_of word.now }
 {
-    if word == b"+".as_slice() {
-        Some(Operator::Add)
-    } else if word == b"-".as_slice() {
-        Some(Operator::Sub)
-    } else if word == b"*".as_slice() {
-        Some(Operator::Mul)
-    } else if word == b"/".as_slice() {
-        Some(Operator::Div)
-    } else if word == b"%".as_slice() {
-        Some(Operator::Rem)
-    } else if word == b"==".as_slice() {
-        Some(Operator::Equal)
-    } else if word == b"!=".as_slice() {
-        Some(Operator::NotEqual)
-    } else if word == b"<".as_slice() {
-        Some(Operator::Less)
-    } else if word == b"<=".as_slice() {
-        Some(Operator::LessEqual)
-    } else if word == b">".as_slice() {
-        Some(Operator::Greater)
-    } else if word == b">=".as_slice() {
-        Some(Operator::GreaterEqual)
-    } else {
-        None
-    }
+    entry_of(&OPERATORS, word)
 }
 
 /// A letter, then letters, digits and `_`, at most 32 characters, and no word of the language.

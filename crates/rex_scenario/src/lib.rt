@@ -12,6 +12,3 @@ mod words;
 
 pub use reading::{SCENARIO_BYTES, first_bad_line, read_scenario};
 pub use scenario::{Scenario, ScenarioCode, ScenarioError, ScheduleLine, Sections, Stage};
-
-#[cfg(test)]
-mod tests;

@@ -1,9 +1,11 @@
 //! A whole scenario from its text.
 
-ghost use Rattle.std.specs.Prelude.{◌+◌, ◌<◌, ◌^◌, IfErr, IfOk, length};
+ghost use Rattle.std.specs.Prelude.{◌≡◌, ◌+◌, ◌<◌, ◌^◌, None, Ok, IfErr, IfOk, OnOk, length};
+ghost use Rattle.rex_text.specs.Text.{lines_of, numbered};
 ghost use Rattle.rex_scenario.specs.Answers.{Refuses, Says};
 ghost use Rattle.rex_scenario.specs.Fits.{ScenarioFits};
-ghost use Rattle.rex_scenario.specs.Reading.{answer_of};
+ghost use Rattle.rex_scenario.specs.Keeps.{SectionsFit};
+ghost use Rattle.rex_scenario.specs.Reading.{answer_from, answer_of, end_of, no_sections};
 
 use crate::reader::Reader;
 use crate::scenario::{LineFault, Scenario, ScenarioCode, ScenarioError};
@@ -14,8 +16,34 @@ use std::alloc::Global;
 /// The most bytes of a scenario's text.
 pub const SCENARIO_BYTES: usize = 4_194_304;
 
-/// The scenario that a text describes, and its service, or the first bad line with the least code that fits it.
+/// Reads a text of no more bytes than may be, line by line.
 #[tactic(auto, unfolding(crate::specs::Reading::answer_from))]
+fn read_text(reader: &mut Reader, bytes: &[u8]) -> Result<(), ScenarioError>
+    requires start { reader.old ≡ no_sections }
+    requires short { length bytes.now + 1 < 2 ^ 32 }
+    ensures read { OnOk result (answer_from no_sections 1 (numbered 1 (lines_of bytes.now)) ≡ Ok reader.new) }
+    ensures ended { OnOk result (end_of reader.new reader.new.stage ≡ None) }
+    ensures fit { OnOk result (SectionsFit reader.new) }
+    ensures refused { IfErr result (Refuses (answer_from no_sections 1 (numbered 1 (lines_of bytes.now)))) }
+{
+    let mut lines = raw_lines(bytes);
+    let mut next = 1;
+    while let Some((number, line)) = lines.next() {
+        match reader.line(number, line) {
+            Ok(()) => next = number + 1,
+            Err(LineFault::Refused(code)) => {
+                return Err(ScenarioError::Refused { line: number, code });
+            }
+            Err(LineFault::OutOfMemory) => return Err(ScenarioError::OutOfMemory),
+        }
+    }
+    match reader.end_code() {
+        Some(code) => Err(ScenarioError::Refused { line: next, code }),
+        None => Ok(()),
+    }
+}
+
+/// The scenario that a text describes, and its service, or the first bad line with the least code that fits it.
 pub fn read_scenario(alloc: Global, bytes: &[u8]) -> Result<(Scenario, Service), ScenarioError>
     requires { length bytes.now + 1 < 2 ^ 32 }
     ensures says { IfOk result (λ read. Says (answer_of bytes.now) read.0 read.1) }
@@ -29,20 +57,7 @@ pub fn read_scenario(alloc: Global, bytes: &[u8]) -> Result<(Scenario, Service),
         });
     }
     let mut reader = Reader::new(alloc);
-    let mut lines = raw_lines(bytes);
-    let mut next = 1;
-    while let Some((number, line)) = lines.next() {
-        match reader.line(number, line) {
-            Ok(()) => next = number + 1,
-            Err(LineFault::Refused(code)) => {
-                return Err(ScenarioError::Refused { line: number, code });
-            }
-            Err(LineFault::OutOfMemory) => return Err(ScenarioError::OutOfMemory),
-        }
-    }
-    if let Some(code) = reader.end_code() {
-        return Err(ScenarioError::Refused { line: next, code });
-    }
+    read_text(&mut reader, bytes)?;
     Ok(reader.finish())
 }
 

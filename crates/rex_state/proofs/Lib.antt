@@ -11,7 +11,6 @@ pub mod Sounds
 pub mod Rooms
 pub mod Live
 pub mod Touched
-pub mod Counter
 mod Examples
 mod Changes
 mod Apart

@@ -8,5 +8,3 @@ pub mod laws;
 mod own;
 mod parts;
 pub mod state;
-#[cfg(test)]
-mod tests;

@@ -6,6 +6,3 @@ mod writing;
 
 pub use reading::{Input, MOST, ReadFault, read_input};
 pub use writing::write_all;
-
-#[cfg(test)]
-mod tests;

@@ -10,5 +10,3 @@ pub mod locks;
 pub mod names;
 pub mod request;
 pub mod service;
-#[cfg(test)]
-mod tests;

@@ -15,6 +15,3 @@ pub use iterators::{Lines, RawLines, Words};
 pub use numbers::{read_i64, read_u64};
 pub use spelling::{push_i64, push_u64};
 pub use starts::{lines, raw_lines, words};
-
-#[cfg(test)]
-mod tests;

@@ -18,6 +18,3 @@ pub use mem_source::{MemSource, SureSource};
 pub use sink::{Sink, SinkFault};
 pub use source::{Failed, Source};
 pub use standard::{StdSink, StdSource};
-
-#[cfg(test)]
-mod tests;

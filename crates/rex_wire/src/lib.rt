@@ -8,6 +8,3 @@ mod writer;
 pub use fault::{Over, Short};
 pub use reader::Reader;
 pub use writer::Writer;
-
-#[cfg(test)]
-mod tests;

@@ -1,10 +1,11 @@
 //! The report of a scenario.
 
-ghost use Rattle.std.specs.Prelude.{◌≡◌, ◌++◌, ◌≤◌, length, IfOk, OnOk};
+ghost use Rattle.std.specs.Prelude.{◌≡◌, ◌++◌, ◌≤◌, [], length, IfOk, OnOk};
 ghost use Rattle.rex_scenario.specs.Fits.{ScenarioFits};
 ghost use Rattle.rex_world.specs.Report.{end_of, values_of, report_of};
 ghost use Rattle.rex_world.specs.Laws.{Headline};
 ghost use Rattle.rex_world.specs.Running.{IsRunning};
+ghost use Rattle.rex_world.specs.World.{beginning};
 ghost use Rattle.rex_report.specs.Ends.{end_text};
 
 use crate::world::World;
@@ -34,6 +35,28 @@ fn push_node(
     }
 }
 
+// The report of a scenario, into an empty text, from a world before the first line.
+fn push_report(
+    out: &mut Vec<u8>,
+    alloc: Global,
+    svc: &Checked,
+    world: &mut World,
+    scenario: &Scenario,
+) -> Result<(), AllocError>
+    requires fits { ScenarioFits svc.now scenario.now }
+    requires running { IsRunning svc.now world.old }
+    requires beginning { world.old.world ≡ beginning }
+    requires empty { out.old.items ≡ [] }
+    ensures { OnOk result (out.new.items ≡ report_of svc.now scenario.now) }
+{
+    let _service = svc.declarations();
+    let requests = scenario.requests.as_slice();
+    for line in scenario.schedule.as_slice() {
+        world.step(alloc, svc, out, requests, scenario.seed, line)?;
+    }
+    push_node(out, alloc, svc, world)
+}
+
 /// The report of a scenario, from its service and the schedule's first line to its end lines.
 pub fn report(alloc: Global, svc: &Checked, scenario: &Scenario) -> Result<Vec<u8>, AllocError>
     requires { ScenarioFits svc.now scenario.now }
@@ -41,12 +64,8 @@ pub fn report(alloc: Global, svc: &Checked, scenario: &Scenario) -> Result<Vec<u
     ensures headline { Headline svc.now scenario.now.requests scenario.now.seed scenario.now.schedule }
 {
     let _service = svc.declarations();
-    let requests = scenario.requests.as_slice();
     let mut out = Vec::new(alloc);
     let mut world = World::new(alloc, svc)?;
-    for line in scenario.schedule.as_slice() {
-        world.step(alloc, svc, &mut out, requests, scenario.seed, line)?;
-    }
-    push_node(&mut out, alloc, svc, &world)?;
+    push_report(&mut out, alloc, svc, &mut world, scenario)?;
     Ok(out)
 }

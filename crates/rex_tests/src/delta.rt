@@ -1,0 +1,121 @@
+ghost use Rattle.std.specs.Prelude.{◌+◌, ◌≤◌, length, IfOk};
+ghost use Rattle.rex_delta.specs.Spelling.{IsDelta};
+
+use rex_delta::{DecodeError, decode, encode};
+use rex_event::Delta;
+use std::alloc::{AllocError, Global};
+use std::test::*;
+
+/// The delta of one request of a counter.
+static REQUEST: [u8; 52] = [
+    0x01, 0x02, 0x00, 0x00, 0x00, 0x00, 0x00, 0x00, 0x00, 0x00, 0x00, 0x04, 0x01, 0x01, 0x00, 0x01,
+    0x00, 0x00, 0x00, 0x01, 0x01, 0x01, 0x00, 0x00, 0x00, 0x00, 0x00, 0x00, 0x00, 0x05, 0x00, 0x01,
+    0x02, 0x01, 0x00, 0x01, 0x04, 0x01, 0x00, 0x01, 0x0e, 0x00, 0x01, 0x00, 0x00, 0x00, 0x00, 0x00,
+    0x00, 0x00, 0x05, 0x00,
+];
+
+/// For each offset of the request's bytes the offset at which its field begins.
+static FIELDS: [usize; 52] = [
+    0, 1, 2, 2, 2, 2, 6, 6, 6, 6, 10, 10, 12, 13, 14, 14, 16, 16, 16, 16, 20, 21, 22, 22, 22, 22,
+    22, 22, 22, 22, 30, 31, 32, 33, 34, 35, 36, 37, 38, 39, 40, 41, 41, 43, 43, 43, 43, 43, 43, 43,
+    43, 51,
+];
+
+/// Lane 1 begins a request and takes lock 1; lane 2 begins another; lane 1 gives the lock up, and lane 2 takes it.
+static HANDED_ON: [u8; 67] = [
+    0x01, 0x02, 0x00, 0x00, 0x00, 0x00, 0x00, 0x00, 0x00, 0x00, 0x00, 0x05, 0x01, 0x01, 0x00, 0x01,
+    0x00, 0x00, 0x00, 0x01, 0x01, 0x01, 0x00, 0x00, 0x00, 0x00, 0x00, 0x00, 0x00, 0x05, 0x00, 0x01,
+    0x02, 0x01, 0x00, 0x02, 0x01, 0x00, 0x02, 0x00, 0x00, 0x00, 0x01, 0x01, 0x01, 0x00, 0x00, 0x00,
+    0x00, 0x00, 0x00, 0x00, 0x07, 0x00, 0x01, 0x04, 0x01, 0x00, 0x02, 0x02, 0x01, 0x01, 0x01, 0x00,
+    0x00, 0x00, 0x02,
+];
+
+/// Bytes put in the place of others of the second delta: their offset, and that of the first bad field.
+static CHANGES: [(u8, &[u8], usize); 28] = [
+    (0, &[0], 0),
+    (0, &[2], 0),
+    (1, &[0], 1),
+    (1, &[17], 1),
+    (2, &[255, 255, 240, 0], 2),
+    (10, &[0, 0], 10),
+    (10, &[16, 1], 10),
+    (10, &[0, 4], 58),
+    (10, &[0, 6], 67),
+    (12, &[0], 12),
+    (12, &[3], 12),
+    (13, &[0], 13),
+    (13, &[15], 13),
+    (14, &[0, 0], 14),
+    (14, &[1, 1], 14),
+    (16, &[0, 0, 0, 0], 16),
+    (16, &[0, 15, 66, 65], 16),
+    (20, &[0], 20),
+    (20, &[65], 20),
+    (21, &[5], 21),
+    (30, &[1], 30),
+    (33, &[0], 33),
+    (33, &[65], 33),
+    (61, &[2], 61),
+    (62, &[0], 62),
+    (62, &[2], 62),
+    (62, &[3], 62),
+    (66, &[3], 63),
+];
+
+fn delta_of(alloc: Global, bytes: &[u8]) -> Result<Delta, &'static str>
+    ensures { IfOk result (λ d. IsDelta d) }
+{
+    match decode(alloc, bytes) {
+        Ok(delta) => Ok(delta),
+        Err(_) => Err("the bytes are no delta"),
+    }
+}
+
+fn bad_at(alloc: Global, bytes: &[u8]) -> Option<usize> {
+    match decode(alloc, bytes) {
+        Err(DecodeError::Bad { at }) => Some(at),
+        _ => None,
+    }
+}
+
+fn changed(alloc: Global, bytes: &[u8], at: usize, new: &[u8]) -> Result<Vec<u8>, AllocError>
+    requires { at + length new.now ≤ length bytes.now }
+{
+    let mut changed = Vec::from_slice(alloc, bytes)?;
+    changed[at..at + new.len()].copy_from_slice(new);
+    Ok(changed)
+}
+
+#[test]
+fn deltas_are_read_and_written(rt: HostRuntime) -> Result<(), Fail> {
+    let delta = delta_of(rt.alloc(), &REQUEST)?;
+    let bytes = encode(rt.alloc(), &delta)?;
+    assert_eq!(rt; bytes.as_slice(), REQUEST.as_slice());
+    assert!(rt; delta.bases.len() == 2 && delta.events.len() == 4 && delta.causes.len() == 4);
+    Ok(())
+}
+
+#[test]
+fn causes_are_read_and_written(rt: HostRuntime) -> Result<(), Fail> {
+    let delta = delta_of(rt.alloc(), &HANDED_ON)?;
+    let bytes = encode(rt.alloc(), &delta)?;
+    assert_eq!(rt; bytes.as_slice(), HANDED_ON.as_slice());
+    Ok(())
+}
+
+#[test]
+fn the_first_bad_field_is_named(rt: HostRuntime) -> Result<(), Fail> {
+    for (n, field) in FIELDS.iter().enumerate() {
+        assert_eq!(rt; bad_at(rt.alloc(), &REQUEST[..n]), Some(*field));
+    }
+    let mut longer = Vec::from_slice(rt.alloc(), &REQUEST)?;
+    longer.push(0)?;
+    assert_eq!(rt; bad_at(rt.alloc(), &longer), Some(52));
+    for (at, new, field) in &CHANGES {
+        let at = *at as usize;
+        assert!(rt; new.len() < 5 && at + new.len() <= HANDED_ON.len());
+        let bytes = changed(rt.alloc(), &HANDED_ON, at, new)?;
+        assert_eq!(rt; bad_at(rt.alloc(), &bytes), Some(*field));
+    }
+    Ok(())
+}

@@ -1,0 +1,40 @@
+//! The tests of all libraries, by their public calls alone: a file for each library, and one for the runs of whole
+//! scenarios over memory. There is nothing here for a program to use.
+//!
+//! A crate that has tests is proved once more with them, so they all stand in this one.
+#![tactic(auto)]
+
+#[cfg(test)]
+mod cli;
+#[cfg(test)]
+mod cut;
+#[cfg(test)]
+mod delta;
+#[cfg(test)]
+mod event;
+#[cfg(test)]
+mod list;
+#[cfg(test)]
+mod lockset;
+#[cfg(test)]
+mod parse;
+#[cfg(test)]
+mod record;
+#[cfg(test)]
+mod runs;
+#[cfg(test)]
+mod scenario;
+#[cfg(test)]
+mod services;
+#[cfg(test)]
+mod state;
+#[cfg(test)]
+mod streams;
+#[cfg(test)]
+mod syntax;
+#[cfg(test)]
+mod text;
+#[cfg(test)]
+mod traits;
+#[cfg(test)]
+mod wire;
