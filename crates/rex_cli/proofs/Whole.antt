@@ -1,11 +1,11 @@
 -- What holds of the bytes that were read holds of all that the source had: where some are left, the text is too long.
-use Rattle.std.proofs.Common.{◌≡◌, ℕ, ◌+◌, ◌<◌, ◌≤◌, Bool, List, [], ◌++◌, length, Option, Some, None, inl, inr, ◌⊎◌, sym, ap, subst, ◌∙◌, arith, length-append, append-nil}
+use Rattle.std.proofs.Common.{◌≡◌, ℕ, ◌+◌, ◌<◌, ◌≤◌, Bool, true, List, [], ◌++◌, length, Option, Some, None, inl, inr, ◌⊎◌, sym, ap, subst, ◌∙◌, arith, length-append, append-nil}
 use Rattle.std.specs.Prelude.{IfSome, Err, if◌then◌else◌}
 use Rattle.std.specs.Io.KnownBytes.{Consumes, IsAtEnd}
 use Rattle.std.proofs.lemmas.Bool.{cases_lt, lt-ltb}
 use Rattle.rex_text.specs.Text.{numbered, lines_of}
 use Rattle.rex_parse.specs.Reading.{answer_of as service_answer}
-use Rattle.rex_scenario.specs.Reading.{answer_from, no_sections}
+use Rattle.rex_scenario.specs.Reading.{start, answer_from}
 use Rattle.rex_scenario.specs.declared.scenario.ScenarioCode.TheVariants.{TooLong}
 use Rattle.rex_cli.specs.Refusals.{scenario_code}
 use Rattle.rex_cli.specs.Due.{Due, due_refused, due_run, due_check, due_command, due_for}
@@ -17,15 +17,15 @@ use Rattle.rex_cli.specs.declared.command.Command.TheVariants.{Run, Check}
 -- ---- a text that is too long
 
 due_long : (command : Command) (bytes : List ℕ) → 4194304 < length bytes → due_command command bytes ≡ due_refused 0 (scenario_code TooLong)
-due_long Run bytes lt = ap (λ (b : Bool). due_run (if b then Err (0, TooLong) else answer_from no_sections 1 (numbered 1 (lines_of bytes)))) (lt-ltb 4194304 (length bytes) lt)
+due_long Run bytes lt = ap (λ (b : Bool). due_run (if b then Err (0, TooLong) else answer_from (start true) 1 (numbered 1 (lines_of bytes)))) (lt-ltb 4194304 (length bytes) lt)
 due_long Check bytes lt = ap (λ (b : Bool). if b then due_refused 0 (scenario_code TooLong) else due_check (service_answer bytes)) (lt-ltb 4194304 (length bytes) lt)
 
 service_long : (command : Command) (bytes : List ℕ) → 4194304 < length bytes → service_in command bytes ≡ None
-service_long Run bytes lt = ap (λ (b : Bool). scenario_service (if b then Err (0, TooLong) else answer_from no_sections 1 (numbered 1 (lines_of bytes)))) (lt-ltb 4194304 (length bytes) lt)
+service_long Run bytes lt = ap (λ (b : Bool). scenario_service (if b then Err (0, TooLong) else answer_from (start true) 1 (numbered 1 (lines_of bytes)))) (lt-ltb 4194304 (length bytes) lt)
 service_long Check bytes lt = ap (λ (b : Bool). if b then None else plain_service (service_answer bytes)) (lt-ltb 4194304 (length bytes) lt)
 
 committed_long : (bytes : List ℕ) → 4194304 < length bytes → Committed bytes
-committed_long bytes lt = subst (λ (b : Bool). CommittedIn (if b then Err (0, TooLong) else answer_from no_sections 1 (numbered 1 (lines_of bytes)))) (sym (lt-ltb 4194304 (length bytes) lt)) tt
+committed_long bytes lt = subst (λ (b : Bool). CommittedIn (if b then Err (0, TooLong) else answer_from (start true) 1 (numbered 1 (lines_of bytes)))) (sym (lt-ltb 4194304 (length bytes) lt)) tt
 
 -- ---- from the bytes that were read to all
 

@@ -1,26 +1,29 @@
 -- Events and their causes: what is read is spelled so.
-use Rattle.std.proofs.Common.{◌≡◌, ℕ, zero, suc, ◌+◌, ◌-◌, ◌≤◌, true, List, [], ◌∷◌, ◌++◌, length, Result, Ok, Err, refl, sym, ap, subst, ◌∙◌, arith, append_assoc}
+use Rattle.std.proofs.Common.{◌≡◌, ℕ, zero, suc, ◌+◌, ◌-◌, ◌≤◌, true, List, [], ◌∷◌, ◌++◌, length, Result, Ok, refl, sym, ap, subst, arith, append_assoc}
 use Rattle.std.specs.Prelude.{◌==◌, nat_le, IfOk}
 use Rattle.std.specs.Int.{w16, w32, to_be_bytes}
 use Rattle.std.specs.List.{flat_map, All}
 use Rattle.std.proofs.lemmas.Bool.{leb-true, eqb-true}
-use Rattle.std.proofs.lemmas.List.{append-nil, nil_from_length}
 use Rattle.std.proofs.lemmas.List.Elements.{All-cons, All-nil}
 use Rattle.rex_event.specs.declared.event.Kind.{Kind}
 use Rattle.rex_event.specs.declared.event.Event.{Event}
 use Rattle.rex_event.specs.declared.delta.Cause.{Cause}
 use Rattle.rex_event.specs.declared.delta.Delta.{Delta}
 use Rattle.rex_event.specs.Cuts.{count_at, counted}
-use Rattle.rex_wire.specs.Reading.{Left, all_left}
+use Rattle.rex_wire.specs.Reading.{Left}
 use Rattle.rex_wire.specs.Spelling.{byte}
-use Rattle.rex_wire.proofs.Fields.{IsBytes, test_ok, is_taken, Takes, Takes-none, Takes-then, IsSpelled, IsSpelled-weaker, step}
+use Rattle.rex_wire.specs.Decoding.{Gives}
+use Rattle.rex_wire.specs.declared.fault.DecodeError.{DecodeError}
+use Rattle.rex_wire.proofs.Fields.{IsBytes, is_taken, Takes, Takes-none, Takes-then, IsSpelled, IsSpelled-weaker, step}
 use Rattle.rex_wire.proofs.Numbers.{wide8, wide16, wide32, allowed_spelled}
+use Rattle.rex_wire.proofs.Whole.{IsFound, whole_found, is_found}
+use Rattle.rex_wire.proofs.Ranges.{is_between-true}
+use Rattle.rex_wire.proofs.Lists.{same}
+use Rattle.rex_wire.proofs.Lists.{AreEach, AreEach-to_all, list_spelled}
 use Rattle.rex_delta.specs.Spelling.{is_between, IsBetween, greatest_base, code_of, content, cause_bytes, event_bytes, events_bytes, delta_bytes, others_below, CauseFits, AreRising, EventFits, EventsFit, HasTypedKind, HasSpelling}
-use Rattle.rex_delta.specs.Reading.{may_be_cause, may_be_index, cause_at, causes_at, event_at, events_at, bases_at, delta_at, delta_in, Gives}
-use Rattle.rex_delta.specs.declared.fault.DecodeError.{DecodeError}
-use Rattle.rex_delta.proofs.Allowed.{is_between-true, may_be_cause-true, may_be_index-true}
-use Rattle.rex_delta.proofs.Lists.{same, base_at, bases_in, bases_repeated, after_cause, causes_in, causes_repeated}
-use Rattle.rex_delta.proofs.ListLaws.{AreEach, AreEach-to_all, list_spelled}
+use Rattle.rex_delta.specs.Reading.{may_be_cause, may_be_index, cause_at, causes_at, event_at, events_at, bases_at, delta_at, delta_in}
+use Rattle.rex_delta.proofs.Allowed.{may_be_cause-true, may_be_index-true}
+use Rattle.rex_delta.proofs.Lists.{base_at, bases_in, bases_repeated, after_cause, causes_in, causes_repeated}
 use Rattle.rex_delta.proofs.KindLaws.{kind_bytes, IsKindOf, kind_spelled}
 
 -- a cause that may follow the lanes below a number
@@ -184,20 +187,11 @@ delta_spelled = record {
       is_taken delta_bytes HasSpelling l (d, events.left) x events.next (taken, has);
 }
 
--- what is read of all of the bytes
-pub record IsFound (bytes : List ℕ) (d : Delta) : Type 0 where
-  pub has : HasSpelling d
-  pub bytes_are : bytes ≡ delta_bytes d
-
-pub delta_found : (bytes : List ℕ) (d : Delta) → IsBytes bytes → delta_in bytes ≡ Ok d → IsFound bytes d
+-- what is read of all of the bytes is spelled so
+pub delta_found : (bytes : List ℕ) (d : Delta) → IsBytes bytes → delta_in bytes ≡ Ok d → IsFound delta_bytes HasSpelling bytes d
 unfolding delta_in
-delta_found bytes d fits e =
-    let a = step delta_spelled (all_left bytes) _ d fits e in
-    let g = test_ok (length a.left.rest == 0) a.left.at a.value d a.next in
-    let nothing : a.left.rest ≡ [] = nil_from_length a.left.rest (eqb-true _ _ g.0) in
-    let whole : bytes ≡ delta_bytes a.value = a.takes.parts ∙ ap (λ (r : List ℕ). delta_bytes a.value ++ r) nothing ∙ append-nil (delta_bytes a.value) in
-    subst (λ (v : Delta). IsFound bytes v) g.1 (record { has = a.may; bytes_are = whole })
+delta_found bytes d fits e = whole_found delta_spelled bytes d fits e
 
-pub is_found : (bytes : List ℕ) (r : Result Delta DecodeError) → IsBytes bytes → Gives r (delta_in bytes) → IfOk r (λ d. HasSpelling d × (bytes ≡ delta_bytes d))
-is_found bytes (Ok d) fits given = let f = delta_found bytes d fits given in (f.has, f.bytes_are)
-is_found bytes (Err e) fits given = tt
+pub delta_is_found : (bytes : List ℕ) (r : Result Delta DecodeError) → IsBytes bytes → Gives r (delta_in bytes) → IfOk r (λ d. HasSpelling d × (bytes ≡ delta_bytes d))
+unfolding delta_in
+delta_is_found bytes r fits given = is_found delta_spelled bytes r fits given

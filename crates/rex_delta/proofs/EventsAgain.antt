@@ -1,26 +1,28 @@
 -- Events, their causes and deltas are read again from their spelling.
-use Rattle.std.proofs.Common.{◌≡◌, ◌≢◌, ℕ, ◌+◌, ◌-◌, ◌<◌, ◌≤◌, ◌^◌, true, cond, List, [], ◌∷◌, ◌++◌, length, Ok, Err, refl, sym, ap, subst, ◌∙◌, arith, inl, inr, length-set}
+use Rattle.std.proofs.Common.{◌≡◌, ◌≢◌, ℕ, ◌+◌, ◌-◌, ◌<◌, ◌≤◌, ◌^◌, true, List, [], ◌∷◌, ◌++◌, length, Ok, refl, sym, ap, subst, arith, inl, inr, length-set}
 use Rattle.std.specs.Prelude.{◌==◌, not, nat_le, nat_eq, nat_lt}
 use Rattle.std.specs.Int.{w8, w16, w32, to_be_bytes}
 use Rattle.std.specs.List.{flat_map, All}
 use Rattle.std.proofs.lemmas.Bool.{cases_lt, le-leb, lt-ltb}
-use Rattle.std.proofs.lemmas.List.{append-nil, get_or_past}
+use Rattle.std.proofs.lemmas.List.{get_or_past}
 use Rattle.std.proofs.lemmas.List.Elements.{All-head, All-tail}
 use Rattle.rex_event.specs.declared.event.Kind.{Kind}
 use Rattle.rex_event.specs.declared.event.Event.{Event}
 use Rattle.rex_event.specs.declared.delta.Cause.{Cause}
 use Rattle.rex_event.specs.declared.delta.Delta.{Delta}
 use Rattle.rex_event.specs.Cuts.{count_at, counted}
-use Rattle.rex_wire.specs.Reading.{Left, Reading, ◌>>=◌, allowed_at, all_left}
+use Rattle.rex_wire.specs.Reading.{Left, Reading, ◌>>=◌, allowed_at}
 use Rattle.rex_wire.specs.Spelling.{byte}
-use Rattle.rex_wire.proofs.Fields.{ok_is, IsRead, IsRead-none, IsRead-then, IsRead-last, left_at}
+use Rattle.rex_wire.proofs.Fields.{IsRead, IsRead-none, IsRead-then, IsRead-last}
 use Rattle.rex_wire.proofs.Numbers.{wide8, wide16, wide32, allowed_again}
+use Rattle.rex_wire.proofs.Whole.{whole_again, begins_no_other}
+use Rattle.rex_wire.proofs.Ranges.{between-is}
+use Rattle.rex_wire.proofs.Lists.{same}
+use Rattle.rex_wire.proofs.Lists.{AreEach, AreEach-from_all, list_again}
 use Rattle.rex_delta.specs.Spelling.{is_between, greatest_base, has_event, cause_bytes, event_bytes, events_bytes, delta_bytes, others_below, CauseFits, AreRising, EventFits, EventsFit, IsTyped, HasTypedKind, HasSpelling}
 use Rattle.rex_delta.specs.Reading.{may_be_cause, may_be_index, cause_at, causes_at, event_at, events_at, bases_at, kind_at, delta_at, delta_in}
 use Rattle.rex_delta.specs.Laws.{NoSpellingBeginsAnother}
-use Rattle.rex_delta.proofs.Allowed.{between-is}
-use Rattle.rex_delta.proofs.Lists.{same, base_at, bases_in, bases_repeated, after_cause, causes_in, causes_repeated}
-use Rattle.rex_delta.proofs.ListLaws.{AreEach, AreEach-from_all, list_again}
+use Rattle.rex_delta.proofs.Lists.{base_at, bases_in, bases_repeated, after_cause, causes_in, causes_repeated}
 use Rattle.rex_delta.proofs.KindLaws.{kind_bytes}
 use Rattle.rex_delta.proofs.KindsAgain.{kind_again}
 use Rattle.rex_delta.proofs.Counting.{counted-small, others_few}
@@ -161,18 +163,7 @@ delta_again d h =
 
 pub delta_read : (d : Delta) → HasSpelling d → delta_in (delta_bytes d) ≡ Ok d
 unfolding delta_in
-delta_read d h =
-    let read : delta_at (all_left (delta_bytes d)) ≡ Ok (d, left_at (0 + length (delta_bytes d)) []) = ap (λ (bytes : List ℕ). delta_at (all_left bytes)) (sym (append-nil (delta_bytes d))) ∙ (delta_again d h).again 0 [] in
-    ap (λ r. r >>= λ delta. cond (length delta.1.rest == 0) (Ok delta.0) (Err delta.1.at)) read
-
-same_read : (d e : Delta) (m n : ℕ) (rest : List ℕ) → (let r : Reading Delta = Ok (d, left_at m []) in r) ≡ Ok (e, left_at n rest) → (d ≡ e) × (rest ≡ [])
-same_read d e m n rest h =
-    let p = ok_is (d, left_at m []) (e, left_at n rest) h in
-    (ap (λ (x : Delta × Left). x.0) p, sym (ap (λ (x : Delta × Left). x.1.rest) p))
+delta_read d h = whole_again (delta_again d h)
 
 pub another : NoSpellingBeginsAnother
-another d e rest hd he same_bytes =
-    let first = (delta_again d hd).again 0 [] in
-    let second = (delta_again e he).again 0 rest in
-    let one : delta_bytes d ++ [] ≡ delta_bytes e ++ rest = append-nil (delta_bytes d) ∙ same_bytes in
-    same_read d e (0 + length (delta_bytes d)) (0 + length (delta_bytes e)) rest (sym first ∙ ap (λ (bytes : List ℕ). delta_at (left_at 0 bytes)) one ∙ second)
+another d e rest hd he same_bytes = begins_no_other (delta_again d hd) (delta_again e he) rest same_bytes

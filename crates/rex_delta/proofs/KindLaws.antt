@@ -10,11 +10,12 @@ use Rattle.rex_wire.specs.Reading.{Left, Reading}
 use Rattle.rex_wire.specs.Spelling.{byte, signed}
 use Rattle.rex_wire.proofs.Fields.{is_taken, Takes, Takes-then, IsSpelled, IsSpelled-either, step}
 use Rattle.rex_wire.proofs.Numbers.{wide8, wide16, wide32, wide64, number_spelled, allowed_spelled, signed_spelled}
+use Rattle.rex_wire.proofs.Ranges.{is_between-true}
+use Rattle.rex_wire.proofs.Lists.{same}
+use Rattle.rex_wire.proofs.Lists.{AreEach, AreEach-to_all, list_spelled}
 use Rattle.rex_delta.specs.Spelling.{code_of, content, woken_number, is_between, IsBetween, KindFits, IsTyped}
 use Rattle.rex_delta.specs.Reading.{place_at, arguments_at, begin_at, lock_at, condition_at, woken_of, signal_at, broadcast_at, clock_at, random_at, reply_at, content_at, kind_at}
-use Rattle.rex_delta.proofs.Allowed.{is_between-true}
-use Rattle.rex_delta.proofs.Lists.{same, argument_at, arguments_in, arguments_repeated}
-use Rattle.rex_delta.proofs.ListLaws.{AreEach, AreEach-to_all, list_spelled}
+use Rattle.rex_delta.proofs.Lists.{argument_at, arguments_in, arguments_repeated}
 
 -- ---- what is read is spelled so
 

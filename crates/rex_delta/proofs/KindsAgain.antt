@@ -11,11 +11,12 @@ use Rattle.rex_wire.specs.Reading.{number_at, signed_at, allowed_at}
 use Rattle.rex_wire.specs.Spelling.{byte, signed}
 use Rattle.rex_wire.proofs.Fields.{IsRead, IsRead-then, IsRead-last}
 use Rattle.rex_wire.proofs.Numbers.{wide8, wide16, wide32, wide64, number_again, allowed_again, signed_again}
+use Rattle.rex_wire.proofs.Ranges.{between-is}
+use Rattle.rex_wire.proofs.Lists.{same}
+use Rattle.rex_wire.proofs.Lists.{AreEach-from_all, list_again}
 use Rattle.rex_delta.specs.Spelling.{code_of, content, woken_number, is_between, IsBetween, KindFits, IsTyped}
 use Rattle.rex_delta.specs.Reading.{place_at, arguments_at, begin_at, lock_at, condition_at, woken_of, signal_at, broadcast_at, clock_at, random_at, reply_at, content_at, kind_at}
-use Rattle.rex_delta.proofs.Allowed.{between-is}
-use Rattle.rex_delta.proofs.Lists.{same, argument_at, arguments_in, arguments_repeated}
-use Rattle.rex_delta.proofs.ListLaws.{AreEach-from_all, list_again}
+use Rattle.rex_delta.proofs.Lists.{argument_at, arguments_in, arguments_repeated}
 use Rattle.rex_delta.proofs.KindLaws.{kind_bytes}
 
 place_again : (n : ℕ) → n < 64 → IsRead place_at (byte (n + 1)) n

@@ -1,8 +1,6 @@
-pub mod Repeated
 pub mod Allowed
 pub mod Lists
 pub mod Counting
-pub mod ListLaws
 pub mod KindLaws
 pub mod EventLaws
 pub mod KindsAgain

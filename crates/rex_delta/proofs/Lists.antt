@@ -7,21 +7,14 @@ use Rattle.rex_event.specs.declared.event.Event.{Event}
 use Rattle.rex_event.specs.declared.delta.Cause.{Cause}
 use Rattle.rex_event.specs.Cuts.{counted}
 use Rattle.rex_wire.specs.Reading.{Left, Reading, ◌>>=◌, signed_at, allowed_at}
+use Rattle.rex_wire.proofs.Repeated.{IsRepeated}
+use Rattle.rex_wire.proofs.Ranges.{allowed_is}
+use Rattle.rex_wire.proofs.Lists.{alone, joined, same}
 use Rattle.rex_delta.specs.Spelling.{greatest_base}
 use Rattle.rex_delta.specs.Reading.{arguments_at, bases_at, cause_at, causes_at, event_at, events_at, may_be_cause, may_be_index}
-use Rattle.rex_delta.proofs.Repeated.{IsRepeated}
-use Rattle.rex_delta.proofs.Allowed.{allowed_is, may_be_cause-true}
+use Rattle.rex_delta.proofs.Allowed.{may_be_cause-true}
 
 -- ---- lists
-
-abbrev pub alone : {A : Type 0} → A → List A
-alone x = x ∷ []
-
-abbrev pub joined : {A : Type 0} → List A → List A → List A
-joined xs ys = xs ++ ys
-
-abbrev pub same : {S A : Type 0} → S → A → S
-same s x = s
 
 abbrev pub argument_at : Unit {0} → Left → Reading ℤ
 argument_at s l = signed_at l

@@ -1,23 +1,12 @@
--- Writing values one after the other, as a loop does.
-use Rattle.std.proofs.Common.{◌≡◌, ℕ, ◌+◌, ◌<◌, List, [], ◌∷◌, ◌++◌, length, get_or, take, ◌⊎◌, inl, inr, refl, subst, sym, ap, ◌∙◌, append_assoc}
-use Rattle.std.specs.List.{flat_map, All}
-use Rattle.std.proofs.lemmas.List.{append-nil, take_more}
-use Rattle.std.proofs.lemmas.List.Concat.{flat_map-append}
+-- Writing events one after the other, as a loop does.
+use Rattle.std.proofs.Common.{◌≡◌, ℕ, ◌+◌, List, [], ◌∷◌, ◌++◌, ◌⊎◌, inl, inr, refl, subst, sym, ap, ◌∙◌, append_assoc}
+use Rattle.std.specs.List.{All}
+use Rattle.std.proofs.lemmas.List.{append-nil}
 use Rattle.std.proofs.lemmas.List.Elements.{All-nil, All-cons}
 use Rattle.rex_event.specs.declared.event.Event.{Event}
 use Rattle.rex_event.specs.declared.delta.Cause.{Cause}
 use Rattle.rex_delta.specs.Spelling.{event_bytes, events_bytes, HasTypedKind}
 use Rattle.rex_delta.specs.Writing.{CanAllBeWritten}
-
--- one value more is written
-pub written_more : {A : Type 0} (spell : A → List ℕ) (start so_far new : List ℕ) (xs : List A) (i : ℕ) (d : A) → i < length xs → new ≡ so_far ++ spell (get_or xs i d) → so_far ≡ start ++ flat_map spell (take i xs) → new ≡ start ++ flat_map spell (take (i + 1) xs)
-written_more spell start so_far new xs i d lt step before =
-    let x = get_or xs i d in
-    let last : flat_map spell (x ∷ []) ≡ spell x = append-nil (spell x) in
-    let taken = ap (flat_map spell) (take_more xs i d lt) ∙ flat_map-append spell (take i xs) (x ∷ []) ∙ ap (λ (t : List ℕ). flat_map spell (take i xs) ++ t) last in
-    step ∙ ap (λ (t : List ℕ). t ++ spell x) before ∙ append_assoc start (flat_map spell (take i xs)) (spell x) ∙ ap (λ (t : List ℕ). start ++ t) (sym taken)
-
--- ---- events
 
 -- what is written, and what the events that are left add, make the whole
 pub record IsWriting (written whole : List ℕ) (all es : List Event) (lists : List (List Cause)) : Type 0 where

@@ -1,5 +1,5 @@
 -- Reading a delta from left to right, a field a line, with the first field that is absent, cut short or not allowed.
-use Rattle.std.specs.Prelude.{◌≡◌, ◌==◌, ℕ, zero, suc, ◌+◌, ◌-◌, ◌^◌, ◌&&◌, ℤ, Bool, not, nat_lt, nat_le, List, [], ◌∷◌, length, Option, Some, None, Result, Ok, Err, if◌then◌else◌}
+use Rattle.std.specs.Prelude.{◌==◌, ℕ, zero, suc, ◌+◌, ◌-◌, ◌^◌, ◌&&◌, ℤ, Bool, not, nat_lt, nat_le, List, [], ◌∷◌, length, Option, Some, None, Result, Ok, if◌then◌else◌}
 use Rattle.std.specs.Int.{w8, w16, w32, w64}
 use Rattle.rex_event.specs.declared.event.Kind.{Kind}
 use Rattle.rex_event.specs.declared.event.Kind.TheVariants.{Begin, AcqEx, AcqSh, RelEx, RelSh, TryOk, TryBusy, Wait, Wake, Signal, Broadcast, Clock, Random, Reply}
@@ -7,10 +7,8 @@ use Rattle.rex_event.specs.declared.event.Event.{Event}
 use Rattle.rex_event.specs.declared.delta.Cause.{Cause}
 use Rattle.rex_event.specs.declared.delta.Delta.{Delta}
 use Rattle.rex_event.specs.Cuts.{count_at, counted}
-use Rattle.rex_wire.specs.Reading.{Left, Reading, ◌>>=◌, number_at, signed_at, allowed_at, all_left}
+use Rattle.rex_wire.specs.Reading.{Left, Reading, ◌>>=◌, number_at, signed_at, allowed_at, whole}
 use Rattle.rex_delta.specs.Spelling.{is_between, greatest_base, has_event, others_below}
-use Rattle.rex_delta.specs.declared.fault.DecodeError.{DecodeError}
-use Rattle.rex_delta.specs.declared.fault.DecodeError.TheVariants.{Bad, OutOfMemory}
 
 -- a number from 1 to 64 as one from 0
 unfoldable pub place_at : Left → Reading ℕ
@@ -166,20 +164,4 @@ delta_at l = do
 
 -- a delta that is all of the bytes, or the offset at which the first bad field begins; of bytes after a whole delta that is its length
 unfoldable pub delta_in : List ℕ → Result Delta ℕ
-delta_in bytes = do
-  delta ← delta_at (all_left bytes)
-  if length delta.1.rest == 0 then Ok delta.0 else Err delta.1.at
-
--- what decoding answers is what reading gives, unless memory runs out
-abbrev pub Fails : {A : Type 0} → DecodeError → Result A ℕ → Type 0
-Fails (Bad at) read = read ≡ Err at
-Fails OutOfMemory read = Unit {0}
-
-abbrev pub Gives : {A : Type 0} → Result A DecodeError → Result A ℕ → Type 0
-Gives (Ok x) read = read ≡ Ok x
-Gives (Err e) read = Fails e read
-
--- what a call answers that reads on, and the reader after it, are what reading gives, unless memory runs out
-abbrev pub ReadsOn : {A : Type 0} → Result A DecodeError → Left → Reading A → Type 0
-ReadsOn (Ok x) new read = read ≡ Ok (x, new)
-ReadsOn (Err e) new read = Fails e read
+delta_in bytes = whole delta_at bytes

@@ -1,5 +1,5 @@
 -- Which deltas have a spelling, and what it is.
-use Rattle.std.specs.Prelude.{◌≡◌, ◌≢◌, ℕ, zero, suc, ◌+◌, ◌<◌, ◌≤◌, ◌^◌, ◌&&◌, Bool, not, nat_eq, nat_lt, nat_le, List, [], ◌∷◌, ◌++◌, length, Option, Some, None, IfSome, FitsSigned, if◌then◌else◌}
+use Rattle.std.specs.Prelude.{◌≡◌, ℕ, ◌+◌, ◌<◌, ◌≤◌, ◌^◌, List, [], ◌∷◌, ◌++◌, length, Option, Some, None, IfSome, FitsSigned}
 use Rattle.std.specs.List.{All, flat_map}
 use Rattle.std.specs.Int.{w16, w32, w64, to_be_bytes}
 use Rattle.rex_event.specs.declared.event.Kind.{Kind}
@@ -9,6 +9,7 @@ use Rattle.rex_event.specs.declared.delta.Cause.{Cause}
 use Rattle.rex_event.specs.declared.delta.Delta.{Delta}
 use Rattle.rex_event.specs.Cuts.{count_at, counted}
 pub use Rattle.rex_event.specs.Pieces.{has_event, others_below, CauseFits, AreRising}
+pub use Rattle.rex_wire.specs.Ranges.{is_between, IsBetween}
 use Rattle.rex_wire.specs.Spelling.{byte, signed}
 
 -- ---- spelling; lanes, handlers, locks and conditions are spelled with numbers from 1
@@ -70,12 +71,6 @@ abbrev pub delta_bytes : Delta → List ℕ
 delta_bytes d = byte 1 ++ byte (length d.bases) ++ flat_map (to_be_bytes w32) d.bases ++ to_be_bytes w16 (length d.events) ++ events_bytes d.events d.causes
 
 -- ---- ranges
-
-abbrev pub is_between : ℕ → ℕ → ℕ → Bool
-is_between least greatest n = nat_le least n && nat_le n greatest
-
-abbrev pub IsBetween : ℕ → ℕ → ℕ → Type 0
-IsBetween least greatest n = (least ≤ n) × (n ≤ greatest)
 
 -- the greatest base: a lane's count stays below 2^32 - 1 with 4,096 events more
 abbrev pub greatest_base : ℕ

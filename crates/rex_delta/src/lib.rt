@@ -1,8 +1,6 @@
 //! The bytes of a delta, both ways.
 #![tactic(auto)]
 
-mod fault;
-mod fields;
 mod lane_counts;
 mod laws;
 mod limits;
@@ -13,7 +11,7 @@ mod write_delta;
 mod write_events;
 mod write_kinds;
 
-pub use fault::DecodeError;
 pub use laws::no_spelling_begins_another;
 pub use read_delta::decode;
+pub use rex_wire::DecodeError;
 pub use write_delta::encode;

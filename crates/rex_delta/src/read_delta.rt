@@ -2,22 +2,21 @@
 
 ghost use Rattle.std.specs.Prelude.{◌≡◌, IfOk, Ok};
 ghost use Rattle.rex_event.specs.declared.delta.Delta.{Delta};
+ghost use Rattle.rex_wire.specs.Decoding.{ReadsOn, Gives};
 ghost use Rattle.rex_delta.specs.Spelling.{HasSpelling, delta_bytes};
-ghost use Rattle.rex_delta.specs.Reading.{ReadsOn, Gives, delta_at, delta_in};
+ghost use Rattle.rex_delta.specs.Reading.{delta_at, delta_in};
 
-use crate::fault::DecodeError;
-use crate::fields::{u8_between, u16_between, version};
-use crate::limits::{EVENTS, LANES};
+use crate::limits::{EVENTS, LANES, VERSION};
 use crate::read_events::{bases, events};
 use rex_event::Delta;
-use rex_wire::Reader;
+use rex_wire::{DecodeError, Reader, u8_between, u8_wanted, u16_between};
 use std::alloc::Global;
 
 #[tactic(auto, unfolding(crate::specs::Reading::delta_at))]
 fn delta(alloc: Global, reader: &mut Reader) -> Result<Delta, DecodeError>
     ensures { ReadsOn result reader.new (delta_at reader.old) }
 {
-    version(reader)?;
+    u8_wanted(reader, VERSION)?;
     let lanes = u8_between(reader, 1, LANES)?;
     let bases = bases(alloc, reader, lanes)?;
     let count = u16_between(reader, 1, EVENTS)?;

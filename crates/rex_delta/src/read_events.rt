@@ -3,17 +3,16 @@
 ghost use Rattle.std.specs.Prelude.{◌≡◌, ◌+◌, ◌<◌, ◌≤◌, length, IfOk};
 ghost use Rattle.std.specs.List.{All};
 ghost use Rattle.rex_event.specs.Cuts.{count_at};
+ghost use Rattle.rex_wire.specs.Decoding.{ReadsOn};
 ghost use Rattle.rex_delta.specs.Spelling.{greatest_base};
-ghost use Rattle.rex_delta.specs.Reading.{ReadsOn, cause_at, causes_at, event_at, events_at, bases_at};
+ghost use Rattle.rex_delta.specs.Reading.{cause_at, causes_at, event_at, events_at, bases_at};
 
-use crate::fault::DecodeError;
-use crate::fields::{u8_at_most, u8_between, u32_at_most};
 use crate::lane_counts::{may_be_cause, may_be_index, others};
 use crate::limits::GREATEST_BASE;
 use crate::read_kinds::kind;
 use rex_event::{Cause, Event};
 use rex_list::List;
-use rex_wire::Reader;
+use rex_wire::{DecodeError, Reader, u8_at_most, u8_between, u32_at_most};
 use std::alloc::Global;
 
 /// A cause of an event of this lane, whose lane has a number above this one.

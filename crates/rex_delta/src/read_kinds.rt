@@ -1,15 +1,22 @@
 //! Reading what an event did.
 
-ghost use Rattle.std.specs.Prelude.{◌≡◌, ◌<◌, ◌≤◌};
+ghost use Rattle.std.specs.Prelude.{◌<◌, ◌≤◌};
 ghost use Rattle.rex_event.specs.declared.event.Kind.TheVariants.{AcqEx, AcqSh, RelEx, RelSh, TryOk, TryBusy, Wait, Wake};
-ghost use Rattle.rex_delta.specs.Reading.{ReadsOn, place_at, arguments_at, begin_at, lock_at, condition_at, signal_at, broadcast_at, clock_at, random_at, reply_at, content_at, kind_at};
+ghost use Rattle.rex_wire.specs.Decoding.{ReadsOn};
+ghost use Rattle.rex_delta.specs.Reading.{place_at, arguments_at, begin_at, lock_at, condition_at, signal_at, broadcast_at, clock_at, random_at, reply_at, content_at, kind_at};
 
-use crate::fault::DecodeError;
-use crate::fields::{place, u8_between, u16_between, u32_between};
-use crate::limits::{ARGUMENTS, CLIENTS, SEQUENCE};
+use crate::limits::{ARGUMENTS, CLIENTS, PLACES, SEQUENCE};
 use rex_event::Kind;
 use rex_list::Arguments;
-use rex_wire::Reader;
+use rex_wire::{DecodeError, Reader, u8_between, u16_between, u32_between};
+
+/// A handler, a lock or a condition, numbered from 0.
+#[tactic(auto, unfolding(crate::specs::Reading::place_at))]
+fn place(reader: &mut Reader) -> Result<u8, DecodeError>
+    ensures { ReadsOn result reader.new (place_at reader.old) }
+{
+    Ok(u8_between(reader, 1, PLACES)? - 1)
+}
 
 fn arguments(reader: &mut Reader, count: u8) -> Result<Arguments, DecodeError>
     requires { count ≤ 4 }

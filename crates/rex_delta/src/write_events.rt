@@ -1,9 +1,9 @@
 //! Writing events and their causes.
 
-ghost use Rattle.std.specs.Prelude.{◌≡◌, ◌<◌, ◌≤◌, ◌+◌, ◌++◌, length, OnOk};
+ghost use Rattle.std.specs.Prelude.{◌≡◌, ◌<◌, ◌+◌, ◌++◌, OnOk};
 ghost use Rattle.std.specs.List.{All, flat_map};
 ghost use Rattle.std.specs.Int.{w32, to_be_bytes};
-ghost use Rattle.rex_delta.specs.Spelling.{cause_bytes, event_bytes, events_bytes, EventsFit, HasTypedKind};
+ghost use Rattle.rex_delta.specs.Spelling.{cause_bytes, event_bytes, events_bytes, HasTypedKind};
 ghost use Rattle.rex_delta.specs.Writing.{HasLane, CanBeWritten, CanAllBeWritten};
 
 use crate::write_kinds::kind;

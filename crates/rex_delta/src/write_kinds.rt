@@ -1,6 +1,6 @@
 //! Writing what an event did.
 
-ghost use Rattle.std.specs.Prelude.{◌≡◌, ◌<◌, ◌≤◌, ◌+◌, ◌++◌, length, OnOk, FitsSigned};
+ghost use Rattle.std.specs.Prelude.{◌≡◌, ◌<◌, ◌+◌, ◌++◌, OnOk, FitsSigned};
 ghost use Rattle.std.specs.List.{All, flat_map};
 ghost use Rattle.std.specs.Int.{w64};
 ghost use Rattle.rex_event.specs.declared.event.Kind.TheVariants.{Begin, Signal};

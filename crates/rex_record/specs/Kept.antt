@@ -1,6 +1,6 @@
 -- What is kept of a recorder.
+pub use Rattle.rex_state.specs.Counts.{AreCounted}
 use Rattle.std.specs.Prelude.{◌≡◌, ◌+◌, ◌^◌, ◌<◌, ◌≤◌, true, List, [], ◌∷◌, length, Some, None, IsSome}
-use Rattle.std.specs.List.{All}
 use Rattle.rex_event.specs.declared.event.Event.{Event}
 use Rattle.rex_syntax.specs.declared.request.Request.{Request}
 use Rattle.rex_syntax.specs.declared.service.Declarations.{Declarations}
@@ -28,10 +28,6 @@ pub record IsRecorder (service : Declarations) (r : RecorderValue) : Type 0 wher
   pub runs : run service r.start r.live ≡ Some r.state
   pub few : length r.live ≤ 4096
   pub queue : AreQueued service r.state r.queue
-
--- the index of each live event leaves room for the next one
-pub record AreCounted (live : List Event) : Type 0 where
-  pub each : All (λ (e : Event). e.index + 1 < 2 ^ 32) live
 
 -- the event of a turn is next, and its index leaves room for the next one
 abbrev pub CanFollow : Declarations → StateValue → Turn → Type 0

@@ -1,14 +1,18 @@
-//! What a run reports: the effects of each schedule line, and the texts that they are written as.
+//! What a run reports: the effects of each schedule line, and the texts that they and the agreed trace are written as.
 #![tactic(auto)]
 
 mod effect;
 mod ends;
 mod events;
+mod phrases;
 mod pieces;
 mod rows;
+mod trace;
+mod words;
 
-pub use effect::{Effect, Role};
-pub use ends::{End, push_end};
+pub use effect::{Effect, MessageKind, Role};
+pub use ends::{End, UpEnd, push_end};
 pub use events::push_event;
 pub use pieces::{Piece, push_pieces};
 pub use rows::push_row;
+pub use trace::push_delta;

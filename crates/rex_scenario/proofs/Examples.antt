@@ -1,5 +1,5 @@
 -- Scenarios, and what they say.
-use Rattle.std.proofs.Common.{◌≡◌, ℕ, List, [], ◌∷◌, ◌++◌, ◌<◌, ◌≤◌, length, map, false, Option, Some, None, Result, Ok, Err, refl, codes}
+use Rattle.std.proofs.Common.{◌≡◌, ℕ, List, [], ◌∷◌, ◌++◌, ◌<◌, ◌≤◌, length, map, true, false, Option, Some, None, Result, Ok, Err, refl, codes}
 use Rattle.std.specs.Prelude.{pos}
 use Rattle.std.specs.Result.{result_err}
 use Rattle.std.proofs.lemmas.Bool.{lt-ltb, le-leb}
@@ -10,12 +10,14 @@ use Rattle.rex_parse.specs.Table.{new_code, lock_code, variable_code, local_code
 use Rattle.rex_parse.specs.declared.language.ServiceCode.TheVariants as service
 use Rattle.rex_syntax.specs.declared.request.Request.{Request}
 use Rattle.rex_scenario.specs.Requests.{is_repeated, place_code}
-use Rattle.rex_scenario.specs.Schedule.{schedule_code}
-use Rattle.rex_scenario.specs.Reading.{answer_from, answer_of, scenario_of}
+use Rattle.rex_scenario.specs.Schedule.{step_of, is_there, schedule_code}
+use Rattle.rex_scenario.specs.Reading.{answer_from, answer_of, unscheduled_answer_of, scenario_of}
 use Rattle.rex_scenario.specs.declared.scenario.ScenarioCode.{ScenarioCode}
 use Rattle.rex_scenario.specs.declared.scenario.ScenarioCode.TheVariants as code
 use Rattle.rex_scenario.specs.declared.scenario.ScheduleLine.{ScheduleLine}
 use Rattle.rex_scenario.specs.declared.scenario.ScheduleLine.TheVariants.{Elect, Submit, Lane, Cut, CutBelow}
+use Rattle.rex_scenario.specs.declared.schedule.Step.{Step}
+use Rattle.rex_scenario.specs.declared.schedule.Step.TheVariants as step
 use Rattle.rex_scenario.specs.declared.scenario.Sections.{Sections}
 
 -- lines as a text, each with a LF
@@ -39,22 +41,27 @@ counter_says : said (answer_of (text_of counter)) ≡ Some ((record { client = 1
 unfolding text_of counter counter_service said answer_from is_name new_code lock_code variable_code local_code number_code expr_code digits
 counter_says = refl
 
--- the seed of a text, if it is good
-seed_in : Result Sections (ℕ × ScenarioCode) → Option ℕ
-seed_in (Ok s) = Some (scenario_of s).seed
-seed_in (Err e) = None
+-- where the schedule may have no lines, the first is refused
+first_line_is_refused : result_err (unscheduled_answer_of (text_of counter)) ≡ Some (15, code.BadLine)
+unfolding text_of counter counter_service answer_from is_name new_code lock_code variable_code local_code number_code expr_code digits
+first_line_is_refused = refl
+
+-- the number of nodes and the seed of a text, if it is good
+counts_in : Result Sections (ℕ × ScenarioCode) → Option (ℕ × ℕ)
+counts_in (Ok s) = Some ((scenario_of s).nodes, (scenario_of s).seed)
+counts_in (Err e) = None
 
 -- the counter with a line after `%nodes 1`
 with_line : List ℕ → List (List ℕ) → List (List ℕ)
 with_line line [] = []
 with_line line (first ∷ rest) = first ∷ line ∷ rest
 
-greatest_seed : seed_in (answer_of (text_of (with_line (codes "%seed 4294967295") counter))) ≡ Some 4294967295
-unfolding text_of with_line counter counter_service seed_in answer_from is_name new_code lock_code variable_code local_code number_code expr_code digits
+greatest_seed : counts_in (answer_of (text_of (with_line (codes "%seed 4294967295") counter))) ≡ Some (1, 4294967295)
+unfolding text_of with_line counter counter_service counts_in answer_from is_name new_code lock_code variable_code local_code number_code expr_code digits
 greatest_seed = refl
 
-no_seed : seed_in (answer_of (text_of counter)) ≡ Some 0
-unfolding text_of counter counter_service seed_in answer_from is_name new_code lock_code variable_code local_code number_code expr_code digits
+no_seed : counts_in (answer_of (text_of counter)) ≡ Some (1, 0)
+unfolding text_of counter counter_service counts_in answer_from is_name new_code lock_code variable_code local_code number_code expr_code digits
 no_seed = refl
 
 -- ---- a refusal of each code
@@ -84,6 +91,10 @@ other_heading = refl
 two_nodes : refusal (codes "%nodes 2" ∷ []) ≡ Some (1, code.BadHeading)
 unfolding refusal text_of answer_from digits
 two_nodes = refl
+
+three_nodes : refusal (codes "%nodes 3" ∷ []) ≡ Some (1, code.BadHeading)
+unfolding refusal text_of answer_from digits
+three_nodes = refl
 
 seed_above : refusal (codes "%nodes 1" ∷ codes "%seed 4294967296" ∷ []) ≡ Some (2, code.BadHeading)
 unfolding refusal text_of answer_from digits
@@ -127,9 +138,9 @@ no_request = refl
 
 -- ---- cuts with limits
 
--- the codes of schedule lines, where a node, a request and two lanes are there and so many schedule lines came before
+-- the codes of schedule lines, where three nodes, a request and two lanes are there and so many schedule lines came before
 codes_of : ℕ → List (List ℕ) → List (Option ScenarioCode)
-codes_of earlier lines = map (λ line. schedule_code 1 1 2 earlier (words_of line)) lines
+codes_of earlier lines = map (λ line. schedule_code true 3 1 2 earlier (words_of line)) lines
 
 limits_taken : codes_of 0 (codes "cut 1 0 0" ∷ codes "cut 1 4294967295 0" ∷ []) ≡ None ∷ None ∷ []
 unfolding codes_of digits
@@ -140,12 +151,12 @@ unfolding codes_of digits
 wrong_limits = refl
 
 -- a node that isn't there comes before wrong limits
-limits_of_no_node : codes_of 0 (codes "cut 2 0" ∷ codes "cut 2 0 0" ∷ codes "cut 0 0 0 0" ∷ []) ≡ Some code.NotThere ∷ Some code.NotThere ∷ Some code.NotThere ∷ []
+limits_of_no_node : codes_of 0 (codes "cut 4 0" ∷ codes "cut 4 0 0" ∷ codes "cut 0 0 0 0" ∷ []) ≡ Some code.NotThere ∷ Some code.NotThere ∷ Some code.NotThere ∷ []
 unfolding codes_of digits
 limits_of_no_node = refl
 
 -- and one line too many before both
-limits_past_the_last_line : codes_of 100000 (codes "cut 1 0 0" ∷ codes "cut 1 0" ∷ codes "cut 2 0" ∷ []) ≡ Some code.TooManyLines ∷ Some code.TooManyLines ∷ Some code.TooManyLines ∷ []
+limits_past_the_last_line : codes_of 100000 (codes "cut 1 0 0" ∷ codes "cut 1 0" ∷ codes "cut 4 0" ∷ []) ≡ Some code.TooManyLines ∷ Some code.TooManyLines ∷ Some code.TooManyLines ∷ []
 unfolding codes_of digits
 limits_past_the_last_line = refl
 
@@ -155,12 +166,37 @@ no_limit : codes_of 100000 (codes "cut 1 x" ∷ codes "cut 2 0 0 x" ∷ codes "c
 unfolding codes_of digits
 no_limit = refl
 
+-- ---- the lines that may not come yet
+
+-- the steps that lines spell
+steps_of : List (List ℕ) → List (Option Step)
+steps_of lines = map (λ line. step_of (words_of line)) lines
+
+spelled : steps_of (codes "deliver 18446744073709551615" ∷ codes "flush" ∷ codes "replay 3" ∷ codes "ask 3 1" ∷ codes "stop 1" ∷ codes "start 1" ∷ codes "checkpoint 2" ∷ codes "keepfail 2 kept" ∷ codes "keepfail 3 lost" ∷ [])
+    ≡ Some (step.Deliver 18446744073709551615) ∷ Some step.Flush ∷ Some (step.Replay 3) ∷ Some (step.Ask 3 1) ∷ Some (step.Stop 1) ∷ Some (step.Start 1) ∷ Some (step.Checkpoint 2) ∷ Some (step.KeepFail 2 true) ∷ Some (step.KeepFail 3 false) ∷ []
+unfolding steps_of digits
+spelled = refl
+
+no_form : steps_of (codes "deliver 18446744073709551616" ∷ codes "flush 1" ∷ codes "replay" ∷ codes "ask 1" ∷ codes "start 1 1" ∷ codes "keepfail 1" ∷ codes "keepfail 1 keep" ∷ []) ≡ None ∷ None ∷ None ∷ None ∷ None ∷ None ∷ None ∷ []
+unfolding steps_of digits
+no_form = refl
+
+-- a node asks another one that is there, and no message has the number 0
+not_there : map (is_there 3 1 2) (step.Ask 2 2 ∷ step.Ask 1 4 ∷ step.Ask 4 1 ∷ step.Ask 0 1 ∷ step.Deliver 0 ∷ []) ≡ false ∷ false ∷ false ∷ false ∷ false ∷ []
+not_there = refl
+
+-- they are refused, whatever they name and however many lines came before
+not_ready : codes_of 100000 (codes "deliver 0" ∷ codes "flush" ∷ codes "replay 4" ∷ codes "ask 2 2" ∷ codes "stop 4" ∷ codes "start 1" ∷ codes "checkpoint 1" ∷ codes "keepfail 1 kept" ∷ [])
+    ≡ Some code.BadLine ∷ Some code.BadLine ∷ Some code.BadLine ∷ Some code.BadLine ∷ Some code.BadLine ∷ Some code.BadLine ∷ Some code.BadLine ∷ Some code.BadLine ∷ []
+unfolding codes_of digits
+not_ready = refl
+
 -- ---- the codes of what is too much
 
 too_long : (bytes : List ℕ) → 4194304 < length bytes → answer_of bytes ≡ Err (0, code.TooLong)
 too_long bytes lt = rw (lt-ltb 4194304 (length bytes) lt) refl
 
-too_many_lines : (lanes : ℕ) → schedule_code 1 0 lanes 100000 (codes "elect" ∷ codes "1" ∷ []) ≡ Some code.TooManyLines
+too_many_lines : (lanes : ℕ) → schedule_code true 1 0 lanes 100000 (codes "elect" ∷ codes "1" ∷ []) ≡ Some code.TooManyLines
 unfolding digits
 too_many_lines lanes = refl
 

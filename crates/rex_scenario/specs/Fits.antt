@@ -1,12 +1,13 @@
 -- What a scenario names is there.
-use Rattle.std.specs.Prelude.{◌≡◌, ℕ, ◌<◌, ◌≤◌, true, length, slice_get}
+use Rattle.std.specs.Prelude.{◌≡◌, ◌≢◌, ℕ, ◌<◌, ◌≤◌, true, length, slice_get}
 use Rattle.std.specs.List.{All}
 use Rattle.rex_syntax.specs.declared.request.Request.{Request}
 use Rattle.rex_syntax.specs.declared.service.Declarations.{Declarations}
+use Rattle.rex_scenario.specs.Headings.{is_node_count}
 use Rattle.rex_scenario.specs.Requests.{takes_so_many}
 use Rattle.rex_scenario.specs.declared.scenario.Scenario.{Scenario}
 use Rattle.rex_scenario.specs.declared.scenario.ScheduleLine.{ScheduleLine}
-use Rattle.rex_scenario.specs.declared.scenario.ScheduleLine.TheVariants.{Elect, Submit, Lane, Cut, CutBelow}
+use Rattle.rex_scenario.specs.declared.scenario.ScheduleLine.TheVariants.{Elect, Submit, Lane, Cut, CutBelow, Deliver, Flush, Replay, Ask, Stop, Start, Checkpoint, KeepFail}
 
 -- client and sequence are in their ranges, and the handler is there and takes the arguments
 pub record RequestFits (service : Declarations) (r : Request) : Type 0 where
@@ -21,17 +22,25 @@ pub record RequestFits (service : Declarations) (r : Request) : Type 0 where
 abbrev pub IsNode : ℕ → ℕ → Type 0
 IsNode nodes n = (0 < n) × (n ≤ nodes)
 
--- the node, the lane and the request of a schedule line are there, and limits are as many as the lanes
+-- the node, the lane and the request of a schedule line are there, limits are as many as the lanes, a message is any but 0, and a node asks another one
 abbrev pub LineFits : ℕ → ℕ → ℕ → ScheduleLine → Type 0
 LineFits nodes requests lanes (Elect n) = IsNode nodes n
 LineFits nodes requests lanes (Submit n r) = IsNode nodes n × (r < requests)
 LineFits nodes requests lanes (Lane n l) = IsNode nodes n × (l < lanes)
 LineFits nodes requests lanes (Cut n) = IsNode nodes n
 LineFits nodes requests lanes (CutBelow n limits) = IsNode nodes n × (length limits ≡ lanes)
+LineFits nodes requests lanes (Deliver m) = 0 < m
+LineFits nodes requests lanes Flush = Unit {0}
+LineFits nodes requests lanes (Replay n) = IsNode nodes n
+LineFits nodes requests lanes (Ask n m) = IsNode nodes n × (IsNode nodes m × (n ≢ m))
+LineFits nodes requests lanes (Stop n) = IsNode nodes n
+LineFits nodes requests lanes (Start n) = IsNode nodes n
+LineFits nodes requests lanes (Checkpoint n) = IsNode nodes n
+LineFits nodes requests lanes (KeepFail n kept) = IsNode nodes n
 
 -- what a scenario names is there in its service
 pub record ScenarioFits (service : Declarations) (s : Scenario) : Type 0 where
-  pub nodes : s.nodes ≡ 1
+  pub nodes : is_node_count s.nodes ≡ true
   pub few_requests : length s.requests ≤ 65536
   pub few_lines : length s.schedule ≤ 100000
   pub requests : All (RequestFits service) s.requests

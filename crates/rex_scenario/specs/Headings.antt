@@ -1,7 +1,8 @@
 -- The headings of a scenario's sections, in their order.
-use Rattle.std.specs.Prelude.{◌==◌, ℕ, Bool, true, false, List, [], ◌∷◌, Option, Some, None, is_some, unwrap_or, codes, slice_index, if◌then◌else◌}
+use Rattle.std.specs.Prelude.{◌==◌, ℕ, Bool, true, false, List, [], ◌∷◌, Option, Some, None, is_some, unwrap_or, codes, slice_index, option_and_then, if◌then◌else◌}
 use Rattle.std.specs.Str.{bytes_eq}
 use Rattle.rex_text.specs.Text.{Word}
+use Rattle.rex_text.specs.Numbers.{u64_at}
 use Rattle.rex_parse.specs.Table.{count_of}
 use Rattle.rex_scenario.specs.declared.scenario.ScenarioCode.{ScenarioCode}
 use Rattle.rex_scenario.specs.declared.scenario.ScenarioCode.TheVariants.{OutOfPlace, BadHeading}
@@ -46,9 +47,17 @@ next_stage s w = if_due s (begun_by w)
 abbrev pub seed_of : Word → Option ℕ
 seed_of w = count_of 0 4294967295 w
 
--- the words after the first of the heading that begins a stage are right: the number of nodes, which is 1, a seed, or none
+-- so many nodes there may be: one, so far
+abbrev pub is_node_count : ℕ → Bool
+is_node_count n = n == 1
+
+-- a number of nodes, where there may be so many
+abbrev pub nodes_of : Word → Option ℕ
+nodes_of w = option_and_then (λ n. if is_node_count n then Some n else None) (u64_at w)
+
+-- the words after the first of the heading that begins a stage are right: the number of nodes, a seed, or none
 abbrev pub is_whole : Stage → List Word → Bool
-is_whole stage.Nodes (w ∷ []) = is_some (count_of 1 1 w)
+is_whole stage.Nodes (w ∷ []) = is_some (nodes_of w)
 is_whole stage.Nodes _ = false
 is_whole stage.Seed (w ∷ []) = is_some (seed_of w)
 is_whole stage.Seed _ = false
@@ -65,6 +74,11 @@ abbrev pub heading_code : Stage → List Word → Option ScenarioCode
 heading_code s [] = None
 heading_code s (w ∷ ws) = begin_code (next_stage s w) ws
 
+-- the number of nodes that a heading says with the words after its first, and else the one before
+abbrev pub nodes_after : Stage → List Word → ℕ → ℕ
+nodes_after stage.Nodes (w ∷ ws) before = unwrap_or (nodes_of w) before
+nodes_after _ _ before = before
+
 -- the seed that a heading says with the words after its first, and else the one before
 abbrev pub seed_after : Stage → List Word → ℕ → ℕ
 seed_after stage.Seed (w ∷ ws) before = unwrap_or (seed_of w) before
@@ -73,7 +87,7 @@ seed_after _ _ before = before
 -- a stage has begun with these words after its heading's first
 abbrev pub begun : Sections → Option Stage → List Word → Sections
 begun s None ws = s
-begun s (Some next) ws = record s { stage = next; seed = seed_after next ws s.seed }
+begun s (Some next) ws = record s { stage = next; nodes = nodes_after next ws s.nodes; seed = seed_after next ws s.seed }
 
 -- a good heading begins its stage
 abbrev pub after_heading : Sections → List Word → Sections

@@ -1,9 +1,10 @@
 -- What the good lines so far keep: what the sections name is there.
-use Rattle.std.specs.Prelude.{◌≡◌, ◌≤◌, [], length, None, unwrap_or}
+use Rattle.std.specs.Prelude.{◌≡◌, ◌≤◌, true, false, [], length, None, unwrap_or}
 use Rattle.std.specs.List.{All}
 use Rattle.rex_parse.specs.After.{service_of}
 use Rattle.rex_parse.specs.Good.{IsGood}
 use Rattle.rex_parse.specs.Reading.{end_code}
+use Rattle.rex_scenario.specs.Headings.{is_node_count}
 use Rattle.rex_scenario.specs.Fits.{RequestFits, LineFits}
 use Rattle.rex_scenario.specs.declared.scenario.Sections.{Sections}
 use Rattle.rex_scenario.specs.declared.scenario.Stage.{Stage}
@@ -16,20 +17,23 @@ pub record AreAhead (s : Sections) : Type 0 where
 
 -- the service is whole, and the requests fit it
 pub record RequestsFit (s : Sections) : Type 0 where
+  pub nodes : is_node_count s.nodes ≡ true
   pub whole : end_code s.service ≡ None
   pub few : length s.requests ≤ 65536
   pub each : All (RequestFits (service_of s.service)) s.requests
 
--- the schedule lines fit the service and the requests
+-- the schedule lines fit the service and the requests, and there are none where there may be none
 pub record ScheduleFits (s : Sections) : Type 0 where
   pub few : length s.schedule ≤ 100000
-  pub each : All (LineFits 1 (length s.requests) (unwrap_or s.service.lanes 0)) s.schedule
+  pub each : All (LineFits s.nodes (length s.requests) (unwrap_or s.service.lanes 0)) s.schedule
+  pub none : s.scheduled ≡ false → s.schedule ≡ []
 
 -- what holds of the sections that were read
 abbrev pub FitsAt : Stage → Sections → Type 0
 FitsAt stage.Requests s = RequestsFit s × (s.schedule ≡ [])
 FitsAt stage.Schedule s = RequestsFit s × ScheduleFits s
-FitsAt _ s = AreAhead s
+FitsAt stage.Start s = AreAhead s
+FitsAt _ s = AreAhead s × (is_node_count s.nodes ≡ true)
 
 -- what holds of the sections so far
 pub record SectionsFit (s : Sections) : Type 0 where

@@ -1,5 +1,5 @@
 -- A whole scenario: the first bad line with its least code, or what was said.
-use Rattle.std.specs.Prelude.{◌+◌, ℕ, Bool, not, List, [], ◌∷◌, ◌++◌, length, nat_lt, Option, Some, None, Result, Ok, Err, unwrap_or, if◌then◌else◌}
+use Rattle.std.specs.Prelude.{◌+◌, ℕ, Bool, true, false, not, List, [], ◌∷◌, ◌++◌, length, nat_lt, Option, Some, None, Result, Ok, Err, unwrap_or, if◌then◌else◌}
 use Rattle.std.specs.List.{list_all}
 use Rattle.rex_text.specs.Text.{Word, lines_of, words_of, numbered, is_skipped, is_allowed}
 use Rattle.rex_parse.specs.Above.{nothing}
@@ -15,9 +15,9 @@ use Rattle.rex_scenario.specs.declared.scenario.Sections.{Sections}
 use Rattle.rex_scenario.specs.declared.scenario.Stage.{Stage}
 use Rattle.rex_scenario.specs.declared.scenario.Stage.TheVariants as stage
 
--- before the first line
-abbrev pub no_sections : Sections
-no_sections = record { stage = stage.Start; seed = 0; service = nothing; requests = []; schedule = [] }
+-- before the first line of a text whose schedule may have lines, or may not
+abbrev pub start : Bool → Sections
+start scheduled = record { stage = stage.Start; scheduled = scheduled; nodes = 0; seed = 0; service = nothing; requests = []; schedule = [] }
 
 -- each byte of a line is allowed
 abbrev pub is_clean : List ℕ → Bool
@@ -43,7 +43,7 @@ service_line_code s line = if is_heading (words_of line) then service_end_code s
 -- the code that fits a line with words outside the service that is no heading
 abbrev pub words_code : Sections → Stage → List Word → Option ScenarioCode
 words_code s stage.Requests ws = request_code s.service s.requests ws
-words_code s stage.Schedule ws = schedule_code 1 (length s.requests) (unwrap_or s.service.lanes 0) (length s.schedule) ws
+words_code s stage.Schedule ws = schedule_code s.scheduled s.nodes (length s.requests) (unwrap_or s.service.lanes 0) (length s.schedule) ws
 words_code s _ ws = Some OutOfPlace
 
 -- the code that fits a line outside the service
@@ -105,10 +105,18 @@ unfoldable pub answer_from : Sections → ℕ → List (ℕ × List ℕ) → Res
 answer_from s next [] = or_next (end_of s s.stage) next (Ok s)
 answer_from s next (line ∷ rest) = or_next (line_code s line.1) line.0 (answer_from (line_after s line.0 line.1) (line.0 + 1) rest)
 
--- the answer to a text of at most 4,194,304 bytes; a longer one is refused whatever it says
-abbrev pub answer_of : List ℕ → Result Sections (ℕ × ScenarioCode)
-answer_of bytes = if nat_lt 4194304 (length bytes) then Err (0, TooLong) else answer_from no_sections 1 (numbered 1 (lines_of bytes))
+-- the answer to a text of at most 4,194,304 bytes, whose schedule may have lines, or may not; a longer one is refused whatever it says
+abbrev pub answer_to : Bool → List ℕ → Result Sections (ℕ × ScenarioCode)
+answer_to scheduled bytes = if nat_lt 4194304 (length bytes) then Err (0, TooLong) else answer_from (start scheduled) 1 (numbered 1 (lines_of bytes))
 
--- the seed, the requests and the schedule of a good text
+-- the answer to a text
+abbrev pub answer_of : List ℕ → Result Sections (ℕ × ScenarioCode)
+answer_of bytes = answer_to true bytes
+
+-- the answer to a text whose schedule may have no lines
+abbrev pub unscheduled_answer_of : List ℕ → Result Sections (ℕ × ScenarioCode)
+unscheduled_answer_of bytes = answer_to false bytes
+
+-- the nodes, the seed, the requests and the schedule of a good text
 abbrev pub scenario_of : Sections → Scenario
-scenario_of s = record { nodes = 1; seed = s.seed; requests = s.requests; schedule = s.schedule }
+scenario_of s = record { nodes = s.nodes; seed = s.seed; requests = s.requests; schedule = s.schedule }

@@ -1,5 +1,5 @@
 -- Schedule lines: a word and numbers.
-use Rattle.std.specs.Prelude.{◌-◌, ◌++◌, ◌&&◌, ◌==◌, ℕ, Bool, true, not, length, List, [], ◌∷◌, nat_le, Option, Some, None, codes, option_map, if◌then◌else◌}
+use Rattle.std.specs.Prelude.{◌-◌, ◌++◌, ◌&&◌, ◌==◌, ℕ, Bool, true, false, not, length, List, [], ◌∷◌, nat_le, nat_lt, Option, Some, None, codes, option_map, option_and_then, if◌then◌else◌}
 use Rattle.std.specs.Str.{bytes_eq}
 use Rattle.rex_text.specs.Text.{Word}
 use Rattle.rex_text.specs.Numbers.{u64_at}
@@ -9,24 +9,33 @@ use Rattle.rex_scenario.specs.declared.scenario.ScenarioCode.TheVariants.{BadLin
 use Rattle.rex_scenario.specs.declared.schedule.Step.{Step}
 use Rattle.rex_scenario.specs.declared.schedule.Step.TheVariants as step
 use Rattle.rex_scenario.specs.declared.scenario.ScheduleLine.{ScheduleLine}
-use Rattle.rex_scenario.specs.declared.scenario.ScheduleLine.TheVariants.{Elect, Submit, Lane, Cut, CutBelow}
+use Rattle.rex_scenario.specs.declared.scenario.ScheduleLine.TheVariants as line
 
--- a step of two numbers
-abbrev pub with_both : (ℕ → ℕ → Step) → Option ℕ → Option ℕ → Option Step
-with_both make (Some m) (Some n) = Some (make m n)
-with_both make _ _ = None
+-- a word alone
+abbrev pub lone_step : Word → Option Step
+lone_step w = if bytes_eq w (codes "flush") then Some step.Flush else None
 
--- a word and a node
-abbrev pub short_step : Word → Word → Option Step
-short_step w v =
-    if bytes_eq w (codes "elect") then option_map step.Elect (u64_at v)
-    else if bytes_eq w (codes "cut") then option_map step.Cut (u64_at v) else None
+-- a word and a number
+abbrev pub short_step : Word → ℕ → Option Step
+short_step w n =
+    if bytes_eq w (codes "elect") then Some (step.Elect n)
+    else if bytes_eq w (codes "cut") then Some (step.Cut n)
+    else if bytes_eq w (codes "deliver") then Some (step.Deliver n)
+    else if bytes_eq w (codes "replay") then Some (step.Replay n)
+    else if bytes_eq w (codes "checkpoint") then Some (step.Checkpoint n)
+    else if bytes_eq w (codes "stop") then Some (step.Stop n)
+    else if bytes_eq w (codes "start") then Some (step.Start n) else None
 
--- a word, a node, and a request or a lane
-abbrev pub long_step : Word → Word → Word → Option Step
-long_step w v u =
-    if bytes_eq w (codes "submit") then with_both step.Submit (u64_at v) (u64_at u)
-    else if bytes_eq w (codes "lane") then with_both step.Lane (u64_at v) (u64_at u) else None
+-- a word, a node, and a request, a lane or another node
+abbrev pub long_step : Word → ℕ → ℕ → Option Step
+long_step w n m =
+    if bytes_eq w (codes "submit") then Some (step.Submit n m)
+    else if bytes_eq w (codes "lane") then Some (step.Lane n m)
+    else if bytes_eq w (codes "ask") then Some (step.Ask n m) else None
+
+-- a record whose append fails is kept or lost
+abbrev pub kept_at : Word → Option Bool
+kept_at w = if bytes_eq w (codes "kept") then Some true else if bytes_eq w (codes "lost") then Some false else None
 
 -- a word as a limit, which is at most 2^32 - 1
 abbrev pub small : Option ℕ → Option ℕ
@@ -53,52 +62,79 @@ abbrev pub cut_step : Word → Word → List Word → Option Step
 cut_step w v us = if bytes_eq w (codes "cut") then with_limits (u64_at v) (limits_at us) else None
 
 -- a word, a node, and one word more
-abbrev pub longer_step : Word → Word → Word → Option Step
-longer_step w v u = if bytes_eq w (codes "cut") then cut_step w v (u ∷ []) else long_step w v u
+abbrev pub longer_step : Word → ℕ → Word → Option Step
+longer_step w n u = if bytes_eq w (codes "keepfail") then option_map (step.KeepFail n) (kept_at u) else option_and_then (long_step w n) (u64_at u)
 
 -- the step that the words spell
 abbrev pub step_of : List Word → Option Step
 step_of [] = None
-step_of (w ∷ []) = None
-step_of (w ∷ v ∷ []) = short_step w v
-step_of (w ∷ v ∷ u ∷ []) = longer_step w v u
+step_of (w ∷ []) = lone_step w
+step_of (w ∷ v ∷ []) = option_and_then (short_step w) (u64_at v)
+step_of (w ∷ v ∷ u ∷ []) = if bytes_eq w (codes "cut") then cut_step w v (u ∷ []) else option_and_then (λ n. longer_step w n u) (u64_at v)
 step_of (w ∷ v ∷ u ∷ t ∷ us) = cut_step w v (u ∷ t ∷ us)
 
--- the node, the request and the lane that it names, counted from 1, are there
+-- the steps that may come so far
+abbrev pub is_ready : Step → Bool
+is_ready (step.Elect n) = true
+is_ready (step.Submit n r) = true
+is_ready (step.Lane n l) = true
+is_ready (step.Cut n) = true
+is_ready (step.CutBelow n limits) = true
+is_ready _ = false
+
+-- a schedule may have this step: one that may come so far, where it may have lines at all
+abbrev pub is_open : Bool → Step → Bool
+is_open scheduled s = scheduled && is_ready s
+
+-- the node, the request and the lane that it names, counted from 1, are there; so is any message but 0, and a node asks another one
 abbrev pub is_there : ℕ → ℕ → ℕ → Step → Bool
 is_there nodes requests lanes (step.Elect n) = in_range 1 nodes n
 is_there nodes requests lanes (step.Submit n r) = in_range 1 nodes n && in_range 1 requests r
 is_there nodes requests lanes (step.Lane n l) = in_range 1 nodes n && in_range 1 lanes l
 is_there nodes requests lanes (step.Cut n) = in_range 1 nodes n
 is_there nodes requests lanes (step.CutBelow n limits) = in_range 1 nodes n
+is_there nodes requests lanes (step.Deliver m) = nat_lt 0 m
+is_there nodes requests lanes step.Flush = true
+is_there nodes requests lanes (step.Replay n) = in_range 1 nodes n
+is_there nodes requests lanes (step.Ask n m) = in_range 1 nodes n && (in_range 1 nodes m && not (n == m))
+is_there nodes requests lanes (step.Stop n) = in_range 1 nodes n
+is_there nodes requests lanes (step.Start n) = in_range 1 nodes n
+is_there nodes requests lanes (step.Checkpoint n) = in_range 1 nodes n
+is_there nodes requests lanes (step.KeepFail n kept) = in_range 1 nodes n
 
 -- a cut with limits has one for each lane
 abbrev pub has_limits : ℕ → Step → Bool
 has_limits lanes (step.CutBelow n limits) = length limits == lanes
-has_limits lanes (step.Elect n) = true
-has_limits lanes (step.Submit n r) = true
-has_limits lanes (step.Lane n l) = true
-has_limits lanes (step.Cut n) = true
+has_limits lanes _ = true
 
 -- the schedule line that a step is
 abbrev pub line_of : Step → ScheduleLine
-line_of (step.Elect n) = Elect n
-line_of (step.Submit n r) = Submit n (r - 1)
-line_of (step.Lane n l) = Lane n (l - 1)
-line_of (step.Cut n) = Cut n
-line_of (step.CutBelow n limits) = CutBelow n limits
+line_of (step.Elect n) = line.Elect n
+line_of (step.Submit n r) = line.Submit n (r - 1)
+line_of (step.Lane n l) = line.Lane n (l - 1)
+line_of (step.Cut n) = line.Cut n
+line_of (step.CutBelow n limits) = line.CutBelow n limits
+line_of (step.Deliver m) = line.Deliver m
+line_of step.Flush = line.Flush
+line_of (step.Replay n) = line.Replay n
+line_of (step.Ask n m) = line.Ask n m
+line_of (step.Stop n) = line.Stop n
+line_of (step.Start n) = line.Start n
+line_of (step.Checkpoint n) = line.Checkpoint n
+line_of (step.KeepFail n kept) = line.KeepFail n kept
 
 -- the code that fits a step, or words that spell none
-abbrev pub step_code : ℕ → ℕ → ℕ → ℕ → Option Step → Option ScenarioCode
-step_code nodes requests lanes earlier None = Some BadLine
-step_code nodes requests lanes earlier (Some s) =
-    if nat_le 100000 earlier then Some TooManyLines
+abbrev pub step_code : Bool → ℕ → ℕ → ℕ → ℕ → Option Step → Option ScenarioCode
+step_code scheduled nodes requests lanes earlier None = Some BadLine
+step_code scheduled nodes requests lanes earlier (Some s) =
+    if not (is_open scheduled s) then Some BadLine
+    else if nat_le 100000 earlier then Some TooManyLines
     else if not (is_there nodes requests lanes s) then Some NotThere
     else if has_limits lanes s then None else Some WrongLimits
 
 -- the code that fits a schedule line, where so many nodes, requests and lanes are there and so many schedule lines came before
-abbrev pub schedule_code : ℕ → ℕ → ℕ → ℕ → List Word → Option ScenarioCode
-schedule_code nodes requests lanes earlier ws = step_code nodes requests lanes earlier (step_of ws)
+abbrev pub schedule_code : Bool → ℕ → ℕ → ℕ → ℕ → List Word → Option ScenarioCode
+schedule_code scheduled nodes requests lanes earlier ws = step_code scheduled nodes requests lanes earlier (step_of ws)
 
 -- the schedule with a good line
 abbrev pub with_step : List ScheduleLine → Option Step → List ScheduleLine

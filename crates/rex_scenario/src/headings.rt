@@ -7,7 +7,7 @@ ghost use Rattle.rex_scenario.specs.Headings as headings;
 
 use crate::scenario::Stage;
 use crate::words::count_of;
-use rex_text::words;
+use rex_text::{read_u64, words};
 
 /// Whether the first word of a line begins with `%`.
 pub(crate) fn is_heading(words: &[&[u8]]) -> bool
@@ -79,10 +79,20 @@ pub(crate) fn is_whole(next: Stage, words: &[&[u8]]) -> bool
     ensures { result ≡ headings.is_whole next (texts words.now) }
 {
     match (next, words) {
-        (Stage::Nodes, [nodes]) => count_of(1, 1, nodes).is_some(),
+        (Stage::Nodes, [nodes]) => nodes_of(nodes).is_some(),
         (Stage::Seed, [seed]) => seed_of(seed).is_some(),
         (Stage::Nodes | Stage::Seed, _) => false,
         _ => words.is_empty(),
+    }
+}
+
+/// The number of nodes that a heading says, and else the one before.
+pub(crate) fn nodes_after(next: Stage, words: &[&[u8]], before: u8) -> u8
+    ensures { result ≡ headings.nodes_after next (texts words.now) before }
+{
+    match (next, words) {
+        (Stage::Nodes, [nodes, ..]) => nodes_of(nodes).unwrap_or(before),
+        _ => before,
     }
 }
 
@@ -93,6 +103,16 @@ pub(crate) fn seed_after(next: Stage, words: &[&[u8]], before: u32) -> u32
     match (next, words) {
         (Stage::Seed, [seed, ..]) => seed_of(seed).unwrap_or(before),
         _ => before,
+    }
+}
+
+// The number of nodes that a word spells, where there may be so many.
+fn nodes_of(word: &[u8]) -> Option<u8>
+    ensures value { result ≡ headings.nodes_of word.now }
+{
+    match read_u64(word)? {
+        1 => Some(1),
+        _ => None,
     }
 }
 

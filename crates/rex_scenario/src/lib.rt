@@ -10,5 +10,7 @@ mod scenario;
 mod schedule;
 mod words;
 
-pub use reading::{SCENARIO_BYTES, first_bad_line, read_scenario};
+pub use reading::{
+    SCENARIO_BYTES, first_bad_line, no_schedule_lines, read_scenario, read_unscheduled,
+};
 pub use scenario::{Scenario, ScenarioCode, ScenarioError, ScheduleLine, Sections, Stage};

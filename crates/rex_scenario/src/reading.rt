@@ -1,11 +1,11 @@
 //! A whole scenario from its text.
 
-ghost use Rattle.std.specs.Prelude.{◌≡◌, ◌+◌, ◌<◌, ◌^◌, None, Ok, IfErr, IfOk, OnOk, length};
+ghost use Rattle.std.specs.Prelude.{◌≡◌, ◌+◌, ◌<◌, ◌^◌, [], false, None, Ok, IfErr, IfOk, OnOk, length};
 ghost use Rattle.rex_text.specs.Text.{lines_of, numbered};
 ghost use Rattle.rex_scenario.specs.Answers.{Refuses, Says};
 ghost use Rattle.rex_scenario.specs.Fits.{ScenarioFits};
 ghost use Rattle.rex_scenario.specs.Keeps.{SectionsFit};
-ghost use Rattle.rex_scenario.specs.Reading.{answer_from, answer_of, end_of, no_sections};
+ghost use Rattle.rex_scenario.specs.Reading.{answer_from, answer_of, answer_to, end_of, start, unscheduled_answer_of};
 
 use crate::reader::Reader;
 use crate::scenario::{LineFault, Scenario, ScenarioCode, ScenarioError};
@@ -16,15 +16,37 @@ use std::alloc::Global;
 /// The most bytes of a scenario's text.
 pub const SCENARIO_BYTES: usize = 4_194_304;
 
-/// Reads a text of no more bytes than may be, line by line.
+/// The scenario that a text describes, and its service, or the first bad line with the least code that fits it.
+pub fn read_scenario(alloc: Global, bytes: &[u8]) -> Result<(Scenario, Service), ScenarioError>
+    requires { length bytes.now + 1 < 2 ^ 32 }
+    ensures says { IfOk result (λ read. Says (answer_of bytes.now) read.0 read.1) }
+    ensures fits { IfOk result (λ read. ScenarioFits read.1 read.0) }
+    ensures refuses { IfErr result (Refuses (answer_of bytes.now)) }
+{
+    read(alloc, bytes, true)
+}
+
+/// The same of a text whose schedule may have no lines: each is refused as a line of no form.
+pub fn read_unscheduled(alloc: Global, bytes: &[u8]) -> Result<(Scenario, Service), ScenarioError>
+    requires { length bytes.now + 1 < 2 ^ 32 }
+    ensures says { IfOk result (λ read. Says (unscheduled_answer_of bytes.now) read.0 read.1) }
+    ensures fits { IfOk result (λ read. ScenarioFits read.1 read.0) }
+    ensures empty { IfOk result (λ read. read.0.schedule ≡ []) }
+    ensures refuses { IfErr result (Refuses (unscheduled_answer_of bytes.now)) }
+{
+    read(alloc, bytes, false)
+}
+
+// Reads a text of no more bytes than may be, line by line. Its schedule may have lines, or may not.
 #[tactic(auto, unfolding(crate::specs::Reading::answer_from))]
-fn read_text(reader: &mut Reader, bytes: &[u8]) -> Result<(), ScenarioError>
-    requires start { reader.old ≡ no_sections }
+fn read_text(reader: &mut Reader, bytes: &[u8], _scheduled: bool) -> Result<(), ScenarioError>
+    requires start { reader.old ≡ start _scheduled }
     requires short { length bytes.now + 1 < 2 ^ 32 }
-    ensures read { OnOk result (answer_from no_sections 1 (numbered 1 (lines_of bytes.now)) ≡ Ok reader.new) }
+    ensures read { OnOk result (answer_from (start _scheduled) 1 (numbered 1 (lines_of bytes.now)) ≡ Ok reader.new) }
     ensures ended { OnOk result (end_of reader.new reader.new.stage ≡ None) }
+    ensures mode { OnOk result (reader.new.scheduled ≡ _scheduled) }
     ensures fit { OnOk result (SectionsFit reader.new) }
-    ensures refused { IfErr result (Refuses (answer_from no_sections 1 (numbered 1 (lines_of bytes.now)))) }
+    ensures refused { IfErr result (Refuses (answer_from (start _scheduled) 1 (numbered 1 (lines_of bytes.now)))) }
 {
     let mut lines = raw_lines(bytes);
     let mut next = 1;
@@ -43,12 +65,13 @@ fn read_text(reader: &mut Reader, bytes: &[u8]) -> Result<(), ScenarioError>
     }
 }
 
-/// The scenario that a text describes, and its service, or the first bad line with the least code that fits it.
-pub fn read_scenario(alloc: Global, bytes: &[u8]) -> Result<(Scenario, Service), ScenarioError>
+// The scenario that a text describes, whose schedule may have lines, or may not.
+fn read(alloc: Global, bytes: &[u8], scheduled: bool) -> Result<(Scenario, Service), ScenarioError>
     requires { length bytes.now + 1 < 2 ^ 32 }
-    ensures says { IfOk result (λ read. Says (answer_of bytes.now) read.0 read.1) }
+    ensures says { IfOk result (λ read. Says (answer_to scheduled bytes.now) read.0 read.1) }
     ensures fits { IfOk result (λ read. ScenarioFits read.1 read.0) }
-    ensures refuses { IfErr result (Refuses (answer_of bytes.now)) }
+    ensures empty { scheduled ≡ false → IfOk result (λ read. read.0.schedule ≡ []) }
+    ensures refuses { IfErr result (Refuses (answer_to scheduled bytes.now)) }
 {
     if bytes.len() > SCENARIO_BYTES {
         return Err(ScenarioError::Refused {
@@ -56,15 +79,20 @@ pub fn read_scenario(alloc: Global, bytes: &[u8]) -> Result<(Scenario, Service),
             code: ScenarioCode::TooLong,
         });
     }
-    let mut reader = Reader::new(alloc);
-    read_text(&mut reader, bytes)?;
+    let mut reader = Reader::new(alloc, scheduled);
+    read_text(&mut reader, bytes, scheduled)?;
     Ok(reader.finish())
 }
 
-ghost use Rattle.rex_scenario.specs.Law.{EachText};
+ghost use Rattle.rex_scenario.specs.Law.{EachText, NoLines};
 
 /// The answer to a text is its first bad line with the least code that fits it, given what the lines above say, or what
 /// its end says.
 pub fn first_bad_line()
     ensures { EachText }
+{}
+
+/// Where the schedule may have no lines, each line of it with words is refused as one of no form.
+pub fn no_schedule_lines()
+    ensures { NoLines }
 {}

@@ -5,7 +5,7 @@ use rex_parse::{Above, ServiceCode};
 use rex_syntax::request::Request;
 use std::alloc::AllocError;
 
-/// A line of a schedule. Nodes are numbered from 1, lanes and requests from 0.
+/// A line of a schedule. Nodes and messages are numbered from 1, lanes and requests from 0.
 #[derive(Drop)]
 pub enum ScheduleLine {
     /// The node asks to lead.
@@ -18,12 +18,28 @@ pub enum ScheduleLine {
     Cut { node: u8 },
     /// The node proposes the greatest consistent cut of its live events with at most so many of each lane.
     CutBelow { node: u8, limits: List<u32> },
+    /// A message is handed over. Messages are numbered as they are sent; as many need not have been sent.
+    Deliver { message: u64 },
+    /// Each message that was sent before this line, and that no line handed over yet, is handed over.
+    Flush,
+    /// The node runs what it knows and has not run yet.
+    Replay { node: u8 },
+    /// The node asks another one for what it doesn't know yet.
+    Ask { node: u8, other: u8 },
+    /// The node is stopped. What it has recorded is left.
+    Stop { node: u8 },
+    /// The node is started from what it has recorded.
+    Start { node: u8 },
+    /// The node records the state that it has come to.
+    Checkpoint { node: u8 },
+    /// The next record that the node appends will fail, and be kept or lost.
+    KeepFail { node: u8, kept: bool },
 }
 
 /// The requests and the schedule of a scenario, which its service is read beside.
 #[derive(Drop)]
 pub struct Scenario {
-    /// The number of nodes.
+    /// The number of nodes: one, so far.
     pub nodes: u8,
     /// The seed of the random reads.
     pub seed: u32,
@@ -50,11 +66,12 @@ pub enum ScenarioCode {
     BadCall,
     /// S7: client and sequence of an earlier request.
     Repeated,
-    /// S8: a schedule line's words aren't of a form, a number in it is no number below 2^64, or a limit none below 2^32.
+    /// S8: a schedule line's words aren't of a form that may come so far, a number in it is no number below 2^64, or a limit
+    /// none below 2^32; or the schedule may have no lines.
     BadLine,
     /// S9: a schedule line past the 100,000th.
     TooManyLines,
-    /// S10: a node, lane or request that isn't there.
+    /// S10: a node, lane or request that isn't there, a node that asks itself, or message 0.
     NotThere,
     /// S11: a request past the 65,536th.
     TooManyRequests,
@@ -108,6 +125,10 @@ pub enum Stage {
 #[derive(Drop)]
 pub struct Sections {
     pub stage: Stage,
+    /// Whether the schedule may have lines.
+    pub scheduled: bool,
+    /// The number of nodes, 0 before `%nodes`.
+    pub nodes: u8,
     /// The seed, 0 where no line says it.
     pub seed: u32,
     pub service: Above,

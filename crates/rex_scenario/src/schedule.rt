@@ -1,6 +1,6 @@
 //! Schedule lines.
 
-ghost use Rattle.std.specs.Prelude.{◌≡◌, ◌≤◌, ◌-◌, None, Some, IfOk, option_map, if◌then◌else◌};
+ghost use Rattle.std.specs.Prelude.{◌≡◌, ◌≤◌, ◌-◌, ◌&&◌, ◌==◌, not, nat_lt, None, Some, IfOk, option_map, option_and_then, if◌then◌else◌};
 ghost use Rattle.rex_parse.specs.Answers.{texts};
 ghost use Rattle.rex_parse.specs.Table.{in_range};
 ghost use Rattle.rex_text.specs.Numbers.{u64_at};
@@ -20,6 +20,14 @@ pub(crate) enum Step {
     Lane(u64, u64),
     Cut(u64),
     CutBelow(u64, List<u32>),
+    Deliver(u64),
+    Flush,
+    Replay(u64),
+    Ask(u64, u64),
+    Stop(u64),
+    Start(u64),
+    Checkpoint(u64),
+    KeepFail(u64, bool),
 }
 
 /// The step that words spell. Limits are all that takes memory.
@@ -27,34 +35,83 @@ pub(crate) fn step_of(alloc: Global, words: &[&[u8]]) -> Result<Option<Step>, Al
     ensures { IfOk result (λ step. step ≡ schedule.step_of (texts words.now)) }
 {
     match words {
-        [word, node] => Ok(short_step(word, node)),
+        [word] => Ok(lone_step(word)),
+        [word, number] => Ok(short_step(word, number)),
         [word, node, limits @ ..] if *word == b"cut".as_slice() => cut_step(alloc, node, limits),
-        [word, node, number] => Ok(long_step(word, node, number)),
+        [word, node, other] => Ok(longer_step(word, node, other)),
         _ => Ok(None),
     }
 }
 
-// A step of one number.
-fn short_step(word: &[u8], node: &[u8]) -> Option<Step>
-    ensures { result ≡ schedule.short_step word.now node.now }
+// A step of a word alone.
+fn lone_step(word: &[u8]) -> Option<Step>
+    ensures { result ≡ schedule.lone_step word.now }
 {
-    if word == b"elect".as_slice() {
-        Some(Step::Elect(read_u64(node)?))
-    } else if word == b"cut".as_slice() {
-        Some(Step::Cut(read_u64(node)?))
+    if word == b"flush".as_slice() {
+        Some(Step::Flush)
     } else {
         None
     }
 }
 
+// A step of one number.
+fn short_step(word: &[u8], number: &[u8]) -> Option<Step>
+    ensures { result ≡ option_and_then (schedule.short_step word.now) (u64_at number.now) }
+{
+    let number = read_u64(number)?;
+    if word == b"elect".as_slice() {
+        Some(Step::Elect(number))
+    } else if word == b"cut".as_slice() {
+        Some(Step::Cut(number))
+    } else if word == b"deliver".as_slice() {
+        Some(Step::Deliver(number))
+    } else if word == b"replay".as_slice() {
+        Some(Step::Replay(number))
+    } else if word == b"checkpoint".as_slice() {
+        Some(Step::Checkpoint(number))
+    } else if word == b"stop".as_slice() {
+        Some(Step::Stop(number))
+    } else if word == b"start".as_slice() {
+        Some(Step::Start(number))
+    } else {
+        None
+    }
+}
+
+// A step of a node and one word more.
+fn longer_step(word: &[u8], node: &[u8], other: &[u8]) -> Option<Step>
+    ensures { result ≡ option_and_then (λ n. schedule.longer_step word.now n other.now) (u64_at node.now) }
+{
+    let node = read_u64(node)?;
+    if word == b"keepfail".as_slice() {
+        return Some(Step::KeepFail(node, kept_of(other)?));
+    }
+    long_step(word, node, read_u64(other)?)
+}
+
 // A step of two numbers.
-fn long_step(word: &[u8], node: &[u8], number: &[u8]) -> Option<Step>
-    ensures { result ≡ schedule.long_step word.now node.now number.now }
+fn long_step(word: &[u8], node: u64, number: u64) -> Option<Step>
+    ensures { result ≡ schedule.long_step word.now node number }
 {
     if word == b"submit".as_slice() {
-        Some(Step::Submit(read_u64(node)?, read_u64(number)?))
+        Some(Step::Submit(node, number))
     } else if word == b"lane".as_slice() {
-        Some(Step::Lane(read_u64(node)?, read_u64(number)?))
+        Some(Step::Lane(node, number))
+    } else if word == b"ask".as_slice() {
+        Some(Step::Ask(node, number))
+    } else {
+        None
+    }
+}
+
+// Whether a record whose append fails is kept.
+fn kept_of(word: &[u8]) -> Option<bool>
+    ensures { result ≡ schedule.kept_at word.now }
+{
+    if word == b"kept".as_slice() {
+        Some(true)
+    } else if word == b"lost".as_slice() {
+        Some(false)
     } else {
         None
     }
@@ -93,28 +150,33 @@ fn limit_of(word: &[u8]) -> Option<u32>
     u32::try_from(read_u64(word)?).ok()
 }
 
-/// The schedule line that words spell, or the code that fits, where so many requests and lanes are there and so many
-/// schedule lines came before.
+/// The schedule line that words spell, or the code that fits, where so many nodes, requests and lanes are there, so many
+/// schedule lines came before, and the schedule may have lines, or may not.
 pub(crate) fn read_schedule_line(
     alloc: Global,
     words: &[&[u8]],
+    scheduled: bool,
+    nodes: u8,
     requests: usize,
     lanes: u64,
     earlier: usize,
 ) -> Result<ScheduleLine, LineFault>
     requires requests { requests ≤ 65536 }
     requires lanes { lanes ≤ 16 }
-    ensures { Reads result (schedule.schedule_code 1 requests lanes earlier (texts words.now))
+    ensures { Reads result (schedule.schedule_code scheduled nodes requests lanes earlier (texts words.now))
         (option_map schedule.line_of (schedule.step_of (texts words.now))) }
 {
     let Some(step) = step_of(alloc, words)? else {
         return Err(LineFault::Refused(ScenarioCode::BadLine));
     };
+    if !is_open(scheduled, &step) {
+        return Err(LineFault::Refused(ScenarioCode::BadLine));
+    }
     if earlier >= 100_000 {
         return Err(LineFault::Refused(ScenarioCode::TooManyLines));
     }
     let is_complete = has_limits(&step, lanes);
-    let Some(line) = placed(step, requests as u64, lanes) else {
+    let Some(line) = placed(step, nodes, requests as u64, lanes) else {
         return Err(LineFault::Refused(ScenarioCode::NotThere));
     };
     if !is_complete {
@@ -123,50 +185,114 @@ pub(crate) fn read_schedule_line(
     Ok(line)
 }
 
+// Whether a schedule may have this step: one that may come so far, where it may have lines at all.
+fn is_open(scheduled: bool, step: &Step) -> bool
+    ensures { result ≡ schedule.is_open scheduled step.now }
+{
+    scheduled && is_ready(step)
+}
+
+// Whether such a step may come so far.
+fn is_ready(step: &Step) -> bool
+    ensures { result ≡ schedule.is_ready step.now }
+{
+    match step {
+        Step::Elect(_)
+        | Step::Submit(_, _)
+        | Step::Lane(_, _)
+        | Step::Cut(_)
+        | Step::CutBelow(_, _) => true,
+        _ => false,
+    }
+}
+
 // Whether the limits of a cut are as many as the lanes.
 fn has_limits(step: &Step, lanes: u64) -> bool
     ensures { result ≡ schedule.has_limits lanes step.now }
 {
     match step {
         Step::CutBelow(_, limits) => limits.len() as u64 == lanes,
-        Step::Elect(_) | Step::Submit(_, _) | Step::Lane(_, _) | Step::Cut(_) => true,
+        _ => true,
     }
 }
 
 // The schedule line that a step is, if what it names is there.
-fn placed(step: Step, requests: u64, lanes: u64) -> Option<ScheduleLine>
+fn placed(step: Step, nodes: u8, requests: u64, lanes: u64) -> Option<ScheduleLine>
     requires requests { requests ≤ 65536 }
     requires lanes { lanes ≤ 16 }
-    ensures { result ≡ (if schedule.is_there 1 requests lanes step then Some (schedule.line_of step) else None) }
+    ensures { result ≡ (if schedule.is_there nodes requests lanes step then Some (schedule.line_of step) else None) }
 {
     let line = match step {
         Step::Elect(node) => ScheduleLine::Elect {
-            node: node_of(node)?,
-        },
-        Step::Cut(node) => ScheduleLine::Cut {
-            node: node_of(node)?,
-        },
-        Step::CutBelow(node, limits) => ScheduleLine::CutBelow {
-            node: node_of(node)?,
-            limits,
+            node: node_of(node, nodes)?,
         },
         Step::Submit(node, request) => ScheduleLine::Submit {
-            node: node_of(node)?,
+            node: node_of(node, nodes)?,
             request: place_of(request, requests)? as u32,
         },
         Step::Lane(node, lane) => ScheduleLine::Lane {
-            node: node_of(node)?,
+            node: node_of(node, nodes)?,
             lane: place_of(lane, lanes)? as u8,
+        },
+        Step::Cut(node) => ScheduleLine::Cut {
+            node: node_of(node, nodes)?,
+        },
+        Step::CutBelow(node, limits) => ScheduleLine::CutBelow {
+            node: node_of(node, nodes)?,
+            limits,
+        },
+        Step::Deliver(message) => ScheduleLine::Deliver {
+            message: message_of(message)?,
+        },
+        Step::Flush => ScheduleLine::Flush,
+        Step::Replay(node) => ScheduleLine::Replay {
+            node: node_of(node, nodes)?,
+        },
+        Step::Ask(node, other) => ScheduleLine::Ask {
+            node: node_of(node, nodes)?,
+            other: other_of(node, other, nodes)?,
+        },
+        Step::Stop(node) => ScheduleLine::Stop {
+            node: node_of(node, nodes)?,
+        },
+        Step::Start(node) => ScheduleLine::Start {
+            node: node_of(node, nodes)?,
+        },
+        Step::Checkpoint(node) => ScheduleLine::Checkpoint {
+            node: node_of(node, nodes)?,
+        },
+        Step::KeepFail(node, kept) => ScheduleLine::KeepFail {
+            node: node_of(node, nodes)?,
+            kept,
         },
     };
     Some(line)
 }
 
-// The number of a node, of which there is one.
-fn node_of(number: u64) -> Option<u8>
-    ensures { result ≡ (if in_range 1 1 number then Some number else None) }
+// The number of one of so many nodes.
+fn node_of(number: u64, nodes: u8) -> Option<u8>
+    ensures { result ≡ (if in_range 1 nodes number then Some number else None) }
 {
-    if number == 1 { Some(1) } else { None }
+    if 1 <= number && number <= nodes as u64 {
+        Some(number as u8)
+    } else {
+        None
+    }
+}
+
+// The number of a node that another one asks.
+fn other_of(node: u64, number: u64, nodes: u8) -> Option<u8>
+    ensures { result ≡ (if in_range 1 nodes number && not (node == number) then Some number else None) }
+{
+    let other = node_of(number, nodes)?;
+    if node == number { None } else { Some(other) }
+}
+
+// The number of a message, which may be any but 0.
+fn message_of(number: u64) -> Option<u64>
+    ensures { result ≡ (if nat_lt 0 number then Some number else None) }
+{
+    if number > 0 { Some(number) } else { None }
 }
 
 // The place, from 0, of a number from 1 to `count`.

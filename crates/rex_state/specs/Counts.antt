@@ -1,5 +1,6 @@
 -- How many events each lane did.
-use Rattle.std.specs.Prelude.{◌≡◌, ℕ, List, map, Some}
+use Rattle.std.specs.Prelude.{◌≡◌, ℕ, ◌+◌, ◌^◌, ◌<◌, List, map, Some}
+use Rattle.std.specs.List.{All}
 use Rattle.rex_syntax.specs.declared.service.Declarations.{Declarations}
 use Rattle.rex_event.specs.declared.event.Event.{Event}
 use Rattle.rex_event.specs.Cuts.{AreNumbered, counted_all}
@@ -23,3 +24,7 @@ pub record CountsOn (s : StateValue) (es : List Event) (t : StateValue) : Type 0
 -- each run does so
 abbrev pub RunsCountOn : Type 0
 RunsCountOn = (service : Declarations) (s t : StateValue) (es : List Event) → run service s es ≡ Some t → CountsOn s es t
+
+-- the index of each event leaves its lane room to count one more
+pub record AreCounted (es : List Event) : Type 0 where
+  pub each : All (λ (e : Event). e.index + 1 < 2 ^ 32) es

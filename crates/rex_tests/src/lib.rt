@@ -5,11 +5,15 @@
 #![tactic(auto)]
 
 #[cfg(test)]
+mod ballot;
+#[cfg(test)]
 mod cli;
 #[cfg(test)]
 mod cut;
 #[cfg(test)]
 mod delta;
+#[cfg(test)]
+mod durable;
 #[cfg(test)]
 mod event;
 #[cfg(test)]
@@ -17,9 +21,19 @@ mod list;
 #[cfg(test)]
 mod lockset;
 #[cfg(test)]
+mod msg;
+#[cfg(test)]
+mod net;
+#[cfg(test)]
 mod parse;
 #[cfg(test)]
+mod paxos;
+#[cfg(test)]
 mod record;
+#[cfg(test)]
+mod replay;
+#[cfg(test)]
+mod report;
 #[cfg(test)]
 mod runs;
 #[cfg(test)]

@@ -92,7 +92,7 @@ fn queue(rt: &impl Abort, recorder: &mut Recorder, svc: &Checked, client: u16)
 }
 
 /// A recorder at the start, with a request each of clients 1 and 2.
-fn two_rolls(rt: &impl Abort, alloc: Global, svc: &Checked) -> Recorder
+pub fn two_rolls(rt: &impl Abort, alloc: Global, svc: &Checked) -> Recorder
     ensures { IsRecorder svc.now result.value }
 {
     let state = State::start(alloc, svc).expect(rt, "memory");
@@ -103,7 +103,7 @@ fn two_rolls(rt: &impl Abort, alloc: Global, svc: &Checked) -> Recorder
 }
 
 /// Takes a lane's turn where the clock is 70.
-fn step(
+pub fn step(
     rt: &impl Abort,
     recorder: &mut Recorder,
     svc: &Checked,

@@ -1,8 +1,8 @@
 ghost use Rattle.std.specs.Prelude.{◌≤◌, IfOk};
 
 use rex_traits::{
-    Failed, Gate, MemSink, MemSource, OpenGate, Sink, SinkFault, Source, StdSink, StdSource,
-    SureSink, SureSource,
+    Failed, Fate, Gate, KeepFault, Keeper, MemKeeper, MemSink, MemSource, OpenGate, Sink,
+    SinkFault, Source, StdSink, StdSource, SureKeeper, SureSink, SureSource,
 };
 use std::io;
 use std::test::Fail;
@@ -84,4 +84,26 @@ fn the_adapters_pass_errors_on(rt: HostRuntime) {
     let mut sink = StdSink::new(Flaky { turn: 0 });
     assert_eq!(rt; sink.write(b"abc"), Ok(1));
     assert_eq!(rt; sink.write(b"bc"), Err(SinkFault::Failed));
+}
+
+#[test]
+fn a_keeper_in_memory_fails_as_it_is_armed(rt: HostRuntime) {
+    let mut keeper = MemKeeper::new(rt.alloc());
+    keeper.arm(Fate::Kept);
+    keeper.arm(Fate::Lost);
+    assert_eq!(rt; keeper.append(&[1]), Err(KeepFault::Failed));
+    assert_eq!(rt; keeper.append(&[2]), Ok(()));
+    keeper.arm(Fate::Kept);
+    assert_eq!(rt; keeper.append(&[3]), Err(KeepFault::Failed));
+    assert_eq!(rt; keeper.len(), 2);
+    assert_eq!(rt; keeper.get(1), [3].as_slice());
+}
+
+#[test]
+fn a_keeper_that_never_fails(rt: HostRuntime) {
+    let mut keeper = SureKeeper::new(rt.alloc());
+    assert_eq!(rt; keeper.append(&[7]), Ok(()));
+    assert_eq!(rt; keeper.append(&[]), Ok(()));
+    assert_eq!(rt; keeper.len(), 2);
+    assert_eq!(rt; keeper.get(0), [7].as_slice());
 }

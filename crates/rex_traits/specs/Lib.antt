@@ -1,4 +1,6 @@
 pub mod Causes
+pub mod Chains
+pub mod Keeping
 pub mod Memory
 pub mod Pieces
 pub mod Plans

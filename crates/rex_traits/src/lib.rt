@@ -1,11 +1,16 @@
-//! Where input comes from, where output goes, and what a worker passes before an event.
+//! Where input comes from, where output goes, where records are kept, and what a worker passes
+//! before an event.
 //!
 //! [`Source`] and [`Sink`] are the two ends of a program's bytes. Each has forms in memory, with or
-//! without planned faults, and an adapter over std's readers and writers.
+//! without planned faults, and an adapter over std's readers and writers. A [`Keeper`] keeps what is
+//! to outlive a stop; its forms in memory are one that never fails and one that can be armed.
 #![tactic(auto)]
 
 mod fault_plan;
 mod gate;
+mod keeper;
+pub mod laws;
+mod mem_keeper;
 mod mem_sink;
 mod mem_source;
 mod sink;
@@ -13,6 +18,8 @@ mod source;
 mod standard;
 
 pub use gate::{Gate, OpenGate};
+pub use keeper::{KeepFault, Keeper};
+pub use mem_keeper::{Fate, MemKeeper, SureKeeper};
 pub use mem_sink::{MemSink, SureSink};
 pub use mem_source::{MemSource, SureSource};
 pub use sink::{Sink, SinkFault};

@@ -1,2 +1,4 @@
+pub mod Decoding
+pub mod Ranges
 pub mod Reading
 pub mod Spelling

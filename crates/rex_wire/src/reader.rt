@@ -1,8 +1,8 @@
 //! Reading.
 
-ghost use Rattle.std.specs.Prelude.{◌≡◌, ◌<◌, ◌≤◌, length, take, [], IfErr, MatchResult};
+ghost use Rattle.std.specs.Prelude.{◌≡◌, ◌<◌, ◌≤◌, length, [], MatchResult};
 ghost use Rattle.std.specs.Int.{w8, w16, w32, w64};
-ghost use Rattle.rex_wire.specs.Reading.{Reads, ReadsBytes, past, all_left, bytes_at, number_at, signed_at};
+ghost use Rattle.rex_wire.specs.Reading.{Reads, ReadsBytes, all_left, bytes_at, number_at, signed_at};
 
 use crate::fault::{Over, Short};
 use std::marker::Model;

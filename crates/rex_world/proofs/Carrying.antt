@@ -17,7 +17,7 @@ use Rattle.rex_state.specs.Start.{start_of}
 use Rattle.rex_state.specs.Machine.{no_lane, no_entry, lane_of, run}
 use Rattle.rex_state.proofs.Sounds.{start_keeps}
 use Rattle.rex_scenario.specs.declared.scenario.ScheduleLine.{ScheduleLine}
-use Rattle.rex_scenario.specs.declared.scenario.ScheduleLine.TheVariants.{Elect, Submit, Lane, Cut, CutBelow}
+use Rattle.rex_scenario.specs.declared.scenario.ScheduleLine.TheVariants.{Elect, Lane, CutBelow}
 use Rattle.rex_scenario.specs.Fits.{RequestFits, LineFits}
 use Rattle.rex_world.specs.World.{WorldValue, HasRightCauses, joined}
 use Rattle.rex_world.specs.Row.{row, after_lines}
@@ -35,19 +35,14 @@ use Rattle.rex_world.proofs.Told.{same_at}
 
 -- a line that fits its scenario names a lane that is there
 pub fits_lane : (service : Declarations) (requests : ℕ) (line : ScheduleLine) → LineFits 1 requests service.lanes line → HasLane service line
-fits_lane service requests (Elect node) h = tt
-fits_lane service requests (Submit node number) h = tt
 fits_lane service requests (Lane node lane) h = h.1
-fits_lane service requests (Cut node) h = tt
 fits_lane service requests (CutBelow node limits) h = h.1
+fits_lane service requests line h = tt
 
 -- and the only node
 pub fits_node : (service : Declarations) (requests : ℕ) (line : ScheduleLine) → LineFits 1 requests service.lanes line → HasNode line
 fits_node service requests (Elect node) h = h.1
-fits_node service requests (Submit node number) h = tt
-fits_node service requests (Lane node lane) h = tt
-fits_node service requests (Cut node) h = tt
-fits_node service requests (CutBelow node limits) h = tt
+fits_node service requests line h = tt
 
 -- ---- what was replayed
 
@@ -59,10 +54,7 @@ replayed_known service r w h g =
 base_kept : (service : Declarations) (requests : List Request) (seed : ℕ) (r : Running) (line : ScheduleLine) → IsRunning service r
     → run service (start_of service) (joined (take (replayed_after r line) (row service requests seed r.world line).world.known)) ≡ Some (base_after r line)
 base_kept service requests seed r (Elect node) h = subst (λ (ds : List Delta). run service (start_of service) (joined ds) ≡ Some r.recorder.start) (sym (take-length r.world.known)) h.known
-base_kept service requests seed r (Submit node number) h = replayed_known service r (row service requests seed r.world (Submit node number)).world h (row_grows service requests seed r.world (Submit node number))
-base_kept service requests seed r (Lane node lane) h = replayed_known service r (row service requests seed r.world (Lane node lane)).world h (row_grows service requests seed r.world (Lane node lane))
-base_kept service requests seed r (Cut node) h = replayed_known service r (row service requests seed r.world (Cut node)).world h (row_grows service requests seed r.world (Cut node))
-base_kept service requests seed r (CutBelow node limits) h = replayed_known service r (row service requests seed r.world (CutBelow node limits)).world h (row_grows service requests seed r.world (CutBelow node limits))
+base_kept service requests seed r line h = replayed_known service r (row service requests seed r.world line).world h (row_grows service requests seed r.world line)
 
 replayed_kept : (service : Declarations) (requests : List Request) (seed : ℕ) (r : Running) (line : ScheduleLine) → IsRunning service r → replayed_after r line ≤ length (row service requests seed r.world line).world.known
 replayed_kept service requests seed r (Elect node) h = omega arith

@@ -57,7 +57,6 @@ cut_counts service r counts lane h = cut_comes service r 1 counts (λ row record
 pub counts_after : (service : Declarations) (requests : List Request) (r : Running) (line : ScheduleLine) (lane : ℕ) → IsRunning service r → (lane_of (recorder_after service requests r line).state lane).done ≤ r.world.done + 1
 counts_after service requests r (Elect node) lane h =
     one_later _ _ _ ((run_adds service r.recorder.start r.recorder.state r.recorder.live lane h.recorder.runs).more) (h.counts lane)
-counts_after service requests r (Submit node number) lane h = one_later (lane_of r.recorder.state lane).done _ _ (omega arith) (h.counts lane)
 counts_after service requests r (LaneLine node turning) lane h = by (is_follower r.world)
   where
     by : (b : Bool) → (lane_of (if b then r.recorder else turned service r.recorder (turn_in service r.world turning)).state lane).done ≤ r.world.done + 1
@@ -65,6 +64,7 @@ counts_after service requests r (LaneLine node turning) lane h = by (is_follower
     by false = turn_later _ _ _ (turn_adds service r.recorder.state (turn_in service r.world turning) lane) (h.counts lane)
 counts_after service requests r (Cut node) lane h = cut_counts service r (no_limits service r.world) lane h
 counts_after service requests r (CutBelow node limits) lane h = cut_counts service r (with_limits service r.world limits) lane h
+counts_after service requests r line lane h = one_later (lane_of r.recorder.state lane).done _ _ (omega arith) (h.counts lane)
 
 -- ---- the promise
 
@@ -88,11 +88,11 @@ cut_ticks service w node counts =
     (λ e. record { done = refl; promised = refl })
 
 pub row_done : (service : Declarations) (requests : List Request) (seed : ℕ) (w : WorldValue) (line : ScheduleLine) → (row service requests seed w line).world.done ≡ w.done + 1
-row_done service requests seed w (Elect node) = refl
 row_done service requests seed w (Submit node number) = (submit_ticks service w (is_follower w) (slice_get requests number)).done
 row_done service requests seed w (LaneLine node lane) = (lane_ticks service w lane (is_follower w)).done
 row_done service requests seed w (Cut node) = (cut_ticks service w node (no_limits service w)).done
 row_done service requests seed w (CutBelow node limits) = (cut_ticks service w node (with_limits service w limits)).done
+row_done service requests seed w line = refl
 
 -- the next ballot of the only node is at most 17 above a promise
 ballot_near : (node promised : ℕ) → node ≤ 1 → ballot_above node promised ≤ promised + 17
@@ -114,3 +114,4 @@ promised_after service requests seed w (Submit node number) there h = promise_sa
 promised_after service requests seed w (LaneLine node lane) there h = promise_same _ _ _ ((lane_ticks service w lane (is_follower w)).promised) h
 promised_after service requests seed w (Cut node) there h = promise_same _ _ _ ((cut_ticks service w node (no_limits service w)).promised) h
 promised_after service requests seed w (CutBelow node limits) there h = promise_same _ _ _ ((cut_ticks service w node (with_limits service w limits)).promised) h
+promised_after service requests seed w line there h = promise_same w.promised w.promised w.done refl h

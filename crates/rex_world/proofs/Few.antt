@@ -8,7 +8,7 @@ use Rattle.rex_event.specs.declared.delta.Delta.{Delta}
 use Rattle.rex_cut.specs.Greatest.{greatest_cut}
 use Rattle.rex_cut.specs.Delta.{delta_at}
 use Rattle.rex_scenario.specs.declared.scenario.ScheduleLine.{ScheduleLine}
-use Rattle.rex_scenario.specs.declared.scenario.ScheduleLine.TheVariants.{Elect, Submit, Lane, Cut, CutBelow}
+use Rattle.rex_scenario.specs.declared.scenario.ScheduleLine.TheVariants.{Submit, Lane, Cut, CutBelow}
 use Rattle.rex_world.specs.World.{WorldValue, is_follower}
 use Rattle.rex_world.specs.Row.{not_active, submit_found, turn_in, turned, no_limits, with_limits, cut_row, row}
 use Rattle.rex_world.proofs.Cutting.{row_comes}
@@ -35,11 +35,11 @@ cut_few service w node counts f =
     (λ e. record { few = one_more w.known (delta_at (greatest_cut counts w.live) w.live) (leb-false 65535 (length w.known) e) })
 
 row_few : (service : Declarations) (requests : List Request) (seed : ℕ) (w : WorldValue) (line : ScheduleLine) → IsFew w → IsFew (row service requests seed w line).world
-row_few service requests seed w (Elect node) f = record { few = f.few }
 row_few service requests seed w (Submit node number) f = submit_few service w (is_follower w) (slice_get requests number) f
 row_few service requests seed w (Lane node lane) f = lane_few service w lane (is_follower w) f
 row_few service requests seed w (Cut node) f = cut_few service w node (no_limits service w) f
 row_few service requests seed w (CutBelow node limits) f = cut_few service w node (with_limits service w limits) f
+row_few service requests seed w line f = record { few = f.few }
 
 -- a line keeps what is known few
 pub keeps_few : (service : Declarations) (requests : List Request) (seed : ℕ) (w : WorldValue) (line : ScheduleLine) → length w.known ≤ 65535 → length (row service requests seed w line).world.known ≤ 65535

@@ -8,7 +8,7 @@ use Rattle.rex_event.specs.declared.delta.Delta.{Delta}
 use Rattle.rex_cut.specs.Greatest.{greatest_cut}
 use Rattle.rex_cut.specs.Delta.{delta_at}
 use Rattle.rex_scenario.specs.declared.scenario.ScheduleLine.{ScheduleLine}
-use Rattle.rex_scenario.specs.declared.scenario.ScheduleLine.TheVariants.{Elect, Submit, Lane, Cut, CutBelow}
+use Rattle.rex_scenario.specs.declared.scenario.ScheduleLine.TheVariants.{Submit, Lane, Cut, CutBelow}
 use Rattle.rex_world.specs.World.{WorldValue, is_follower, joined}
 use Rattle.rex_world.specs.Row.{not_active, submit_found, turn_in, turned, no_limits, with_limits, cut_row, row, after_lines}
 use Rattle.rex_world.proofs.Cutting.{row_comes}
@@ -41,11 +41,11 @@ cut_grows service w node counts =
     row_comes service w node counts (λ x. Grows w x.world) (same_known w _ refl) (same_known w _ refl) (same_known w _ refl) (λ e. record { deltas = delta_at (greatest_cut counts w.live) w.live ∷ []; known = refl })
 
 pub row_grows : (service : Declarations) (requests : List Request) (seed : ℕ) (w : WorldValue) (line : ScheduleLine) → Grows w (row service requests seed w line).world
-row_grows service requests seed w (Elect node) = same_known w _ refl
 row_grows service requests seed w (Submit node number) = submit_grows service w (is_follower w) (slice_get requests number)
 row_grows service requests seed w (Lane node lane) = lane_grows service w lane (is_follower w)
 row_grows service requests seed w (Cut node) = cut_grows service w node (no_limits service w)
 row_grows service requests seed w (CutBelow node limits) = cut_grows service w node (with_limits service w limits)
+row_grows service requests seed w line = same_known w _ refl
 
 pub lines_grow : (service : Declarations) (requests : List Request) (seed : ℕ) (w : WorldValue) (lines : List ScheduleLine) → Grows w (after_lines service requests seed w lines)
 lines_grow service requests seed w [] = same_known w _ refl

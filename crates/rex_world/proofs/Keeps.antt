@@ -178,3 +178,4 @@ carries_after service requests seed r (Submit node number) good fit there h = su
 carries_after service requests seed r (Lane node lane) good fit there h = lane_carries service requests seed r node lane good there h
 carries_after service requests seed r (Cut node) good fit there h = cut_carries service r node (no_limits service r.world) good h (no_limits_live service r good h)
 carries_after service requests seed r (CutBelow node limits) good fit there h = cut_carries service r node (with_limits service r.world limits) good h (with_limits_live service r good h limits there)
+carries_after service requests seed r line good fit there h = record { recorder = h.recorder; known = h.known; causes = h.causes; live = h.live; queue = h.queue }

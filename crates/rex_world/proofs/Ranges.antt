@@ -224,10 +224,10 @@ clients_after service requests r (Lane node lane) good fit there h = by (is_foll
 clients_after service requests r (Cut node) good fit there h = cut_clients service r node (no_limits service r.world) good h (no_limits_live service r good (running_carries service r h))
 clients_after service requests r (CutBelow node limits) good fit there h =
     cut_clients service r node (with_limits service r.world limits) good h (with_limits_live service r good (running_carries service r h) limits there)
+clients_after service requests r line good fit there h = has_clients service r h
 
 pub bases_after : (service : Declarations) (requests : List Request) (seed : ℕ) (r : Running) (line : ScheduleLine) (lane : ℕ) → IsService service → HasLane service line → IsRunning service r
     → (lane_of (recorder_after service requests r line).start lane).done ≤ 4096 * length (row service requests seed r.world line).world.known
-bases_after service requests seed r (Elect node) lane good there h = h.bases lane
 bases_after service requests seed r (Submit node number) lane good there h =
     bases_more _ _ _ (h.bases lane) (grown_length r.world (row service requests seed r.world (Submit node number)).world (row_grows service requests seed r.world (Submit node number)))
 bases_after service requests seed r (Lane node turning) lane good there h =
@@ -239,3 +239,4 @@ bases_after service requests seed r (Lane node turning) lane good there h =
 bases_after service requests seed r (Cut node) lane good there h = cut_bases service r node (no_limits service r.world) good h (no_limits_live service r good (running_carries service r h)) lane
 bases_after service requests seed r (CutBelow node limits) lane good there h =
     cut_bases service r node (with_limits service r.world limits) good h (with_limits_live service r good (running_carries service r h) limits there) lane
+bases_after service requests seed r line lane good there h = h.bases lane

@@ -101,6 +101,7 @@ module _ (service : Declarations) (requests : List Request) (seed : ℕ) (good :
   row_stands r (Lane node lane) there c h = lane_stands r.world lane (is_follower r.world) h
   row_stands r (Cut node) there c h = cut_stands r node (no_limits service r.world) c (no_limits_live service r good c) h
   row_stands r (CutBelow node limits) there c h = cut_stands r node (with_limits service r.world limits) c (with_limits_live service r good c limits there) h
+  row_stands r line there c h = only_stands r.world Nothing (λ k. cc) h
 
   -- ---- lines
 

@@ -22,6 +22,7 @@ use Rattle.rand_pcg.specs.Lcg.{Lcg}
 use Rattle.rex_record.specs.Turn.{does_draw, dice_after}
 use Rattle.rex_record.specs.Value.{live_after, queue_after, turned as turned_recorder}
 use Rattle.rex_report.specs.declared.effect.Effect.{Effect}
+use Rattle.rex_report.specs.declared.effect.Effect.TheVariants.{Nothing}
 use Rattle.rex_scenario.specs.declared.scenario.ScheduleLine.TheVariants as line
 use Rattle.rex_world.specs.World.{WorldValue, is_follower, live_state}
 use Rattle.rex_world.specs.Row as spec
@@ -125,6 +126,17 @@ step_runs service requests seed r line result after good fit fits h e =
     subst (IsRunning service) (sym t) (running_keeps service requests seed r line good fit (fits_lane service (length requests) line fits) (fits_node service (length requests) line fits) h))
     e
 
+-- a line that may not come yet finds nothing to do
+pub other_line : (service : Declarations) (requests : List Request) (seed : ℕ) (r : Running) (other : ScheduleLine) → ((node : ℕ) → other ≡ line.Elect node → ⊥) → ((node number : ℕ) → other ≡ line.Submit node number → ⊥)
+    → ((node lane : ℕ) → other ≡ line.Lane node lane → ⊥) → ((node : ℕ) → other ≡ line.Cut node → ⊥) → ((node : ℕ) (limits : List ℕ) → other ≡ line.CutBelow node limits → ⊥)
+    → (spec.row service requests seed r.world other ≡ spec.only r.world Nothing) × (running_after service requests seed r other ≡ with_row r (spec.only r.world Nothing) r.recorder)
+other_line service requests seed r (line.Elect node) elects submits turns cuts below = absurd (elects node refl)
+other_line service requests seed r (line.Submit node number) elects submits turns cuts below = absurd (submits node number refl)
+other_line service requests seed r (line.Lane node lane) elects submits turns cuts below = absurd (turns node lane refl)
+other_line service requests seed r (line.Cut node) elects submits turns cuts below = absurd (cuts node refl)
+other_line service requests seed r (line.CutBelow node limits) elects submits turns cuts below = absurd (below node limits refl)
+other_line service requests seed r other elects submits turns cuts below = (refl, refl)
+
 -- ---- the report
 
 -- the values after the live events are the recorder's
@@ -136,7 +148,13 @@ live_values service r h leads =
 -- an end line that is told, in other terms
 pub ended_as : {E : Type 0} {end other : End} {variables others : List Variable} {values shown : List ℤ} (r : Result (Unit {0}) E) (before after : List ℕ) → other ≡ end → others ≡ variables → shown ≡ values
     → OnOk r (after ≡ before ++ end_text other others shown) → OnOk r (after ≡ before ++ end_text end variables values)
-ended_as {E} {end} {other} {variables} {others} {values} {shown} r before after a b d h = on_ok_weaker r (λ (t : after ≡ before ++ end_text other others shown). cc) h
+ended_as {E} {end} {other} {variables} {others} {values} {shown} r before after a b d h =
+    on_ok_weaker r
+    (λ (t : after ≡ before ++ end_text other others shown).
+    t ∙ ap (λ (x : End). before ++ end_text x others shown) a
+    ∙ ap (λ (x : List Variable). before ++ end_text end x shown) b
+    ∙ ap (λ (x : List ℤ). before ++ end_text end variables x) d)
+    h
 
 -- the items from a place on
 pub drop_next : {X : Type 0} (xs same : List X) (i : ℕ) (d : X) → same ≡ xs → i < length same → drop i xs ≡ get_or same i d ∷ drop (i + 1) xs

@@ -6,6 +6,7 @@ use Rattle.rex_state.specs.Start.{start_of}
 use Rattle.rex_report.specs.declared.effect.Effect.{Effect}
 use Rattle.rex_report.specs.declared.effect.Role.TheVariants.{Follower, Active}
 use Rattle.rex_report.specs.declared.ends.End.{End}
+use Rattle.rex_report.specs.declared.ends.End.TheVariants.{Up}
 use Rattle.rex_report.specs.Rows.{row_text}
 use Rattle.rex_report.specs.Ends.{end_text}
 use Rattle.rex_scenario.specs.declared.scenario.Scenario.{Scenario}
@@ -21,8 +22,8 @@ effects_text service number (effect ∷ rest) = row_text service number effect +
 -- what a node came to
 abbrev pub end_of : WorldValue → End
 end_of w =
-    if is_follower w then record { node = 1; role = Follower; promised = w.promised; known = length w.known; count = 0 }
-    else record { node = 1; role = Active; promised = w.promised; known = length w.known; count = length w.live }
+    if is_follower w then Up (record { node = 1; role = Follower; promised = w.promised; known = length w.known; count = 0 })
+    else Up (record { node = 1; role = Active; promised = w.promised; known = length w.known; count = length w.live })
 
 -- the values of its variables: of the live state where it leads, else of the state that it has replayed, which is the start
 abbrev pub values_of : Declarations → WorldValue → List ℤ

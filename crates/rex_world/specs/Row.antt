@@ -166,13 +166,14 @@ cut_row service w node counts =
 
 -- ---- the whole
 
--- what a schedule line does, with these requests and this seed
+-- what a schedule line does, with these requests and this seed; one that may not come yet finds nothing to do
 abbrev pub row : Declarations → List Request → ℕ → WorldValue → ScheduleLine → Row
 row service requests seed w (Elect node) = elect_row seed w node
 row service requests seed w (Submit node request) = submit_row service requests w request
 row service requests seed w (Lane node lane) = lane_row service w lane
 row service requests seed w (Cut node) = cut_row service w node (no_limits service w)
 row service requests seed w (CutBelow node limits) = cut_row service w node (with_limits service w limits)
+row service requests seed w _ = only w Nothing
 
 -- the world after lines, one after the other
 abbrev pub after_lines : Declarations → List Request → ℕ → WorldValue → List ScheduleLine → WorldValue

@@ -91,6 +91,7 @@ recorder_after service requests r (Submit node request) = record r.recorder { qu
 recorder_after service requests r (Lane node lane) = if is_follower r.world then r.recorder else turned service r.recorder (turn_in service r.world lane)
 recorder_after service requests r (Cut node) = recorder_cut service r (no_limits service r.world)
 recorder_after service requests r (CutBelow node limits) = recorder_cut service r (with_limits service r.world limits)
+recorder_after service requests r _ = r.recorder
 
 -- a node that asks to lead replays the known deltas
 abbrev pub base_after : Running → ScheduleLine → StateValue

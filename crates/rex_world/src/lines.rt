@@ -44,8 +44,13 @@ impl World {
     ghost use Rattle.rex_world.specs.Report.{effects_text};
     ghost use Rattle.rex_world.specs.Running.{IsRunning, with_row, restarted, recorder_after, recorder_cut, running_after, replayed_all};
 
-    // A line that changes nothing, but for the number of lines done.
-    fn only(&mut self, svc: &Checked, out: &mut Vec<u8>, effect: Effect) -> Result<(), AllocError>
+    /// A line that changes nothing, but for the number of lines done.
+    pub(crate) fn only(
+        &mut self,
+        svc: &Checked,
+        out: &mut Vec<u8>,
+        effect: Effect,
+    ) -> Result<(), AllocError>
         requires { self.old.world.done + 1 < 2 ^ 32 }
         ensures told { OnOk result (out.new.items ≡ out.old.items ++ effects_text svc.now (self.old.world.done + 1) (spec.only self.old.world effect).effects) }
         ensures after { OnOk result (self.new ≡ with_row self.old (spec.only self.old.world effect) self.old.recorder) }

@@ -11,7 +11,7 @@ ghost use Rattle.rex_world.specs.Running.{IsRunning};
 use rand_pcg::Lcg64Xsh32;
 use rex_list::List;
 use rex_record::Recorder;
-use rex_report::{End, Role};
+use rex_report::{Effect, End, Role, UpEnd};
 use rex_scenario::ScheduleLine;
 use rex_state::state::State;
 use rex_syntax::checked::Checked;
@@ -97,22 +97,22 @@ impl World {
     {
         let known = self.known.len() as u32;
         if self.is_follower() {
-            End {
+            End::Up(UpEnd {
                 node: 1,
                 role: Role::Follower,
                 promised: self.promised,
                 known,
                 count: 0,
-            }
+            })
         } else {
             let count = self.recorder.trace().len() as u32;
-            End {
+            End::Up(UpEnd {
                 node: 1,
                 role: Role::Active,
                 promised: self.promised,
                 known,
                 count,
-            }
+            })
         }
     }
 
@@ -152,6 +152,8 @@ impl World {
             ScheduleLine::CutBelow { node, limits } => {
                 self.cut_below(alloc, svc, out, *node, limits.as_slice())
             }
+            // A line that may not come yet.
+            _ => self.only(svc, out, Effect::Nothing),
         }
     }
 }

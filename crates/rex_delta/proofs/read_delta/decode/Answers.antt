@@ -1,11 +1,12 @@
 use Rattle.std.proofs.Common.{ap, subst, ◌∙◌, arith}
-use Rattle.rex_delta.specs.Reading.{Gives, delta_in}
-use Rattle.rex_delta.proofs.EventLaws.{is_found}
+use Rattle.rex_wire.specs.Decoding.{Gives}
+use Rattle.rex_delta.specs.Reading.{delta_in}
+use Rattle.rex_delta.proofs.EventLaws.{delta_is_found}
 use Rattle.rex_delta.proofs.EventsAgain.{delta_read}
 use Rattle.rex_delta.proofs.read_delta.decode.Goals as goal
 
 pub returns-clause-found : goal.returns-clause-found
-returns-clause-found c = is_found c.args.bytes.now c.whole.result (λ i. omega (arith, c.type_inv.bytes i)) c.whole.ensures
+returns-clause-found c = delta_is_found c.args.bytes.now c.whole.result (λ i. omega (arith, c.type_inv.bytes i)) c.whole.ensures
 
 pub returns-clause-only : goal.returns-clause-only
 returns-clause-only c = λ d has e. subst (λ r. Gives c.whole.result r) (ap delta_in e ∙ delta_read d has) c.whole.ensures

@@ -2,10 +2,11 @@ use Rattle.std.proofs.Common.{◌≤◌, ◌+◌, ℕ, [], ap, ◌∙◌}
 use Rattle.std.proofs.lemmas.Result.{err_from_is_err_and}
 use Rattle.std.proofs.lemmas.List.{length_push}
 use Rattle.std.proofs.lemmas.List.Elements.{All-push}
+use Rattle.rex_wire.proofs.Repeated.{goes_on, fails, is_done}
+use Rattle.rex_wire.proofs.Lists.{same, alone, joined}
 use Rattle.rex_delta.specs.Spelling.{greatest_base}
 use Rattle.rex_delta.specs.Reading.{bases_at}
-use Rattle.rex_delta.proofs.Repeated.{goes_on, fails, is_done}
-use Rattle.rex_delta.proofs.Lists.{base_at, same, alone, joined, bases_in, bases_repeated}
+use Rattle.rex_delta.proofs.Lists.{base_at, bases_in, bases_repeated}
 use Rattle.rex_delta.proofs.read_events.bases.Goals as goal
 
 pub returns-in_err-base-clause-read : goal.returns-in_err-base-clause-read

@@ -1,9 +1,9 @@
 use Rattle.std.proofs.Common.{◌≡◌, ◌-◌, ◌≤◌, length}
 use Rattle.std.specs.List.{All}
+use Rattle.rex_wire.proofs.Repeated.{with_front}
+use Rattle.rex_wire.proofs.Lists.{joined}
 use Rattle.rex_delta.specs.Spelling.{greatest_base}
 use Rattle.rex_delta.specs.Reading.{bases_at}
-use Rattle.rex_delta.proofs.Repeated.{with_front}
-use Rattle.rex_delta.proofs.Lists.{joined}
 use Rattle.rex_delta.proofs.read_events.bases.Given as goal
 
 abbrev pub invariant-loop : goal.invariant-loop

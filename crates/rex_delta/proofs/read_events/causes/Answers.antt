@@ -1,8 +1,9 @@
 use Rattle.std.proofs.Common.{[]}
 use Rattle.std.proofs.lemmas.Result.{err_from_is_err_and}
+use Rattle.rex_wire.proofs.Repeated.{goes_on, fails, is_done}
+use Rattle.rex_wire.proofs.Lists.{alone, joined}
 use Rattle.rex_delta.specs.Reading.{cause_at, causes_at}
-use Rattle.rex_delta.proofs.Repeated.{goes_on, fails, is_done}
-use Rattle.rex_delta.proofs.Lists.{alone, joined, after_cause, causes_in, causes_repeated}
+use Rattle.rex_delta.proofs.Lists.{after_cause, causes_in, causes_repeated}
 use Rattle.rex_delta.proofs.read_events.causes.Goals as goal
 
 pub returns-in_err-cause : goal.returns-in_err-cause

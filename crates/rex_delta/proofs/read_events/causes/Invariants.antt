@@ -1,7 +1,7 @@
 use Rattle.std.proofs.Common.{◌≡◌, ◌-◌}
+use Rattle.rex_wire.proofs.Repeated.{with_front}
+use Rattle.rex_wire.proofs.Lists.{joined}
 use Rattle.rex_delta.specs.Reading.{causes_at}
-use Rattle.rex_delta.proofs.Repeated.{with_front}
-use Rattle.rex_delta.proofs.Lists.{joined}
 use Rattle.rex_delta.proofs.read_events.causes.Given as goal
 
 abbrev pub invariant-loop : goal.invariant-loop

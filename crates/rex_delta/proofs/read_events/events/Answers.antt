@@ -1,8 +1,8 @@
 use Rattle.std.proofs.Common.{◌+◌, arith, ◌∙◌, length-set}
 use Rattle.std.proofs.lemmas.Result.{err_from_is_err_and}
+use Rattle.rex_wire.proofs.Repeated.{goes_on, fails, is_done}
 use Rattle.rex_delta.specs.Spelling.{greatest_base}
 use Rattle.rex_delta.specs.Reading.{event_at, events_at}
-use Rattle.rex_delta.proofs.Repeated.{goes_on, fails, is_done}
 use Rattle.rex_delta.proofs.Lists.{counted_with, none_listed, one_listed, both_listed, events_repeated}
 use Rattle.rex_delta.proofs.Counting.{counted-small}
 use Rattle.rex_delta.proofs.read_events.events.Goals as goal

@@ -1,8 +1,8 @@
 use Rattle.std.proofs.Common.{◌≡◌, ◌-◌, ◌+◌, ◌≤◌, length}
 use Rattle.std.specs.List.{All}
+use Rattle.rex_wire.proofs.Repeated.{with_front}
 use Rattle.rex_delta.specs.Spelling.{greatest_base}
 use Rattle.rex_delta.specs.Reading.{events_at}
-use Rattle.rex_delta.proofs.Repeated.{with_front}
 use Rattle.rex_delta.proofs.Lists.{both_listed}
 use Rattle.rex_delta.proofs.read_events.events.Given as goal
 

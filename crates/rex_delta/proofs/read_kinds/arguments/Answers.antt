@@ -2,9 +2,10 @@ use Rattle.std.proofs.Common.{◌+◌, ℕ, [], ap, ◌∙◌, rules, FitsSigned
 use Rattle.std.proofs.lemmas.Result.{err_from_is_err_and}
 use Rattle.std.proofs.lemmas.Int.{to_z-of_z}
 use Rattle.std.proofs.lemmas.List.{length_push}
+use Rattle.rex_wire.proofs.Repeated.{goes_on, stops, is_done}
+use Rattle.rex_wire.proofs.Lists.{same, alone, joined}
 use Rattle.rex_delta.specs.Reading.{arguments_at}
-use Rattle.rex_delta.proofs.Repeated.{goes_on, stops, is_done}
-use Rattle.rex_delta.proofs.Lists.{argument_at, same, alone, joined, arguments_in, arguments_repeated}
+use Rattle.rex_delta.proofs.Lists.{argument_at, arguments_in, arguments_repeated}
 use Rattle.rex_delta.proofs.read_kinds.arguments.Goals as goal
 
 pub returns-in_err-value : goal.returns-in_err-value

@@ -1,7 +1,7 @@
 use Rattle.std.proofs.Common.{◌≡◌, ◌-◌, length}
+use Rattle.rex_wire.proofs.Repeated.{with_front}
+use Rattle.rex_wire.proofs.Lists.{joined}
 use Rattle.rex_delta.specs.Reading.{arguments_at}
-use Rattle.rex_delta.proofs.Repeated.{with_front}
-use Rattle.rex_delta.proofs.Lists.{joined}
 use Rattle.rex_delta.proofs.read_kinds.arguments.Given as goal
 
 abbrev pub invariant-loop : goal.invariant-loop

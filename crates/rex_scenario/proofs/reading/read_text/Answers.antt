@@ -1,5 +1,5 @@
 use Rattle.std.proofs.Common.{arith, rules}
-use Rattle.rex_scenario.proofs.Lines.{number_fits, answer_from-good, fits-good}
+use Rattle.rex_scenario.proofs.Lines.{number_fits, answer_from-good, fits-good, scheduled-good}
 use Rattle.rex_scenario.proofs.reading.read_text.Goals as goal
 
 pub overflow_add-next : goal.overflow_add-next
@@ -13,5 +13,6 @@ loop-next-preserved c = record {
       answer_from-good c.loop-next.reader c.line.new.self c.loop-next.next c.in-Some.number c.in-Some.line.now _ _ _ c.in-Some.ensures.steps
       c.in-Ok.ensures.takes.0 c.in-Ok.ensures.takes.1 c.loop-next.invariant.same;
   can = search rules;
+  mode = scheduled-good c.loop-next.reader c.line.new.self c.in-Some.number c.in-Some.line.now c.in-Ok.ensures.takes.1 c.loop-next.invariant.mode;
   fit = fits-good c.loop-next.reader c.line.new.self c.in-Some.number c.in-Some.line.now c.loop-next.invariant.fit c.in-Ok.ensures.takes.0 c.in-Ok.ensures.takes.1 c.in-Ok.ensures.good;
 }

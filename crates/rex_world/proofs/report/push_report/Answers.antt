@@ -3,9 +3,14 @@ use Rattle.rex_world.specs.Report.{report_of}
 use Rattle.rex_world.specs.World.{WorldValue}
 use Rattle.rex_world.proofs.Counts.{row_done}
 use Rattle.rex_world.proofs.Few.{keeps_few}
+use Rattle.rex_world.proofs.Scenarios.{line_fits}
 use Rattle.rex_world.proofs.Steps.{line_told, drop_next}
 use Rattle.rex_scenario.specs.declared.scenario.ScheduleLine.{ScheduleLine}
 use Rattle.rex_world.proofs.report.push_report.Goals as goal
+
+pub step-requires-clause-fits : goal.step-requires-clause-fits
+step-requires-clause-fits c =
+    line_fits c.args.svc.now c.args.scenario.now c.as_slice-requests.result.now c.as_slice-line-items.result.now c.loop-line.line-index c.line-item.result c.requires.fits c.as_slice-requests.ensures c.as_slice-line-items.ensures c.loop-line-test.true c.line-item.is
 
 pub loop-line-preserved : goal.loop-line-preserved
 loop-line-preserved c = record {

@@ -1,8 +1,11 @@
-use Rattle.std.proofs.Common.{◌≡◌, ℕ, List, [], OnOk, length, subst}
+use Rattle.std.proofs.Common.{◌≡◌, ◌+◌, ◌++◌, ℕ, List, [], OnOk, length, sym, ap, subst}
+use Rattle.std.proofs.lemmas.Result.{on_ok_weaker}
 use Rattle.rex_scenario.specs.Fits.{LineFits}
 use Rattle.rex_scenario.specs.declared.scenario.ScheduleLine.TheVariants.{Elect, Submit, Lane, Cut, CutBelow}
-use Rattle.rex_world.specs.Running.{running_after}
-use Rattle.rex_world.proofs.Steps.{step_runs}
+use Rattle.rex_world.specs.Report.{effects_text}
+use Rattle.rex_world.specs.Row as spec
+use Rattle.rex_world.specs.Running.{Running, running_after}
+use Rattle.rex_world.proofs.Steps.{step_runs, other_line}
 use Rattle.rex_world.proofs.world.World.step.Goals as goal
 
 pub returns-in-Elect-clause-running : goal.returns-in-Elect-clause-running
@@ -30,3 +33,19 @@ returns-in-CutBelow-clause-running c =
     step_runs c.args.svc.now c.args.requests.now c.args.seed c.args.self.now (CutBelow c.in-CutBelow.node c.in-CutBelow.limits) c.cut_below.result c.cut_below.new.self c.declarations-service.ensures.sound c.requires.requests
     (subst (LineFits 1 (length c.args.requests.now) c.args.svc.now.lanes) c.in-CutBelow.is c.requires.fits) c.requires.running
     (subst (λ (limits : List ℕ). OnOk c.cut_below.result (c.cut_below.new.self ≡ running_after c.args.svc.now [] 0 c.args.self.now (CutBelow c.in-CutBelow.node limits))) c.as_slice.ensures c.cut_below.ensures.after)
+
+pub returns-in_default-clause-told : goal.returns-in_default-clause-told
+returns-in_default-clause-told c =
+    let other = other_line c.args.svc.now c.args.requests.now c.args.seed c.args.self.now c.args.line.now c.in_default.not-Elect c.in_default.not-Submit c.in_default.not-Lane c.in_default.not-Cut c.in_default.not-CutBelow in
+    subst (λ (x : spec.Row). OnOk c.only.result (c.only.new.out.items ≡ c.args.out.now.items ++ effects_text c.args.svc.now (c.args.self.now.world.done + 1) x.effects)) (sym other.0) c.only.ensures.told
+
+pub returns-in_default-clause-world : goal.returns-in_default-clause-world
+returns-in_default-clause-world c =
+    let other = other_line c.args.svc.now c.args.requests.now c.args.seed c.args.self.now c.args.line.now c.in_default.not-Elect c.in_default.not-Submit c.in_default.not-Lane c.in_default.not-Cut c.in_default.not-CutBelow in
+    subst (λ (x : spec.Row). OnOk c.only.result (c.only.new.self.world ≡ x.world)) (sym other.0) (on_ok_weaker c.only.result (λ t. ap (λ (x : Running). x.world) t) c.only.ensures.after)
+
+pub returns-in_default-clause-running : goal.returns-in_default-clause-running
+returns-in_default-clause-running c =
+    let other = other_line c.args.svc.now c.args.requests.now c.args.seed c.args.self.now c.args.line.now c.in_default.not-Elect c.in_default.not-Submit c.in_default.not-Lane c.in_default.not-Cut c.in_default.not-CutBelow in
+    step_runs c.args.svc.now c.args.requests.now c.args.seed c.args.self.now c.args.line.now c.only.result c.only.new.self c.declarations-service.ensures.sound c.requires.requests c.requires.fits c.requires.running
+    (subst (λ (x : Running). OnOk c.only.result (c.only.new.self ≡ x)) (sym other.1) c.only.ensures.after)

@@ -1,0 +1,4 @@
+mod Examples
+pub mod Lists
+pub mod Numbers
+mod Places

@@ -1,0 +1,65 @@
+//! Writing records.
+
+ghost use Rattle.std.specs.Prelude.{◌≡◌, ◌++◌, OnOk, IfOk};
+ghost use Rattle.rex_ballot.specs.Proposals.{IsValue};
+ghost use Rattle.rex_durable.specs.Spelling.{HasSpelling, code_of, content, record_bytes};
+ghost use Rattle.rex_durable.specs.declared.records.Rec.TheVariants.{Accepted};
+
+use crate::records::Rec;
+use rex_wire::{Writer, write_value};
+use std::alloc::{AllocError, Global};
+
+/// The number of a record's kind.
+fn code(rec: &Rec) -> u8
+    ensures { result ≡ code_of rec.now }
+{
+    match rec {
+        Rec::Promised { .. } => 1,
+        Rec::Accepted { .. } => 2,
+        Rec::Known { .. } => 3,
+        Rec::Checkpoint { .. } => 4,
+    }
+}
+
+fn accepted(writer: &mut Writer, ballot: u64, instance: u32, value: &[u8]) -> Result<(), AllocError>
+    requires { IsValue value.now }
+    ensures { OnOk result (writer.new ≡ writer.old ++ content (Accepted ballot instance value.now)) }
+{
+    writer.u64(ballot)?;
+    writer.u32(instance)?;
+    write_value(writer, value)
+}
+
+/// What follows the number of the kind.
+fn fields(writer: &mut Writer, rec: &Rec) -> Result<(), AllocError>
+    requires { HasSpelling rec.now }
+    ensures { OnOk result (writer.new ≡ writer.old ++ content rec.now) }
+{
+    match rec {
+        Rec::Promised { ballot } => writer.u64(*ballot),
+        Rec::Accepted {
+            ballot,
+            instance,
+            value,
+        } => accepted(writer, *ballot, *instance, value.as_slice()),
+        Rec::Known { instance, value } => {
+            writer.u32(*instance)?;
+            write_value(writer, value.as_slice())
+        }
+        Rec::Checkpoint { deltas, snapshot } => {
+            writer.u32(*deltas)?;
+            write_value(writer, snapshot.as_slice())
+        }
+    }
+}
+
+/// The one spelling of the record.
+pub fn encode(alloc: Global, rec: &Rec) -> Result<Vec<u8>, AllocError>
+    requires { HasSpelling rec.now }
+    ensures { IfOk result (λ v. v.items ≡ record_bytes rec.now) }
+{
+    let mut writer = Writer::new(alloc);
+    writer.u8(code(rec))?;
+    fields(&mut writer, rec)?;
+    Ok(writer.into_vec())
+}

@@ -1,0 +1,10 @@
+//! The greatest numbers of a message's fields.
+
+/// The version of the spelling.
+pub const VERSION: u8 = 1;
+
+/// How many kinds of messages there are.
+pub const KINDS: u8 = 7;
+
+/// The greatest first instance that is asked for: the one after the last.
+pub const GREATEST_FIRST: u32 = 65_536;

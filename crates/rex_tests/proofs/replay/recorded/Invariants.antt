@@ -1,0 +1,5 @@
+use Rattle.rex_record.specs.Kept.{IsRecorder}
+use Rattle.rex_tests.proofs.replay.recorded.Given as goal
+
+abbrev pub invariant-loop-lane : goal.invariant-loop-lane
+invariant-loop-lane g l = IsRecorder l.svc l.recorder.value

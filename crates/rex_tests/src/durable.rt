@@ -1,0 +1,87 @@
+ghost use Rattle.std.specs.Prelude.{◌<◌, length};
+
+use rex_durable::{Rec, RecoverFault, append, recover};
+use rex_list::List;
+use rex_traits::{Fate, KeepFault, Keeper, MemKeeper, SureKeeper};
+use std::alloc::Global;
+use std::test::*;
+
+/// Ballot 17 is promised.
+const PROMISED: [u8; 9] = [1, 0, 0, 0, 0, 0, 0, 0, 17];
+
+/// The first known value is one byte.
+const KNOWN: [u8; 10] = [3, 0, 0, 0, 1, 0, 0, 0, 1, 7];
+
+/// The state after the first known value is no bytes.
+const CHECKPOINT: [u8; 9] = [4, 0, 0, 0, 1, 0, 0, 0, 0];
+
+/// Two records, and what is recovered of them: the promise, or the number of the first bad record and the offset of its
+/// first bad field.
+const RECOVERED: [(&[u8], &[u8], Result<u64, (usize, usize)>); 7] = [
+    (&PROMISED, &KNOWN, Ok(17)),
+    (&KNOWN, &CHECKPOINT, Ok(0)),
+    (&KNOWN, &KNOWN, Err((2, 1))),
+    (&CHECKPOINT, &KNOWN, Err((1, 1))),
+    (&PROMISED, &[1, 0, 0, 0, 0, 0, 0, 0], Err((2, 1))),
+    (&PROMISED, &[], Err((2, 0))),
+    (&[5, 0, 0, 0, 1], &KNOWN, Err((1, 0))),
+];
+
+fn answer(alloc: Global, first: &[u8], second: &[u8]) -> Result<Result<u64, (usize, usize)>, Fail>
+    requires first { length first.now < 99 }
+    requires second { length second.now < 99 }
+{
+    let mut keeper = SureKeeper::new(alloc);
+    if keeper.append(first).is_err() || keeper.append(second).is_err() {
+        return Err("not appended")?;
+    }
+    match recover(alloc, &keeper) {
+        Ok(recovered) => Ok(Ok(recovered.promised)),
+        Err(RecoverFault::BadRecord { number, at }) => Ok(Err((number, at))),
+        Err(RecoverFault::OutOfMemory) => Err("out of memory")?,
+    }
+}
+
+#[test]
+fn records_say_what_is_known_of_a_node(rt: HostRuntime) -> Result<(), Fail> {
+    for (first, second, recovered) in RECOVERED {
+        assert!(rt; first.len() < 99 && second.len() < 99);
+        assert_eq!(rt; answer(rt.alloc(), first, second)?, recovered);
+    }
+    Ok(())
+}
+
+#[test]
+fn the_record_of_a_failed_append_is_kept(rt: HostRuntime) -> Result<(), Fail> {
+    let mut keeper = MemKeeper::new(rt.alloc());
+    keeper.arm(Fate::Kept);
+    let promise = Rec::Promised { ballot: 17 };
+    assert_eq!(rt;
+        append(rt.alloc(), &mut keeper, &promise),
+        Err(KeepFault::Failed)
+    );
+    assert_eq!(rt; keeper.len(), 1);
+    assert_eq!(rt; keeper.get(0), PROMISED.as_slice());
+    assert_eq!(rt; recover(rt.alloc(), &keeper)?.promised, 17);
+    Ok(())
+}
+
+#[test]
+fn a_node_comes_back_with_its_acceptance(rt: HostRuntime) -> Result<(), Fail> {
+    let value = List::from_vec(vec![in rt.alloc(); 5]?);
+    let accepted = Rec::Accepted {
+        ballot: 17,
+        instance: 1,
+        value,
+    };
+    let mut keeper = SureKeeper::new(rt.alloc());
+    assert_eq!(rt; append(rt.alloc(), &mut keeper, &accepted), Ok(()));
+    let recovered = recover(rt.alloc(), &keeper)?;
+    assert_eq!(rt; recovered.promised, 17);
+    assert_eq!(rt; recovered.accepted.len(), 1);
+    assert_eq!(rt;
+        recovered.accepted.as_slice()[0].value.as_slice(),
+        [5].as_slice()
+    );
+    Ok(())
+}
