@@ -1,7 +1,10 @@
 -- What an answer's status says of the service is what each status is caused by.
-use Rattle.std.proofs.Common.{◌≡◌, ℕ, List, Option, Some, None, inl, inr, refl}
+use Rattle.std.proofs.Common.{◌≡◌, ◌⊎◌, ℕ, List, Option, Some, None, inl, inr, refl, ap, ◌∙◌}
 use Rattle.std.specs.Prelude.{◌↔◌, IfSome}
 use Rattle.rex_syntax.specs.declared.service.Declarations.{Declarations}
+use Rattle.rex_traits.specs.Causes.{Rose}
+use Rattle.rex_cli.specs.Due.{Due}
+use Rattle.rex_cli.specs.Outcome.{Ends}
 use Rattle.rex_cli.specs.Causes.{Judges, JudgesFor, IsBroken, IsCaused, service_in}
 use Rattle.rex_cli.specs.declared.command.Command.{Command}
 
@@ -38,3 +41,15 @@ caused (Some command) input status j = record {
 pub caused_if : (left : Option (List ℕ)) (command : Option Command) (status : ℕ) → IfSome left (λ input. JudgesFor command input status) → IfSome left (λ input. IsCaused command input status)
 caused_if None command status h = tt
 caused_if (Some input) command status h = caused command input status h
+
+-- where 0 is due and the sink counted no fault, the status is 0 or 6
+ended_well : (d due : Due) (status before after : ℕ) → d ≡ due → Ends d before after status → due.status ≡ 0 → (Rose before after → ⊥) → (status ≡ 0) ⊎ (status ≡ 6)
+ended_well d due status before after same (inl is) zero quiet = inl (is ∙ ap (λ (x : Due). x.status) same ∙ zero)
+ended_well d due status before after same (inr (inl failed)) zero quiet = absurd (quiet failed.1)
+ended_well d due status before after same (inr (inr short)) zero quiet = inr short
+
+-- the same of an input that may not be told, whatever the source counted
+pub complete_if : (Q : Type 0) (left : Option (List ℕ)) (due : List ℕ → Due) (d : Due) (status before after : ℕ) → IfSome left (λ input. d ≡ due input) → Ends d before after status
+    → IfSome left (λ input. (due input).status ≡ 0 → Q → (Rose before after → ⊥) → (status ≡ 0) ⊎ (status ≡ 6))
+complete_if Q None due d status before after is ends = tt
+complete_if Q (Some input) due d status before after is ends = λ zero q quiet. ended_well d (due input) status before after is ends zero quiet

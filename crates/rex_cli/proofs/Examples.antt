@@ -32,17 +32,20 @@ scenario reply =
     ++ codes "%requests" ∷ codes "1 1 add 5" ∷ codes "%schedule" ∷ codes "elect 1" ∷ codes "submit 1 1" ∷ codes "lane 1 1" ∷ codes "lane 1 1" ∷ codes "lane 1 1" ∷ codes "lane 1 1"
     ∷ codes "cut 1" ∷ [])
 
-abbrev report : List (List ℕ)
-report =
-    codes "1 node 1 candidate ballot 17" ∷ codes "1 node 1 active ballot 17" ∷ codes "2 queued" ∷ codes "3 lane 1 0 begin 1 1 add 5" ∷ codes "4 lane 1 1 acquire L" ∷ codes "5 lane 1 2 release L"
-    ∷ codes "6 lane 1 3 reply 1 5" ∷ codes "7 node 1 proposes 1 events 4" ∷ codes "7 node 1 known 1" ∷ codes "7 released 1 1 5" ∷ codes "end node 1 active promised 17 known 1 live 0 a=5" ∷ []
-
 -- ---- run
 
--- the counter is answered with its report
-counter_runs : due (rex (codes "run")) (text_of (scenario (codes "reply r"))) ≡ record { status = 0; text = text_of report }
+-- a scenario whose one node does nothing, and one whose node is elected
+abbrev idle : List (List ℕ) → List (List ℕ)
+idle lines = codes "%nodes 1" ∷ codes "%service" ∷ (service (codes "reply r") ++ codes "%requests" ∷ codes "%schedule" ∷ lines)
+
+idle_runs : due (rex (codes "run")) (text_of (idle [])) ≡ one_line 0 (codes "end node 1 follower promised 0 known 0 replayed 0 a=0")
 unfolding answer_from is_name new_code lock_code variable_code local_code number_code expr_code digits
-counter_runs = refl
+idle_runs = refl
+
+leader_runs : due (rex (codes "run")) (text_of (idle (codes "elect 1" ∷ [])))
+    ≡ record { status = 0; text = text_of (codes "1 node 1 candidate ballot 17" ∷ codes "1 node 1 active ballot 17" ∷ codes "end node 1 active promised 17 known 0 live 0 a=0" ∷ []) }
+unfolding answer_from is_name new_code lock_code variable_code local_code number_code expr_code digits
+leader_runs = refl
 
 -- a reply that reads without the lock is refused by its line in the scenario
 race_is_refused : due (rex (codes "run")) (text_of (scenario (codes "reply a"))) ≡ one_line 3 (codes "refused handler add line 11 C1")

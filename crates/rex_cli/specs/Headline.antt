@@ -7,9 +7,9 @@ use Rattle.rex_scenario.specs.Reading.{answer_of, scenario_of}
 use Rattle.rex_world.specs.Laws.{Headline}
 
 abbrev pub CommittedIn : Result Sections (ℕ × ScenarioCode) → Type 0
-CommittedIn (Ok s) = Headline (service_of s.service) (scenario_of s).requests (scenario_of s).seed (scenario_of s).schedule
+CommittedIn (Ok s) = Headline (service_of s.service) (scenario_of s).requests (scenario_of s).seed (scenario_of s).nodes (scenario_of s).schedule
 CommittedIn (Err e) = Unit {0}
 
--- of every two moments of the run the earlier agreed trace is a prefix of the later one, each runs on one thread, and every released reply stands from then on
+-- of the run of the scenario that the input is: what nodes know is one list, which runs on one thread, and every released reply stands in every later leader's trace
 abbrev pub Committed : List ℕ → Type 0
 Committed input = CommittedIn (answer_of input)

@@ -4,3 +4,4 @@ pub mod Due
 pub mod Causes
 pub mod Outcome
 pub mod Headline
+pub mod Response

@@ -9,6 +9,7 @@ ghost use Rattle.rex_world.specs.Laws.{Headline};
 ghost use Rattle.rex_cli.specs.Due as due;
 ghost use Rattle.rex_cli.specs.Causes.{Judges, service_in};
 ghost use Rattle.rex_cli.specs.Headline.{Committed};
+ghost use Rattle.rex_cli.specs.Response.{MayRun, due_of};
 ghost use Rattle.rex_cli.specs.declared.command.Command.TheVariants as commands;
 
 use crate::command::Command;
@@ -19,7 +20,7 @@ use rex_report::Piece;
 use rex_scenario::{SCENARIO_BYTES, Scenario, ScenarioCode, ScenarioError, read_scenario};
 use rex_syntax::checked::Checked;
 use rex_syntax::service::{Declarations, Service};
-use rex_world::report::report;
+use rex_world::laws::headline_holds;
 use std::alloc::{AllocError, Global};
 use std::marker::Model;
 
@@ -36,6 +37,21 @@ impl Model for Answer {
     ghost Value = { Due };
 
     ghost view = { λ a. record { status = a.status; text = a.text.items } };
+}
+
+/// A scenario, and its checked service.
+#[derive(Drop)]
+pub(crate) struct Plan {
+    pub(crate) scenario: Scenario,
+    pub(crate) service: Checked,
+}
+
+/// What words and an input ask for: a text that is written before the program ends with its status, or a run, whose report
+/// is written as it goes.
+#[derive(Drop)]
+pub(crate) enum Response {
+    Told(Answer),
+    Run(Plan),
 }
 
 /// What words are answered that are no command line.
@@ -71,30 +87,37 @@ fn unchecked(alloc: Global, service: &Declarations) -> Result<Option<Answer>, Al
     }
 }
 
-// What a scenario is answered.
-fn run_scenario(alloc: Global, scenario: &Scenario, service: Service) -> Result<Answer, AllocError>
-    requires { ScenarioFits service scenario.now }
-    ensures due { IfOk result (λ a. a ≡ due.due_report scenario.now service (refusal service)) }
-    ensures judges { IfOk result (λ a. Judges (Some service) a.status) }
-    ensures headline { IfOk result (λ a. a.status ≡ 0 → Headline service scenario.now.requests scenario.now.seed scenario.now.schedule) }
+// What a scenario asks for.
+fn run_scenario(alloc: Global, scenario: Scenario, service: Service) -> Result<Response, AllocError>
+    requires { ScenarioFits service scenario }
+    ensures due { IfOk result (λ r. due_of r ≡ due.due_report scenario service (refusal service)) }
+    ensures judges { IfOk result (λ r. Judges (Some service) (due_of r).status) }
+    ensures headline { IfOk result (λ r. (due_of r).status ≡ 0 → Headline service scenario.requests scenario.seed scenario.nodes scenario.schedule) }
+    ensures fits { IfOk result MayRun }
 {
+    headline_holds();
     if let Some(answer) = unchecked(alloc, service.declarations())? {
-        return Ok(answer);
+        return Ok(Response::Told(answer));
     }
-    let text = report(alloc, &Checked::of(service), scenario)?;
-    Ok(Answer { status: 0, text })
+    let service = Checked::of(service);
+    let _service = service.declarations();
+    Ok(Response::Run(Plan { scenario, service }))
 }
 
-// What `run` answers.
-fn run_input(alloc: Global, input: &[u8]) -> Result<Answer, AllocError>
+// What `run` asks for.
+fn run_input(alloc: Global, input: &[u8]) -> Result<Response, AllocError>
     requires { length input.now ≤ 4194305 }
-    ensures due { IfOk result (λ a. a ≡ due.due_command commands.Run input.now) }
-    ensures judges { IfOk result (λ a. Judges (service_in commands.Run input.now) a.status) }
-    ensures headline { IfOk result (λ a. a.status ≡ 0 → Committed input.now) }
+    ensures due { IfOk result (λ r. due_of r ≡ due.due_command commands.Run input.now) }
+    ensures judges { IfOk result (λ r. Judges (service_in commands.Run input.now) (due_of r).status) }
+    ensures headline { IfOk result (λ r. (due_of r).status ≡ 0 → Committed input.now) }
+    ensures fits { IfOk result MayRun }
 {
     match read_scenario(alloc, input) {
-        Ok((scenario, service)) => run_scenario(alloc, &scenario, service),
-        Err(ScenarioError::Refused { line, code }) => refused(alloc, line, scenario_code(code)),
+        Ok((scenario, service)) => run_scenario(alloc, scenario, service),
+        Err(ScenarioError::Refused { line, code }) => {
+            let answer = refused(alloc, line, scenario_code(code))?;
+            Ok(Response::Told(answer))
+        }
         Err(ScenarioError::OutOfMemory) => Err(AllocError),
     }
 }
@@ -148,15 +171,23 @@ fn check_input(alloc: Global, input: &[u8]) -> Result<Answer, AllocError>
     }
 }
 
-/// What a command answers to an input.
-pub(crate) fn answer_to(alloc: Global, command: Command, input: &[u8]) -> Result<Answer, AllocError>
+/// What a command asks for, given an input.
+pub(crate) fn response_to(
+    alloc: Global,
+    command: Command,
+    input: &[u8],
+) -> Result<Response, AllocError>
     requires { length input.now ≤ 4194305 }
-    ensures due { IfOk result (λ a. a ≡ due.due_command command input.now) }
-    ensures judges { IfOk result (λ a. Judges (service_in command input.now) a.status) }
-    ensures headline { command ≡ commands.Run → IfOk result (λ a. a.status ≡ 0 → Committed input.now) }
+    ensures due { IfOk result (λ r. due_of r ≡ due.due_command command input.now) }
+    ensures judges { IfOk result (λ r. Judges (service_in command input.now) (due_of r).status) }
+    ensures headline { command ≡ commands.Run → IfOk result (λ r. (due_of r).status ≡ 0 → Committed input.now) }
+    ensures fits { IfOk result MayRun }
 {
     match command {
         Command::Run => run_input(alloc, input),
-        Command::Check => check_input(alloc, input),
+        Command::Check => {
+            let answer = check_input(alloc, input)?;
+            Ok(Response::Told(answer))
+        }
     }
 }

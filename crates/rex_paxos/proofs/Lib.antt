@@ -1,3 +1,4 @@
-mod Counted
+pub mod Counted
 mod Examples
-mod Reports
+pub mod Reports
+pub mod Taken

@@ -1,5 +1,5 @@
 -- What a proposer counts, and what it answers.
-use Rattle.std.specs.Prelude.{ℕ, ◌+◌, ◌≤◌, ◌==◌, Bool, false, not, List, [], ◌∷◌, ◌++◌, length, Option, Some, None, unwrap_or, if◌then◌else◌}
+use Rattle.std.specs.Prelude.{ℕ, ◌+◌, ◌-◌, ◌≤◌, ◌==◌, Bool, false, not, List, [], ◌∷◌, ◌++◌, length, take, Option, Some, None, unwrap_or, if◌then◌else◌}
 use Rattle.rex_ballot.specs.Ballot.{node_of}
 use Rattle.rex_ballot.specs.declared.proposal.Proposal.{Proposal}
 use Rattle.rex_paxos.specs.declared.answers.Vote.{Vote}
@@ -70,6 +70,10 @@ with_promise None p from reported = record p { promised = p.promised ++ from ∷
 abbrev pub promise_counted : ProposerValue → ℕ → ℕ → List Proposal → ProposerValue
 promise_counted p ballot from reported = with_promise (promise_refusal p ballot from) p from reported
 
+-- the last promise that was counted is taken back, with so many reports, the last ones
+abbrev pub without_last : ProposerValue → ℕ → ProposerValue
+without_last p reports = record p { promised = take (length p.promised - 1) p.promised; reported = take (length p.reported - reports) p.reported }
+
 -- ---- acceptances
 
 -- one more node has accepted: a majority closes the instance
@@ -81,6 +85,10 @@ accepted_by p node =
 -- an instance is opened, with the own acceptance
 abbrev pub proposed : ProposerValue → ℕ → ProposerValue
 proposed p instance = accepted_by (record p { open_instance = Some instance; accepted = [] }) (node_of p.ballot)
+
+-- no instance is open
+abbrev pub closed : ProposerValue → ProposerValue
+closed p = record p { open_instance = None; accepted = [] }
 
 -- this instance is open
 abbrev pub is_open : Option ℕ → ℕ → Bool

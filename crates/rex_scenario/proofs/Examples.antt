@@ -15,7 +15,7 @@ use Rattle.rex_scenario.specs.Reading.{answer_from, answer_of, unscheduled_answe
 use Rattle.rex_scenario.specs.declared.scenario.ScenarioCode.{ScenarioCode}
 use Rattle.rex_scenario.specs.declared.scenario.ScenarioCode.TheVariants as code
 use Rattle.rex_scenario.specs.declared.scenario.ScheduleLine.{ScheduleLine}
-use Rattle.rex_scenario.specs.declared.scenario.ScheduleLine.TheVariants.{Elect, Submit, Lane, Cut, CutBelow}
+use Rattle.rex_scenario.specs.declared.scenario.ScheduleLine.TheVariants.{Elect, Submit, Lane, Cut, CutBelow, Deliver, Flush, Replay, Ask, Stop, Start}
 use Rattle.rex_scenario.specs.declared.schedule.Step.{Step}
 use Rattle.rex_scenario.specs.declared.schedule.Step.TheVariants as step
 use Rattle.rex_scenario.specs.declared.scenario.Sections.{Sections}
@@ -25,10 +25,14 @@ text_of : List (List ℕ) → List ℕ
 text_of [] = []
 text_of (line ∷ lines) = line ++ 10 ∷ text_of lines
 
-counter_service : List (List ℕ)
-counter_service =
-    codes "%nodes 1" ∷ codes "%service" ∷ codes "lanes 2" ∷ codes "lock L" ∷ codes "var a on L = 0" ∷ codes "handler add x" ∷ codes "acquire L" ∷ codes "set a = a + x" ∷ codes "let r = a"
+-- the counter with its heading of so many nodes
+counter_of : List ℕ → List (List ℕ)
+counter_of nodes =
+    nodes ∷ codes "%service" ∷ codes "lanes 2" ∷ codes "lock L" ∷ codes "var a on L = 0" ∷ codes "handler add x" ∷ codes "acquire L" ∷ codes "set a = a + x" ∷ codes "let r = a"
     ∷ codes "release L" ∷ codes "reply r" ∷ []
+
+counter_service : List (List ℕ)
+counter_service = counter_of (codes "%nodes 1")
 
 counter : List (List ℕ)
 counter = counter_service ++ codes "%requests" ∷ codes "1 1 add 5" ∷ codes "%schedule" ∷ codes "elect 1" ∷ codes "submit 1 1" ∷ codes "lane 1 1" ∷ codes "cut 1 1 0" ∷ codes "cut 1" ∷ []
@@ -38,12 +42,22 @@ said (Ok s) = Some ((scenario_of s).requests, (scenario_of s).schedule)
 said (Err e) = None
 
 counter_says : said (answer_of (text_of counter)) ≡ Some ((record { client = 1; sequence = 1; handler = 0; arguments = pos 5 ∷ [] }) ∷ [], Elect 1 ∷ Submit 1 0 ∷ Lane 1 0 ∷ CutBelow 1 (1 ∷ 0 ∷ []) ∷ Cut 1 ∷ [])
-unfolding text_of counter counter_service said answer_from is_name new_code lock_code variable_code local_code number_code expr_code digits
+unfolding text_of counter counter_service counter_of said answer_from is_name new_code lock_code variable_code local_code number_code expr_code digits
 counter_says = refl
+
+-- a schedule of three nodes: one is elected, and its messages are handed over; one asks another, and one is stopped and started
+cluster : List (List ℕ)
+cluster =
+    counter_of (codes "%nodes 3") ++ codes "%requests" ∷ codes "%schedule" ∷ codes "elect 1" ∷ codes "deliver 1" ∷ codes "flush" ∷ codes "replay 3" ∷ codes "ask 3 1" ∷ codes "stop 1" ∷ codes "start 1"
+    ∷ codes "elect 3" ∷ codes "deliver 18446744073709551615" ∷ []
+
+cluster_says : said (answer_of (text_of cluster)) ≡ Some ([], Elect 1 ∷ Deliver 1 ∷ Flush ∷ Replay 3 ∷ Ask 3 1 ∷ Stop 1 ∷ Start 1 ∷ Elect 3 ∷ Deliver 18446744073709551615 ∷ [])
+unfolding text_of cluster counter_of said answer_from is_name new_code lock_code variable_code local_code number_code expr_code digits
+cluster_says = refl
 
 -- where the schedule may have no lines, the first is refused
 first_line_is_refused : result_err (unscheduled_answer_of (text_of counter)) ≡ Some (15, code.BadLine)
-unfolding text_of counter counter_service answer_from is_name new_code lock_code variable_code local_code number_code expr_code digits
+unfolding text_of counter counter_service counter_of answer_from is_name new_code lock_code variable_code local_code number_code expr_code digits
 first_line_is_refused = refl
 
 -- the number of nodes and the seed of a text, if it is good
@@ -56,12 +70,16 @@ with_line : List ℕ → List (List ℕ) → List (List ℕ)
 with_line line [] = []
 with_line line (first ∷ rest) = first ∷ line ∷ rest
 
+three_nodes : counts_in (answer_of (text_of cluster)) ≡ Some (3, 0)
+unfolding text_of cluster counter_of counts_in answer_from is_name new_code lock_code variable_code local_code number_code expr_code digits
+three_nodes = refl
+
 greatest_seed : counts_in (answer_of (text_of (with_line (codes "%seed 4294967295") counter))) ≡ Some (1, 4294967295)
-unfolding text_of with_line counter counter_service counts_in answer_from is_name new_code lock_code variable_code local_code number_code expr_code digits
+unfolding text_of with_line counter counter_service counter_of counts_in answer_from is_name new_code lock_code variable_code local_code number_code expr_code digits
 greatest_seed = refl
 
 no_seed : counts_in (answer_of (text_of counter)) ≡ Some (1, 0)
-unfolding text_of counter counter_service counts_in answer_from is_name new_code lock_code variable_code local_code number_code expr_code digits
+unfolding text_of counter counter_service counter_of counts_in answer_from is_name new_code lock_code variable_code local_code number_code expr_code digits
 no_seed = refl
 
 -- ---- a refusal of each code
@@ -92,9 +110,13 @@ two_nodes : refusal (codes "%nodes 2" ∷ []) ≡ Some (1, code.BadHeading)
 unfolding refusal text_of answer_from digits
 two_nodes = refl
 
-three_nodes : refusal (codes "%nodes 3" ∷ []) ≡ Some (1, code.BadHeading)
+four_nodes : refusal (codes "%nodes 4" ∷ []) ≡ Some (1, code.BadHeading)
 unfolding refusal text_of answer_from digits
-three_nodes = refl
+four_nodes = refl
+
+seven_nodes : refusal (codes "%nodes 7" ∷ []) ≡ Some (1, code.BadHeading)
+unfolding refusal text_of answer_from digits
+seven_nodes = refl
 
 seed_above : refusal (codes "%nodes 1" ∷ codes "%seed 4294967296" ∷ []) ≡ Some (2, code.BadHeading)
 unfolding refusal text_of answer_from digits
@@ -113,27 +135,27 @@ unfolding refusal text_of answer_from digits
 open_handler = refl
 
 no_client : refusal (requests_of (codes "0 1 add 5" ∷ [])) ≡ Some (13, code.BadRequest)
-unfolding refusal requests_of counter_service text_of answer_from is_name new_code lock_code variable_code local_code number_code expr_code digits
+unfolding refusal requests_of counter_service counter_of text_of answer_from is_name new_code lock_code variable_code local_code number_code expr_code digits
 no_client = refl
 
 no_argument : refusal (requests_of (codes "1 1 add" ∷ [])) ≡ Some (13, code.BadCall)
-unfolding refusal requests_of counter_service text_of answer_from is_name new_code lock_code variable_code local_code number_code expr_code digits
+unfolding refusal requests_of counter_service counter_of text_of answer_from is_name new_code lock_code variable_code local_code number_code expr_code digits
 no_argument = refl
 
 same_request : refusal (requests_of (codes "1 1 add 5" ∷ codes "1 1 add 6" ∷ [])) ≡ Some (14, code.Repeated)
-unfolding refusal requests_of counter_service text_of answer_from is_name new_code lock_code variable_code local_code number_code expr_code digits
+unfolding refusal requests_of counter_service counter_of text_of answer_from is_name new_code lock_code variable_code local_code number_code expr_code digits
 same_request = refl
 
 not_spelled : refusal (schedule_of (codes "elect 01" ∷ [])) ≡ Some (15, code.BadLine)
-unfolding refusal schedule_of requests_of counter_service text_of answer_from is_name new_code lock_code variable_code local_code number_code expr_code digits
+unfolding refusal schedule_of requests_of counter_service counter_of text_of answer_from is_name new_code lock_code variable_code local_code number_code expr_code digits
 not_spelled = refl
 
 no_node : refusal (schedule_of (codes "elect 0" ∷ [])) ≡ Some (15, code.NotThere)
-unfolding refusal schedule_of requests_of counter_service text_of answer_from is_name new_code lock_code variable_code local_code number_code expr_code digits
+unfolding refusal schedule_of requests_of counter_service counter_of text_of answer_from is_name new_code lock_code variable_code local_code number_code expr_code digits
 no_node = refl
 
 no_request : refusal (schedule_of (codes "submit 1 2" ∷ [])) ≡ Some (15, code.NotThere)
-unfolding refusal schedule_of requests_of counter_service text_of answer_from is_name new_code lock_code variable_code local_code number_code expr_code digits
+unfolding refusal schedule_of requests_of counter_service counter_of text_of answer_from is_name new_code lock_code variable_code local_code number_code expr_code digits
 no_request = refl
 
 -- ---- cuts with limits
@@ -166,28 +188,50 @@ no_limit : codes_of 100000 (codes "cut 1 x" ∷ codes "cut 2 0 0 x" ∷ codes "c
 unfolding codes_of digits
 no_limit = refl
 
+-- ---- several nodes
+
+-- node 5 of five is there, and node 4 of three isn't
+five_nodes : map (is_there 5 1 2) (step.Elect 5 ∷ step.Ask 5 1 ∷ step.Elect 6 ∷ []) ≡ true ∷ true ∷ false ∷ []
+five_nodes = refl
+
+taken : codes_of 99999 (codes "elect 3" ∷ codes "ask 1 3" ∷ codes "ask 3 1" ∷ codes "deliver 1" ∷ codes "flush" ∷ codes "replay 3" ∷ codes "stop 3" ∷ codes "start 3" ∷ [])
+    ≡ None ∷ None ∷ None ∷ None ∷ None ∷ None ∷ None ∷ None ∷ []
+unfolding codes_of digits
+taken = refl
+
+not_there : codes_of 0 (codes "replay 4" ∷ codes "stop 4" ∷ codes "start 0" ∷ []) ≡ Some code.NotThere ∷ Some code.NotThere ∷ Some code.NotThere ∷ []
+unfolding codes_of digits
+not_there = refl
+
+-- a node asks another one that is there
+asked : codes_of 0 (codes "ask 2 2" ∷ codes "ask 1 4" ∷ codes "ask 4 1" ∷ codes "ask 0 1" ∷ []) ≡ Some code.NotThere ∷ Some code.NotThere ∷ Some code.NotThere ∷ Some code.NotThere ∷ []
+unfolding codes_of digits
+asked = refl
+
+-- no message has the number 0, and no message's number is above 2^64 - 1
+no_message : codes_of 0 (codes "deliver 18446744073709551615" ∷ codes "deliver 0" ∷ codes "deliver 18446744073709551616" ∷ []) ≡ None ∷ Some code.NotThere ∷ Some code.BadLine ∷ []
+unfolding codes_of digits
+no_message = refl
+
+-- words that are of no form come before nodes that aren't there, and before one line too many
+no_form : codes_of 100000 (codes "flush 1" ∷ codes "replay" ∷ codes "ask 4" ∷ codes "start 4 4" ∷ [])
+    ≡ Some code.BadLine ∷ Some code.BadLine ∷ Some code.BadLine ∷ Some code.BadLine ∷ []
+unfolding codes_of digits
+no_form = refl
+
 -- ---- the lines that may not come yet
 
 -- the steps that lines spell
 steps_of : List (List ℕ) → List (Option Step)
 steps_of lines = map (λ line. step_of (words_of line)) lines
 
-spelled : steps_of (codes "deliver 18446744073709551615" ∷ codes "flush" ∷ codes "replay 3" ∷ codes "ask 3 1" ∷ codes "stop 1" ∷ codes "start 1" ∷ codes "checkpoint 2" ∷ codes "keepfail 2 kept" ∷ codes "keepfail 3 lost" ∷ [])
-    ≡ Some (step.Deliver 18446744073709551615) ∷ Some step.Flush ∷ Some (step.Replay 3) ∷ Some (step.Ask 3 1) ∷ Some (step.Stop 1) ∷ Some (step.Start 1) ∷ Some (step.Checkpoint 2) ∷ Some (step.KeepFail 2 true) ∷ Some (step.KeepFail 3 false) ∷ []
+spelled : steps_of (codes "checkpoint 2" ∷ codes "keepfail 2 kept" ∷ codes "keepfail 3 lost" ∷ codes "keepfail 1" ∷ codes "keepfail 1 keep" ∷ [])
+    ≡ Some (step.Checkpoint 2) ∷ Some (step.KeepFail 2 true) ∷ Some (step.KeepFail 3 false) ∷ None ∷ None ∷ []
 unfolding steps_of digits
 spelled = refl
 
-no_form : steps_of (codes "deliver 18446744073709551616" ∷ codes "flush 1" ∷ codes "replay" ∷ codes "ask 1" ∷ codes "start 1 1" ∷ codes "keepfail 1" ∷ codes "keepfail 1 keep" ∷ []) ≡ None ∷ None ∷ None ∷ None ∷ None ∷ None ∷ None ∷ []
-unfolding steps_of digits
-no_form = refl
-
--- a node asks another one that is there, and no message has the number 0
-not_there : map (is_there 3 1 2) (step.Ask 2 2 ∷ step.Ask 1 4 ∷ step.Ask 4 1 ∷ step.Ask 0 1 ∷ step.Deliver 0 ∷ []) ≡ false ∷ false ∷ false ∷ false ∷ false ∷ []
-not_there = refl
-
 -- they are refused, whatever they name and however many lines came before
-not_ready : codes_of 100000 (codes "deliver 0" ∷ codes "flush" ∷ codes "replay 4" ∷ codes "ask 2 2" ∷ codes "stop 4" ∷ codes "start 1" ∷ codes "checkpoint 1" ∷ codes "keepfail 1 kept" ∷ [])
-    ≡ Some code.BadLine ∷ Some code.BadLine ∷ Some code.BadLine ∷ Some code.BadLine ∷ Some code.BadLine ∷ Some code.BadLine ∷ Some code.BadLine ∷ Some code.BadLine ∷ []
+not_ready : codes_of 100000 (codes "checkpoint 1" ∷ codes "checkpoint 4" ∷ codes "keepfail 1 kept" ∷ codes "keepfail 0 lost" ∷ []) ≡ Some code.BadLine ∷ Some code.BadLine ∷ Some code.BadLine ∷ Some code.BadLine ∷ []
 unfolding codes_of digits
 not_ready = refl
 

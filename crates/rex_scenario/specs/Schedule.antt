@@ -73,14 +73,11 @@ step_of (w ∷ v ∷ []) = option_and_then (short_step w) (u64_at v)
 step_of (w ∷ v ∷ u ∷ []) = if bytes_eq w (codes "cut") then cut_step w v (u ∷ []) else option_and_then (λ n. longer_step w n u) (u64_at v)
 step_of (w ∷ v ∷ u ∷ t ∷ us) = cut_step w v (u ∷ t ∷ us)
 
--- the steps that may come so far
+-- the steps that may come so far: all but checkpoints, and keepers that fail
 abbrev pub is_ready : Step → Bool
-is_ready (step.Elect n) = true
-is_ready (step.Submit n r) = true
-is_ready (step.Lane n l) = true
-is_ready (step.Cut n) = true
-is_ready (step.CutBelow n limits) = true
-is_ready _ = false
+is_ready (step.Checkpoint n) = false
+is_ready (step.KeepFail n kept) = false
+is_ready _ = true
 
 -- a schedule may have this step: one that may come so far, where it may have lines at all
 abbrev pub is_open : Bool → Step → Bool

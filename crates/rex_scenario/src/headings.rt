@@ -112,6 +112,8 @@ fn nodes_of(word: &[u8]) -> Option<u8>
 {
     match read_u64(word)? {
         1 => Some(1),
+        3 => Some(3),
+        5 => Some(5),
         _ => None,
     }
 }

@@ -39,7 +39,7 @@ pub enum ScheduleLine {
 /// The requests and the schedule of a scenario, which its service is read beside.
 #[derive(Drop)]
 pub struct Scenario {
-    /// The number of nodes: one, so far.
+    /// The number of nodes: 1, 3 or 5.
     pub nodes: u8,
     /// The seed of the random reads.
     pub seed: u32,

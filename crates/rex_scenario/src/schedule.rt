@@ -192,17 +192,13 @@ fn is_open(scheduled: bool, step: &Step) -> bool
     scheduled && is_ready(step)
 }
 
-// Whether such a step may come so far.
+// Whether such a step may come so far: any but checkpoints, and keepers that fail.
 fn is_ready(step: &Step) -> bool
     ensures { result ≡ schedule.is_ready step.now }
 {
     match step {
-        Step::Elect(_)
-        | Step::Submit(_, _)
-        | Step::Lane(_, _)
-        | Step::Cut(_)
-        | Step::CutBelow(_, _) => true,
-        _ => false,
+        Step::Checkpoint(_) | Step::KeepFail(_, _) => false,
+        _ => true,
     }
 }
 

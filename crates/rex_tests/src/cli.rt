@@ -12,7 +12,7 @@ const USAGE: &str = "usage: rex run|trace|check|gen|soak\n";
 static TEXTS: [Case; 7] = [
     ("run", "", 1, "refused line 1 S3\n"),
     ("check", "", 1, "refused line 1 P14\n"),
-    ("run", "%nodes 3\n", 1, "refused line 1 S4\n"),
+    ("run", "%nodes 4\n", 1, "refused line 1 S4\n"),
     (
         "run",
         "%nodes 1\n%service\nlanes 0\n",

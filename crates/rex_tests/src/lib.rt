@@ -25,6 +25,8 @@ mod msg;
 #[cfg(test)]
 mod net;
 #[cfg(test)]
+mod node;
+#[cfg(test)]
 mod parse;
 #[cfg(test)]
 mod paxos;

@@ -42,6 +42,111 @@ pub const REPORT: &[u8] = b"1 node 1 candidate ballot 17
 end node 1 active promised 17 known 1 live 0 a=5
 ";
 
+/// Three nodes: the leader is stopped before anyone has accepted what it proposed, and catches up with the next one.
+const CATCHING_UP: &[u8] = b"%nodes 3
+%service
+lanes 2
+lock L
+var a on L = 0
+handler add x
+acquire L
+set a = a + x
+let r = a
+release L
+reply r
+%requests
+1 1 add 5
+2 1 add 7
+%schedule
+elect 1
+deliver 1
+deliver 3
+submit 1 1
+lane 1 1
+lane 1 1
+lane 1 1
+lane 1 1
+cut 1
+stop 1
+elect 2
+deliver 7
+deliver 8
+submit 2 2
+lane 2 1
+lane 2 1
+lane 2 1
+lane 2 1
+cut 2
+deliver 10
+deliver 11
+start 1
+ask 1 2
+deliver 14
+deliver 15
+replay 1
+ask 1 2
+deliver 16
+start 1
+";
+
+/// Its report.
+const CAUGHT_UP: &[u8] = b"1 node 1 candidate ballot 17
+1 sent 1 prepare 1 2
+1 sent 2 prepare 1 3
+2 message 1 prepare 1 2
+2 node 2 promised 17
+2 sent 3 promise 2 1
+3 message 3 promise 2 1
+3 node 1 active ballot 17
+4 queued
+5 lane 1 0 begin 1 1 add 5
+6 lane 1 1 acquire L
+7 lane 1 2 release L
+8 lane 1 3 reply 1 5
+9 node 1 proposes 1 events 4
+9 sent 4 accept 1 2
+9 sent 5 accept 1 3
+10 node 1 stopped
+11 node 2 candidate ballot 18
+11 sent 6 prepare 2 1
+11 sent 7 prepare 2 3
+12 message 7 prepare 2 3
+12 node 3 promised 18
+12 sent 8 promise 3 2
+13 message 8 promise 3 2
+13 node 2 active ballot 18
+14 queued
+15 lane 1 0 begin 2 1 add 7
+16 lane 1 1 acquire L
+17 lane 1 2 release L
+18 lane 1 3 reply 2 7
+19 node 2 proposes 1 events 4
+19 sent 9 accept 2 1
+19 sent 10 accept 2 3
+20 message 10 accept 2 3
+20 node 3 accepted 18 1
+20 sent 11 accepted 3 2
+21 message 11 accepted 3 2
+21 node 2 known 1
+21 released 2 1 7
+21 sent 12 chosen 2 1
+21 sent 13 chosen 2 3
+22 node 1 started promised 17 known 0 replayed 0
+23 sent 14 ask 1 2
+24 message 14 ask 1 2
+24 sent 15 chosen 2 1
+25 message 15 chosen 2 1
+25 node 1 known 1
+26 node 1 replayed 1
+27 sent 16 ask 1 2
+28 message 16 ask 1 2
+28 nothing
+29 node 1 is up
+end node 1 follower promised 17 known 1 replayed 1 a=7
+end node 2 active promised 18 known 1 live 0 a=7
+end node 3 follower promised 18 known 0 replayed 0 a=0
+";
+
 /// The status, and what was written.
 #[derive(Drop)]
 pub struct Outcome {
@@ -72,5 +177,13 @@ fn a_request_is_served(rt: HostRuntime) -> Result<(), Fail> {
     let outcome = run(&rt, "run", COUNTER, 0, 0)?;
     assert_eq!(rt; outcome.status, 0);
     assert_eq!(rt; outcome.written.as_slice(), REPORT);
+    Ok(())
+}
+
+#[test]
+fn a_stopped_leader_catches_up(rt: HostRuntime) -> Result<(), Fail> {
+    let outcome = run(&rt, "run", CATCHING_UP, 0, 0)?;
+    assert_eq!(rt; outcome.status, 0);
+    assert_eq!(rt; outcome.written.as_slice(), CAUGHT_UP);
     Ok(())
 }

@@ -1,10 +1,10 @@
+pub mod Seats
 pub mod World
-pub mod Values
-pub mod Row
+pub mod Kept
+pub mod Calls
+pub mod Places
+pub mod Finding
 pub mod Report
-pub mod Stands
-pub mod There
-pub mod Running
-pub mod Limits
-pub mod Answering
 pub mod Laws
+pub mod Writing
+pub mod Handing

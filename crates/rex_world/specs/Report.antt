@@ -1,41 +1,79 @@
 -- The report of a scenario.
-use Rattle.std.specs.Prelude.{ℕ, ◌+◌, ℤ, List, [], ◌∷◌, ◌++◌, length, if◌then◌else◌}
+use Rattle.std.specs.Prelude.{◌≡◌, ℕ, suc, ◌+◌, ℤ, List, [], ◌∷◌, ◌++◌, length, take, is_some, if◌then◌else◌}
 use Rattle.rex_syntax.specs.declared.request.Request.{Request}
 use Rattle.rex_syntax.specs.declared.service.Declarations.{Declarations}
-use Rattle.rex_state.specs.Start.{start_of}
 use Rattle.rex_report.specs.declared.effect.Effect.{Effect}
-use Rattle.rex_report.specs.declared.effect.Role.TheVariants.{Follower, Active}
 use Rattle.rex_report.specs.declared.ends.End.{End}
-use Rattle.rex_report.specs.declared.ends.End.TheVariants.{Up}
+use Rattle.rex_report.specs.declared.ends.End.TheVariants.{Up, Down}
+use Rattle.rex_report.specs.declared.ends.UpEnd.{UpEnd}
 use Rattle.rex_report.specs.Rows.{row_text}
 use Rattle.rex_report.specs.Ends.{end_text}
 use Rattle.rex_scenario.specs.declared.scenario.Scenario.{Scenario}
 use Rattle.rex_scenario.specs.declared.scenario.ScheduleLine.{ScheduleLine}
-use Rattle.rex_world.specs.World.{WorldValue, beginning, is_follower, live_state}
-use Rattle.rex_world.specs.Row.{row}
+use Rattle.rex_safety.specs.Records.{promise, known}
+use Rattle.rex_safety.specs.Node.{role_name, is_active}
+use Rattle.rex_safety.specs.Values.{trace_of, state_after}
+use Rattle.rex_safety.specs.Lanes.{Here, live_state}
+use Rattle.rex_safety.specs.World.{World, beginning, row}
+use Rattle.rex_node.specs.Parts.{NodeValue, IsNode, role_of, work_of}
+use Rattle.rex_world.specs.declared.seats.Seat.{Seat}
+use Rattle.rex_world.specs.declared.seats.Seat.TheVariants.{Running, Stopped}
+use Rattle.rex_world.specs.Seats.{records_of}
 
 -- the report lines of a schedule line
 abbrev pub effects_text : Declarations → ℕ → List Effect → List ℕ
 effects_text service number [] = []
 effects_text service number (effect ∷ rest) = row_text service number effect ++ effects_text service number rest
 
--- what a node came to
-abbrev pub end_of : WorldValue → End
-end_of w =
-    if is_follower w then Up (record { node = 1; role = Follower; promised = w.promised; known = length w.known; count = 0 })
-    else Up (record { node = 1; role = Active; promised = w.promised; known = length w.known; count = length w.live })
+-- what a node came to: how many events are live where it is active, and else how many deltas it has replayed
+abbrev pub end_of : ℕ → Here → End
+end_of number x =
+    if x.up then Up (record {
+      node = number;
+      role = role_name x.role;
+      promised = promise x.log;
+      known = length (known x.log);
+      count = if is_active x.role then length x.work.live else x.replayed;
+    })
+    else Down number
 
--- the values of its variables: of the live state where it leads, else of the state that it has replayed, which is the start
-abbrev pub values_of : Declarations → WorldValue → List ℤ
-values_of service w = if is_follower w then (start_of service).variables else (live_state service w).variables
+-- the values of its variables: of the live state where it is active, and else of the state that it has replayed
+abbrev pub values_of : Declarations → Here → List ℤ
+values_of service x =
+    if is_active x.role then (live_state service x).variables
+    else (state_after service (trace_of (take x.replayed (known x.log)))).variables
 
--- the report from a world on
-abbrev pub report_from : Declarations → List Request → ℕ → WorldValue → List ScheduleLine → List ℕ
-report_from service requests seed w [] = end_text (end_of w) service.variables (values_of service w)
-report_from service requests seed w (line ∷ rest) =
-    effects_text service (w.done + 1) (row service requests seed w line).effects
-    ++ report_from service requests seed (row service requests seed w line).world rest
+-- how many events are live at an active node; how many deltas another one has replayed
+abbrev pub count_of : {K : Type 0} → NodeValue K → ℕ
+count_of x = if is_active (role_of x.acceptor x.proposer (is_some x.acting)) then length (work_of x.acting).live else x.replayed
+
+-- what a node that is up came to, from its parts
+abbrev pub up_end_of : {K : Type 0} → NodeValue K → UpEnd
+up_end_of x = record {
+  node = x.id;
+  role = role_name (role_of x.acceptor x.proposer (is_some x.acting));
+  promised = x.acceptor.promised;
+  known = length x.known;
+  count = count_of x;
+}
+
+-- a node that was started has this number, and is kept
+abbrev pub IsNumbered : Declarations → ℕ → Seat → Type 0
+IsNumbered service number (Running node) = (node.id ≡ number) × IsNode records_of service node
+IsNumbered service number (Stopped keeper) = Unit {0}
+
+-- the lines of the nodes from this number on
+abbrev pub ends_text : Declarations → ℕ → List Here → List ℕ
+ends_text service number [] = []
+ends_text service number (x ∷ xs) = end_text (end_of number x) service.variables (values_of service x) ++ ends_text service (suc number) xs
+
+-- the report from a world of n nodes on
+abbrev pub report_from : Declarations → List Request → ℕ → ℕ → World → List ScheduleLine → List ℕ
+report_from service requests seed n w [] = ends_text service 1 w.nodes
+report_from service requests seed n w (line ∷ rest) =
+    effects_text service (w.done + 1) (row service requests seed n w line).effects
+    ++ report_from service requests seed n (row service requests seed n w line).world rest
 
 -- the report of a scenario
 abbrev pub report_of : Declarations → Scenario → List ℕ
-report_of service s = report_from service s.requests s.seed beginning s.schedule
+report_of service s = report_from service s.requests s.seed s.nodes (beginning s.nodes) s.schedule

@@ -1,55 +1,44 @@
--- What a world of one node is: what the schedule has brought it to.
-use Rattle.std.specs.Prelude.{ℕ, ◌==◌, Bool, List, [], ◌∷◌, ◌++◌, unwrap_or}
-use Rattle.rex_syntax.specs.declared.request.Request.{Request}
+-- The world of the cluster's model that a world is.
+use Rattle.std.specs.Prelude.{◌≡◌, ℕ, List, [], ◌∷◌, length, Result, Ok, Err}
 use Rattle.rex_syntax.specs.declared.service.Declarations.{Declarations}
-use Rattle.rex_event.specs.declared.event.Event.{Event}
-use Rattle.rex_event.specs.declared.delta.Delta.{Delta}
-use Rattle.rex_event.specs.Causes.{AreRight}
-use Rattle.rex_state.specs.Value.{StateValue}
-use Rattle.rex_state.specs.Start.{start_of}
-use Rattle.rex_state.specs.Machine.{run}
-use Rattle.rand_pcg.specs.Lcg.{Lcg, started, increment_of}
-use Rattle.rand_pcg.specs.Pcg.{multiplier_64}
+use Rattle.rex_msg.specs.declared.message.Message.{Message as Sent}
+use Rattle.rex_msg.specs.Spelling.{HasSpelling, spelling_of}
+use Rattle.rex_msg.specs.Reading.{message_in as read_in}
+use Rattle.rex_safety.specs.Node.{Message}
+use Rattle.rex_safety.specs.Node.Content.{Ask}
+use Rattle.rex_safety.specs.Values.{Value}
+use Rattle.rex_safety.specs.World.{World as ModelWorld}
+use Rattle.rex_node.specs.Messages.{message_in}
+use Rattle.rex_world.specs.declared.world.World.{World}
+use Rattle.rex_world.specs.Seats.{heres}
 
--- how many schedule lines were done; the node's own ballot, 0 unless it leads, and its promise; the known deltas, the live events and the queue; and the random generator
-pub record WorldValue : Type 0 where
-  pub done : ℕ
-  pub ballot : ℕ
-  pub promised : ℕ
-  pub known : List Delta
-  pub live : List Event
-  pub queue : List Request
-  pub dice : Lcg
+-- what bytes that were read say; bytes that say nothing ask for nothing
+abbrev pub read_message : Result Sent ℕ → Message Value
+read_message (Ok m) = message_in m
+read_message (Err at) = record { from = 0; to = 0; content = Ask 0 }
 
--- the generator of a seed and a ballot
-abbrev pub dice_of : ℕ → ℕ → Lcg
-dice_of seed ballot = started 64 multiplier_64 seed (increment_of 64 ballot)
+abbrev pub message_of : List ℕ → Message Value
+message_of bytes = read_message (read_in bytes)
 
--- before the first line
-abbrev pub beginning : WorldValue
-beginning = record { done = 0; ballot = 0; promised = 0; known = []; live = []; queue = []; dice = dice_of 0 0 }
+abbrev pub messages_of : List (List ℕ) → List (Message Value)
+messages_of [] = []
+messages_of (bytes ∷ rest) = message_of bytes ∷ messages_of rest
 
--- the node follows: it has no ballot of its own
-abbrev pub is_follower : WorldValue → Bool
-is_follower w = w.ballot == 0
+-- the bytes spell a message
+pub record IsSpelled (bytes : List ℕ) : Type 0 where
+  pub message : Sent
+  pub spelling : HasSpelling message
+  pub is : bytes ≡ spelling_of message
 
--- the causes of a delta's events tell their order
-pub record HasRightCauses (d : Delta) : Type 0 where
-  pub right : AreRight d.events d.causes
+-- the world of the model
+abbrev pub world_of : Declarations → World → ModelWorld
+world_of service w = record {
+  done = w.done;
+  nodes = heres service w.seats.items;
+  messages = messages_of w.net;
+  handed = w.handed.items;
+}
 
--- the events of deltas, one delta after the other
-abbrev pub joined : List Delta → List Event
-joined [] = []
-joined (delta ∷ deltas) = delta.events ++ joined deltas
-
--- the state after events from the start; the start itself where they don't run
-abbrev pub state_after : Declarations → List Event → StateValue
-state_after service es = unwrap_or (run service (start_of service) es) (start_of service)
-
--- the state after the known deltas
-abbrev pub known_state : Declarations → WorldValue → StateValue
-known_state service w = state_after service (joined w.known)
-
--- the state after the known deltas and the live events
-abbrev pub live_state : Declarations → WorldValue → StateValue
-live_state service w = state_after service (joined w.known ++ w.live)
+-- so many nodes it has
+abbrev pub nodes_of : World → ℕ
+nodes_of w = length w.seats.items

@@ -1,18 +1,8 @@
-//! What holds of every run of a world of one node. Each function is the statement that its contract makes, and does nothing.
+//! What holds of every run of a world. Each function is the statement that its contract makes, and does nothing.
 
-ghost use Rattle.rex_world.specs.Laws.{HeadlineHolds, BeginningIsRunning, RowsKeepRunning};
+ghost use Rattle.rex_world.specs.Laws.{HeadlineHolds};
 
-/// The recorder of the beginning carries it.
-pub fn beginning_is_running()
-    ensures { BeginningIsRunning }
-{}
-
-/// A recorder that carries a world still does after a line.
-pub fn rows_keep_running()
-    ensures { RowsKeepRunning }
-{}
-
-/// The agreed trace only grows, runs on one thread, and has every reply that was released.
+/// What nodes know is one list, which runs on one thread and has every reply that was released.
 pub fn headline_holds()
     ensures { HeadlineHolds }
 {}

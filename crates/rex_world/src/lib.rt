@@ -1,13 +1,18 @@
-//! A world of one node: what each schedule line does to it, and the report of a whole scenario.
+//! A world of nodes: what each schedule line does to it, and the report of a whole scenario.
 #![tactic(auto)]
 
-mod answers;
-mod bounds;
-mod effects;
+mod calls;
+mod delivering;
+mod ends;
+mod finding;
 pub mod laws;
 mod lines;
-pub mod report;
-mod values;
+mod places;
+mod report;
+mod run;
+mod seats;
+mod told;
 mod world;
 
+pub use run::RunFault;
 pub use world::World;

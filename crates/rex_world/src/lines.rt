@@ -1,297 +1,231 @@
 //! What each kind of schedule line does.
 
-ghost use Rattle.std.specs.Prelude.{◌≡◌, ◌≤◌, ◌<◌, ◌+◌, ◌^◌, ◌++◌, [], length, min, IfOk, OnOk};
+ghost use Rattle.std.specs.Prelude.{◌≡◌, ◌≢◌, ◌<◌, length, IfOk, OnOk};
+ghost use Rattle.std.specs.Option.{option_copied};
 ghost use Rattle.std.specs.List.{All};
-ghost use Rattle.rex_scenario.specs.Fits.{RequestFits};
-ghost use Rattle.rex_world.specs.Row as spec;
+ghost use Rattle.rex_msg.specs.Spelling.{IsMessage};
+ghost use Rattle.rex_scenario.specs.Fits.{IsNode, LineFits, MayCome};
+ghost use Rattle.rex_safety.specs.World as model;
+ghost use Rattle.rex_scenario.specs.declared.scenario.ScheduleLine.TheVariants as line;
+ghost use Rattle.rex_node.specs.Calls.{AreLimits};
+ghost use Rattle.rex_world.specs.World.{nodes_of, world_of};
+ghost use Rattle.rex_world.specs.Kept.{IsRunning, IsSame};
+ghost use Rattle.rex_world.specs.Calls.{Did, Comes, IsCall, IsTold, cut_line};
 
-use crate::answers::answer_of;
-use crate::bounds::limits_between;
-use crate::effects::{tell, tell_both, tell_releases, turn_effect};
-use crate::values::{replay_values, value_of};
-use crate::world::{INSTANCES, World};
-use rand_pcg::Lcg64Xsh32;
-use rex_cut::{delta_of, greatest};
-use rex_event::{Cut, Delta, Event, Kind};
-use rex_record::Recorder;
-use rex_report::{Effect, Role};
+use crate::calls::{effect_of, send_all, tell_all};
+use crate::places::{ask_at, cut_at, elect_at, lane_at, replay_at, start_at, stop_at, submit_at};
+use crate::told::Told;
+use crate::world::World;
+use rex_event::{Event, Kind};
+use rex_node::{Refusal, Step};
+use rex_replay::Replayer;
+use rex_scenario::ScheduleLine;
 use rex_syntax::checked::Checked;
-use rex_syntax::request::Request;
-use std::alloc::{AllocError, Global};
-
-/// The least ballot of a node above a promise: 16 times a round from 1 on, and the node's number.
-fn ballot_above(node: u8, promised: u64) -> u64
-    requires { promised < 2 ^ 60 }
-    ensures { result ≡ spec.ballot_above node promised }
-{
-    let node = node as u64;
-    if promised < 16 + node {
-        16 + node
-    } else {
-        (promised - node) / 16 * 16 + 16 + node
-    }
-}
+use std::alloc::AllocError;
 
 impl World {
-    ghost use Rattle.rex_event.specs.Cuts.{IsConsistent};
-    ghost use Rattle.rex_cut.specs.Delta.{delta_at};
-    ghost use Rattle.rex_delta.specs.Spelling.{IsDelta};
-    ghost use Rattle.rex_state.specs.Counts.{counts_of};
-    ghost use Rattle.rex_record.specs.Value.{settled};
-    ghost use Rattle.rex_scenario.specs.declared.scenario.ScheduleLine.TheVariants as line;
-    ghost use Rattle.rex_world.specs.Limits.{IsLiveCut};
-    ghost use Rattle.rex_world.specs.Answering.{answer_in, taken, turn_at, turned_at};
-    ghost use Rattle.rex_world.specs.Report.{effects_text};
-    ghost use Rattle.rex_world.specs.Running.{IsRunning, with_row, restarted, recorder_after, recorder_cut, running_after, replayed_all};
-
-    /// A line that changes nothing, but for the number of lines done.
-    pub(crate) fn only(
+    /// Tells what a call of a node came to, and sends its messages.
+    pub(crate) fn tell(
         &mut self,
-        svc: &Checked,
-        out: &mut Vec<u8>,
-        effect: Effect,
-    ) -> Result<(), AllocError>
-        requires { self.old.world.done + 1 < 2 ^ 32 }
-        ensures told { OnOk result (out.new.items ≡ out.old.items ++ effects_text svc.now (self.old.world.done + 1) (spec.only self.old.world effect).effects) }
-        ensures after { OnOk result (self.new ≡ with_row self.old (spec.only self.old.world effect) self.old.recorder) }
-    {
-        self.done += 1;
-        tell(out, svc.declarations(), self.done, &effect)
-    }
-
-    fn not_active(&mut self, svc: &Checked, out: &mut Vec<u8>) -> Result<(), AllocError>
-        requires { self.old.world.done + 1 < 2 ^ 32 }
-        ensures told { OnOk result (out.new.items ≡ out.old.items ++ effects_text svc.now (self.old.world.done + 1) (spec.not_active self.old.world).effects) }
-        ensures after { OnOk result (self.new ≡ with_row self.old (spec.not_active self.old.world) self.old.recorder) }
-    {
-        let role = Role::Follower;
-        self.only(svc, out, Effect::NotActive { role })
-    }
-
-    pub(crate) fn elect(
-        &mut self,
-        alloc: Global,
-        svc: &Checked,
-        out: &mut Vec<u8>,
-        seed: u32,
+        told: &mut Told,
         node: u8,
+        outcome: Result<Step, Refusal>,
     ) -> Result<(), AllocError>
-        requires running { IsRunning svc.now self.old }
-        requires promised { self.old.world.promised < 2 ^ 60 }
-        requires count { self.old.world.done + 1 < 2 ^ 32 }
-        ensures told { OnOk result (out.new.items ≡ out.old.items ++ effects_text svc.now (self.old.world.done + 1) (spec.elect_row seed self.old.world node).effects) }
-        ensures after { OnOk result (self.new ≡ running_after svc.now [] seed self.old (line.Elect node)) }
+        requires { IfOk outcome (λ step. All IsMessage step.sends) }
+        ensures { OnOk result (IsTold node self.old self.new told.old told.new outcome) }
     {
-        self.replay(alloc, svc)?;
-        let ballot = ballot_above(node, self.promised);
-        let start = self.base.copy(alloc)?;
-        self.recorder = Recorder::new(alloc, start)?;
-        self.ballot = ballot;
-        self.promised = ballot;
-        self.dice = Lcg64Xsh32::new(seed as u64, ballot);
-        self.done += 1;
-        let candidate = Effect::Candidate { node, ballot };
-        let active = Effect::Active { node, ballot };
-        tell_both(out, svc.declarations(), self.done, &candidate, &active)
-    }
-
-    // Replays the known deltas that weren't replayed yet.
-    fn replay(&mut self, alloc: Global, svc: &Checked) -> Result<(), AllocError>
-        requires running { IsRunning svc.now self.old }
-        ensures { OnOk result (self.new ≡ replayed_all self.old) }
-    {
-        let _service = svc.declarations();
-        replay_values(alloc, svc, &mut self.base, &self.known[self.replayed..])?;
-        self.replayed = self.known.len();
-        Ok(())
-    }
-
-    pub(crate) fn submit(
-        &mut self,
-        svc: &Checked,
-        out: &mut Vec<u8>,
-        requests: &[Request],
-        number: usize,
-    ) -> Result<(), AllocError>
-        requires running { IsRunning svc.now self.old }
-        requires requests { All (RequestFits svc.now) requests.now }
-        requires there { number < length requests.now }
-        requires count { self.old.world.done + 1 < 2 ^ 32 }
-        ensures told { OnOk result (out.new.items ≡ out.old.items ++ effects_text svc.now (self.old.world.done + 1) (spec.submit_row svc.now requests.now self.old.world number).effects) }
-        ensures after { OnOk result (self.new ≡ with_row self.old (spec.submit_row svc.now requests.now self.old.world number) (recorder_after svc.now requests.now self.old (line.Submit 1 number))) }
-    {
-        if self.is_follower() {
-            return self.not_active(svc, out);
-        }
-        let request = &requests[number];
-        let answer = self.answer(request);
-        self.take(svc, request, &answer)?;
-        self.done += 1;
-        tell(out, svc.declarations(), self.done, &answer)
-    }
-
-    // A request that is answered `Queued` joins the queue.
-    fn take(&mut self, svc: &Checked, request: &Request, answer: &Effect) -> Result<(), AllocError>
-        requires running { IsRunning svc.now self.old }
-        requires request { RequestFits svc.now request.now }
-        requires answer { answer.now ≡ answer_in self.old request.now }
-        ensures { OnOk result (self.new ≡ taken self.old request.now answer.now) }
-    {
-        let _service = svc.declarations();
-        if let Effect::Queued = answer {
-            self.recorder.queue(svc, *request)?;
-        }
-        Ok(())
-    }
-
-    // The answer to a request.
-    fn answer(&self, request: &Request) -> Effect
-        ensures { result ≡ answer_in self.now request.now }
-    {
-        let queued = self.recorder.queued(request.client);
-        let live = self.recorder.state().entry(request.client);
-        let known = self.recorder.start().entry(request.client);
-        answer_of(request, queued, live, known)
-    }
-
-    pub(crate) fn lane(
-        &mut self,
-        svc: &Checked,
-        out: &mut Vec<u8>,
-        lane: u8,
-    ) -> Result<(), AllocError>
-        requires running { IsRunning svc.now self.old }
-        requires there { lane < svc.now.lanes }
-        requires count { self.old.world.done + 2 < 2 ^ 32 }
-        ensures told { OnOk result (out.new.items ≡ out.old.items ++ effects_text svc.now (self.old.world.done + 1) (spec.lane_row svc.now self.old.world lane).effects) }
-        ensures after { OnOk result (self.new ≡ with_row self.old (spec.lane_row svc.now self.old.world lane) (recorder_after svc.now [] self.old (line.Lane 1 lane))) }
-    {
-        if self.is_follower() {
-            return self.not_active(svc, out);
-        }
-        let effect = self.turn(svc, lane)?;
-        // The checker loses sight of events and their kinds in a function that names none.
         let _event: Option<(Event, Kind)> = None;
-        self.done += 1;
-        tell(out, svc.declarations(), self.done, &effect)
-    }
-
-    // The lane's turn, as it is reported.
-    fn turn(&mut self, svc: &Checked, lane: u8) -> Result<Effect, AllocError>
-        requires running { IsRunning svc.now self.old }
-        requires there { lane < svc.now.lanes }
-        requires count { self.old.world.done + 1 < 2 ^ 32 }
-        ensures effect { IfOk result (λ effect. effect ≡ spec.turn_effect lane (turn_at svc.now self.old lane)) }
-        ensures after { OnOk result (self.new ≡ turned_at svc.now self.old lane) }
-    {
-        let clock = self.done as i64;
-        let turn = self.recorder.lane_step(svc, lane, clock, &mut self.dice)?;
-        Ok(turn_effect(lane, turn))
-    }
-
-    /// The node proposes all its live events.
-    pub(crate) fn cut(
-        &mut self,
-        alloc: Global,
-        svc: &Checked,
-        out: &mut Vec<u8>,
-        node: u8,
-    ) -> Result<(), AllocError>
-        requires running { IsRunning svc.now self.old }
-        requires count { self.old.world.done + 1 < 2 ^ 32 }
-        ensures told { OnOk result (out.new.items ≡ out.old.items ++ effects_text svc.now (self.old.world.done + 1) (spec.row svc.now [] 0 self.old.world (line.Cut node)).effects) }
-        ensures after { OnOk result (self.new ≡ running_after svc.now [] 0 self.old (line.Cut node)) }
-    {
-        let _service = svc.declarations();
-        let counts = self.recorder.state().counts(alloc)?;
-        self.cut_at(alloc, svc, out, node, &counts)
-    }
-
-    /// The node proposes at most so many live events of each lane.
-    pub(crate) fn cut_below(
-        &mut self,
-        alloc: Global,
-        svc: &Checked,
-        out: &mut Vec<u8>,
-        node: u8,
-        limits: &[u32],
-    ) -> Result<(), AllocError>
-        requires running { IsRunning svc.now self.old }
-        requires limits { length limits.now ≡ svc.now.lanes }
-        requires count { self.old.world.done + 1 < 2 ^ 32 }
-        ensures told { OnOk result (out.new.items ≡ out.old.items ++ effects_text svc.now (self.old.world.done + 1) (spec.row svc.now [] 0 self.old.world (line.CutBelow node limits.now)).effects) }
-        ensures after { OnOk result (self.new ≡ running_after svc.now [] 0 self.old (line.CutBelow node limits.now)) }
-    {
-        let _service = svc.declarations();
-        let firsts = self.recorder.start().counts(alloc)?;
-        let lasts = self.recorder.state().counts(alloc)?;
-        let counts = limits_between(alloc, &firsts, &lasts, limits)?;
-        self.cut_at(alloc, svc, out, node, &counts)
-    }
-
-    // The node proposes the greatest consistent cut below these counts.
-    fn cut_at(
-        &mut self,
-        alloc: Global,
-        svc: &Checked,
-        out: &mut Vec<u8>,
-        node: u8,
-        counts: &[u32],
-    ) -> Result<(), AllocError>
-        requires running { IsRunning svc.now self.old }
-        requires cut { IsLiveCut self.old counts.now }
-        requires count { self.old.world.done + 1 < 2 ^ 32 }
-        ensures told { OnOk result (out.new.items ≡ out.old.items ++ effects_text svc.now (self.old.world.done + 1) (spec.cut_row svc.now self.old.world node counts.now).effects) }
-        ensures after { OnOk result (self.new ≡ with_row self.old (spec.cut_row svc.now self.old.world node counts.now) (recorder_cut svc.now self.old counts.now)) }
-    {
-        let _service = svc.declarations();
-        if self.is_follower() {
-            return self.not_active(svc, out);
+        match outcome {
+            Ok(step) => {
+                tell_all(&mut told.effects, step.effects.as_slice())?;
+                send_all(
+                    &mut self.net,
+                    &mut self.handed,
+                    &mut told.sent,
+                    step.sends.as_slice(),
+                )
+            }
+            Err(Refusal::OutOfMemory) => Err(AllocError),
+            Err(refusal) => {
+                told.effects.push(effect_of(node, refusal))?;
+                Ok(())
+            }
         }
-        if self.known.len() >= INSTANCES {
-            return self.only(svc, out, Effect::Ended);
-        }
-        let cut = greatest(alloc, counts, self.recorder.trace())?;
-        let delta = delta_of(alloc, &cut, self.recorder.trace())?;
-        if delta.events.is_empty() {
-            return self.only(svc, out, Effect::Nothing);
-        }
-        self.agree(alloc, svc, out, node, &cut, &delta)
     }
 
-    // The live events below the cut become the next known delta.
-    fn agree(
+    // The node asks to lead.
+    fn elect<R: Replayer>(
         &mut self,
-        alloc: Global,
         svc: &Checked,
-        out: &mut Vec<u8>,
+        replayer: &mut R,
+        told: &mut Told,
         node: u8,
-        cut: &Cut,
-        delta: &Delta,
     ) -> Result<(), AllocError>
         requires running { IsRunning svc.now self.old }
-        requires consistent { IsConsistent self.old.world.live cut.now.counts }
-        requires delta { delta.now ≡ delta_at cut.now.counts self.old.world.live }
-        requires fits { IsDelta delta.now }
-        requires few { length self.old.world.known < 65535 }
-        requires count { self.old.world.done + 1 < 2 ^ 32 }
-        ensures told { OnOk result (out.new.items ≡ out.old.items ++ effects_text svc.now (self.old.world.done + 1) (spec.agreed svc.now self.old.world node cut.now.counts).effects) }
-        ensures after { OnOk result (self.new ≡ with_row self.old (spec.agreed svc.now self.old.world node cut.now.counts) (settled svc.now self.old.recorder cut.now.counts)) }
+        requires there { IsNode (nodes_of self.old) node }
+        requires ready { R.ready replayer.old }
+        ensures comes { OnOk result (Comes svc.now self.old self.new told.old told.new (line.Elect node)) }
+        ensures ready { R.ready replayer.new }
     {
-        let instance = self.known.len() as u32 + 1;
-        let events = delta.events.len() as u32;
-        let value = value_of(alloc, delta)?;
-        let released = self.recorder.settle(svc, alloc, cut)?;
-        self.known.push(value)?;
-        self.done += 1;
-        let proposes = Effect::Proposes {
+        let outcome = elect_at(&mut self.seats, svc, replayer, self.seed, node);
+        self.tell(told, node, outcome)
+    }
+
+    // A client hands a request to the node.
+    fn submit(
+        &mut self,
+        svc: &Checked,
+        told: &mut Told,
+        node: u8,
+        request: u32,
+    ) -> Result<(), AllocError>
+        requires running { IsRunning svc.now self.old }
+        requires there { IsNode (nodes_of self.old) node }
+        requires request { request < length self.old.requests }
+        ensures comes { OnOk result (Comes svc.now self.old self.new told.old told.new (line.Submit node request)) }
+    {
+        let request = &self.requests.as_slice()[request as usize];
+        let outcome = submit_at(&mut self.seats, self.alloc, svc, self.seed, node, request);
+        self.tell(told, node, outcome)
+    }
+
+    // A lane of the node has its turn.
+    fn lane(&mut self, svc: &Checked, told: &mut Told, node: u8, lane: u8) -> Result<(), AllocError>
+        requires running { IsRunning svc.now self.old }
+        requires there { IsNode (nodes_of self.old) node }
+        requires lane { lane < svc.now.lanes }
+        ensures comes { OnOk result (Comes svc.now self.old self.new told.old told.new (line.Lane node lane)) }
+    {
+        let outcome = lane_at(
+            &mut self.seats,
+            self.alloc,
+            svc,
+            self.seed,
             node,
-            instance,
-            events,
-        };
-        let known = Effect::Known { node, instance };
-        let service = svc.declarations();
-        tell_both(out, service, self.done, &proposes, &known)?;
-        tell_releases(out, service, self.done, released.as_slice())
+            lane,
+            self.done,
+        );
+        self.tell(told, node, outcome)
+    }
+
+    // The node proposes live events.
+    fn cut(
+        &mut self,
+        svc: &Checked,
+        told: &mut Told,
+        node: u8,
+        limits: Option<&[u32]>,
+    ) -> Result<(), AllocError>
+        requires running { IsRunning svc.now self.old }
+        requires there { IsNode (nodes_of self.old) node }
+        requires limits { AreLimits svc.now (option_copied limits) }
+        ensures comes { OnOk result (Comes svc.now self.old self.new told.old told.new (cut_line node (option_copied limits.entry))) }
+    {
+        let outcome = cut_at(&mut self.seats, svc, self.seed, node, limits);
+        self.tell(told, node, outcome)
+    }
+
+    // The node replays what it knows.
+    fn replay<R: Replayer>(
+        &mut self,
+        svc: &Checked,
+        replayer: &mut R,
+        told: &mut Told,
+        node: u8,
+    ) -> Result<(), AllocError>
+        requires running { IsRunning svc.now self.old }
+        requires there { IsNode (nodes_of self.old) node }
+        requires ready { R.ready replayer.old }
+        ensures comes { OnOk result (Comes svc.now self.old self.new told.old told.new (line.Replay node)) }
+        ensures ready { R.ready replayer.new }
+    {
+        let outcome = replay_at(&mut self.seats, svc, replayer, self.seed, node);
+        self.tell(told, node, outcome)
+    }
+
+    // The node asks another one for what it doesn't know.
+    fn ask(&mut self, svc: &Checked, told: &mut Told, node: u8, other: u8) -> Result<(), AllocError>
+        requires running { IsRunning svc.now self.old }
+        requires there { IsNode (nodes_of self.old) node }
+        requires other { IsNode (nodes_of self.old) other × (node ≢ other) }
+        ensures comes { OnOk result (Comes svc.now self.old self.new told.old told.new (line.Ask node other)) }
+    {
+        let outcome = ask_at(&mut self.seats, svc, self.seed, node, other);
+        self.tell(told, node, outcome)
+    }
+
+    // The node is stopped.
+    fn stop(&mut self, svc: &Checked, told: &mut Told, node: u8) -> Result<(), AllocError>
+        requires running { IsRunning svc.now self.old }
+        requires there { IsNode (nodes_of self.old) node }
+        ensures comes { OnOk result (Comes svc.now self.old self.new told.old told.new (line.Stop node)) }
+    {
+        let outcome = stop_at(&mut self.seats, self.alloc, svc, self.seed, node);
+        self.tell(told, node, outcome)
+    }
+
+    // The node is started.
+    fn start(&mut self, svc: &Checked, told: &mut Told, node: u8) -> Result<(), AllocError>
+        requires running { IsRunning svc.now self.old }
+        requires there { IsNode (nodes_of self.old) node }
+        ensures comes { OnOk result (Comes svc.now self.old self.new told.old told.new (line.Start node)) }
+    {
+        let outcome = start_at(&mut self.seats, self.alloc, svc, self.seed, node);
+        self.tell(told, node, outcome)
+    }
+
+    // Does a line that is a call of one node.
+    fn call_node<R: Replayer>(
+        &mut self,
+        svc: &Checked,
+        replayer: &mut R,
+        told: &mut Told,
+        line: &ScheduleLine,
+    ) -> Result<(), AllocError>
+        requires running { IsRunning svc.now self.old }
+        requires ready { R.ready replayer.old }
+        requires fits { LineFits (nodes_of self.old) (length self.old.requests) svc.now.lanes line.now }
+        requires kind { MayCome line.now }
+        requires call { IsCall line.now }
+        ensures comes { OnOk result (Comes svc.now self.old self.new told.old told.new line.now) }
+        ensures ready { R.ready replayer.new }
+    {
+        match line {
+            ScheduleLine::Elect { node } => self.elect(svc, replayer, told, *node),
+            ScheduleLine::Submit { node, request } => self.submit(svc, told, *node, *request),
+            ScheduleLine::Lane { node, lane } => self.lane(svc, told, *node, *lane),
+            ScheduleLine::Cut { node } => self.cut(svc, told, *node, None),
+            ScheduleLine::CutBelow { node, limits } => {
+                self.cut(svc, told, *node, Some(limits.as_slice()))
+            }
+            ScheduleLine::Replay { node } => self.replay(svc, replayer, told, *node),
+            ScheduleLine::Ask { node, other } => self.ask(svc, told, *node, *other),
+            ScheduleLine::Stop { node } => self.stop(svc, told, *node),
+            ScheduleLine::Start { node } => self.start(svc, told, *node),
+            _ => unreachable!(),
+        }
+    }
+
+    /// Does a line that is one step of the model: any but a delivery and a flush.
+    pub(crate) fn call<R: Replayer>(
+        &mut self,
+        svc: &Checked,
+        replayer: &mut R,
+        told: &mut Told,
+        line: &ScheduleLine,
+    ) -> Result<(), AllocError>
+        requires running { IsRunning svc.now self.old }
+        requires ready { R.ready replayer.old }
+        requires fits { LineFits (nodes_of self.old) (length self.old.requests) svc.now.lanes line.now }
+        requires kind { MayCome line.now }
+        requires call { IsCall line.now }
+        ensures did { OnOk result (Did (world_of svc.now self.old) (world_of svc.now self.new) told.old told.new (model.step svc.now self.old.requests self.old.seed (nodes_of self.old) (world_of svc.now self.old) line.now)) }
+        ensures running { OnOk result (IsRunning svc.now self.new) }
+        ensures same { OnOk result (IsSame self.old self.new) }
+        ensures done { OnOk result (self.new.done ≡ self.old.done) }
+        ensures flushed { OnOk result (self.new.flushed ≡ self.old.flushed) }
+        ensures ready { R.ready replayer.new }
+    {
+        self.call_node(svc, replayer, told, line)
     }
 }

@@ -1,159 +1,196 @@
 //! The world.
 
-ghost use Rattle.std.specs.Prelude.{◌≡◌, ◌≤◌, ◌<◌, ◌+◌, ◌^◌, ◌++◌, length, IfOk, OnOk};
-ghost use Rattle.std.specs.List.{All};
-ghost use Rattle.rex_scenario.specs.Fits.{RequestFits, LineFits};
-ghost use Rattle.rex_world.specs.World.{beginning, is_follower};
-ghost use Rattle.rex_world.specs.Row as spec;
-ghost use Rattle.rex_world.specs.Report.{end_of, effects_text};
-ghost use Rattle.rex_world.specs.Running.{IsRunning};
+ghost use Rattle.std.specs.Prelude.{◌≡◌, ◌<◌, ◌≤◌, ◌+◌, ◌^◌, false, true, length, replicate, IfOk, OnOk, OnErr};
+ghost use Rattle.rex_scenario.specs.Fits.{LineFits, MayCome, ScenarioFits};
+ghost use Rattle.rex_safety.specs.Node.{new_node};
+ghost use Rattle.rex_safety.specs.World.{beginning, row, steps_of};
+ghost use Rattle.rex_world.specs.Calls.{DidSteps};
+ghost use Rattle.rex_world.specs.Seats.{AreSeats, IsSeat, here_in, heres};
+ghost use Rattle.rex_world.specs.World.{nodes_of, world_of};
+ghost use Rattle.rex_world.specs.Kept.{IsRunning, IsSame};
 
-use rand_pcg::Lcg64Xsh32;
+use crate::calls::tell_all;
+use crate::seats::Seat;
+use crate::told::Told;
 use rex_list::List;
-use rex_record::Recorder;
-use rex_report::{Effect, End, Role, UpEnd};
-use rex_scenario::ScheduleLine;
-use rex_state::state::State;
+use rex_net::Net;
+use rex_node::{Node, RestartFault};
+use rex_replay::Replayer;
+use rex_report::Effect;
+use rex_scenario::{Scenario, ScheduleLine};
 use rex_syntax::checked::Checked;
 use rex_syntax::request::Request;
+use rex_traits::MemKeeper;
 use std::alloc::{AllocError, Global};
-use std::marker::Model;
 
-/// The most deltas that a node knows.
-pub const INSTANCES: usize = 65_535;
-
-/// One node and what the schedule has brought it to. After an `Err`, which is want of memory, it is given up.
+/// The nodes of a cluster, and the messages between them. After an `Err`, which is want of memory, it is broken, and given up.
 #[derive(Drop)]
 pub struct World {
-    pub(crate) recorder: Recorder,
-    /// The bytes of the known deltas.
-    pub(crate) known: Vec<List<u8>>,
-    /// The state after as many known deltas as were replayed.
-    pub(crate) base: State,
-    pub(crate) replayed: usize,
-    pub(crate) ballot: u64,
-    pub(crate) promised: u64,
+    pub(crate) alloc: Global,
+    pub(crate) seed: u32,
+    pub(crate) requests: List<Request>,
+    pub(crate) seats: Vec<Seat>,
+    /// The messages that were sent, as bytes.
+    pub(crate) net: Net,
+    /// For each of them whether a line handed it over.
+    pub(crate) handed: Vec<bool>,
+    /// So many of them, the first ones, were all handed over.
+    pub(crate) flushed: usize,
     pub(crate) done: u32,
-    pub(crate) dice: Lcg64Xsh32,
+    pub(crate) broken: bool,
 }
 
-impl Model for World {
-    ghost use Rattle.std.specs.Prelude.{map};
-    ghost use Rattle.rex_world.specs.Running.{Running};
-    ghost use Rattle.rex_world.specs.Values.{delta_of, AreValues};
+// A node before the first line, over a keeper without records.
+fn new_seat(
+    alloc: Global,
+    svc: &Checked,
+    seed: u32,
+    nodes: u8,
+    number: u8,
+) -> Result<Seat, AllocError>
+    requires there { (0 < number) × (number ≤ nodes) }
+    requires few { nodes ≤ 9 }
+    ensures here { IfOk result (λ seat. here_in svc.now seat ≡ new_node) }
+    ensures seat { IfOk result (IsSeat svc.now seed nodes number) }
+{
+    match Node::restart(alloc, number, nodes, seed, svc, MemKeeper::new(alloc)) {
+        Ok(node) => Ok(Seat::Running(node)),
+        Err(not_started) => match not_started.fault {
+            RestartFault::OutOfMemory => Err(AllocError),
+            RestartFault::BadRecord { .. } => unreachable!(),
+        },
+    }
+}
 
-    ghost Value = { Running };
-
-    ghost view = { λ w. record {
-      world = record { done = w.done; ballot = w.ballot; promised = w.promised; known = map delta_of w.known.items; live = w.recorder.value.live; queue = w.recorder.value.queue; dice = w.dice };
-      recorder = w.recorder.value;
-      base = w.base;
-      replayed = w.replayed;
-    } };
-
-    ghost invariant = { λ w. AreValues w.known.items };
+// The nodes before the first line.
+fn new_seats(alloc: Global, svc: &Checked, seed: u32, nodes: u8) -> Result<Vec<Seat>, AllocError>
+    requires { nodes ≤ 9 }
+    ensures heres { IfOk result (λ seats. heres svc.now seats.items ≡ replicate nodes new_node) }
+    ensures seats { IfOk result (λ seats. AreSeats svc.now seed nodes 1 seats.items) }
+    ensures many { IfOk result (λ seats. length seats.items ≡ nodes) }
+{
+    let mut seats = Vec::new(alloc);
+    for number in 0..nodes {
+        let seat = new_seat(alloc, svc, seed, nodes, number + 1)?;
+        seats.push(seat)?;
+    }
+    Ok(seats)
 }
 
 impl World {
-    /// Before the first line of a schedule: the node follows, and knows nothing.
-    pub fn new(alloc: Global, svc: &Checked) -> Result<World, AllocError>
-        ensures world { IfOk result (λ w. w.world ≡ beginning) }
+    /// Before the first line of a schedule: each node follows, and knows nothing.
+    pub fn new(alloc: Global, svc: &Checked, scenario: &Scenario) -> Result<World, AllocError>
+        requires { ScenarioFits svc.now scenario.now }
+        ensures world { IfOk result (λ w. world_of svc.now w ≡ beginning scenario.now.nodes) }
+        ensures nodes { IfOk result (λ w. nodes_of w ≡ scenario.now.nodes) }
+        ensures requests { IfOk result (λ w. w.requests ≡ scenario.now.requests) }
+        ensures seed { IfOk result (λ w. w.seed ≡ scenario.now.seed) }
         ensures running { IfOk result (λ w. IsRunning svc.now w) }
     {
-        let base = State::start(alloc, svc)?;
-        let start = base.copy(alloc)?;
-        let recorder = Recorder::new(alloc, start)?;
+        let _service = svc.declarations();
+        let requests = List::from_vec(scenario.requests.as_slice().to_vec(alloc)?);
+        let seats = new_seats(alloc, svc, scenario.seed, scenario.nodes)?;
         Ok(World {
-            recorder,
-            known: Vec::new(alloc),
-            base,
-            replayed: 0,
-            ballot: 0,
-            promised: 0,
+            alloc,
+            seed: scenario.seed,
+            requests,
+            seats,
+            net: Net::new(alloc),
+            handed: Vec::new(alloc),
+            flushed: 0,
             done: 0,
-            dice: Lcg64Xsh32::new(0, 0),
+            broken: false,
         })
     }
 
     /// How many schedule lines were done.
     pub fn done(&self) -> u32
-        ensures { result ≡ self.now.world.done }
+        ensures { result ≡ self.now.done }
     {
         self.done
     }
 
-    /// Whether the node has no ballot of its own.
-    pub fn is_follower(&self) -> bool
-        ensures { result ≡ is_follower self.now.world }
+    /// Whether memory was short in a call: then no other call may be made.
+    pub fn broken(&self) -> bool
+        ensures { result ≡ self.now.broken }
     {
-        self.ballot == 0
+        self.broken
     }
 
-    /// What the node came to.
-    pub fn end(&self) -> End
-        requires known { length self.now.world.known ≤ 65535 }
-        requires live { length self.now.world.live ≤ 4096 }
-        ensures { result ≡ end_of self.now.world }
-    {
-        let known = self.known.len() as u32;
-        if self.is_follower() {
-            End::Up(UpEnd {
-                node: 1,
-                role: Role::Follower,
-                promised: self.promised,
-                known,
-                count: 0,
-            })
-        } else {
-            let count = self.recorder.trace().len() as u32;
-            End::Up(UpEnd {
-                node: 1,
-                role: Role::Active,
-                promised: self.promised,
-                known,
-                count,
-            })
-        }
-    }
-
-    /// The values of the variables after the live events.
-    pub fn live_values(&self) -> &[i64]
-        ensures { result.now ≡ self.now.recorder.state.variables }
-    {
-        self.recorder.state().variables()
-    }
-
-    /// Does a schedule line, and appends what it reports.
-    pub fn step(
+    // Does the steps of a schedule line.
+    fn act<R: Replayer>(
         &mut self,
-        alloc: Global,
         svc: &Checked,
-        out: &mut Vec<u8>,
-        requests: &[Request],
-        seed: u32,
+        replayer: &mut R,
+        told: &mut Told,
         line: &ScheduleLine,
     ) -> Result<(), AllocError>
         requires running { IsRunning svc.now self.old }
-        requires requests { All (RequestFits svc.now) requests.now }
-        requires fits { LineFits 1 (length requests.now) svc.now.lanes line.now }
-        requires count { self.old.world.done + 2 < 2 ^ 32 }
-        ensures told { OnOk result (out.new.items ≡ out.old.items ++ effects_text svc.now (self.old.world.done + 1) (spec.row svc.now requests.now seed self.old.world line.now).effects) }
-        ensures world { OnOk result (self.new.world ≡ (spec.row svc.now requests.now seed self.old.world line.now).world) }
+        requires ready { R.ready replayer.old }
+        requires fits { LineFits (nodes_of self.old) (length self.old.requests) svc.now.lanes line.now }
+        requires kind { MayCome line.now }
+        requires count { self.old.done + 1 < 2 ^ 32 }
+        ensures did { OnOk result (DidSteps svc.now self.old.requests self.old.seed (nodes_of self.old) (world_of svc.now self.old) (world_of svc.now self.new) told.old told.new (steps_of (world_of svc.now self.old) line.now)) }
         ensures running { OnOk result (IsRunning svc.now self.new) }
+        ensures same { OnOk result (IsSame self.old self.new) }
+        ensures done { OnOk result (self.new.done ≡ self.old.done) }
+        ensures ready { R.ready replayer.new }
     {
-        let _service = svc.declarations();
         match line {
-            ScheduleLine::Elect { node } => self.elect(alloc, svc, out, seed, *node),
-            ScheduleLine::Submit { request, .. } => {
-                self.submit(svc, out, requests, *request as usize)
-            }
-            ScheduleLine::Lane { lane, .. } => self.lane(svc, out, *lane),
-            ScheduleLine::Cut { node } => self.cut(alloc, svc, out, *node),
-            ScheduleLine::CutBelow { node, limits } => {
-                self.cut_below(alloc, svc, out, *node, limits.as_slice())
-            }
-            // A line that may not come yet.
-            _ => self.only(svc, out, Effect::Nothing),
+            ScheduleLine::Flush => self.flush(svc, replayer, told),
+            ScheduleLine::Deliver { message } => self.deliver(svc, replayer, told, *message),
+            _ => self.call(svc, replayer, told, line),
         }
+    }
+
+    // Does a schedule line: what it did is reported first, and then the messages that it sent.
+    fn do_line<R: Replayer>(
+        &mut self,
+        svc: &Checked,
+        replayer: &mut R,
+        line: &ScheduleLine,
+    ) -> Result<List<Effect>, AllocError>
+        requires running { IsRunning svc.now self.old }
+        requires ready { R.ready replayer.old }
+        requires fits { LineFits (nodes_of self.old) (length self.old.requests) svc.now.lanes line.now }
+        requires kind { MayCome line.now }
+        requires count { self.old.done + 1 < 2 ^ 32 }
+        ensures effects { IfOk result (λ effects. effects ≡ (row svc.now self.old.requests self.old.seed (nodes_of self.old) (world_of svc.now self.old) line.now).effects) }
+        ensures world { OnOk result (world_of svc.now self.new ≡ (row svc.now self.old.requests self.old.seed (nodes_of self.old) (world_of svc.now self.old) line.now).world) }
+        ensures running { OnOk result (IsRunning svc.now self.new) }
+        ensures same { OnOk result (IsSame self.old self.new) }
+        ensures ready { R.ready replayer.new }
+    {
+        let mut told = Told::new(self.alloc);
+        self.act(svc, replayer, &mut told, line)?;
+        tell_all(&mut told.effects, &told.sent)?;
+        self.done += 1;
+        Ok(List::from_vec(told.effects))
+    }
+
+    /// Does a schedule line, and answers what it reports.
+    pub fn step<R: Replayer>(
+        &mut self,
+        svc: &Checked,
+        replayer: &mut R,
+        line: &ScheduleLine,
+    ) -> Result<List<Effect>, AllocError>
+        requires running { IsRunning svc.now self.old }
+        requires ready { R.ready replayer.old }
+        requires fits { LineFits (nodes_of self.old) (length self.old.requests) svc.now.lanes line.now }
+        requires kind { MayCome line.now }
+        requires count { self.old.done + 1 < 2 ^ 32 }
+        ensures effects { IfOk result (λ effects. effects ≡ (row svc.now self.old.requests self.old.seed (nodes_of self.old) (world_of svc.now self.old) line.now).effects) }
+        ensures world { OnOk result (world_of svc.now self.new ≡ (row svc.now self.old.requests self.old.seed (nodes_of self.old) (world_of svc.now self.old) line.now).world) }
+        ensures running { OnOk result (IsRunning svc.now self.new) }
+        ensures same { OnOk result (IsSame self.old self.new) }
+        ensures broken { OnErr result (self.new.broken ≡ true) }
+        ensures ready { R.ready replayer.new }
+    {
+        let told = self.do_line(svc, replayer, line);
+        if told.is_err() {
+            self.broken = true;
+        }
+        told
     }
 }

@@ -1,27 +1,28 @@
-use Rattle.std.proofs.Common.{◌≡◌, ◌+◌, ◌++◌, ℕ, List, OnOk, sym, ap, subst, ◌∙◌}
-use Rattle.rex_state.specs.Counts.{counts_of}
-use Rattle.rex_world.specs.Row as spec
-use Rattle.rex_world.specs.Report.{effects_text}
-use Rattle.rex_world.specs.Limits.{IsLiveCut}
-use Rattle.rex_world.specs.Running.{Running, with_row, recorder_cut}
-use Rattle.rex_world.proofs.Carried.{running_carries}
-use Rattle.rex_world.proofs.Limits.{no_limits_are, no_limits_live}
+use Rattle.std.proofs.Common.{List, length, option_copied}
+use Rattle.rex_safety.specs.Lanes as lanes
+use Rattle.rex_safety.specs.World.{node_at}
+use Rattle.rex_node.specs.Calls.{counts_for}
+use Rattle.rex_world.specs.declared.seats.Seat.{Seat}
+use Rattle.rex_world.specs.Seats.{heres}
+use Rattle.rex_world.proofs.Stepping.{call_fits, came, can_cut, cut_runs, cut_kept, cut_came}
 use Rattle.rex_world.proofs.world.World.cut.Goals as goal
 
-pub cut_at-requires-clause-cut : goal.cut_at-requires-clause-cut
-cut_at-requires-clause-cut c =
-    subst (IsLiveCut c.args.self.now)
-    (no_limits_are c.args.svc.now c.args.self.now c.declarations-service.ensures.sound c.requires.running ∙ sym (c.deref.ensures.value ∙ c.in_ok-counts.ensures ∙ ap counts_of c.state.ensures ∙ ap (λ (x : Running). counts_of x.recorder.state) c.self.view_is))
-    (no_limits_live c.args.svc.now c.args.self.now c.declarations-service.ensures.sound (running_carries c.args.svc.now c.args.self.now c.requires.running))
+pub cut_at-outcome-requires-clause-runs : goal.cut_at-outcome-requires-clause-runs
+cut_at-outcome-requires-clause-runs c = cut_runs c.args.svc.now c.args.self.now c.requires.running c.deref_mut.result.now c.deref_mut.ensures.value c.args.node c.requires.there (option_copied c.args.limits)
 
-pub returns-clause-told : goal.returns-clause-told
-returns-clause-told c =
-    subst (λ (counts : List ℕ). OnOk c.cut_at.result (c.cut_at.new.out.items ≡ c.args.out.now.items ++ effects_text c.args.svc.now (c.args.self.now.world.done + 1) (spec.cut_row c.args.svc.now c.args.self.now.world c.args.node counts).effects))
-    (c.deref.ensures.value ∙ c.in_ok-counts.ensures ∙ ap counts_of c.state.ensures ∙ ap (λ (x : Running). counts_of x.recorder.state) c.self.view_is ∙ sym (no_limits_are c.args.svc.now c.args.self.now c.declarations-service.ensures.sound c.requires.running))
-    c.cut_at.ensures.told
+pub cut_at-outcome-requires-clause-spelling : goal.cut_at-outcome-requires-clause-spelling
+cut_at-outcome-requires-clause-spelling c = can_cut c.args.svc.now c.args.self.now c.requires.running c.deref_mut.result.now c.deref_mut.ensures.value c.args.node c.requires.there (option_copied c.args.limits) c.requires.limits
 
-pub returns-clause-after : goal.returns-clause-after
-returns-clause-after c =
-    subst (λ (counts : List ℕ). OnOk c.cut_at.result (c.cut_at.new.self ≡ with_row c.args.self.now (spec.cut_row c.args.svc.now c.args.self.now.world c.args.node counts) (recorder_cut c.args.svc.now c.args.self.now counts)))
-    (c.deref.ensures.value ∙ c.in_ok-counts.ensures ∙ ap counts_of c.state.ensures ∙ ap (λ (x : Running). counts_of x.recorder.state) c.self.view_is ∙ sym (no_limits_are c.args.svc.now c.args.self.now c.declarations-service.ensures.sound c.requires.running))
-    c.cut_at.ensures.after
+pub tell-requires : goal.tell-requires
+tell-requires c =
+    call_fits c.args.svc.now c.args.self.now c.requires.running c.args.node c.deref_mut.result.now c.deref_mut.ensures.value
+    (λ (ys : List Seat). lanes.cut c.args.svc.now c.args.self.now.seed (length ys) c.args.node (counts_for c.args.svc.now (node_at (heres c.args.svc.now ys) c.args.node) (option_copied c.args.limits)))
+    c.cut_at-outcome.new.seats c.cut_at-outcome.result c.cut_at-outcome.ensures.acts (cut_kept c.args.svc.now c.args.self.now c.requires.running c.args.node (option_copied c.args.limits) c.requires.there c.requires.limits)
+
+pub returns : goal.returns
+returns c = record {
+  comes = cut_came c.args.svc.now c.args.self.now c.requires.running c.args.node (option_copied c.args.limits) c.tell.new.self c.args.told.now c.tell.new.told c.tell.result
+      (came c.args.svc.now c.args.self.now c.requires.running c.args.node c.deref_mut.result.now c.deref_mut.ensures.value
+      (λ (ys : List Seat). lanes.cut c.args.svc.now c.args.self.now.seed (length ys) c.args.node (counts_for c.args.svc.now (node_at (heres c.args.svc.now ys) c.args.node) (option_copied c.args.limits)))
+      c.cut_at-outcome.new.seats c.cut_at-outcome.result c.tell.new.self c.args.told.now c.tell.new.told c.tell.result c.cut_at-outcome.ensures.acts (cut_kept c.args.svc.now c.args.self.now c.requires.running c.args.node (option_copied c.args.limits) c.requires.there c.requires.limits) c.tell.ensures);
+}

@@ -1,13 +1,22 @@
-use Rattle.std.proofs.Common.{ℕ, ◌+◌, ◌∷◌, [], ap, ◌∙◌}
-use Rattle.rex_world.specs.Row as spec
-use Rattle.rex_world.specs.Running.{Running}
-use Rattle.rex_report.specs.declared.effect.Effect.TheVariants.{Candidate, Active}
-use Rattle.rex_world.proofs.Steps.{told_as}
+use Rattle.rex_scenario.specs.declared.scenario.ScheduleLine.TheVariants as line
+use Rattle.std.proofs.Common.{List, length}
+use Rattle.rex_world.specs.declared.seats.Seat.{Seat}
+use Rattle.rex_safety.specs.Calls as calls
+use Rattle.rex_safety.specs.Values.{service_of}
+use Rattle.rex_world.proofs.Stepping.{kept_next, call_fits, came, elect_runs}
 use Rattle.rex_world.proofs.world.World.elect.Goals as goal
 
-pub returns-clause-told : goal.returns-clause-told
-returns-clause-told c =
-    told_as c.tell_both.result c.args.out.now.items c.tell_both.new.out.items c.declarations.ensures.whole
-    (ap (λ (x : Running). x.world.done + 1) (c.self.view_is ∙ c.in_ok-replay.ensures))
-    (ap (λ (b : ℕ). Candidate c.args.node b ∷ Active c.args.node b ∷ []) (c.ballot_above-ballot.ensures ∙ ap (λ (x : Running). spec.ballot_above c.args.node x.world.promised) (c.self.view_is ∙ c.in_ok-replay.ensures)))
-    c.tell_both.ensures
+pub elect_at-outcome-requires-clause-runs : goal.elect_at-outcome-requires-clause-runs
+elect_at-outcome-requires-clause-runs g c = elect_runs c.args.svc.now c.args.self.now c.requires.running c.deref_mut.result.now c.deref_mut.ensures.value c.args.node c.requires.there
+
+pub tell-requires : goal.tell-requires
+tell-requires g c =
+    call_fits c.args.svc.now c.args.self.now c.requires.running c.args.node c.deref_mut.result.now c.deref_mut.ensures.value
+    (λ (ys : List Seat). calls.elect (length ys) (service_of c.args.svc.now c.args.self.now.seed) c.args.node)
+    c.elect_at-outcome.new.seats c.elect_at-outcome.result c.elect_at-outcome.ensures.acts (kept_next c.args.svc.now c.args.self.now c.requires.running (line.Elect c.args.node) c.requires.there)
+
+pub returns-clause-comes : goal.returns-clause-comes
+returns-clause-comes g c =
+    came c.args.svc.now c.args.self.now c.requires.running c.args.node c.deref_mut.result.now c.deref_mut.ensures.value
+    (λ (ys : List Seat). calls.elect (length ys) (service_of c.args.svc.now c.args.self.now.seed) c.args.node)
+    c.elect_at-outcome.new.seats c.elect_at-outcome.result c.tell.new.self c.args.told.now c.tell.new.told c.tell.result c.elect_at-outcome.ensures.acts (kept_next c.args.svc.now c.args.self.now c.requires.running (line.Elect c.args.node) c.requires.there) c.tell.ensures

@@ -1,19 +1,24 @@
-use Rattle.std.proofs.Common.{◌+◌, ◌∷◌, [], sym, ap, ◌∙◌}
-use Rattle.rex_report.specs.declared.effect.Effect.{Effect}
-use Rattle.rex_world.specs.Running.{Running}
-use Rattle.rex_world.proofs.Steps.{counted, told_as, told_turn, after_turn, on_ok_always}
+use Rattle.rex_scenario.specs.declared.scenario.ScheduleLine.TheVariants as line
+use Rattle.std.proofs.Common.{List}
+use Rattle.rex_world.specs.declared.seats.Seat.{Seat}
+use Rattle.rex_safety.specs.Lanes as lanes
+use Rattle.rex_safety.specs.Node.{is_active}
+use Rattle.rex_safety.specs.Lanes.{CallHere}
+use Rattle.rex_world.proofs.Stepping.{kept_next, call_fits, came, has_room}
 use Rattle.rex_world.proofs.world.World.lane.Goals as goal
 
-pub returns-clause-told : goal.returns-clause-told
-returns-clause-told c =
-    told_as c.tell.result c.args.out.now.items c.tell.new.out.items c.declarations.ensures.whole
-    (ap (λ (x : Running). x.world.done + 1) (c.self.view_is ∙ c.in_ok-effect.ensures.after))
-    (ap (λ (e : Effect). e ∷ []) c.in_ok-effect.ensures.effect
-    ∙ sym (told_turn c.args.svc.now c.args.self.now c.requires.running (sym c.is_follower.ensures ∙ c.if-is_follower.false) c.args.lane))
-    c.tell.ensures
+pub lane_at-outcome-requires-clause-count : goal.lane_at-outcome-requires-clause-count
+lane_at-outcome-requires-clause-count c = has_room c.args.svc.now c.args.self.now c.requires.running c.deref_mut.result.now c.deref_mut.ensures.value c.args.node c.requires.there c.args.lane
 
-pub returns-clause-after : goal.returns-clause-after
-returns-clause-after c =
-    on_ok_always c.tell.result
-    (ap counted (c.self.view_is ∙ c.in_ok-effect.ensures.after)
-    ∙ after_turn c.args.svc.now c.args.self.now c.requires.running (sym c.is_follower.ensures ∙ c.if-is_follower.false) c.args.lane)
+pub tell-requires : goal.tell-requires
+tell-requires c =
+    call_fits c.args.svc.now c.args.self.now c.requires.running c.args.node c.deref_mut.result.now c.deref_mut.ensures.value
+    (λ (ys : List Seat). λ (d : CallHere). lanes.active_only (is_active d.node.role) d (lanes.lane_turn c.args.svc.now c.args.self.now.done c.args.lane d))
+    c.lane_at-outcome.new.seats c.lane_at-outcome.result c.lane_at-outcome.ensures.acts (kept_next c.args.svc.now c.args.self.now c.requires.running (line.Lane c.args.node c.args.lane) (c.requires.there, c.requires.lane))
+
+pub returns : goal.returns
+returns c = record {
+  comes = came c.args.svc.now c.args.self.now c.requires.running c.args.node c.deref_mut.result.now c.deref_mut.ensures.value
+      (λ (ys : List Seat). λ (d : CallHere). lanes.active_only (is_active d.node.role) d (lanes.lane_turn c.args.svc.now c.args.self.now.done c.args.lane d))
+      c.lane_at-outcome.new.seats c.lane_at-outcome.result c.tell.new.self c.args.told.now c.tell.new.told c.tell.result c.lane_at-outcome.ensures.acts (kept_next c.args.svc.now c.args.self.now c.requires.running (line.Lane c.args.node c.args.lane) (c.requires.there, c.requires.lane)) c.tell.ensures;
+}

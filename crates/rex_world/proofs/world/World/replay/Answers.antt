@@ -1,26 +1,18 @@
-use Rattle.std.proofs.Common.{◌≡◌, ℕ, map, length, sym, ap, subst, ◌∙◌}
-use Rattle.std.proofs.lemmas.List.{length-map}
-use Rattle.rex_state.specs.Sound.{IsSound}
-use Rattle.rex_state.specs.Value.{StateValue}
-use Rattle.rex_world.specs.Values.{delta_of}
-use Rattle.rex_world.specs.Running.{Running}
-use Rattle.rex_world.proofs.Replays.{base_sound, values_run, replay_ends}
+use Rattle.rex_scenario.specs.declared.scenario.ScheduleLine.TheVariants as line
+use Rattle.std.proofs.Common.{List}
+use Rattle.rex_world.specs.declared.seats.Seat.{Seat}
+use Rattle.rex_safety.specs.Calls as calls
+use Rattle.rex_world.proofs.Stepping.{kept_next, call_fits, came}
 use Rattle.rex_world.proofs.world.World.replay.Goals as goal
 
-pub replay_values-requires-clause-sound : goal.replay_values-requires-clause-sound
-replay_values-requires-clause-sound c =
-    subst (λ (x : Running). IsSound c.args.svc.now x.base) (sym c.self.view_is) (base_sound c.args.svc.now c.args.self.now c.requires.running c.declarations-service.ensures.sound c.declarations-service.ensures.checked)
+pub tell-requires : goal.tell-requires
+tell-requires g c =
+    call_fits c.args.svc.now c.args.self.now c.requires.running c.args.node c.deref_mut.result.now c.deref_mut.ensures.value
+    (λ (ys : List Seat). calls.replay c.args.node)
+    c.replay_at-outcome.new.seats c.replay_at-outcome.result c.replay_at-outcome.ensures.acts (kept_next c.args.svc.now c.args.self.now c.requires.running (line.Replay c.args.node) c.requires.there)
 
-pub replay_values-requires-clause-runs : goal.replay_values-requires-clause-runs
-replay_values-requires-clause-runs c =
-    values_run c.args.svc.now c.args.self.now c.requires.running c.deref.result.now c.self.inside.base c.self.inside.replayed
-    (ap (map delta_of) c.deref.ensures.value ∙ ap (λ (x : Running). x.world.known) c.self.view_is) (ap (λ (x : Running). x.base) c.self.view_is) (ap (λ (x : Running). x.replayed) c.self.view_is)
-
-pub returns : goal.returns
-returns c =
-    let known : map delta_of c.self.inside.known.items ≡ c.args.self.now.world.known = ap (λ (x : Running). x.world.known) c.self.view_is in
-    ap (λ (x : Running). record x { base = c.replay_values.new.state; replayed = c.len-self-inside.result }) c.self.view_is
-    ∙ ap (λ (s : StateValue). record c.args.self.now { base = s; replayed = c.len-self-inside.result })
-    (replay_ends c.args.svc.now c.args.self.now c.requires.running c.deref.result.now c.self.inside.base c.self.inside.replayed (ap (map delta_of) c.deref.ensures.value ∙ known)
-    (ap (λ (x : Running). x.base) c.self.view_is) (ap (λ (x : Running). x.replayed) c.self.view_is) c.replay_values.new.state c.in_ok-replay_values.ensures)
-    ∙ ap (λ (n : ℕ). record c.args.self.now { base = c.args.self.now.recorder.start; replayed = n }) (c.len-self-inside.ensures ∙ sym c.deref.ensures.len ∙ ap length c.deref.ensures.value ∙ sym (length-map c.self.inside.known.items delta_of) ∙ ap length known)
+pub returns-clause-comes : goal.returns-clause-comes
+returns-clause-comes g c =
+    came c.args.svc.now c.args.self.now c.requires.running c.args.node c.deref_mut.result.now c.deref_mut.ensures.value
+    (λ (ys : List Seat). calls.replay c.args.node)
+    c.replay_at-outcome.new.seats c.replay_at-outcome.result c.tell.new.self c.args.told.now c.tell.new.told c.tell.result c.replay_at-outcome.ensures.acts (kept_next c.args.svc.now c.args.self.now c.requires.running (line.Replay c.args.node) c.requires.there) c.tell.ensures

@@ -1,23 +1,22 @@
-use Rattle.std.proofs.Common.{◌+◌, ◌∷◌, [], length, sym, ap, ◌∙◌, refl}
-use Rattle.std.proofs.lemmas.Option.{slice_get_read}
-use Rattle.rex_report.specs.declared.effect.Effect.{Effect}
-use Rattle.rex_world.specs.Answering.{taken}
-use Rattle.rex_world.specs.Running.{Running}
-use Rattle.rex_world.proofs.Steps.{counted, told_as, told_answer, after_answer, on_ok_always}
+use Rattle.rex_scenario.specs.declared.scenario.ScheduleLine.TheVariants as line
+use Rattle.std.proofs.Common.{List, slice_get}
+use Rattle.rex_safety.specs.Lanes as lanes
+use Rattle.rex_safety.specs.Lanes.{CallHere}
+use Rattle.rex_safety.specs.Node.{is_active}
+use Rattle.rex_world.specs.declared.seats.Seat.{Seat}
+use Rattle.rex_world.proofs.Stepping.{kept_next, call_fits, came, submit_acts}
 use Rattle.rex_world.proofs.world.World.submit.Goals as goal
 
-pub returns-clause-told : goal.returns-clause-told
-returns-clause-told c =
-    told_as c.tell.result c.args.out.now.items c.tell.new.out.items c.declarations.ensures.whole
-    (ap (λ (x : Running). x.world.done + 1) (c.self.view_is ∙ c.in_ok-take.ensures))
-    (ap (λ (e : Effect). e ∷ []) c.answer-answer.ensures
-    ∙ sym (told_answer c.args.svc.now c.args.self.now c.requires.running (sym c.is_follower.ensures ∙ c.if-is_follower.false) c.args.requests.now c.args.number c.index-requests-number.result
-    (slice_get_read c.args.requests.now (length c.args.requests.now) c.args.number c.index-requests-number.result refl c.requires.there c.index-requests-number.is)))
-    c.tell.ensures
+pub tell-requires : goal.tell-requires
+tell-requires c =
+    call_fits c.args.svc.now c.args.self.now c.requires.running c.args.node c.deref_mut.result.now c.deref_mut.ensures.value
+    (λ (ys : List Seat). λ (d : CallHere). lanes.active_only (is_active d.node.role) d (lanes.submit_request c.args.svc.now (slice_get c.args.self.now.requests c.args.request) d))
+    c.submit_at-outcome.new.seats c.submit_at-outcome.result (submit_acts c.args.svc.now c.args.self.now c.requires.running c.args.node c.args.request c.as_slice.result.now c.index-as_slice-request.result c.deref_mut.result.now c.submit_at-outcome.new.seats c.submit_at-outcome.result c.as_slice.ensures c.index-as_slice-request.is c.requires.request c.submit_at-outcome.ensures.acts) (kept_next c.args.svc.now c.args.self.now c.requires.running (line.Submit c.args.node c.args.request) (c.requires.there, c.requires.request))
 
-pub returns-clause-after : goal.returns-clause-after
-returns-clause-after c =
-    on_ok_always c.tell.result
-    (ap counted (c.self.view_is ∙ c.in_ok-take.ensures ∙ ap (taken c.args.self.now c.index-requests-number.result) c.answer-answer.ensures)
-    ∙ after_answer c.args.svc.now c.args.self.now c.requires.running (sym c.is_follower.ensures ∙ c.if-is_follower.false) c.args.requests.now c.args.number c.index-requests-number.result
-    (slice_get_read c.args.requests.now (length c.args.requests.now) c.args.number c.index-requests-number.result refl c.requires.there c.index-requests-number.is))
+pub returns : goal.returns
+returns c = record {
+  comes = came c.args.svc.now c.args.self.now c.requires.running c.args.node c.deref_mut.result.now c.deref_mut.ensures.value
+      (λ (ys : List Seat). λ (d : CallHere). lanes.active_only (is_active d.node.role) d (lanes.submit_request c.args.svc.now (slice_get c.args.self.now.requests c.args.request) d))
+      c.submit_at-outcome.new.seats c.submit_at-outcome.result c.tell.new.self c.args.told.now c.tell.new.told c.tell.result
+      (submit_acts c.args.svc.now c.args.self.now c.requires.running c.args.node c.args.request c.as_slice.result.now c.index-as_slice-request.result c.deref_mut.result.now c.submit_at-outcome.new.seats c.submit_at-outcome.result c.as_slice.ensures c.index-as_slice-request.is c.requires.request c.submit_at-outcome.ensures.acts) (kept_next c.args.svc.now c.args.self.now c.requires.running (line.Submit c.args.node c.args.request) (c.requires.there, c.requires.request)) c.tell.ensures;
+}

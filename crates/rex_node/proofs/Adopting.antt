@@ -1,0 +1,453 @@
+-- A node that goes on adopts the value that was reported for the next instance; alone it knows it at once.
+use Rattle.std.proofs.Common.{◌≡◌, ℕ, zero, suc, ◌+◌, ◌-◌, ◌*◌, ◌^◌, ◌<◌, ◌≤◌, Bool, true, false, cond, not, ◌&&◌, List, [], ◌∷◌, ◌++◌, length, Option, Some, None, refl, sym, ap, subst, ◌∙◌, arith, append_assoc, length-append}
+use Rattle.std.specs.Prelude.{map, is_some, is_none, nat_lt, option_map, IfSome, IsSome}
+use Rattle.std.specs.List.{All}
+use Rattle.std.proofs.lemmas.Bool.{and_parts, le-ltb, lt-ltb}
+use Rattle.std.proofs.lemmas.Option.{same_Some}
+use Rattle.std.proofs.lemmas.List.Elements.{All-contains, Contains-append_right}
+use Rattle.rex_ballot.specs.declared.proposal.Proposal.{Proposal as Kept}
+use Rattle.rex_ballot.specs.Ballot as ballots
+use Rattle.rex_ballot.specs.Proposals.{IsValue}
+use Rattle.rex_paxos.specs.Acceptor.{accepting}
+use Rattle.rex_paxos.specs.Counting as counting
+use Rattle.rex_paxos.specs.Counting.{AreCounted}
+use Rattle.rex_paxos.specs.Proposer.{ProposerValue, is_candidate, proposed, closed}
+use Rattle.rex_paxos.specs.Reports.{IsBest, best_for}
+use Rattle.rex_paxos.proofs.Counted.{counted_none, counted_push}
+use Rattle.rex_paxos.proofs.Reports as reports
+use Rattle.rex_syntax.specs.declared.service.Declarations.{Declarations}
+use Rattle.rex_syntax.specs.Service.{IsService}
+use Rattle.rex_syntax.specs.Check.{IsChecked}
+use Rattle.rex_state.specs.Value.{StateValue}
+use Rattle.rex_traits.specs.Chains.{Answer}
+use Rattle.rex_report.specs.declared.effect.Effect.{Effect}
+use Rattle.rex_report.specs.declared.effect.Effect.TheVariants as effect
+use Rattle.rex_safety.specs.Records.{Rec, Proposal, proposal_of, known}
+use Rattle.rex_safety.specs.Node.{Failure, Lead, Role, Service}
+use Rattle.rex_safety.specs.Node.Failure.{After}
+use Rattle.rex_safety.specs.Node.Role.{Leads as Leading}
+use Rattle.rex_safety.specs.Quorum.{is_majority}
+use Rattle.rex_safety.specs.Ranges as ranges
+use Rattle.rex_safety.specs.Ranges.{LeadFits, RoleFits}
+use Rattle.rex_safety.proofs.Lists.{BestOk, best_ok, length_push}
+use Rattle.rex_safety.specs.Calls.{Call, append, best, choose, decide, lead, leading, learned, led, logged, others, propose, send, settle, turn}
+use Rattle.rex_safety.specs.Node.Content.{Chosen as Chose}
+use Rattle.rex_safety.specs.Records.Rec.{Known}
+use Rattle.rex_safety.specs.Values.{Value, events_of, service_of, values_fit}
+use Rattle.rex_safety.specs.Lanes.{CallHere}
+use Rattle.rex_safety.proofs.Stopping as stopping
+use Rattle.rex_node.specs.declared.going.Going.{Going}
+use Rattle.rex_node.specs.declared.going.Going.TheVariants.{On, Down}
+use Rattle.rex_node.specs.declared.going.Round.TheVariants.{Again, Done}
+use Rattle.rex_node.specs.declared.step.Draft.{Draft}
+use Rattle.rex_node.specs.Parts.{NodeValue, ActingValue, IsCutAt, IsKept, HasGoneOn, IsNode, IsProposer, IsSame, IsUp, Proposes, here_of, lead_of, open_of, proposal_in, role_of}
+use Rattle.rex_node.specs.Calls.{armed_with}
+use Rattle.rex_node.specs.Going.{Comes, Fell, IsStuck, Leads, MayGoOn, RunsOn, above, so_far}
+use Rattle.rex_node.specs.Leading.{FromLead, GoesRound, IsFree, IsLonger, accept_own, knowing, HasLearned, HasOpened, IsOwnCut, Learns, Opens, goes_on, may_lead, opened, reported_value, settling}
+use Rattle.rex_node.proofs.Appended.{beside_of, fits_instance}
+use Rattle.rex_node.proofs.Bridges as bridges
+use Rattle.rex_node.proofs.Grows.{fits_before, rest_runs, settle_learns}
+use Rattle.rex_node.proofs.GoingLemmas.{leads_same, leads_then, leads_fell}
+use Rattle.rex_node.proofs.Opening.{lead_opened, opened_by, opened_is}
+
+-- ---- the model's turn
+
+module _ {V S : Type 0} (n : ℕ) (sv : Service V S) (me : ℕ) where
+  -- a node that leads without a proposal, isn't active, and has the promises of a majority, chooses
+  pub turn_chooses : (d : Call V S) (l : Lead V) (k : Call V S → Call V S) → d.node.role ≡ Leading l → l.proposal ≡ None → l.active ≡ false → is_majority n l.counted ≡ true
+      → turn n sv me d d.node.role k ≡ choose n sv me d l (suc (length (known d.node.log))) (best (suc (length (known d.node.log))) l.reported) k
+  turn_chooses d l k role none idle many =
+      ap (λ (r : Role V). turn n sv me d r k) role
+      ∙ ap (λ (o : Option (Proposal V)). lead n sv me d l o k) none
+      ∙ ap (λ (t : Bool). cond t d (cond (is_majority n l.counted) (choose n sv me d l (suc (length (known d.node.log))) (best (suc (length (known d.node.log))) l.reported) k) d)) idle
+      ∙ ap (λ (t : Bool). cond t (choose n sv me d l (suc (length (known d.node.log))) (best (suc (length (known d.node.log))) l.reported) k) d) many
+
+  -- an append doesn't ask for the role
+  append_led : (a : Option Failure) (r : Rec V S) (d : Call V S) (role : Role V) (k : Call V S → Call V S) → ((e : Call V S) → k (led role e) ≡ k e) → append a me r (led role d) k ≡ append a me r d k
+  append_led None r d role k h = h (logged r None d)
+  append_led (Some (After (suc n) kept)) r d role k h = h (logged r (Some (After n kept)) d)
+  append_led (Some (After zero kept)) r d role k h = refl
+
+  -- a proposal that a majority accepted is decided, whatever the role is
+  pub decide_led : (d : Call V S) (l : Lead V) (role : Role V) (o : Option (Proposal V)) (acks : List ℕ) (i : ℕ) (v : V) (k : Call V S → Call V S)
+      → decide n sv me (led role d) (record { ballot = l.ballot; counted = l.counted; reported = l.reported; proposal = o; accepted_by = acks; active = l.active }) i v k ≡ decide n sv me d l i v k
+  decide_led d l role o acks i v k = append_led d.node.armed (Known i v) d role (λ e. k (send (learned sv me l i v (known d.node.log) e) (others n me (Chose i v)))) (λ e. refl)
+
+-- so many proposals are above as in the model
+above_kept : (k : ℕ) (ps : List Kept) → above k ps ≡ stopping.above k (map proposal_in ps)
+above_kept k [] = refl
+above_kept k (p ∷ ps) = ap (λ (m : ℕ). cond (nat_lt k p.instance) (suc m) m) (above_kept k ps)
+
+-- one that is taken is one less
+taken_less : (k : ℕ) (ps : List Kept) (q : Kept) → best_for (suc k) ps ≡ Some q → above (suc k) ps < above k ps
+taken_less k ps q e =
+    let less = stopping.above_best k (map proposal_in ps) (proposal_in q) (bridges.best_is (suc k) ps ∙ ap (option_map proposal_in) e) in
+    omega (arith, less, above_kept k ps, above_kept (suc k) ps)
+
+-- the report that is taken is one of them
+taken_in : (P : Kept → Type 0) (i : ℕ) (ps : List Kept) (q : Kept) → best_for i ps ≡ Some q → All P ps → P q
+taken_in P i ps q e all =
+    let b : IsBest i ps q = reports.best_is i ps q e in
+    All-contains P (b.before ++ q ∷ b.after) q (subst (All P) b.stands all) (Contains-append_right b.before (q ∷ b.after) q (0, omega arith, refl))
+
+-- ---- what a node chooses
+
+-- the node leads with this proposer, isn't active, has no open proposal, a majority promised, and this was reported for the instance
+pub record Chooses (o : Option ProposerValue) (w : Option ActingValue) (i : ℕ) (v : Value) : Type 0 where
+  pub p : ProposerValue
+  pub p_is : o ≡ Some p
+  pub idle : w ≡ None
+  pub none : p.open_instance ≡ None
+  pub many : counting.is_majority p.nodes (length p.promised) ≡ true
+  pub q : Kept
+  pub q_is : best_for i p.reported ≡ Some q
+  pub v_is : q.value ≡ v
+
+no_acting : (w : Option ActingValue) → not (is_some w) ≡ true → w ≡ None
+no_acting None e = refl
+no_acting (Some a) e = absurd (cc)
+
+no_open : (o : Option ℕ) → is_none o ≡ true → o ≡ None
+no_open None e = refl
+no_open (Some i) e = absurd (cc)
+
+not_not : (b : Bool) → not (not b) ≡ true → b ≡ true
+not_not true e = refl
+not_not false e = absurd (cc)
+
+reported_at : (o : Option Kept) (v : Value) → option_map (λ (q : Kept). q.value) o ≡ Some v → (q : Kept) × (o ≡ Some q) × (q.value ≡ v)
+reported_at None v e = absurd (cc)
+reported_at (Some q) v e = (q, refl, same_Some q.value v e)
+
+-- a proposer that goes on
+pub goes_parts : (p : ProposerValue) (w : Option ActingValue) → may_lead p (is_some w) ≡ true → (w ≡ None) × (p.open_instance ≡ None) × (counting.is_majority p.nodes (length p.promised) ≡ true)
+goes_parts p w g =
+    let a = and_parts (not (is_some w) && is_none p.open_instance) (not (is_candidate p)) g in
+    let b = and_parts (not (is_some w)) (is_none p.open_instance) a.0 in
+    (no_acting w b.0, no_open p.open_instance b.1, not_not (counting.is_majority p.nodes (length p.promised)) a.1)
+
+pub chooses_of : (o : Option ProposerValue) (w : Option ActingValue) (i : ℕ) (v : Value) → goes_on o (is_some w) ≡ true → reported_value o i ≡ Some v → Chooses o w i v
+chooses_of None w i v g r = absurd (cc)
+chooses_of (Some p) w i v g r =
+    let a = goes_parts p w g in
+    let q = reported_at (best_for i p.reported) v r in
+    record {
+      p = p;
+      p_is = refl;
+      idle = a.0;
+      none = a.1;
+      many = a.2;
+      q = q.0;
+      q_is = q.1;
+      v_is = q.2;
+    }
+
+-- ---- a node that adopts
+
+-- more records came after those with which memory was short
+stuck_after : {K : Type 0} (records : K → List (List ℕ)) (service : Declarations) (x y z : NodeValue K) (written : List (List ℕ)) → records y.keeper ≡ records x.keeper ++ written → length (records x.keeper) < length (records y.keeper) → IsStuck records service y z → IsStuck records service x z
+stuck_after records service x y z written grown longer h = record {
+  more = written ++ h.more;
+  grown = h.grown ∙ ap (λ (l : List (List ℕ)). l ++ h.more) grown ∙ append_assoc (records x.keeper) written h.more;
+  same = λ e. absurd (none e);
+  based = h.based;
+}
+  where
+    none : written ++ h.more ≡ [] → ⊥
+    none e =
+        let some : length (records y.keeper) ≡ length (records x.keeper) + length written = ap length grown ∙ length-append (records x.keeper) written in
+        let few : length written + length h.more ≡ 0 = sym (length-append written h.more) ∙ ap length e in
+        omega (arith, longer)
+
+module _ {K : Type 0} (records : K → List (List ℕ)) (gives : K → List ℕ → Answer → K → Type 0) (faults : K → ℕ) (service : Declarations) (good : IsService service) (checked : IsChecked service) (x : NodeValue K) (kept_so : IsKept records service x) (up : x.up ≡ true)
+    (i : ℕ) (v : Value) (next : i ≡ length x.known + 1) (c : Chooses x.proposer x.acting i v) (turns : ℕ) (may : MayGoOn x turns) where
+  u : IsUp service x (here_of records service x)
+  u = kept_so.up up
+
+  abbrev sv : Service Value StateValue
+  sv = service_of service x.seed
+
+  abbrev l : Lead Value
+  l = lead_of x.acceptor c.p (is_some x.acting)
+
+  proposes : Proposes x.nodes x.id x.acceptor c.p
+  proposes = subst (IsProposer x.nodes x.id x.acceptor) c.p_is (kept_so.up up).proposer
+
+  lead_fits : LeadFits (length x.known) (lead_of x.acceptor c.p (is_some x.acting))
+  lead_fits = subst (λ (o : Option ProposerValue). RoleFits (length x.known) (role_of x.acceptor o (is_some x.acting))) c.p_is (beside_of records service x (kept_so.up up)).role
+
+  may_p : 2 * above (length x.known) c.p.reported + 1 ≤ turns
+  may_p = subst (λ (o : Option ProposerValue). IfSome o (λ (p : ProposerValue). 2 * above (length x.known) p.reported + 1 ≤ turns)) c.p_is may
+
+  next_suc : i ≡ suc (length x.known)
+  next_suc = omega (arith, next)
+
+  less : above (suc (length x.known)) c.p.reported < above (length x.known) c.p.reported
+  less = taken_less (length x.known) c.p.reported c.q (ap (λ (j : ℕ). best_for j c.p.reported) (sym next_suc) ∙ c.q_is)
+
+  best_here : best i (map proposal_in c.p.reported) ≡ Some (proposal_in c.q)
+  best_here = bridges.best_is i c.p.reported ∙ ap (option_map proposal_in) c.q_is
+
+  majority : is_majority x.nodes c.p.promised ≡ true
+  majority =
+      bridges.majority_is x.nodes c.p.promised (subst (λ (n : ℕ). AreCounted n c.p.promised) proposes.nodes_are proposes.once.promises)
+      ∙ ap (λ (n : ℕ). counting.is_majority n (length c.p.promised)) (sym proposes.nodes_are) ∙ c.many
+
+  -- what it asks for of its proposal
+  pub chosen_there : ballots.IsInstance i
+  chosen_there =
+      let b = subst (BestOk i (map proposal_in c.p.reported)) best_here (best_ok i (map proposal_in c.p.reported)) in
+      fits_instance i (subst ranges.IsInstance b.1 (lead_fits.reported (proposal_in c.q) b.0).instance)
+
+  pub chosen_short : IsValue v
+  chosen_short = subst IsValue c.v_is (taken_in (λ (q : Kept). IsValue q.value) i c.p.reported c.q c.q_is proposes.short)
+
+  pub chosen_leads : IsSome x.proposer
+  chosen_leads = subst (λ (o : Option ProposerValue). IsSome o) (sym c.p_is) refl
+
+  pub chosen_cut : IsOwnCut service x v
+  chosen_cut = subst (λ (w : Option ActingValue). IfSome w (λ (a : ActingValue). IsCutAt service x.known a v)) (sym c.idle) tt
+
+  -- the model's call proposes the same
+  settle_is : (before : Draft) (f : Option Failure) → settle turns x.nodes sv x.id (armed_with f (so_far records service x before)) ≡ propose x.nodes x.id (effect.Adopts x.id i (length (events_of v))) (armed_with f (so_far records service x before)) l i v (settle (turns - 1) x.nodes sv x.id)
+  settle_is before f =
+      ap (λ (t : ℕ). settle t x.nodes sv x.id d) (let t : turns ≡ suc (turns - 1) = omega (arith, may_p) in t)
+      ∙ turn_chooses x.nodes sv x.id d l k (ap (λ (o : Option ProposerValue). role_of x.acceptor o (is_some x.acting)) c.p_is) (ap (open_of x.acceptor) c.none) (ap (λ (w : Option ActingValue). is_some w) c.idle) majority
+      ∙ ap (λ (j : ℕ). choose x.nodes sv x.id d l j (best j (map proposal_in c.p.reported)) k) (sym (next_suc ∙ ap (λ (vs : List Value). suc (length vs)) u.known))
+      ∙ ap (λ (o : Option (Proposal Value)). choose x.nodes sv x.id d l i o k) best_here
+      ∙ ap (λ (w : Value). propose x.nodes x.id (effect.Adopts x.id i (length (events_of w))) d l i w k) c.v_is
+    where
+      d : CallHere
+      d = armed_with f (so_far records service x before)
+
+      k : CallHere → CallHere
+      k = settle (turns - 1) x.nodes (service_of service x.seed) x.id
+
+  abbrev told : Effect
+  told = effect.Adopts x.id i (length (events_of v))
+
+  abbrev role_with : Role Value
+  role_with = leading (lead_of x.acceptor c.p (is_some x.acting)) (Some (proposal_of c.p.ballot i v)) (x.id ∷ []) (is_some x.acting)
+
+  abbrev settles : ℕ → CallHere → CallHere
+  settles t = settle t x.nodes (service_of service x.seed) x.id
+
+  -- what proposing comes to, where a proposer is there
+  opens_at : (y : NodeValue K) (before mid : Draft) (g : Going) → Opens records gives faults service told i v x y before mid g
+      → (k : CallHere → CallHere) → Comes records gives faults service (λ d. propose x.nodes x.id told d l i v k) (λ d. k (led role_with d)) x y before mid g
+  opens_at y before mid g opens =
+      subst (λ (o : Option ProposerValue). IfSome o (λ (q : ProposerValue). (k : CallHere → CallHere) → Comes records gives faults service (λ d. propose x.nodes x.id told d (lead_of x.acceptor q (is_some x.acting)) i v k) (λ d. k (led (leading (lead_of x.acceptor q (is_some x.acting)) (Some (proposal_of q.ballot i v)) (x.id ∷ []) (is_some x.acting)) d)) x y before mid g))
+      c.p_is opens
+
+  -- a node that is down is kept
+  down_node_kept : (y : NodeValue K) → IsSame x y → y.up ≡ false → IsNode records service y
+  down_node_kept y same down = record {
+    id = (subst (λ (n : ℕ). 0 < n) (sym same.id) kept_so.id.0, let least = kept_so.id.1 in let id : y.id ≡ x.id = same.id in let nodes : y.nodes ≡ x.nodes = same.nodes in omega (arith, least));
+    few = subst (λ (n : ℕ). n ≤ 9) (sym same.nodes) kept_so.few;
+    up = λ t. absurd (cc);
+    rests = λ t. absurd (cc);
+  }
+
+  -- the append failed
+  pub adopt_down : (y : NodeValue K) (before mid : Draft) → IsSame x y → Opens records gives faults service told i v x y before mid Down → GoesRound records gives faults service turns x y before mid (Done Down)
+  adopt_down y before mid same opens =
+      let o = opens_at y before mid Down opens (settles (turns - 1)) in (
+        (
+          leads_fell records gives faults (settles turns) (λ d. propose x.nodes x.id told d l i v (settles (turns - 1))) x.id x.keeper x.keeper y.keeper (so_far records service x before) (so_far records service x before) (so_far records service y mid)
+              (leads_same records gives faults (settles turns) (λ d. propose x.nodes x.id told d l i v (settles (turns - 1))) x.keeper (so_far records service x before) (so_far records service x before) refl (settle_is before)) o.0,
+          o.1,
+        ),
+        down_node_kept y same o.1,
+      )
+
+  -- ---- the proposal is open
+
+  module _ (y : NodeValue K) (before mid : Draft) (opens : Opens records gives faults service told i v x y before mid On) (parts : y ≡ record (opened x i v) { keeper = y.keeper }) (longer : length (records x.keeper) < length (records y.keeper)) where
+    abbrev y_at : NodeValue K
+    y_at = record x { keeper = y.keeper; acceptor = accepting x.acceptor (record { instance = i; ballot = c.p.ballot; value = v }); proposer = Some (proposed c.p i) }
+
+    y_is : y ≡ y_at
+    y_is = parts ∙ ap (λ (o : Option ProposerValue). record x { keeper = y.keeper; acceptor = accept_own o x.acceptor i v; proposer = option_map (λ (q : ProposerValue). proposed q i) o }) c.p_is
+
+    comes_y : Comes records gives faults service (λ d. propose x.nodes x.id told d l i v (settles (turns - 1))) (λ d. settles (turns - 1) (led role_with d)) x y before mid On
+    comes_y = opens_at y before mid On opens (settles (turns - 1))
+
+    leads_y : Leads records gives faults (settles turns) (λ d. settles (turns - 1) (led role_with d)) x.keeper y.keeper (so_far records service x before) (so_far records service y mid)
+    leads_y = leads_then records gives faults (settles turns) (λ d. propose x.nodes x.id told d l i v (settles (turns - 1))) (λ d. settles (turns - 1) (led role_with d)) x.keeper x.keeper y.keeper (so_far records service x before) (so_far records service x before) (so_far records service y mid)
+        (leads_same records gives faults (settles turns) (λ d. propose x.nodes x.id told d l i v (settles (turns - 1))) x.keeper (so_far records service x before) (so_far records service x before) refl (settle_is before)) comes_y.0
+
+    own_counted : AreCounted x.nodes (x.id ∷ [])
+    own_counted = counted_push x.nodes [] x.id (counted_none x.nodes) (let one = kept_so.id in record { first = omega (arith, one.0); last = one.1 }) refl
+
+    -- ---- others have to accept it too
+
+    module _ (many : 1 < x.nodes) where
+      few_own : nat_lt x.nodes 2 ≡ false
+      few_own = le-ltb x.nodes 2 (omega (arith, many))
+
+      role_y : (so_far records service y mid).node.role ≡ role_with
+      role_y =
+          ap (λ (n : NodeValue K). role_of n.acceptor n.proposer (is_some n.acting)) y_is
+          ∙ lead_opened x.acceptor c.p (is_some x.acting) x.id i v proposes.own (ap (λ (n : ℕ). nat_lt n 2) proposes.nodes_are ∙ few_own)
+
+      -- the model's node goes no further
+      stops : (t : ℕ) (d : CallHere) → d.node.role ≡ role_with → settle t x.nodes sv x.id d ≡ d
+      stops zero d e = refl
+      stops (suc t) d e =
+          ap (λ (r : Role Value). turn x.nodes sv x.id d r (settle t x.nodes sv x.id)) e
+          ∙ ap (λ (b : Bool). cond b (decide x.nodes sv x.id d (record { ballot = c.p.ballot; counted = c.p.promised; reported = map proposal_in c.p.reported; proposal = Some (proposal_of c.p.ballot i v); accepted_by = x.id ∷ []; active = is_some x.acting }) i v (settle t x.nodes sv x.id)) d) (bridges.majority_is x.nodes (x.id ∷ []) own_counted ∙ few_own)
+
+      rests_y : (f : Option Failure) → settles (turns - 1) (led role_with (armed_with f (so_far records service y mid))) ≡ armed_with f (so_far records service y mid)
+      rests_y f =
+          ap (λ (r : Role Value). settles (turns - 1) (led r (armed_with f (so_far records service y mid)))) (sym role_y)
+          ∙ stops (turns - 1) (armed_with f (so_far records service y mid)) role_y
+
+      pub adopt_rests : GoesRound records gives faults service turns x y before mid (Done On)
+      adopt_rests = (
+        (
+          leads_then records gives faults (settles turns) (λ d. settles (turns - 1) (led role_with d)) (λ d. d) x.keeper y.keeper y.keeper (so_far records service x before) (so_far records service y mid) (so_far records service y mid) leads_y
+              (leads_same records gives faults (λ d. settles (turns - 1) (led role_with d)) (λ d. d) y.keeper (so_far records service y mid) (so_far records service y mid) refl rests_y),
+          comes_y.1,
+          comes_y.2,
+        ),
+        record { id = comes_y.1.id; few = comes_y.1.few; up = comes_y.1.up; rests = λ t. has_gone },
+      )
+        where
+          has_gone : HasGoneOn y.proposer (is_some y.acting)
+          has_gone =
+              subst (λ (n : NodeValue K). HasGoneOn n.proposer (is_some n.acting)) (sym y_is)
+              (subst (λ (w : Option ActingValue). HasGoneOn (Some (proposed c.p i)) (is_some w)) (sym c.idle)
+              (subst (λ (q : ProposerValue). HasGoneOn (Some q) false) (sym (opened_is c.p i ∙ ap (λ (b : Bool). opened_by b c.p i) (ap (λ (n : ℕ). nat_lt n 2) proposes.nodes_are ∙ few_own))) (ap not c.many)))
+
+    -- ---- alone it is a majority
+
+    module _ (alone : x.nodes ≤ 1) where
+      one : nat_lt x.nodes 2 ≡ true
+      one = lt-ltb x.nodes 2 (omega (arith, alone))
+
+      more : turns - 1 ≡ suc (turns - 2)
+      more = omega (arith, may_p, less)
+
+      p_opened : proposed c.p i ≡ opened_by true c.p i
+      p_opened = opened_is c.p i ∙ ap (λ (b : Bool). opened_by b c.p i) (ap (λ (n : ℕ). nat_lt n 2) proposes.nodes_are ∙ one)
+
+      -- the model's node decides it
+      decides : (d : CallHere) → settles (turns - 1) (led role_with d) ≡ decide x.nodes sv x.id d l i v (settles (turns - 2))
+      decides d =
+          ap (λ (t : ℕ). settles t (led role_with d)) more
+          ∙ ap (λ (b : Bool). cond b (decide x.nodes sv x.id (led role_with d) (record { ballot = c.p.ballot; counted = c.p.promised; reported = map proposal_in c.p.reported; proposal = Some (proposal_of c.p.ballot i v); accepted_by = x.id ∷ []; active = is_some x.acting }) i v (settles (turns - 2))) (led role_with d))
+          (bridges.majority_is x.nodes (x.id ∷ []) own_counted ∙ one)
+          ∙ decide_led x.nodes sv x.id d l role_with (Some (proposal_of c.p.ballot i v)) (x.id ∷ []) i v (settles (turns - 2))
+
+      pub alone_kept : IsKept records service y
+      alone_kept = comes_y.1
+
+      pub alone_up : y.up ≡ true
+      alone_up = comes_y.2
+
+      pub alone_leads : IsSome y.proposer
+      alone_leads = subst (λ (n : NodeValue K). IsSome n.proposer) (sym y_is) refl
+
+      pub alone_next : i ≡ length y.known + 1
+      alone_next = subst (λ (n : NodeValue K). i ≡ length n.known + 1) (sym y_is) next
+
+      pub alone_cut : IsOwnCut service y v
+      alone_cut = subst (λ (n : NodeValue K). IsOwnCut service n v) (sym y_is) chosen_cut
+
+      pub alone_count : faults x.keeper < 2 ^ 64 - 1 → faults y.keeper < 2 ^ 64 - 1
+      alone_count h = subst (λ (n : ℕ). n < 2 ^ 64 - 1) (sym leads_y.counted) h
+
+      -- what it knows then runs on
+      pub alone_fits : RunsOn service (settles turns) (so_far records service x before) → values_fit service (y.known ++ v ∷ []) ≡ true
+      alone_fits runs =
+          subst (λ (vs : List Value). values_fit service (vs ++ v ∷ []) ≡ true) (sym (alone_kept.up alone_up).known)
+          (fits_before service good checked d (settles (turns - 2) d) (settle_learns x.nodes sv x.id (turns - 2) d)
+          (subst (λ (e : CallHere). values_fit service (known e.node.log) ≡ true) (decides (so_far records service y mid)) (rest_runs records gives faults service (settles turns) (λ e. settles (turns - 1) (led role_with e)) x y before mid leads_y runs)))
+        where
+          d : CallHere
+          d = send (learned sv x.id l i v (known (so_far records service y mid).node.log) (logged (Known i v) None (so_far records service y mid))) (others x.nodes x.id (Chose i v))
+
+      -- ---- and learns the value
+
+      learns_at : (z : NodeValue K) (after : Draft) (g : Going) → Learns records gives faults service i v y z mid after g
+          → (k : CallHere → CallHere) → Comes records gives faults service (λ d. decide x.nodes sv x.id d l i v k) k y z mid after g
+      learns_at z after g learns =
+          subst (λ (q : ProposerValue). (k : CallHere → CallHere) → Comes records gives faults service (λ d. decide x.nodes sv x.id d (lead_of (accepting x.acceptor (record { instance = i; ballot = c.p.ballot; value = v })) q (is_some x.acting)) i v k) k y z mid after g) p_opened
+          (subst (λ (n : NodeValue K). FromLead n (λ m. (k : CallHere → CallHere) → Comes records gives faults service (λ d. decide n.nodes (service_of service n.seed) n.id d m i v k) k y z mid after g)) y_is learns)
+
+      -- up to where the model decides
+      leads_decide : Leads records gives faults (settles turns) (λ d. decide x.nodes sv x.id d l i v (settles (turns - 2))) x.keeper y.keeper (so_far records service x before) (so_far records service y mid)
+      leads_decide = leads_then records gives faults (settles turns) (λ d. settles (turns - 1) (led role_with d)) (λ d. decide x.nodes sv x.id d l i v (settles (turns - 2))) x.keeper y.keeper y.keeper (so_far records service x before) (so_far records service y mid) (so_far records service y mid) leads_y
+          (leads_same records gives faults (λ d. settles (turns - 1) (led role_with d)) (λ d. decide x.nodes sv x.id d l i v (settles (turns - 2))) y.keeper (so_far records service y mid) (so_far records service y mid) refl (λ f. decides (armed_with f (so_far records service y mid))))
+
+      -- the append of the known value failed
+      pub alone_down : (z : NodeValue K) (after : Draft) → IsSame x z → Learns records gives faults service i v y z mid after Down → GoesRound records gives faults service turns x z before after (Done Down)
+      alone_down z after same learns =
+          let o = learns_at z after Down learns (settles (turns - 2)) in (
+            (
+              leads_fell records gives faults (settles turns) (λ d. decide x.nodes sv x.id d l i v (settles (turns - 2))) x.id x.keeper y.keeper z.keeper (so_far records service x before) (so_far records service y mid) (so_far records service z after) leads_decide
+                  (subst (λ (n : ℕ). Fell records gives faults (λ d. decide x.nodes sv x.id d l i v (settles (turns - 2))) n y.keeper z.keeper (so_far records service y mid) (so_far records service z after)) (ap (λ (n : NodeValue K). n.id) y_is) o.0),
+              o.1,
+            ),
+            down_node_kept z same o.1,
+          )
+
+      -- memory was short as it learned
+      pub alone_stuck : (z : NodeValue K) → IsStuck records service y z → IsStuck records service x z
+      alone_stuck z h = stuck_after records service x y z leads_y.written leads_y.grown longer h
+
+      -- it knows the value, and goes on
+      pub alone_again : (z : NodeValue K) (after : Draft) → Learns records gives faults service i v y z mid after On → z ≡ record (knowing service y i v) { keeper = z.keeper } → length (records y.keeper) < length (records z.keeper) → GoesRound records gives faults service turns x z before after Again
+      alone_again z after learns parts_z longer_z =
+          let o = learns_at z after On learns (settles (turns - 2)) in
+          ((leads_then records gives faults (settles turns) (λ d. decide x.nodes sv x.id d l i v (settles (turns - 2))) (settles (turns - 2)) x.keeper y.keeper z.keeper (so_far records service x before) (so_far records service y mid) (so_far records service z after) leads_decide o.0, o.1, o.2), may_z, free_z, omega (arith, may_p, less), omega (arith, longer, longer_z))
+        where
+          z_is : z ≡ record (knowing service y_at i v) { keeper = z.keeper }
+          z_is = parts_z ∙ ap (λ (n : NodeValue K). record (knowing service n i v) { keeper = z.keeper }) y_is
+
+          many : length (x.known ++ v ∷ []) ≡ suc (length x.known)
+          many = length_push x.known v
+
+          free_z : IsFree z.proposer (is_some z.acting)
+          free_z =
+              subst (λ (n : NodeValue K). IsFree n.proposer (is_some n.acting)) (sym z_is)
+              (subst (λ (w : Option ActingValue). IsFree (Some (closed (proposed c.p i))) (is_some (option_map (settling service) w))) (sym c.idle) (refl, λ t. absurd (cc)))
+
+          may_z : MayGoOn z (turns - 2)
+          may_z =
+              subst (λ (n : NodeValue K). MayGoOn n (turns - 2)) (sym z_is)
+              (subst (λ (q : ProposerValue). 2 * above (length (x.known ++ v ∷ [])) q.reported + 1 ≤ turns - 2) (sym p_opened)
+              (subst (λ (n : ℕ). 2 * above n c.p.reported + 1 ≤ turns - 2) (sym many) (omega (arith, may_p, less))))
+
+-- ---- the same of the call
+
+-- what proposing came to, told in other words
+pub opens_as : {K : Type 0} (records : K → List (List ℕ)) (gives : K → List ℕ → Answer → K → Type 0) (faults : K → ℕ) (service : Declarations) (x y : NodeValue K) (before mid : Draft) (i : ℕ) (v : Value) (said named : Effect) (g h : Going)
+    → said ≡ named → g ≡ h → Opens records gives faults service said i v x y before mid g → Opens records gives faults service named i v x y before mid h
+opens_as records gives faults service x y before mid i v said named g h e s opens =
+    subst (λ (t : Going). Opens records gives faults service named i v x y before mid t) s (subst (λ (t : Effect). Opens records gives faults service t i v x y before mid g) e opens)
+
+pub parts_as : {K : Type 0} (x y : NodeValue K) (i : ℕ) (v : Value) (g : Going) → g ≡ On → HasOpened x y i v g → y ≡ record (opened x i v) { keeper = y.keeper }
+parts_as x y i v g s parts = subst (HasOpened x y i v) s parts
+
+pub longer_as : {K : Type 0} (records : K → List (List ℕ)) (x y : NodeValue K) (g : Going) → g ≡ On → IsLonger records x y g → length (records x.keeper) < length (records y.keeper)
+longer_as records x y g s longer = subst (IsLonger records x y) s longer
+
+pub learns_as : {K : Type 0} (records : K → List (List ℕ)) (gives : K → List ℕ → Answer → K → Type 0) (faults : K → ℕ) (service : Declarations) (x y : NodeValue K) (before mid : Draft) (i : ℕ) (v : Value) (g h : Going)
+    → g ≡ h → Learns records gives faults service i v x y before mid g → Learns records gives faults service i v x y before mid h
+learns_as records gives faults service x y before mid i v g h s learns = subst (λ (t : Going). Learns records gives faults service i v x y before mid t) s learns
+
+pub known_as : {K : Type 0} (service : Declarations) (x y : NodeValue K) (i : ℕ) (v : Value) (g : Going) → g ≡ On → HasLearned service x y i v g → y ≡ record (knowing service x i v) { keeper = y.keeper }
+known_as service x y i v g s parts = subst (HasLearned service x y i v) s parts
+
+pub told_is : (node id i events : ℕ) (v : Value) → node ≡ id → events ≡ length (events_of v) → (let e : Effect = effect.Adopts node i events in e) ≡ effect.Adopts id i (length (events_of v))
+told_is node id i events v a b = ap (λ (n : ℕ). effect.Adopts n i events) a ∙ ap (effect.Adopts id i) b
+
+pub same_then : {K : Type 0} (x y z : NodeValue K) → IsSame x y → IsSame y z → IsSame x z
+same_then x y z h k = record { id = k.id ∙ h.id; nodes = k.nodes ∙ h.nodes; seed = k.seed ∙ h.seed }
+
+pub nodes_many : (n nodes : ℕ) → n ≡ nodes → 1 < n → 1 < nodes
+nodes_many n nodes e h = omega (arith, e, h)
+
+pub nodes_few : (n nodes : ℕ) → n ≡ nodes → n ≤ 1 → nodes ≤ 1
+nodes_few n nodes e h = omega (arith, e, h)

@@ -1,0 +1,289 @@
+-- A node that asks to lead does as the model's.
+use Rattle.std.proofs.Common.{◌≡◌, ℕ, suc, ◌+◌, ◌*◌, ◌<◌, ◌≤◌, Bool, true, false, cond, List, [], ◌∷◌, ◌++◌, length, take, Result, Option, Some, None, refl, sym, ap, subst, ◌∙◌, arith, le_refl, add-one}
+use Rattle.std.specs.Prelude.{map, nat_lt, is_some, IfOk, OnErr, IfSome}
+use Rattle.std.specs.declared.alloc.AllocError.{AllocError}
+use Rattle.std.proofs.lemmas.Bool.{false≢true}
+use Rattle.std.proofs.lemmas.List.{length-map}
+use Rattle.std.proofs.lemmas.List.Elements.{All-filter}
+use Rattle.rex_ballot.specs.declared.proposal.Proposal.{Proposal as Kept}
+use Rattle.rex_ballot.specs.Ballot.{IsLeastAbove, ballot_left}
+use Rattle.rex_ballot.specs.Proposals.{IsValue}
+use Rattle.rex_msg.specs.declared.message.Content.TheVariants as sent
+use Rattle.rex_paxos.specs.Acceptor.{promising}
+use Rattle.rex_paxos.specs.Counting.{IsOneOf}
+use Rattle.rex_paxos.specs.Proposer.{ProposerValue, IsOwnBallot}
+use Rattle.rex_paxos.proofs.Counted.{counted_none, counted_push}
+use Rattle.rex_syntax.specs.declared.service.Declarations.{Declarations}
+use Rattle.rex_state.specs.Value.{StateValue}
+use Rattle.rex_state.specs.Start.{start_of}
+use Rattle.rex_state.specs.Machine.{run}
+use Rattle.rex_durable.specs.declared.records.Rec.TheVariants as kept
+use Rattle.rex_durable.specs.Spelling.{HasSpelling, record_bytes}
+use Rattle.rex_report.specs.declared.effect.Effect.{Effect}
+use Rattle.rex_report.specs.declared.effect.Effect.TheVariants as effect
+use Rattle.rex_traits.specs.Chains.{Answer}
+use Rattle.rex_safety.specs.Records.{Rec, Proposal, promise, accepted, from_on, known}
+use Rattle.rex_safety.specs.Records.Rec.{Promised}
+use Rattle.rex_safety.specs.Quorum.{ballot_above, round_of}
+use Rattle.rex_safety.specs.Node.{Failure, Lead}
+use Rattle.rex_safety.specs.Node.Role.{Follower, Leads as Leading}
+use Rattle.rex_safety.specs.Node.Content.{Prepare}
+use Rattle.rex_safety.specs.Ranges.{LeadFits}
+use Rattle.rex_safety.specs.Calls.{append, begin, candidacy, elect, enough, logged, others, own_reports, say, send, settle, stand, with_role}
+use Rattle.rex_safety.specs.Values.{Value, service_of, trace_of}
+use Rattle.rex_safety.specs.Lanes.{Here, CallHere}
+use Rattle.rex_safety.proofs.Lists.{in_from_on}
+use Rattle.rex_safety.proofs.Ranged.{accepted_fit}
+use Rattle.rex_node.specs.declared.going.Going.{Going}
+use Rattle.rex_node.specs.declared.going.Going.TheVariants.{On, Down}
+use Rattle.rex_node.specs.declared.step.Draft.{Draft}
+use Rattle.rex_node.specs.Messages.{content_in, message_in}
+use Rattle.rex_node.specs.declared.refusal.Refusal.{Refusal}
+use Rattle.rex_node.specs.declared.step.Step.{Step}
+use Rattle.rex_node.specs.Calls.{armed_with, if_up}
+use Rattle.rex_node.specs.Leading.{IsFree}
+use Rattle.rex_node.specs.Electing.{candidate_of, standing}
+use Rattle.rex_node.specs.Going.{Appends, Ends, Finishes, IsStuck, Leads, RunsOn, above, so_far}
+use Rattle.rex_node.specs.Parts.{NodeValue, IsKept, IsNode, IsSame, IsUp, Proposes, here_of, lead_of, log_of, proposal_in}
+use Rattle.rex_node.proofs.Appended.{Beside, IsLogged, appended_here, appended_leads, appended_log, ballot_fits, beside_of, call_at, logged_of, logged_promised, up_of}
+use Rattle.rex_node.proofs.Bridges.{left_is}
+use Rattle.rex_node.proofs.Continuing.{ends_if, stuck_if}
+use Rattle.rex_node.proofs.Ending.{HasCome}
+use Rattle.rex_node.proofs.Following.{far, follower_here}
+use Rattle.rex_node.proofs.GoingLemmas.{leads_same, leads_then}
+use Rattle.rex_node.proofs.Grows.{rest_runs}
+use Rattle.rex_node.proofs.Instances.{from_kept}
+use Rattle.rex_node.proofs.Leaving.{replayed_from, replayed_to, state_left}
+use Rattle.rex_node.proofs.Opening.{logged_as}
+use Rattle.rex_node.proofs.Quiet.{IsQuiet, elect_well, replies_quiet}
+use Rattle.rex_node.proofs.Recorded.{recorded_down, recorded_stuck}
+
+-- no more proposals are past an instance than there are
+pub above_most : (k : ℕ) (ps : List Kept) → above k ps ≤ length ps
+above_most k [] = le_refl _
+above_most k (p ∷ ps) = go (nat_lt k p.instance) (above_most k ps)
+  where
+    go : (t : Bool) → above k ps ≤ length ps → cond t (suc (above k ps)) (above k ps) ≤ suc (length ps)
+    go true h = omega arith
+    go false h = omega arith
+
+module _ {K : Type 0} (records : K → List (List ℕ)) (gives : K → List ℕ → Answer → K → Type 0) (faults : K → ℕ) (service : Declarations) (x : NodeValue K) (node : IsNode records service x) (up : x.up ≡ true)
+    (b : ℕ) (left : ballot_left x.id x.acceptor.promised ≡ Some b) (least : IsLeastAbove x.id x.acceptor.promised b) where
+  u : IsUp service x (here_of records service x)
+  u = node.up up
+
+  abbrev log : List (Rec Value StateValue)
+  log = log_of service (records x.keeper)
+
+  abbrev whole : CallHere → CallHere
+  whole = elect x.nodes (service_of service x.seed) x.id
+
+  -- what is left of the call once the promise is written
+  abbrev then_on : CallHere → CallHere
+  then_on e =
+      settle (enough (own_reports log)) x.nodes (service_of service x.seed) x.id
+      (send (say (effect.Candidate x.id b) (with_role (Leading (candidacy x.id b log)) e)) (others x.nodes x.id (Prepare b (suc (length (known log))))))
+
+  few_nodes : x.id < 16
+  few_nodes = let most = node.id.1 in let nine = node.few in omega arith
+
+  -- the ballot is the model's
+  elect_is : (f : Option Failure) (d : CallHere) → d.node.log ≡ log → whole d ≡ stand x.nodes (service_of service x.seed) x.id b d
+  elect_is f d e =
+      let l = left_is x.id x.acceptor.promised few_nodes b left in
+      let promised : x.acceptor.promised ≡ promise d.node.log = u.promised ∙ ap promise (sym e) in
+      ap (λ (p : ℕ). cond (nat_lt 4294967296 (round_of (ballot_above x.id p))) (say (effect.Spent x.id) d) (stand x.nodes (service_of service x.seed) x.id (ballot_above x.id p) d)) (sym promised)
+      ∙ ap (λ (t : Bool). cond t (say (effect.Spent x.id) d) (stand x.nodes (service_of service x.seed) x.id (ballot_above x.id x.acceptor.promised) d)) l.1
+      ∙ ap (λ (c : ℕ). stand x.nodes (service_of service x.seed) x.id c d) (sym l.0)
+
+  pub stand_own : IsOwnBallot x.nodes b
+  stand_own = record { few = node.few; own = subst (IsOneOf x.nodes) (sym least.own) (record { first = node.id.0; last = node.id.1 }) }
+
+  spelled : HasSpelling (kept.Promised b)
+  spelled = record { in_range = least.is }
+
+  module _ (before : Draft) where
+    abbrev begun : CallHere
+    begun = so_far records service x before
+
+    appends_is : (f : Option Failure) → whole (armed_with f begun) ≡ append f x.id (Promised b) (armed_with f begun) then_on
+    appends_is f = elect_is f (armed_with f begun) refl
+
+    module _ (y : NodeValue K) (mid : Draft) where
+      pub stand_down : Appends records faults gives x y before mid (record_bytes (kept.Promised b)) Down → Ends records gives faults service whole x y before mid Down
+      stand_down h = recorded_down records gives faults service x y before mid node up (kept.Promised b) spelled tt refl whole then_on appends_is h
+
+      module _ (h : Appends records faults gives x y before mid (record_bytes (kept.Promised b)) On) where
+        pub stand_stuck : (z : NodeValue K) → z.keeper ≡ y.keeper → z.base ≡ y.base → IsStuck records service x z
+        stand_stuck z keeper based = recorded_stuck records gives faults service x y before mid node up (kept.Promised b) spelled tt refl h z keeper based
+
+        abbrev z_at : NodeValue K
+        z_at = record (standing x b) { keeper = y.keeper }
+
+        log_is : log_of service (records y.keeper) ≡ Promised b ∷ log
+        log_is = appended_log records gives faults service x y before mid (kept.Promised b) spelled tt h
+
+        promised_here : IsLogged service (record x { acceptor = promising x.acceptor b }) (Promised b ∷ log)
+        promised_here = logged_promised service x log (logged_of records service x u) b (ballot_fits b least.is)
+
+        z_logged : IsLogged service z_at (log_of service (records y.keeper))
+        z_logged = subst (IsLogged service z_at) (sym log_is) (logged_as service (record x { acceptor = promising x.acceptor b }) z_at (Promised b ∷ log) refl refl refl refl promised_here)
+
+        -- it reports what it accepted for the instances that it doesn't know
+        reports_are : map proposal_in (candidate_of x b).reported ≡ own_reports log
+        reports_are =
+            from_kept (length x.known + 1) x.acceptor.accepted
+            ∙ ap (from_on (length x.known + 1)) u.accepted
+            ∙ ap (λ (n : ℕ). from_on n (accepted log)) (add-one (length x.known))
+            ∙ ap (λ (vs : List Value). from_on (suc (length vs)) (accepted log)) u.known
+
+        lead_is : lead_of (promising x.acceptor b) (candidate_of x b) false ≡ candidacy x.id b log
+        lead_is = ap (λ (ps : List (Proposal Value)). record (candidacy x.id b log) { reported = ps }) reports_are
+
+        lead_fits : LeadFits (length x.known) (candidacy x.id b log)
+        lead_fits = record {
+          ballot = ballot_fits b least.is;
+          reported = λ p i. accepted_fit log u.numbers.log p (in_from_on (suc (length (known log))) p (accepted log) i);
+          next = λ p e. absurd (none p e);
+        }
+          where
+            none : (p : Proposal Value) → None ≡ Some p → ⊥
+            none p e = cc
+
+        proposes : Proposes x.nodes x.id (promising x.acceptor b) (candidate_of x b)
+        proposes = record {
+          nodes_are = refl;
+          own = least.own;
+          ballot = let more = least.above in omega arith;
+          once = record {
+            own = stand_own;
+            promises = counted_push x.nodes [] x.id (counted_none x.nodes) (record { first = node.id.0; last = node.id.1 }) refl;
+            acceptances = counted_none x.nodes;
+          };
+          short = All-filter _ (λ (q : Kept). IsValue q.value) x.acceptor.accepted u.short;
+          counted = λ _. refl;
+          open_one = tt;
+        }
+
+        z_beside : Beside records service z_at
+        z_beside =
+            let o = beside_of records service x u in
+            record {
+              based = replayed_from x.acting x.base x.replayed o.based;
+              replayed = replayed_to x.acting x.base x.replayed (length x.known) o.based o.replayed;
+              ahead = λ _. state_left (λ n s. run service (start_of service) (trace_of (take n x.known)) ≡ Some s) x.acting x.ahead x.start x.base x.replayed u.start u.ahead;
+              proposer = proposes;
+              acting = tt;
+              role = subst (LeadFits (length x.known)) (sym lead_is) lead_fits;
+            }
+
+        z_kept : IsKept records service z_at
+        z_kept = record { id = node.id; few = node.few; up = λ t. up_of records service z_at z_logged z_beside }
+
+        module _ (z : NodeValue K) (z_is : z ≡ standing y b) where
+          all : z ≡ z_at
+          all = z_is ∙ ap (λ (n : NodeValue K). standing n b) h.0.parts
+
+          pub stand_kept : IsKept records service z
+          stand_kept = subst (IsKept records service) (sym all) z_kept
+
+          -- no proposal is open
+          pub stand_free : IsFree z.proposer (is_some z.acting)
+          stand_free = subst (λ (n : NodeValue K). IsFree n.proposer (is_some n.acting)) (sym all) (refl, λ t. absurd (false≢true t))
+
+          module _ (turns : ℕ) (turns_are : turns ≡ 2 * length (candidate_of y b).reported + 3) where
+            turns_here : turns ≡ 2 * length (candidate_of x b).reported + 3
+            turns_here = turns_are ∙ ap (λ (n : NodeValue K). 2 * length (candidate_of n b).reported + 3) h.0.parts
+
+            pub stand_turns : IfSome z.proposer (λ (p : ProposerValue). 2 * above (length z.known) p.reported + 1 ≤ turns)
+            stand_turns =
+                subst (λ (n : NodeValue K). IfSome n.proposer (λ (p : ProposerValue). 2 * above (length n.known) p.reported + 1 ≤ turns)) (sym all)
+                (omega (arith, above_most (length x.known) (candidate_of x b).reported, turns_here))
+
+            module _ (after : Draft) (effects : after.effects.items ≡ mid.effects.items ++ effect.Candidate y.id b ∷ [])
+                (sends : map message_in after.sends.items ≡ map message_in mid.sends.items ++ others y.nodes y.id (content_in (sent.Prepare b (length y.known + 1)))) where
+              enough_is : enough (own_reports log) ≡ turns
+              enough_is = ap (λ (ps : List (Proposal Value)). 2 * length ps + 3) (sym reports_are) ∙ ap (λ (n : ℕ). 2 * n + 3) (length-map (candidate_of x b).reported proposal_in) ∙ sym turns_here
+
+              here_is : here_of records service z_at ≡ (with_role (Leading (candidacy x.id b log)) (logged (Promised b) None begun)).node
+              here_is =
+                  ap (λ (n : Here). record n { role = Leading (lead_of (promising x.acceptor b) (candidate_of x b) false) })
+                  (follower_here records service x node up y.keeper (Promised b) (promising x.acceptor b) x.known log_is refl
+                  (record { promised = promised_here.promised; accepted = promised_here.accepted; known = promised_here.known; base = promised_here.base; few = promised_here.few; start = promised_here.start; short = promised_here.short; fits = promised_here.fits; numbers = promised_here.numbers })
+                  (le_refl _) (λ n l. refl) (map message_in before.sends.items) before.effects.items)
+                  ∙ ap (λ (l : Lead Value). record (with_role Follower (logged (Promised b) None begun)).node { role = Leading l }) lead_is
+
+              sends_here : map message_in after.sends.items ≡ map message_in before.sends.items ++ others x.nodes x.id (Prepare b (suc (length (known log))))
+              sends_here =
+                  sends
+                  ∙ ap (λ (n : NodeValue K). map message_in mid.sends.items ++ others n.nodes n.id (Prepare b (length n.known + 1))) h.0.parts
+                  ∙ ap (λ (ms : List _). map message_in ms ++ others x.nodes x.id (Prepare b (length x.known + 1))) h.2
+                  ∙ ap (λ (n : ℕ). map message_in before.sends.items ++ others x.nodes x.id (Prepare b n)) (add-one (length x.known) ∙ ap (λ (vs : List Value). suc (length vs)) u.known)
+
+              effects_here : after.effects.items ≡ before.effects.items ++ effect.Candidate x.id b ∷ []
+              effects_here = effects ∙ ap (λ (n : NodeValue K). mid.effects.items ++ effect.Candidate n.id b ∷ []) h.0.parts ∙ ap (λ (es : List Effect). es ++ effect.Candidate x.id b ∷ []) h.1
+
+              stands_as : so_far records service z_at after ≡ send (say (effect.Candidate x.id b) (with_role (Leading (candidacy x.id b log)) (logged (Promised b) None begun))) (others x.nodes x.id (Prepare b (suc (length (known log)))))
+              stands_as =
+                  far records service z_at after _ _ effects_here sends_here
+                  ∙ ap (λ (n : Here). call_at n (map message_in before.sends.items ++ others x.nodes x.id (Prepare b (suc (length (known log))))) (before.effects.items ++ effect.Candidate x.id b ∷ [])) here_is
+
+              abbrev rest : CallHere → CallHere
+              rest = settle turns x.nodes (service_of service x.seed) x.id
+
+              stand_leads : Leads records gives faults whole rest x.keeper z_at.keeper begun (so_far records service z_at after)
+              stand_leads =
+                  leads_then records gives faults whole then_on rest x.keeper y.keeper y.keeper begun (so_far records service y mid) (so_far records service z_at after)
+                  (appended_leads records gives faults service x y before mid (kept.Promised b) spelled tt whole then_on appends_is h)
+                  (leads_same records gives faults then_on rest y.keeper (so_far records service y mid) (so_far records service z_at after) refl comes)
+                where
+                  comes : (f : Option Failure) → then_on (armed_with f (so_far records service y mid)) ≡ rest (armed_with f (so_far records service z_at after))
+                  comes f =
+                      ap (λ (d : CallHere). then_on (armed_with f d)) (appended_here records gives faults service x y before mid (kept.Promised b) spelled tt h)
+                      ∙ ap (λ (n : ℕ). settle n x.nodes (service_of service x.seed) x.id (armed_with f (send (say (effect.Candidate x.id b) (with_role (Leading (candidacy x.id b log)) (logged (Promised b) None begun))) (others x.nodes x.id (Prepare b (suc (length (known log)))))))) enough_is
+                      ∙ ap (λ (d : CallHere). rest (armed_with f d)) (sym stands_as)
+
+              pub stand_runs : RunsOn service whole begun → RunsOn service (settle turns z.nodes (service_of service z.seed) z.id) (so_far records service z after)
+              stand_runs r =
+                  subst (λ (n : NodeValue K). RunsOn service (settle turns n.nodes (service_of service n.seed) n.id) (so_far records service n after)) (sym all)
+                  (rest_runs records gives faults service whole rest x z_at before after stand_leads r)
+
+              pub stand_ends : (w : NodeValue K) (final : Draft) (end : Result Going AllocError) → IfOk end (Ends records gives faults service (settle turns z.nodes (service_of service z.seed) z.id) z w after final)
+                  → IfOk end (Ends records gives faults service whole x w before final)
+              stand_ends w final end e =
+                  ends_if records gives faults service whole rest x z_at w before after final end refl stand_leads
+                  (subst (λ (n : NodeValue K). IfOk end (Ends records gives faults service (settle turns n.nodes (service_of service n.seed) n.id) n w after final)) all e)
+
+          pub stand_short : (w : NodeValue K) (end : Result Going AllocError) → OnErr end (IsStuck records service z w) → OnErr end (IsStuck records service x w)
+          stand_short w end s = stuck_if records service x z w (record_bytes (kept.Promised b)) (ap (λ (n : NodeValue K). records n.keeper) all ∙ h.0.records) end s
+
+-- ---- the end of an election
+
+up_when : (up : Bool) → if_up up None ≡ None → up ≡ true
+up_when true e = refl
+up_when false e = absurd (cc)
+
+-- a ballot is left where the node takes one
+module _ {K : Type 0} (records : K → List (List ℕ)) (gives : K → List ℕ → Answer → K → Type 0) (faults : K → ℕ) (service : Declarations) (x y z : NodeValue K) (before : ℕ) (first draft : Draft) where
+  abbrev elects : CallHere → CallHere
+  elects = elect x.nodes (service_of service x.seed) x.id
+
+  pub elected : (end : Result Going AllocError) (result : Result Step Refusal) → IsNode records service x → if_up x.up None ≡ None → before ≡ length (records x.keeper) → first.effects.items ≡ [] → first.sends.items ≡ []
+      → IfOk end (Ends records gives faults service elects x y first draft) → OnErr end (IsStuck records service x y) → IsSame x y → Finishes records before draft end y z result
+      → HasCome records gives faults service elects x y z before first draft end result
+  elected end result node up many effects sends ends stuck same finishes = record {
+    node = node;
+    up = up_when x.up up;
+    many = many;
+    effects = effects;
+    sends = sends;
+    ends = ends;
+    stuck = stuck;
+    same = same;
+    finishes = finishes;
+  }
+
+  -- it doesn't tell that its node is down where no append fails
+  pub elect_quiet : IsQuiet (elects (begin (here_of records service x))).effects
+  elect_quiet =
+      (elect_well x.nodes (service_of service x.seed) x.id (replies_quiet service x.seed) (begin (here_of records service x)) (record { armed = refl; quiet = λ id h. h })).quiet

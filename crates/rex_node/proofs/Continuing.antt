@@ -1,0 +1,56 @@
+-- A call whose first parts are done goes on to its last one.
+use Rattle.std.proofs.Common.{◌≡◌, ℕ, List, [], ◌∷◌, ◌++◌, Result, Ok, Err, ap, subst, ◌∙◌, append_assoc}
+use Rattle.std.specs.Prelude.{IfOk, OnErr}
+use Rattle.rex_syntax.specs.declared.service.Declarations.{Declarations}
+use Rattle.rex_traits.specs.Chains.{Answer}
+use Rattle.rex_safety.specs.Lanes.{CallHere}
+use Rattle.rex_node.specs.declared.going.Going.{Going}
+use Rattle.rex_node.specs.declared.going.Going.TheVariants.{On, Down}
+use Rattle.rex_node.specs.declared.step.Draft.{Draft}
+use Rattle.rex_node.specs.Going.{Ends, Fell, IsStuck, Leads, so_far}
+use Rattle.rex_node.specs.Parts.{NodeValue}
+use Rattle.rex_node.proofs.GoingLemmas.{leads_then, leads_fell}
+
+module _ {K : Type 0} (records : K → List (List ℕ)) (gives : K → List ℕ → Answer → K → Type 0) (faults : K → ℕ) (service : Declarations) (whole rest : CallHere → CallHere) (x z w : NodeValue K) (before mid after : Draft) where
+  -- the whole ends where the rest does
+  pub ends_then : (going : Going) → z.id ≡ x.id → Leads records gives faults whole rest x.keeper z.keeper (so_far records service x before) (so_far records service z mid)
+      → Ends records gives faults service rest z w mid after going → Ends records gives faults service whole x w before after going
+  ends_then On id l h = (
+    (
+      leads_then records gives faults whole rest (λ d. d) x.keeper z.keeper w.keeper (so_far records service x before) (so_far records service z mid) (so_far records service w after) l h.0.0,
+      h.0.1,
+      h.0.2,
+    ),
+    h.1,
+  )
+  ends_then Down id l h = (
+    (
+      leads_fell records gives faults whole rest x.id x.keeper z.keeper w.keeper (so_far records service x before) (so_far records service z mid) (so_far records service w after) l
+          (subst (λ (i : ℕ). Fell records gives faults rest i z.keeper w.keeper (so_far records service z mid) (so_far records service w after)) id h.0.0),
+      h.0.1,
+    ),
+    h.1,
+  )
+
+  -- the same of what it answers
+  pub ends_if : {E : Type 0} (end : Result Going E) → z.id ≡ x.id → Leads records gives faults whole rest x.keeper z.keeper (so_far records service x before) (so_far records service z mid)
+      → IfOk end (Ends records gives faults service rest z w mid after) → IfOk end (Ends records gives faults service whole x w before after)
+  ends_if (Ok going) id l h = ends_then going id l h
+  ends_if (Err e) id l h = tt
+
+-- memory was short in the last part, with a record there already
+module _ {K : Type 0} (records : K → List (List ℕ)) (service : Declarations) (x z w : NodeValue K) (bytes : List ℕ) (grown : records z.keeper ≡ records x.keeper ++ bytes ∷ []) where
+  pub stuck_then : IsStuck records service z w → IsStuck records service x w
+  stuck_then s = record {
+    more = bytes ∷ s.more;
+    grown = s.grown ∙ ap (λ (l : List (List ℕ)). l ++ s.more) grown ∙ append_assoc (records x.keeper) (bytes ∷ []) s.more;
+    same = λ e. absurd (some e);
+    based = s.based;
+  }
+    where
+      some : bytes ∷ s.more ≡ [] → ⊥
+      some e = cc
+
+  pub stuck_if : {T E : Type 0} (end : Result T E) → OnErr end (IsStuck records service z w) → OnErr end (IsStuck records service x w)
+  stuck_if (Ok t) h = tt
+  stuck_if (Err e) h = stuck_then h

@@ -1,0 +1,402 @@
+-- A node counts promises as the model's does.
+use Rattle.std.proofs.Common.{◌≡◌, ℕ, ◌+◌, ◌*◌, ◌<◌, ◌≤◌, Bool, true, false, cond, ◌||◌, not, ◌⊎◌, inl, inr, List, [], ◌∷◌, ◌++◌, length, Option, Some, None, refl, sym, ap, subst, ◌∙◌, arith, length-append}
+use Rattle.std.specs.Prelude.{◌==◌, map, is_some, option_map, IfSome}
+use Rattle.std.specs.List.{All}
+use Rattle.std.proofs.lemmas.Bool.{false≢true}
+use Rattle.std.proofs.lemmas.Cmp.{nat_eq_equiv}
+use Rattle.std.proofs.lemmas.List.{length-map, map-append}
+use Rattle.std.proofs.lemmas.List.Elements.{All-append, All-head, All-tail, All-weaker}
+use Rattle.rex_ballot.specs.declared.proposal.Proposal.{Proposal as Kept}
+use Rattle.rex_ballot.specs.Proposals.{IsProposal, IsValue}
+use Rattle.rex_paxos.specs.Acceptor.{AcceptorValue}
+use Rattle.rex_paxos.specs.Counting as counts
+use Rattle.rex_paxos.specs.Counting.{IsOneOf, AreCounted, is_counted, vote_of}
+use Rattle.rex_paxos.specs.Proposer.{ProposerValue, is_candidate, promise_counted, promise_refusal, voted, with_promise, without_last}
+use Rattle.rex_paxos.specs.declared.answers.Count.TheVariants as count
+use Rattle.rex_paxos.specs.declared.answers.Vote.{Vote}
+use Rattle.rex_paxos.specs.declared.answers.Vote.TheVariants.{Ignored, NotYet, Quorum}
+use Rattle.rex_paxos.specs.declared.answers.Why.{Why}
+use Rattle.rex_paxos.specs.declared.answers.Why.TheVariants.{Ballot, Late, Again}
+use Rattle.rex_paxos.proofs.Counted.{counted_push, new_promise}
+use Rattle.rex_paxos.proofs.Taken.{taken_back}
+use Rattle.rex_syntax.specs.declared.service.Declarations.{Declarations}
+use Rattle.rex_state.specs.Value.{StateValue}
+use Rattle.rex_report.specs.declared.effect.Effect.{Effect}
+use Rattle.rex_report.specs.declared.effect.Effect.TheVariants as effect
+use Rattle.rex_traits.specs.Chains.{Answer}
+use Rattle.rex_safety.specs.Records.{Proposal, base}
+use Rattle.rex_safety.specs.Quorum.{is_in, is_majority}
+use Rattle.rex_safety.specs.Node.{Failure, Lead, Service}
+use Rattle.rex_safety.specs.Node.Role.{Leads as Leading}
+use Rattle.rex_safety.specs.Invariant.{IsIn}
+use Rattle.rex_safety.specs.Ranges.{LeadFits, ProposalFits, RoleFits}
+use Rattle.rex_safety.specs.Calls.{enough, hear, heard, led, on_own_promise, on_promise, say, settle}
+use Rattle.rex_safety.specs.Values.{Value, service_of}
+use Rattle.rex_safety.specs.Lanes.{CallHere}
+use Rattle.rex_safety.proofs.Lists.{in_cases}
+use Rattle.rex_node.specs.declared.going.Going.{Going}
+use Rattle.rex_node.specs.declared.step.Draft.{Draft}
+use Rattle.rex_node.specs.Messages.{message_in}
+use Rattle.rex_node.specs.Calls.{armed_with}
+use Rattle.rex_node.specs.Electing.{counting, reports_of, told_of, uncounting, vote_on}
+use Rattle.rex_node.specs.Going.{Ends, IsStuck, Leads, RunsOn, above, so_far}
+use Rattle.rex_node.specs.Leading.{IsFree}
+use Rattle.rex_node.specs.Parts.{NodeValue, ActingValue, HasGoneOn, HasOpen, IsActing, IsKept, IsNode, IsProposer, IsUp, Proposes, here_of, lead_of, log_of, open_of, proposal_in, role_of}
+use Rattle.rex_node.proofs.Appended.{Beside, ballot_fits, beside_of, instance_fits, logged_of, up_of}
+use Rattle.rex_node.proofs.Bridges.{in_counted, majority_is}
+use Rattle.rex_node.proofs.Candidates.{above_most}
+use Rattle.rex_node.proofs.Continuing.{ends_then}
+use Rattle.rex_node.proofs.Following.{EndsWell, ends_same, far}
+use Rattle.rex_node.proofs.GoingLemmas.{leads_same}
+use Rattle.rex_node.proofs.Grows.{rest_runs}
+use Rattle.rex_node.proofs.Opening.{logged_as}
+use Rattle.rex_node.proofs.Written.{stuck_same}
+
+-- ---- votes
+
+pub ignored_is : (o : Option Why) (nodes have : ℕ) (why : Why) → voted o nodes have ≡ Ignored why → o ≡ Some why
+ignored_is (Some w) nodes have why e = cc
+ignored_is None nodes have why e = absurd (go (counts.is_majority nodes have) e)
+  where
+    go : (t : Bool) → vote_of (cond t count.Quorum (count.NotYet have)) ≡ Ignored why → ⊥
+    go true k = let n : Quorum ≡ Ignored why = k in cc
+    go false k = let n : NotYet have ≡ Ignored why = k in cc
+
+pub not_yet_is : (o : Option Why) (nodes have h : ℕ) → voted o nodes have ≡ NotYet h → (o ≡ None) × (counts.is_majority nodes have ≡ false) × (h ≡ have)
+not_yet_is (Some w) nodes have h e = absurd (cc)
+not_yet_is None nodes have h e = let r = go (counts.is_majority nodes have) refl e in (refl, r.0, r.1)
+  where
+    go : (t : Bool) → counts.is_majority nodes have ≡ t → vote_of (cond t count.Quorum (count.NotYet have)) ≡ NotYet h → (counts.is_majority nodes have ≡ false) × (h ≡ have)
+    go true s k = absurd (let n : Quorum ≡ NotYet h = k in cc)
+    go false s k = (s, let n : NotYet have ≡ NotYet h = k in cc)
+
+pub quorum_is : (o : Option Why) (nodes have : ℕ) → voted o nodes have ≡ Quorum → (o ≡ None) × (counts.is_majority nodes have ≡ true)
+quorum_is (Some w) nodes have e = absurd (cc)
+quorum_is None nodes have e = (refl, go (counts.is_majority nodes have) refl e)
+  where
+    go : (t : Bool) → counts.is_majority nodes have ≡ t → vote_of (cond t count.Quorum (count.NotYet have)) ≡ Quorum → counts.is_majority nodes have ≡ true
+    go true s k = s
+    go false s k = absurd (let n : NotYet have ≡ Quorum = k in cc)
+
+-- the promise is counted by this proposer, and a majority is reached with it or not
+pub record Counts (o : Option ProposerValue) (b from : ℕ) (many : Bool) : Type 0 where
+  pub proposer : ProposerValue
+  pub is : o ≡ Some proposer
+  pub new : promise_refusal proposer b from ≡ None
+  pub majority : counts.is_majority proposer.nodes (length proposer.promised + 1) ≡ many
+
+-- so many promises are then counted
+pub record CountsTo (o : Option ProposerValue) (b from have : ℕ) : Type 0 where
+  pub counts : Counts o b from false
+  pub have_is : have ≡ length counts.proposer.promised + 1
+
+pub counts_to : (o : Option ProposerValue) (b from have : ℕ) (v : Vote) → v ≡ vote_on o b from → v ≡ NotYet have → CountsTo o b from have
+counts_to None b from have v e k = absurd (let n : NotYet have ≡ Ignored (Ballot b 0) = sym k ∙ e in cc)
+counts_to (Some p) b from have v e k =
+    let r = not_yet_is (promise_refusal p b from) p.nodes (length p.promised + 1) have (sym e ∙ k) in
+    record { counts = record { proposer = p; is = refl; new = r.0; majority = r.1 }; have_is = r.2 }
+
+pub counts_many : (o : Option ProposerValue) (b from : ℕ) (v : Vote) → v ≡ vote_on o b from → v ≡ Quorum → Counts o b from true
+counts_many None b from v e k = absurd (let n : Quorum ≡ Ignored (Ballot b 0) = sym k ∙ e in cc)
+counts_many (Some p) b from v e k =
+    let r = quorum_is (promise_refusal p b from) p.nodes (length p.promised + 1) (sym e ∙ k) in
+    record { proposer = p; is = refl; new = r.0; majority = r.1 }
+
+-- ---- what the model makes of a promise
+
+or_true : (t : Bool) → t || true ≡ true
+or_true true = refl
+or_true false = refl
+
+module _ (n : ℕ) (sv : Service Value StateValue) (me from b : ℕ) (ps : List (Proposal Value)) (a : AcceptorValue) (p : ProposerValue) (active : Bool) (d : CallHere) where
+  abbrev own : Lead Value
+  own = lead_of a p active
+
+  -- it says why it ignores it, or counts it
+  abbrev pub made : Option Why → CallHere
+  made None = hear n sv me (heard (lead_of a p active) from ps) d
+  made (Some why) = say (told_of why) d
+
+  abbrev again : Option Why
+  again = cond (is_counted from p.promised) (Some (Again from)) None
+
+  abbrev late : Bool → Option Why
+  late candidate = cond (not candidate) (Some Late) again
+
+  once_made : cond (is_in from p.promised) (say (effect.IgnoredAgain from) d) (hear n sv me (heard own from ps) d) ≡ made again
+  once_made = ap (λ (t : Bool). cond t (say (effect.IgnoredAgain from) d) (hear n sv me (heard own from ps) d)) (in_counted from p.promised) ∙ go (is_counted from p.promised)
+    where
+      go : (t : Bool) → cond t (say (effect.IgnoredAgain from) d) (hear n sv me (heard own from ps) d) ≡ made (cond t (Some (Again from)) None)
+      go true = refl
+      go false = refl
+
+  active_made : (t : Bool) → is_candidate p ≡ not (t || false) → cond t (say effect.IgnoredLate d) (cond (is_in from p.promised) (say (effect.IgnoredAgain from) d) (hear n sv me (heard own from ps) d)) ≡ made (late (is_candidate p))
+  active_made true e = ap (λ (c : Bool). made (late c)) (sym e)
+  active_made false e = once_made ∙ ap (λ (c : Bool). made (late c)) (sym e)
+
+  own_made : (o : Option ℕ) → HasOpen a p.ballot o → is_candidate p ≡ not (active || is_some o) → on_own_promise n sv me from ps d own (open_of a o) ≡ made (late (is_candidate p))
+  own_made None h e = active_made active e
+  own_made (Some i) h e =
+      ap (λ (q : Option Kept). on_own_promise n sv me from ps d own (option_map proposal_in q)) h.1
+      ∙ ap (λ (c : Bool). made (late c)) (sym (e ∙ ap not (or_true active)))
+
+  pub promise_made : HasOpen a p.ballot p.open_instance → is_candidate p ≡ not (active || is_some p.open_instance) → on_promise n sv me from b ps d (Leading own) ≡ made (promise_refusal p b from)
+  promise_made h e =
+      ap (λ (t : Bool). cond t (on_own_promise n sv me from ps d own (open_of a p.open_instance)) (say (effect.IgnoredBallot b p.ballot) d)) (nat_eq_equiv.symm p.ballot b)
+      ∙ go (b == p.ballot)
+    where
+      go : (t : Bool) → cond t (on_own_promise n sv me from ps d own (open_of a p.open_instance)) (say (effect.IgnoredBallot b p.ballot) d) ≡ made (cond (not t) (Some (Ballot b p.ballot)) (late (is_candidate p)))
+      go true = own_made p.open_instance h e
+      go false = refl
+
+-- a promise that is counted finds no open proposal, at a node that isn't active
+free_of : (t : Bool) (o : Option ℕ) (c : Bool) → c ≡ not (t || is_some o) → not c ≡ false → (t ≡ false) × (o ≡ None)
+free_of false None c e f = (refl, refl)
+free_of false (Some i) c e f = absurd (false≢true (sym (sym (ap not e) ∙ f)))
+free_of true o c e f = absurd (false≢true (sym (sym (ap not e) ∙ f)))
+
+no_second : (a b c : Bool) (x y z : Why) → cond a (Some x) (cond b (Some y) (cond c (Some z) None)) ≡ None → b ≡ false
+no_second true b c x y z e = absurd (cc)
+no_second false true c x y z e = absurd (cc)
+no_second false false c x y z e = refl
+
+-- ---- reports
+
+reports_fit : (ps : List Kept) → All IsProposal ps → (q : Proposal Value) → IsIn q (map proposal_in ps) → ProposalFits q
+reports_fit [] h q i = absurd i
+reports_fit (p ∷ ps) h q (inl e) = let k = All-head IsProposal p ps h in subst (ProposalFits {V = Value}) (sym e) (record { ballot = ballot_fits p.ballot k.ballot; instance = instance_fits p.instance k.instance })
+reports_fit (p ∷ ps) h q (inr i) = reports_fit ps (All-tail IsProposal p ps h) q i
+
+both_fit : (ps qs : List (Proposal Value)) → ((q : Proposal Value) → IsIn q ps → ProposalFits q) → ((q : Proposal Value) → IsIn q qs → ProposalFits q) → (q : Proposal Value) → IsIn q (ps ++ qs) → ProposalFits q
+both_fit ps qs h k q i = go (in_cases q ps qs i)
+  where
+    go : IsIn q ps ⊎ IsIn q qs → ProposalFits q
+    go (inl a) = h q a
+    go (inr a) = k q a
+
+-- ---- a node that is told a promise
+
+module _ {K : Type 0} (records : K → List (List ℕ)) (gives : K → List ℕ → Answer → K → Type 0) (faults : K → ℕ) (service : Declarations) (x : NodeValue K) (node : IsNode records service x) (up : x.up ≡ true)
+    (from b : ℕ) (there : (0 < from) × (from ≤ x.nodes)) (reported : List Kept) (all : All IsProposal reported) where
+  u : IsUp service x (here_of records service x)
+  u = node.up up
+
+  abbrev whole : CallHere → CallHere
+  whole d = on_promise x.nodes (service_of service x.seed) x.id from b (map proposal_in reported) d d.node.role
+
+  one_of : IsOneOf x.nodes from
+  one_of = record { first = there.0; last = there.1 }
+
+  -- the sender is one of those that its proposer counts
+  pub promise_from : IfSome x.proposer (λ (p : ProposerValue). IsOneOf p.nodes from)
+  promise_from = go x.proposer u.proposer
+    where
+      go : (o : Option ProposerValue) → IsProposer x.nodes x.id x.acceptor o → IfSome o (λ (p : ProposerValue). IsOneOf p.nodes from)
+      go None h = tt
+      go (Some p) h = subst (λ (n : ℕ). IsOneOf n from) (sym h.nodes_are) one_of
+
+  module _ (before : Draft) where
+    abbrev begun : CallHere
+    begun = so_far records service x before
+
+    whole_at : (f : Option Failure) (o : Option ProposerValue) → x.proposer ≡ o → whole (armed_with f begun) ≡ on_promise x.nodes (service_of service x.seed) x.id from b (map proposal_in reported) (armed_with f begun) (role_of x.acceptor o (is_some x.acting))
+    whole_at f o e = ap (λ (q : Option ProposerValue). on_promise x.nodes (service_of service x.seed) x.id from b (map proposal_in reported) (armed_with f begun) (role_of x.acceptor q (is_some x.acting))) e
+
+    module _ (p : ProposerValue) (e : x.proposer ≡ Some p) where
+      proposes : Proposes x.nodes x.id x.acceptor p
+      proposes = subst (IsProposer x.nodes x.id x.acceptor) e u.proposer
+
+      gone : is_candidate p ≡ not (is_some x.acting || is_some p.open_instance)
+      gone = subst (λ (o : Option ProposerValue). HasGoneOn o (is_some x.acting)) e (node.rests up)
+
+      made_is : (f : Option Failure) (r : Option Why) → promise_refusal p b from ≡ r → whole (armed_with f begun) ≡ made x.nodes (service_of service x.seed) x.id from b (map proposal_in reported) x.acceptor p (is_some x.acting) (armed_with f begun) r
+      made_is f r k =
+          whole_at f (Some p) e
+          ∙ promise_made x.nodes (service_of service x.seed) x.id from b (map proposal_in reported) x.acceptor p (is_some x.acting) (armed_with f begun) proposes.open_one gone
+          ∙ ap (made x.nodes (service_of service x.seed) x.id from b (map proposal_in reported) x.acceptor p (is_some x.acting) (armed_with f begun)) k
+
+    -- ---- one that is ignored
+
+    module _ (why : Why) (vote_is : vote_on x.proposer b from ≡ Ignored why) where
+      same_at : (o : Option ProposerValue) → vote_on o b from ≡ Ignored why → option_map (λ (p : ProposerValue). promise_counted p b from reported) o ≡ o
+      same_at None k = refl
+      same_at (Some p) k = ap (λ (r : Option Why). Some (with_promise r p from reported)) (ignored_is (promise_refusal p b from) p.nodes (length p.promised + 1) why k)
+
+      pub ignored_same : (z : NodeValue K) → z ≡ counting x b from reported → z ≡ x
+      ignored_same z z_is = z_is ∙ ap (λ (o : Option ProposerValue). record x { proposer = o }) (same_at x.proposer vote_is)
+
+      says_at : (f : Option Failure) (o : Option ProposerValue) → x.proposer ≡ o → vote_on o b from ≡ Ignored why → whole (armed_with f begun) ≡ armed_with f (say (told_of why) begun)
+      says_at f None e k = whole_at f None e ∙ ap (λ (w : Why). say (told_of w) (armed_with f begun)) (let n : Ballot b 0 ≡ why = cc in n)
+      says_at f (Some p) e k = made_is p e f (Some why) (ignored_is (promise_refusal p b from) p.nodes (length p.promised + 1) why k)
+
+      pub promise_ignored : (z : NodeValue K) → z ≡ counting x b from reported → (told : Effect) → told ≡ told_of why → (after : Draft) → after.effects.items ≡ before.effects.items ++ told ∷ [] → after.sends.items ≡ before.sends.items
+          → EndsWell records gives faults service x z before after whole
+      promise_ignored z z_is told told_is after effects sends =
+          subst (λ (n : NodeValue K). EndsWell records gives faults service x n before after whole) (sym (ignored_same z z_is))
+          (ends_same records gives faults service x x before after whole refl node up
+          (λ f. says_at f x.proposer refl vote_is
+          ∙ ap (armed_with f) (sym (far records service x after _ _ (effects ∙ ap (λ (t : Effect). before.effects.items ++ t ∷ []) told_is) (ap (map message_in) sends)))))
+
+    -- ---- one that is counted
+
+    module _ (p : ProposerValue) (e : x.proposer ≡ Some p) (new : promise_refusal p b from ≡ None) where
+      abbrev more : ProposerValue
+      more = record p { promised = p.promised ++ from ∷ []; reported = p.reported ++ reported }
+
+      abbrev z_at : NodeValue K
+      z_at = record x { proposer = Some more }
+
+      counted_at : (z : NodeValue K) → z ≡ counting x b from reported → z ≡ z_at
+      counted_at z z_is =
+          z_is
+          ∙ ap (λ (o : Option ProposerValue). record x { proposer = option_map (λ (q : ProposerValue). promise_counted q b from reported) o }) e
+          ∙ ap (λ (r : Option Why). record x { proposer = Some (with_promise r p from reported) }) new
+
+      free : (is_some x.acting ≡ false) × (p.open_instance ≡ None)
+      free = free_of (is_some x.acting) p.open_instance (is_candidate p) (gone p e) (no_second (not (b == p.ballot)) (not (is_candidate p)) (is_counted from p.promised) (Ballot b p.ballot) Late (Again from) new)
+
+      -- it is what the model leads with then
+      heard_is : lead_of x.acceptor more (is_some x.acting) ≡ heard (lead_of x.acceptor p (is_some x.acting)) from (map proposal_in reported)
+      heard_is =
+          ap (λ (t : Bool). lead_of x.acceptor more t) free.0
+          ∙ ap (λ (o : Option ℕ). record (lead_of x.acceptor more false) { proposal = open_of x.acceptor o }) free.1
+          ∙ ap (λ (ns : List ℕ). record (lead_of x.acceptor more false) { proposal = None; accepted_by = ns }) ((proposes p e).counted free.1)
+          ∙ ap (λ (ps : List (Proposal Value)). record (lead_of x.acceptor more false) { proposal = None; accepted_by = []; reported = ps }) (map-append proposal_in p.reported reported)
+
+      counted : AreCounted p.nodes more.promised
+      counted = counted_push p.nodes p.promised from (proposes p e).once.promises (subst (λ (n : ℕ). IsOneOf n from) (sym (proposes p e).nodes_are) one_of) (new_promise p b from new)
+
+      length_more : length more.promised ≡ length p.promised + 1
+      length_more = length-append p.promised (from ∷ [])
+
+      majority_same : (t : Bool) → counts.is_majority p.nodes (length p.promised + 1) ≡ t → is_majority x.nodes more.promised ≡ t
+      majority_same t k =
+          ap (λ (n : ℕ). is_majority n more.promised) (sym (proposes p e).nodes_are)
+          ∙ majority_is p.nodes more.promised counted
+          ∙ ap (counts.is_majority p.nodes) length_more
+          ∙ k
+
+      z_proposes : Proposes x.nodes x.id x.acceptor more
+      z_proposes =
+          let h = proposes p e in
+          record {
+            nodes_are = h.nodes_are;
+            own = h.own;
+            ballot = h.ballot;
+            once = record { own = h.once.own; promises = counted; acceptances = h.once.acceptances };
+            short = All-append (λ (q : Kept). IsValue q.value) p.reported reported h.short (All-weaker IsProposal (λ (q : Kept). IsValue q.value) (λ q k. k.value) reported all);
+            counted = h.counted;
+            open_one = h.open_one;
+          }
+
+      z_acting : (w : Option ActingValue) → IsActing service x.known x.acceptor (Some p) w → IsActing service x.known x.acceptor (Some more) w
+      z_acting None h = tt
+      z_acting (Some a) h = h
+
+      z_role : LeadFits (length x.known) (lead_of x.acceptor p (is_some x.acting)) → LeadFits (length x.known) (lead_of x.acceptor more (is_some x.acting))
+      z_role h = record {
+        ballot = h.ballot;
+        reported = λ q i. both_fit (map proposal_in p.reported) (map proposal_in reported) h.reported (reports_fit reported all) q (subst (IsIn q) (map-append proposal_in p.reported reported) i);
+        next = h.next;
+      }
+
+      z_beside : Beside records service z_at
+      z_beside =
+          let o = beside_of records service x u in
+          record {
+            based = o.based;
+            replayed = o.replayed;
+            ahead = o.ahead;
+            proposer = z_proposes;
+            acting = z_acting x.acting (subst (λ (q : Option ProposerValue). IsActing service x.known x.acceptor q x.acting) e o.acting);
+            role = z_role (subst (λ (q : Option ProposerValue). RoleFits (length x.known) (role_of x.acceptor q (is_some x.acting))) e o.role);
+          }
+
+      z_kept : IsKept records service z_at
+      z_kept = record { id = node.id; few = node.few; up = λ t. up_of records service z_at (logged_as service x z_at (log_of service (records x.keeper)) refl refl refl refl (logged_of records service x u)) z_beside }
+
+      -- the call counts it
+      hears_is : (f : Option Failure) → whole (armed_with f begun) ≡ hear x.nodes (service_of service x.seed) x.id (lead_of x.acceptor more (is_some x.acting)) (armed_with f begun)
+      hears_is f = made_is p e f None new ∙ ap (λ (l : Lead Value). hear x.nodes (service_of service x.seed) x.id l (armed_with f begun)) (sym heard_is)
+
+      -- ---- it is no majority yet
+
+      module _ (few : counts.is_majority p.nodes (length p.promised + 1) ≡ false) where
+        z_node : IsNode records service z_at
+        z_node = record {
+          id = node.id;
+          few = node.few;
+          up = z_kept.up;
+          rests = λ t.
+              ap not (ap (counts.is_majority p.nodes) length_more ∙ few)
+              ∙ sym (ap (λ (s : Bool). not (s || is_some p.open_instance)) free.0 ∙ ap (λ (o : Option ℕ). not (false || is_some o)) free.1);
+        }
+
+        pub promise_have : (z : NodeValue K) → z ≡ counting x b from reported → (have : ℕ) → have ≡ length p.promised + 1 → (after : Draft) → after.effects.items ≡ before.effects.items ++ effect.Have have ∷ [] → after.sends.items ≡ before.sends.items
+            → EndsWell records gives faults service x z before after whole
+        promise_have z z_is have have_is after effects sends =
+            subst (λ (n : NodeValue K). EndsWell records gives faults service x n before after whole) (sym (counted_at z z_is))
+            (ends_same records gives faults service x z_at before after whole refl z_node up
+            (λ f. hears_is f
+            ∙ ap (λ (t : Bool). cond t (settle (enough (map proposal_in more.reported)) x.nodes (service_of service x.seed) x.id (led (Leading (lead_of x.acceptor more (is_some x.acting))) (armed_with f begun))) (say (effect.Have (length more.promised)) (led (Leading (lead_of x.acceptor more (is_some x.acting))) (armed_with f begun)))) (majority_same false few)
+            ∙ ap (λ (n : ℕ). say (effect.Have n) (led (Leading (lead_of x.acceptor more (is_some x.acting))) (armed_with f begun))) (length_more ∙ sym have_is)
+            ∙ ap (armed_with f) (sym (far records service z_at after _ _ effects (ap (map message_in) sends)))))
+
+      -- ---- it is a majority
+
+      module _ (many : counts.is_majority p.nodes (length p.promised + 1) ≡ true) (z : NodeValue K) (z_is : z ≡ counting x b from reported) where
+        pub promise_kept : IsKept records service z
+        promise_kept = subst (IsKept records service) (sym (counted_at z z_is)) z_kept
+
+        pub promise_free : IsFree z.proposer (is_some z.acting)
+        promise_free = subst (λ (n : NodeValue K). IsFree n.proposer (is_some n.acting)) (sym (counted_at z z_is)) (free.1, λ t. absurd (false≢true (sym free.0 ∙ t)))
+
+        module _ (turns : ℕ) (turns_are : turns ≡ 2 * reports_of z.proposer + 3) where
+          turns_here : turns ≡ 2 * length more.reported + 3
+          turns_here = turns_are ∙ ap (λ (n : NodeValue K). 2 * reports_of n.proposer + 3) (counted_at z z_is)
+
+          pub promise_turns : IfSome z.proposer (λ (q : ProposerValue). 2 * above (length z.known) q.reported + 1 ≤ turns)
+          promise_turns =
+              subst (λ (n : NodeValue K). IfSome n.proposer (λ (q : ProposerValue). 2 * above (length n.known) q.reported + 1 ≤ turns)) (sym (counted_at z z_is))
+              (omega (arith, above_most (length x.known) more.reported, turns_here))
+
+          abbrev rest : CallHere → CallHere
+          rest = settle turns x.nodes (service_of service x.seed) x.id
+
+          promise_leads : Leads records gives faults whole rest x.keeper x.keeper begun (so_far records service z_at before)
+          promise_leads =
+              leads_same records gives faults whole rest x.keeper begun (so_far records service z_at before) refl
+              (λ f. hears_is f
+              ∙ ap (λ (t : Bool). cond t (settle (enough (map proposal_in more.reported)) x.nodes (service_of service x.seed) x.id (led (Leading (lead_of x.acceptor more (is_some x.acting))) (armed_with f begun))) (say (effect.Have (length more.promised)) (led (Leading (lead_of x.acceptor more (is_some x.acting))) (armed_with f begun)))) (majority_same true many)
+              ∙ ap (λ (n : ℕ). settle (2 * n + 3) x.nodes (service_of service x.seed) x.id (armed_with f (so_far records service z_at before))) (length-map more.reported proposal_in)
+              ∙ ap (λ (n : ℕ). settle n x.nodes (service_of service x.seed) x.id (armed_with f (so_far records service z_at before))) (sym turns_here))
+
+          pub promise_runs : RunsOn service whole begun → RunsOn service (settle turns z.nodes (service_of service z.seed) z.id) (so_far records service z before)
+          promise_runs r =
+              subst (λ (n : NodeValue K). RunsOn service (settle turns n.nodes (service_of service n.seed) n.id) (so_far records service n before)) (sym (counted_at z z_is))
+              (rest_runs records gives faults service whole rest x z_at before before promise_leads r)
+
+          pub promise_ends : (w : NodeValue K) (after : Draft) (going : Going) → Ends records gives faults service (settle turns z.nodes (service_of service z.seed) z.id) z w before after going → Ends records gives faults service whole x w before after going
+          promise_ends w after going h =
+              ends_then records gives faults service whole rest x z_at w before before after going refl promise_leads
+              (subst (λ (n : NodeValue K). Ends records gives faults service (settle turns n.nodes (service_of service n.seed) n.id) n w before after going) (counted_at z z_is) h)
+
+      -- ---- memory was short, and it is taken back
+
+      pub promise_stuck : (z w v : NodeValue K) → z ≡ counting x b from reported → IsStuck records service z w → v ≡ uncounting w (length reported) → IsStuck records service x v
+      promise_stuck z w v z_is s v_is = record {
+        more = s.more;
+        grown = ap (λ (n : NodeValue K). records n.keeper) v_is ∙ s.grown ∙ ap (λ (n : NodeValue K). records n.keeper ++ s.more) (counted_at z z_is);
+        same = λ none.
+            v_is
+            ∙ ap (λ (n : NodeValue K). uncounting n (length reported)) (s.same none)
+            ∙ ap (λ (n : NodeValue K). record (uncounting n (length reported)) { keeper = w.keeper }) z_is
+            ∙ ap (λ (o : Option ProposerValue). record x { keeper = w.keeper; proposer = option_map (λ (q : ProposerValue). without_last q (length reported)) (option_map (λ (q : ProposerValue). promise_counted q b from reported) o) }) e
+            ∙ ap (λ (q : ProposerValue). record x { keeper = w.keeper; proposer = Some q }) (taken_back p b from reported new)
+            ∙ ap (λ (o : Option ProposerValue). record x { keeper = w.keeper; proposer = o }) (sym e)
+            ∙ ap (λ (k : K). record x { keeper = k }) (sym (ap (λ (n : NodeValue K). n.keeper) v_is));
+        based = ap (λ (n : NodeValue K). n.base) v_is ∙ s.based ∙ ap (λ (n : NodeValue K). base (log_of service (records n.keeper))) (sym v_is);
+      }
+
+      pub promise_back : (z v : NodeValue K) → z ≡ counting x b from reported → v ≡ uncounting z (length reported) → IsStuck records service x v
+      promise_back z v z_is v_is = promise_stuck z z v z_is (subst (λ (n : NodeValue K). IsStuck records service n n) (sym (counted_at z z_is)) (stuck_same records service z_at (z_kept.up up))) v_is

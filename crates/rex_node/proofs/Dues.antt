@@ -1,0 +1,88 @@
+-- What a node can propose, and why it proposes nothing.
+use Rattle.std.proofs.Common.{◌≡◌, ℕ, ◌<◌, true, List, [], ◌∷◌, ◌++◌, length, Option, Some, None, Result, Ok, Err, refl, sym, ap, subst, ◌∙◌, arith}
+use Rattle.std.specs.Prelude.{IfSome}
+use Rattle.rex_syntax.specs.declared.service.Declarations.{Declarations}
+use Rattle.rex_event.specs.declared.event.Event.{Event}
+use Rattle.rex_event.specs.Cuts.{below}
+use Rattle.rex_cut.specs.Greatest.{greatest_cut}
+use Rattle.rex_state.specs.Value.{StateValue}
+use Rattle.rex_state.specs.Counts.{counts_of}
+use Rattle.rex_safety.specs.Records.{known}
+use Rattle.rex_safety.specs.Values.{Value, trace_of, state_after}
+use Rattle.rex_safety.specs.Lanes.{limits_between}
+use Rattle.rex_node.specs.declared.pieces.Piece.{Piece}
+use Rattle.rex_node.specs.declared.refusal.Refusal.{Refusal}
+use Rattle.rex_node.specs.declared.refusal.Refusal.TheVariants as why
+use Rattle.rex_node.specs.Calls.{CanBeCut, CutIsSpelled, RefusesThen, counts_for, refusal_of_none}
+use Rattle.rex_node.specs.Cutting.{CanMakePiece, MakesPiece, MakesPieceOf, counts_in, cut_in}
+use Rattle.rex_node.specs.Parts.{ActingValue, NodeValue, Executes, IsNode, IsUp, here_of, work_of}
+use Rattle.rex_node.proofs.Executing.{executes, live_state_is, start_is}
+
+none_where_some : (es : List Event) → 0 < length es → refusal_of_none es ≡ None
+none_where_some [] h = absurd (omega arith)
+none_where_some (e ∷ es) h = refl
+
+-- what is refused where there is no piece
+refuses : (a : ActingValue) (cut : List ℕ) (result : Result Piece Refusal) → MakesPiece a cut result → RefusesThen None (refusal_of_none (below cut a.recorder.live)) result
+refuses a cut (Ok p) h = none_where_some (below cut a.recorder.live) h.some
+refuses a cut (Err why.Nothing) h = ap refusal_of_none h
+refuses a cut (Err why.OutOfMemory) h = tt
+refuses a cut (Err why.Down) h = absurd h
+refuses a cut (Err (why.NotActive role)) h = absurd h
+refuses a cut (Err (why.Open instance)) h = absurd h
+refuses a cut (Err why.Ended) h = absurd h
+refuses a cut (Err (why.Live events)) h = absurd h
+refuses a cut (Err why.UpToDate) h = absurd h
+refuses a cut (Err why.Spent) h = absurd h
+
+module _ {K : Type 0} (records : K → List (List ℕ)) (service : Declarations) (x : NodeValue K) (node : IsNode records service x) (up : x.up ≡ true) where
+  is_up : IsUp service x (here_of records service x)
+  is_up = node.up up
+
+  abbrev knows : List Value
+  knows = known (here_of records service x).log
+
+  -- the counts below which a cut is made are those of what is executed
+  pub counts_are : (a : ActingValue) → x.acting ≡ Some a → (limits : Option (List ℕ)) → counts_for service (here_of records service x) limits ≡ counts_in a limits
+  counts_are a e limits = by limits
+    where
+      has : Executes service x.known a
+      has = executes service x.known x.acceptor x.proposer x.acting a is_up.acting e
+
+      live : state_after service (trace_of knows ++ (work_of x.acting).live) ≡ a.recorder.state
+      live = live_state_is service x.known a has knows x.acting is_up.known e
+
+      first : state_after service (trace_of knows) ≡ a.recorder.start
+      first = ap (λ (vs : List Value). state_after service (trace_of vs)) (sym is_up.known) ∙ start_is service x.known a has
+
+      by : (limits : Option (List ℕ)) → counts_for service (here_of records service x) limits ≡ counts_in a limits
+      by None = ap counts_of live
+      by (Some limits) =
+          ap (λ (s : StateValue). limits_between (counts_of s) (counts_of (state_after service (trace_of knows ++ (work_of x.acting).live))) limits) first
+          ∙ ap (λ (s : StateValue). limits_between (counts_of a.recorder.start) (counts_of s) limits) live
+
+  pub can_make : (limits : Option (List ℕ)) → CanBeCut (here_of records service x) (counts_for service (here_of records service x) limits) → IfSome x.acting (CanMakePiece limits)
+  can_make limits h = by x.acting refl
+    where
+      P : List ℕ → List Event → Type 0
+      P counts live = 0 < length (below (greatest_cut counts live) live) → CutIsSpelled live (greatest_cut counts live)
+
+      by : (w : Option ActingValue) → x.acting ≡ w → IfSome w (CanMakePiece limits)
+      by None e = tt
+      by (Some a) e =
+          subst (λ (counts : List ℕ). P counts a.recorder.live) (counts_are a e limits)
+          (subst (λ (w : Option ActingValue). P (counts_for service (here_of records service x) limits) (work_of w).live) e h)
+
+  pub refuses_node : (limits : Option (List ℕ)) (result : Result Piece Refusal) → MakesPieceOf x.acting limits result
+      → RefusesThen None (refusal_of_none (below (greatest_cut (counts_for service (here_of records service x) limits) (work_of x.acting).live) (work_of x.acting).live)) result
+  refuses_node limits result h = by x.acting refl h
+    where
+      late : List ℕ → List Event → Option Refusal
+      late counts live = refusal_of_none (below (greatest_cut counts live) live)
+
+      by : (w : Option ActingValue) → x.acting ≡ w → MakesPieceOf w limits result → RefusesThen None (late (counts_for service (here_of records service x) limits) (work_of x.acting).live) result
+      by None e k = subst (RefusesThen None (late (counts_for service (here_of records service x) limits) (work_of x.acting).live)) (sym k) tt
+      by (Some a) e k =
+          subst (λ (o : Option Refusal). RefusesThen None o result)
+          (sym (ap (λ (w : Option ActingValue). late (counts_for service (here_of records service x) limits) (work_of w).live) e ∙ ap (λ (counts : List ℕ). late counts a.recorder.live) (counts_are a e limits)))
+          (refuses a (cut_in a limits) result k)

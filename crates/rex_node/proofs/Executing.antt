@@ -1,0 +1,244 @@
+-- What an active node executes is what the model computes from its records.
+use Rattle.std.proofs.Common.{◌≡◌, ℕ, Bool, true, false, cond, drop, refl, List, [], ◌∷◌, ◌++◌, length, Option, Some, None, ap, sym, subst, ◌∙◌}
+use Rattle.std.specs.Prelude.{ℤ, is_some}
+use Rattle.std.specs.List.{All}
+use Rattle.std.proofs.lemmas.List.Elements.{All-nil, All-tail, All-push}
+use Rattle.rand_pcg.specs.Lcg.{Lcg}
+use Rattle.rand_pcg.specs.Pcg.{pcg32}
+use Rattle.rex_syntax.specs.declared.request.Request.{Request}
+use Rattle.rex_syntax.specs.declared.service.Declarations.{Declarations}
+use Rattle.rex_syntax.specs.Service.{IsService}
+use Rattle.rex_state.specs.Value.{StateValue}
+use Rattle.rex_state.specs.Start.{start_of}
+use Rattle.rex_state.specs.Machine.{entry_at}
+use Rattle.rex_state.proofs.Run.{run-then}
+use Rattle.rex_state.proofs.Sounds.{run_keeps}
+use Rattle.rex_record.specs.declared.turns.Turn.{Turn}
+use Rattle.rex_record.specs.declared.turns.Turn.TheVariants as turn
+use Rattle.rex_record.specs.Turn.{turn_of, does_draw, dice_after}
+use Rattle.rex_record.specs.Value.{queued_in, queue_after, is_begin, turned}
+use Rattle.rex_record.specs.Kept.{IsRecorder, CanBegin}
+use Rattle.rex_paxos.specs.Acceptor.{AcceptorValue}
+use Rattle.rex_paxos.specs.Proposer.{ProposerValue}
+use Rattle.rex_report.specs.declared.effect.Effect.{Effect}
+use Rattle.rex_report.specs.declared.effect.Effect.TheVariants.{Queued}
+use Rattle.rex_scenario.specs.Fits.{RequestFits}
+use Rattle.rex_safety.specs.Records.{Proposal, known}
+use Rattle.rex_safety.specs.Values.{Value, trace_of, state_after}
+use Rattle.rex_safety.specs.Ranges.{RoleFits}
+use Rattle.rex_safety.specs.Calls.{begin}
+use Rattle.rex_safety.specs.Lanes as lanes
+use Rattle.rex_safety.specs.Lanes.{answer_of, queue_with, submit_request, live_state, known_state}
+use Rattle.rex_node.specs.declared.refusal.Refusal.{Refusal}
+use Rattle.rex_node.specs.Calls.{LeadsTo, if_up, turn_at}
+use Rattle.rex_node.specs.Parts.{StaysNode}
+use Rattle.rex_safety.proofs.Replies.{state_is}
+use Rattle.rex_safety.proofs.Queues.{IsDue, queued_due, queued_positive, due_begins, queue_after_answer}
+use Rattle.rex_node.specs.Parts.{ActingValue, NodeValue, Executes, ActsFor, OpenIsCut, IsActing, IsUp, IsNode, HasGoneOn, here_of, open_of, role_of, work_of}
+use Rattle.rex_node.proofs.Proposed.{open_turned}
+use Rattle.rex_node.specs.Submitting.{answer_in, taken}
+
+module _ (service : Declarations) (values : List Value) (a : ActingValue) (h : Executes service values a) where
+  pub start_is : state_after service (trace_of values) ≡ a.recorder.start
+  start_is = state_is service (trace_of values) a.recorder.start h.known
+
+  pub live_is : state_after service (trace_of values ++ a.recorder.live) ≡ a.recorder.state
+  live_is =
+      state_is service (trace_of values ++ a.recorder.live) a.recorder.state
+      (run-then service (start_of service) a.recorder.start (trace_of values) a.recorder.live h.known ∙ h.recorder.runs)
+
+  -- the state after what the node knows and its live events is the recorder's
+  pub live_state_is : (vs : List Value) (w : Option ActingValue) → values ≡ vs → w ≡ Some a → state_after service (trace_of vs ++ (work_of w).live) ≡ a.recorder.state
+  live_state_is vs w e f =
+      ap (λ (u : Option ActingValue). state_after service (trace_of vs ++ (work_of u).live)) f
+      ∙ ap (λ (us : List Value). state_after service (trace_of us ++ a.recorder.live)) (sym e)
+      ∙ live_is
+
+  -- the answer to a request is the one in the model
+  pub answer_is : (r : Request) (vs : List Value) (w : Option ActingValue) → values ≡ vs → w ≡ Some a
+      → answer_in a r ≡ answer_of r (queued_in (work_of w).queue r.client) (entry_at (state_after service (trace_of vs ++ (work_of w).live)).clients r.client) (entry_at (state_after service (trace_of vs)).clients r.client)
+  answer_is r vs w e f =
+      ap (λ (s : StateValue). answer_of r (queued_in a.recorder.queue r.client) (entry_at s.clients r.client) (entry_at a.recorder.start.clients r.client)) (sym live_is)
+      ∙ ap (λ (s : StateValue). answer_of r (queued_in a.recorder.queue r.client) (entry_at (state_after service (trace_of values ++ a.recorder.live)).clients r.client) (entry_at s.clients r.client)) (sym start_is)
+      ∙ ap (λ (us : List Value). answer_of r (queued_in a.recorder.queue r.client) (entry_at (state_after service (trace_of us ++ a.recorder.live)).clients r.client) (entry_at (state_after service (trace_of us)).clients r.client)) e
+      ∙ ap (λ (u : Option ActingValue). answer_of r (queued_in (work_of u).queue r.client) (entry_at (state_after service (trace_of vs ++ (work_of u).live)).clients r.client) (entry_at (state_after service (trace_of vs)).clients r.client)) (sym f)
+
+  -- so is the turn of a lane
+  pub turn_is : (lane : ℕ) (now : ℤ) (vs : List Value) (w : Option ActingValue) → values ≡ vs → w ≡ Some a
+      → turn_of service a.recorder.state a.recorder.queue (length a.recorder.live) lane now (pcg32 a.dice).0
+      ≡ turn_of service (state_after service (trace_of vs ++ (work_of w).live)) (work_of w).queue (length (work_of w).live) lane now (pcg32 (work_of w).dice).0
+  turn_is lane now vs w e f =
+      ap (λ (s : StateValue). turn_of service s a.recorder.queue (length a.recorder.live) lane now (pcg32 a.dice).0) (sym live_is)
+      ∙ ap (λ (us : List Value). turn_of service (state_after service (trace_of us ++ a.recorder.live)) a.recorder.queue (length a.recorder.live) lane now (pcg32 a.dice).0) e
+      ∙ ap (λ (u : Option ActingValue). turn_of service (state_after service (trace_of vs ++ (work_of u).live)) (work_of u).queue (length (work_of u).live) lane now (pcg32 (work_of u).dice).0) (sym f)
+
+  -- the recorder could still begin each request after an answer
+  requests_kept : (r : Request) (e : Effect) → RequestFits service r → All (RequestFits service) (queue_with a.recorder.queue r e)
+  requests_kept r Queued fits = All-push (RequestFits service) a.recorder.queue r h.requests fits
+  requests_kept r _ fits = h.requests
+
+  pub answered : (r : Request) → IsService service → RequestFits service r → Executes service values (taken a r (answer_in a r))
+  answered r good fits = record {
+    recorder = record {
+      sound = h.recorder.sound;
+      runs = h.recorder.runs;
+      few = h.recorder.few;
+      queue =
+          queue_after_answer service a.recorder.state a.recorder.queue r (entry_at a.recorder.start.clients r.client) fits
+          (run_keeps service a.recorder.start a.recorder.state a.recorder.live good h.recorder.sound h.recorder.runs).by.complete.clients h.recorder.queue;
+    };
+    known = h.known;
+    requests = requests_kept r (answer_in a r) fits;
+  }
+
+  -- after a turn the recorder still begins where it did, with no more requests
+  pub turned_executes : (t : Turn) (dice : Lcg) (proposed : List ℕ) → IsRecorder service (turned service a.recorder t) → Executes service values (record { recorder = turned service a.recorder t; dice = dice; proposed = proposed })
+  turned_executes t dice proposed k = record { recorder = k; known = h.known; requests = fewer t a.recorder.queue h.requests }
+    where
+      dropped : (b : Bool) (queue : List Request) → All (RequestFits service) queue → All (RequestFits service) (cond b (drop 1 queue) queue)
+      dropped true [] k = All-nil (RequestFits service)
+      dropped true (r ∷ rest) k = All-tail (RequestFits service) r rest k
+      dropped false queue k = k
+
+      fewer : (t : Turn) (queue : List Request) → All (RequestFits service) queue → All (RequestFits service) (queue_after queue t)
+      fewer (turn.Done e) queue k = dropped (is_begin e.kind) queue k
+      fewer _ queue k = k
+
+-- ---- what the recorder may take
+
+module _ (service : Declarations) (a : ActingValue) (h : IsRecorder service a.recorder) (r : Request) (fits : RequestFits service r) (e : answer_in a r ≡ Queued) where
+  due : IsDue r.sequence (queued_in a.recorder.queue r.client) (entry_at a.recorder.state.clients r.client)
+  due =
+      queued_due r (queued_in a.recorder.queue r.client) (entry_at a.recorder.state.clients r.client) (entry_at a.recorder.start.clients r.client)
+      (λ k z. queued_positive service a.recorder.state a.recorder.queue r.client k h.queue z) e
+
+  pub none_queued : queued_in a.recorder.queue r.client ≡ None
+  none_queued = due.none
+
+  pub can_begin : IsService service → CanBegin service a.recorder.state r
+  can_begin good =
+      due_begins service a.recorder.state r (queued_in a.recorder.queue r.client) fits
+      (run_keeps service a.recorder.start a.recorder.state a.recorder.live good h.sound h.runs).by.complete.clients due
+
+-- ---- an active node with other work
+
+-- a queue doesn't matter to an open proposal
+open_answered : (service : Declarations) (values : List Value) (a : ActingValue) (r : Request) (answer : Effect) (o : Option (Proposal Value)) → OpenIsCut service values a o → OpenIsCut service values (taken a r answer) o
+open_answered service values a r answer None c = tt
+open_answered service values a r answer (Some p) c = record { consistent = c.consistent; within = c.within; events = c.events; others = c.others }
+
+-- whatever proposal is open
+abbrev pub ActsAlike : Declarations → List Value → ActingValue → ActingValue → Type 0
+ActsAlike service values a b = (p : Option (Proposal Value)) → ActsFor service values p a → ActsFor service values p b
+
+acting_with : (service : Declarations) (values : List Value) (c : AcceptorValue) (o : Option ProposerValue) (a b : ActingValue) → IsActing service values c o (Some a) → ActsAlike service values a b → IsActing service values c o (Some b)
+acting_with service values c None a b h k = h
+acting_with service values c (Some p) a b h k = k (open_of c p.open_instance) h
+
+-- a node that has a recorder has a proposer, and executes what it knows
+pub executes : (service : Declarations) (values : List Value) (c : AcceptorValue) (o : Option ProposerValue) (w : Option ActingValue) (a : ActingValue) → IsActing service values c o w → w ≡ Some a → Executes service values a
+executes service values c None w a h e = absurd (subst (IsActing service values c None) e h)
+executes service values c (Some p) w a h e = (subst (IsActing service values c (Some p)) e h).executes
+
+none_or_some : {A : Type 0} (x : A) → Some x ≡ None → ⊥
+none_or_some x e = absurd (cc)
+
+module _ {K : Type 0} (records : K → List (List ℕ)) (service : Declarations) (x : NodeValue K) (a b : ActingValue) where
+  abbrev pub with_acting : NodeValue K
+  with_acting = record x { acting = Some b }
+
+  up_with : IsUp service x (here_of records service x) → x.acting ≡ Some a → ActsAlike service x.known a b → IsUp service with_acting (here_of records service with_acting)
+  up_with u e k = record {
+    promised = u.promised;
+    accepted = u.accepted;
+    known = u.known;
+    base = u.base;
+    start = u.start;
+    replayed = record { based = u.replayed.based; replayed = u.replayed.replayed };
+    ahead = λ n. absurd (none_or_some b n);
+    proposer = u.proposer;
+    acting = acting_with service x.known x.acceptor x.proposer a b (subst (IsActing service x.known x.acceptor x.proposer) e u.acting) k;
+    fits = u.fits;
+    short = u.short;
+    numbers = record {
+      log = u.numbers.log;
+      role = subst (λ (w : Option ActingValue). RoleFits (length (known (here_of records service x).log)) (role_of x.acceptor x.proposer (is_some w))) e u.numbers.role;
+    };
+  }
+
+  pub node_with : IsNode records service x → x.acting ≡ Some a → ActsAlike service x.known a b → IsNode records service with_acting
+  node_with h e k = record {
+    id = h.id;
+    few = h.few;
+    up = λ t. up_with (h.up t) e k;
+    rests = λ t. subst (λ (w : Option ActingValue). HasGoneOn x.proposer (is_some w)) e (h.rests t);
+  }
+
+  -- ---- what the calls of an active node lead to
+
+  submitted : (r : Request) → x.acting ≡ Some a → known (here_of records service x).log ≡ x.known → Executes service x.known a
+      → here_of records service (record x { acting = Some (taken a r (answer_in a r)) }) ≡ (submit_request service (Some r) (begin (here_of records service x))).node
+  submitted r e k h =
+      ap (λ (answer : Effect). here_of records service (record x { acting = Some (taken a r answer) })) (answer_is service x.known a h r (known (here_of records service x).log) x.acting (sym k) e)
+      ∙ ap (λ (w : Option ActingValue). (lanes.answered r (answer_of r (queued_in (work_of x.acting).queue r.client) (entry_at (live_state service (here_of records service x)).clients r.client) (entry_at (known_state service (here_of records service x)).clients r.client)) (begin (here_of records service (record x { acting = w })))).node) (sym e)
+
+  turned_to : (lane : ℕ) (t : Turn) → x.acting ≡ Some a → known (here_of records service x).log ≡ x.known → Executes service x.known a
+      → here_of records service (record x { acting = Some (record { recorder = turned service a.recorder t; dice = dice_after (does_draw service a.recorder.state (length a.recorder.live) lane) a.dice; proposed = a.proposed }) })
+      ≡ (lanes.turned service lane t (begin (here_of records service x))).node
+  turned_to lane t e k h =
+      ap (λ (s : StateValue). here_of records service (record x { acting = Some (record { recorder = turned service a.recorder t; dice = dice_after (does_draw service s (length a.recorder.live) lane) a.dice; proposed = a.proposed }) }))
+      (sym (live_state_is service x.known a h (known (here_of records service x).log) (Some a) (sym k) refl))
+      ∙ ap (λ (w : Option ActingValue). (lanes.turned service lane t (begin (here_of records service (record x { acting = w })))).node) (sym e)
+
+-- a node that isn't refused is up
+pub up_of : (b : Bool) (o : Option Refusal) → if_up b o ≡ None → b ≡ true
+up_of true o e = refl
+up_of false o e = absurd (cc)
+
+-- ---- the same where the parts are those of a node
+
+module _ {K : Type 0} (records : K → List (List ℕ)) (service : Declarations) (x z : NodeValue K) (a : ActingValue) (z_is : z ≡ x) (node : IsNode records service x) (o : Option Refusal) (due : if_up x.up o ≡ None) (e : Some a ≡ z.acting) where
+  x_has : x.acting ≡ Some a
+  x_has = ap (λ (n : NodeValue K). n.acting) (sym z_is) ∙ sym e
+
+  is_up : IsUp service x (here_of records service x)
+  is_up = node.up (up_of x.up o due)
+
+  pub has : Executes service x.known a
+  has = executes service x.known x.acceptor x.proposer x.acting a is_up.acting x_has
+
+  pub live_state_of : live_state service (here_of records service x) ≡ a.recorder.state
+  live_state_of = live_state_is service x.known a has (known (here_of records service x).log) x.acting is_up.known x_has
+
+  pub answer_of_node : (r : Request) → answer_in a r ≡ answer_of r (queued_in (work_of x.acting).queue r.client) (entry_at (live_state service (here_of records service x)).clients r.client) (entry_at (known_state service (here_of records service x)).clients r.client)
+  answer_of_node r = answer_is service x.known a has r (known (here_of records service x).log) x.acting is_up.known x_has
+
+  pub turn_of_node : (lane : ℕ) (now : ℤ) → turn_of service a.recorder.state a.recorder.queue (length a.recorder.live) lane now (pcg32 a.dice).0 ≡ turn_at service (here_of records service x) lane now
+  turn_of_node lane now = turn_is service x.known a has lane now (known (here_of records service x).log) x.acting is_up.known x_has
+
+  pub submit_leads : (r : Request) (b : ActingValue) (answer : Effect) → b ≡ taken a r answer → answer ≡ answer_in a r
+      → here_of records service (record z { acting = Some b }) ≡ (submit_request service (Some r) (begin (here_of records service x))).node
+  submit_leads r b answer f g =
+      ap (λ (n : NodeValue K). here_of records service (record n { acting = Some b })) z_is
+      ∙ ap (λ (c : ActingValue). here_of records service (record x { acting = Some c })) (f ∙ ap (taken a r) g)
+      ∙ submitted records service x a b r x_has (sym is_up.known) has
+
+  pub turn_leads : (lane : ℕ) (t : Turn) (b : ActingValue) → b ≡ record { recorder = turned service a.recorder t; dice = dice_after (does_draw service a.recorder.state (length a.recorder.live) lane) a.dice; proposed = a.proposed }
+      → LeadsTo (lanes.turned service lane t) (here_of records service x) (here_of records service (record z { acting = Some b }))
+  turn_leads lane t b f =
+      ap (λ (n : NodeValue K). here_of records service (record n { acting = Some b })) z_is
+      ∙ ap (λ (c : ActingValue). here_of records service (record x { acting = Some c })) f
+      ∙ turned_to records service x a b lane t x_has (sym is_up.known) has
+
+  pub stays : (b : ActingValue) → ActsAlike service x.known a b → StaysNode records service x (record z { acting = Some b })
+  stays b k =
+      subst (λ (n : NodeValue K). StaysNode records service x (record n { acting = Some b })) (sym z_is)
+      (record { same = record { id = refl; nodes = refl; seed = refl }; kept = node_with records service x a b node x_has k })
+
+  pub submit_stays : (r : Request) (b : ActingValue) (answer : Effect) → b ≡ taken a r answer → answer ≡ answer_in a r → IsService service → RequestFits service r → StaysNode records service x (record z { acting = Some b })
+  submit_stays r b answer f g good fits = stays b (λ p h. subst (ActsFor service x.known p) (sym (f ∙ ap (taken a r) g)) (record { executes = answered service x.known a h.executes r good fits; open_is_cut = open_answered service x.known a r (answer_in a r) p h.open_is_cut }))
+
+  pub turn_stays : (t : Turn) (dice : Lcg) (b : ActingValue) → b ≡ record { recorder = turned service a.recorder t; dice = dice; proposed = a.proposed } → IsRecorder service b.recorder → IsService service → StaysNode records service x (record z { acting = Some b })
+  turn_stays t dice b f k good =
+      let kept : IsRecorder service (turned service a.recorder t) = subst (λ (c : ActingValue). IsRecorder service c.recorder) f k in
+      stays b (λ p h. subst (ActsFor service x.known p) (sym f) (record { executes = turned_executes service x.known a h.executes t dice a.proposed kept; open_is_cut = open_turned service good x.known a h.executes t dice kept p h.open_is_cut }))

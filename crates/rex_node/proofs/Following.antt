@@ -1,0 +1,173 @@
+-- What a node is that leaves its role, with a record more or none.
+use Rattle.std.proofs.Common.{◌≡◌, ℕ, suc, ◌<◌, ◌≤◌, Bool, true, List, [], ◌∷◌, ◌++◌, length, take, Option, Some, None, refl, sym, ap, subst, ◌∙◌, arith, le_trans}
+use Rattle.std.specs.Prelude.{map, is_some, option_map, if◌then◌else◌}
+use Rattle.std.proofs.lemmas.Bool.{lt-ltb, le-ltb, ne_eqb}
+use Rattle.std.proofs.lemmas.Option.{same_Some}
+use Rattle.rex_paxos.specs.Acceptor.{AcceptorValue}
+use Rattle.rex_paxos.specs.Proposer.{ProposerValue}
+use Rattle.rex_syntax.specs.declared.service.Declarations.{Declarations}
+use Rattle.rex_state.specs.Value.{StateValue}
+use Rattle.rex_state.specs.Start.{start_of}
+use Rattle.rex_state.specs.Machine.{run}
+use Rattle.rex_report.specs.declared.effect.Effect.{Effect}
+use Rattle.rex_report.specs.declared.effect.Effect.TheVariants as effect
+use Rattle.rex_report.specs.declared.effect.Effect.TheVariants.{IgnoredBallot, IgnoredInstance}
+use Rattle.rex_traits.specs.Chains.{Answer}
+use Rattle.rex_safety.specs.Records.{Rec, base, known}
+use Rattle.rex_safety.specs.Records.Rec.{Known}
+use Rattle.rex_safety.specs.Node.{Failure, Message, Work, no_work}
+use Rattle.rex_safety.specs.Node.Role.{Follower}
+use Rattle.rex_safety.specs.Calls.{say, follow, followed, logged, work_left, replayed_left, with_role, append, on_chosen, on_nack}
+use Rattle.rex_safety.specs.Values.{Value, trace_of}
+use Rattle.rex_safety.specs.Lanes.{Here, CallHere}
+use Rattle.rex_node.specs.declared.step.Draft.{Draft}
+use Rattle.rex_node.specs.Messages.{message_in}
+use Rattle.rex_node.specs.Calls.{armed_with}
+use Rattle.rex_node.specs.Going.{Leads, Tells, so_far}
+use Rattle.rex_node.specs.Parts.{NodeValue, IsUp, IsKept, IsNode, here_of, log_of, role_of, work_of, leaving}
+use Rattle.rex_node.proofs.Appended.{IsLogged, Beside, call_at, beside_of, up_of}
+use Rattle.rex_node.proofs.GoingLemmas.{leads_same}
+use Rattle.rex_node.proofs.Leaving.{role_active, no_work_left, replayed_from, replayed_to, state_left, leaves, node_left}
+
+-- ---- drafts
+
+module _ {K : Type 0} (records : K → List (List ℕ)) (service : Declarations) (x : NodeValue K) where
+  -- a draft with these effects and messages
+  pub far : (draft : Draft) (es : List Effect) (ms : List (Message Value)) → draft.effects.items ≡ es → map message_in draft.sends.items ≡ ms → so_far records service x draft ≡ call_at (here_of records service x) ms es
+  far draft es ms e m =
+      ap (λ (f : List Effect). call_at (here_of records service x) (map message_in draft.sends.items) f) e
+      ∙ ap (λ (n : List (Message Value)). call_at (here_of records service x) n es) m
+
+-- a node is kept within a call too
+pub within : {K : Type 0} (records : K → List (List ℕ)) (service : Declarations) (x : NodeValue K) → IsNode records service x → IsKept records service x
+within records service x h = record { id = h.id; few = h.few; up = h.up }
+
+-- ---- the last part of a call
+
+module _ {K : Type 0} (records : K → List (List ℕ)) (gives : K → List ℕ → Answer → K → Type 0) (faults : K → ℕ) (service : Declarations) (x z : NodeValue K) (before after : Draft) where
+  -- what is owed of it where it went well
+  abbrev pub EndsWell : (CallHere → CallHere) → Type 0
+  EndsWell whole = (Leads records gives faults whole (λ d. d) x.keeper z.keeper (so_far records service x before) (so_far records service z after) × IsKept records service z × (z.up ≡ true)) × IsNode records service z
+
+  -- where nothing was appended
+  pub ends_same : (whole : CallHere → CallHere) → z.keeper ≡ x.keeper → IsNode records service z → z.up ≡ true
+      → ((f : Option Failure) → whole (armed_with f (so_far records service x before)) ≡ armed_with f (so_far records service z after)) → EndsWell whole
+  ends_same whole same node up h = (
+    (
+      subst (λ (k : K). Leads records gives faults whole (λ d. d) x.keeper k (so_far records service x before) (so_far records service z after)) (sym same)
+          (leads_same records gives faults whole (λ d. d) x.keeper (so_far records service x before) (so_far records service z after) (ap (λ (k : K). length (log_of service (records k))) same) h),
+      within records service z node,
+      up,
+    ),
+    node,
+  )
+
+-- ---- a refusal of the own ballot
+
+module _ {K : Type 0} (records : K → List (List ℕ)) (gives : K → List ℕ → Answer → K → Type 0) (faults : K → ℕ) (service : Declarations) (x : NodeValue K) (node : IsNode records service x) (up : x.up ≡ true) (before after : Draft) (promised own : ℕ) (own_is : option_map (λ (p : ProposerValue). p.ballot) x.proposer ≡ Some own) where
+  nack_at : Option Failure → Option ProposerValue → CallHere
+  nack_at f o = on_nack x.id promised (armed_with f (so_far records service x before)) (role_of x.acceptor o (is_some x.acting))
+
+  -- one that isn't above it is ignored
+  pub nack_ignored : promised ≤ own → after.effects.items ≡ before.effects.items ++ IgnoredBallot promised own ∷ [] → after.sends.items ≡ before.sends.items
+      → EndsWell records gives faults service x x before after (λ d. on_nack x.id promised d d.node.role)
+  nack_ignored less effects sends =
+      ends_same records gives faults service x x before after (λ d. on_nack x.id promised d d.node.role) refl node up
+      (λ f. by f x.proposer own_is ∙ ap (armed_with f) (sym (far records service x after _ _ effects (ap (map message_in) sends))))
+    where
+      by : (f : Option Failure) (o : Option ProposerValue) → option_map (λ (p : ProposerValue). p.ballot) o ≡ Some own
+          → on_nack x.id promised (armed_with f (so_far records service x before)) (role_of x.acceptor o (is_some x.acting)) ≡ armed_with f (say (IgnoredBallot promised own) (so_far records service x before))
+      by f None e = absurd (cc)
+      by f (Some p) e =
+          let b : p.ballot ≡ own = same_Some p.ballot own e in
+          ap (λ (t : Bool). if t then follow x.id [] (armed_with f (so_far records service x before)) else say (IgnoredBallot promised p.ballot) (armed_with f (so_far records service x before)))
+          (le-ltb p.ballot promised (omega (arith, b)))
+          ∙ ap (λ (c : ℕ). say (IgnoredBallot promised c) (armed_with f (so_far records service x before))) b
+
+  -- one above it makes the node a follower
+  pub nack_follows : (z : NodeValue K) → own < promised → z ≡ leaving x → Tells before after (followed x.id (role_of x.acceptor x.proposer (is_some x.acting)))
+      → EndsWell records gives faults service x z before after (λ d. on_nack x.id promised d d.node.role)
+  nack_follows z less z_is told =
+      subst (λ (n : NodeValue K). EndsWell records gives faults service x n before after (λ d. on_nack x.id promised d d.node.role)) (sym z_is)
+      (ends_same records gives faults service x (leaving x) before after (λ d. on_nack x.id promised d d.node.role) refl (node_left records service x node) up
+      (λ f. by f x.proposer own_is ∙ ap (armed_with f) (sym left)))
+    where
+      left : so_far records service (leaving x) after ≡ follow x.id [] (so_far records service x before)
+      left =
+          far records service (leaving x) after _ _ told.effects_are (ap (map message_in) told.sends_are)
+          ∙ ap (λ (h : Here). call_at h (map message_in before.sends.items) (before.effects.items ++ followed x.id (role_of x.acceptor x.proposer (is_some x.acting)))) (leaves records service x (node.up up))
+
+      by : (f : Option Failure) (o : Option ProposerValue) → option_map (λ (p : ProposerValue). p.ballot) o ≡ Some own
+          → on_nack x.id promised (armed_with f (so_far records service x before)) (role_of x.acceptor o (is_some x.acting)) ≡ armed_with f (follow x.id [] (so_far records service x before))
+      by f None e = absurd (cc)
+      by f (Some p) e =
+          let b : p.ballot ≡ own = same_Some p.ballot own e in
+          ap (λ (t : Bool). if t then follow x.id [] (armed_with f (so_far records service x before)) else say (IgnoredBallot promised p.ballot) (armed_with f (so_far records service x before)))
+          (lt-ltb p.ballot promised (omega (arith, b)))
+
+-- ---- a chosen value of another instance than the next
+
+module _ {K : Type 0} (records : K → List (List ℕ)) (gives : K → List ℕ → Answer → K → Type 0) (faults : K → ℕ) (service : Declarations) (x : NodeValue K) (node : IsNode records service x) (up : x.up ≡ true) (before after : Draft) (i next : ℕ) (v : Value) where
+  -- it is ignored
+  pub chosen_ignored : next ≡ suc (length x.known) → (i ≡ next → ⊥) → after.effects.items ≡ before.effects.items ++ IgnoredInstance i next ∷ [] → after.sends.items ≡ before.sends.items
+      → EndsWell records gives faults service x x before after (on_chosen x.id i v)
+  chosen_ignored next_is other effects sends =
+      ends_same records gives faults service x x before after (on_chosen x.id i v) refl node up
+      (λ f.
+      ap (λ (t : Bool). if t then append f x.id (Known i v) (armed_with f (so_far records service x before)) (λ e. follow x.id (effect.Known x.id i ∷ []) e) else say (IgnoredInstance i (suc (length (known (here_of records service x).log)))) (armed_with f (so_far records service x before)))
+      (ne_eqb i (suc (length (known (here_of records service x).log))) (λ e. other (e ∙ sym here)))
+      ∙ ap (λ (n : ℕ). say (IgnoredInstance i n) (armed_with f (so_far records service x before))) (sym here)
+      ∙ ap (armed_with f) (sym (far records service x after _ _ effects (ap (map message_in) sends))))
+    where
+      here : next ≡ suc (length (known (here_of records service x).log))
+      here = next_is ∙ ap (λ (vs : List Value). suc (length vs)) (node.up up).known
+
+-- ---- a follower with one record more
+
+module _ {K : Type 0} (records : K → List (List ℕ)) (service : Declarations) (x : NodeValue K) (node : IsNode records service x) (up : x.up ≡ true) (k : K) (r : Rec Value StateValue) (a : AcceptorValue) (vs : List Value)
+    (log_is : log_of service (records k) ≡ r ∷ log_of service (records x.keeper)) (base_is : base (r ∷ log_of service (records x.keeper)) ≡ base (log_of service (records x.keeper)))
+    (logged_here : IsLogged service (record x { keeper = k; acceptor = a; known = vs }) (r ∷ log_of service (records x.keeper)))
+    (more : length x.known ≤ length vs) (front : (n : ℕ) → n ≤ length x.known → take n vs ≡ take n x.known) where
+  u : IsUp service x (here_of records service x)
+  u = node.up up
+
+  -- it has the record, and what follows from it
+  abbrev pub follower : NodeValue K
+  follower = record (leaving x) { keeper = k; acceptor = a; known = vs }
+
+  -- it is in the model the node that follows after the record
+  pub follower_here : (ms : List (Message Value)) (es : List Effect) → here_of records service follower ≡ (with_role Follower (logged r None (call_at (here_of records service x) ms es))).node
+  follower_here ms es =
+      ap (λ (l : List (Rec Value StateValue)). record (here_of records service (leaving x)) { log = l }) log_is
+      ∙ ap (λ (b : ℕ). record h { log = r ∷ h.log; role = Follower; work = no_work; replayed = replayed_left (is_some x.acting) b x.replayed }) (u.base ∙ sym base_is)
+      ∙ ap (λ (work : Work). record h { log = r ∷ h.log; role = Follower; work = work; replayed = replayed_left (is_some x.acting) (base (r ∷ h.log)) x.replayed }) (sym (no_work_left x.acting))
+      ∙ ap (λ (t : Bool). record h { log = r ∷ h.log; role = Follower; work = work_left t (work_of x.acting); replayed = replayed_left t (base (r ∷ h.log)) x.replayed }) (sym (role_active service x.known x.acceptor x.proposer x.acting u.acting))
+    where
+      h : Here
+      h = here_of records service x
+
+  pub follower_node : IsNode records service follower
+  follower_node = record { id = node.id; few = node.few; up = λ t. follower_up; rests = λ t. tt }
+    where
+      l : IsLogged service (record x { keeper = k; acceptor = a; known = vs }) (log_of service (records k))
+      l = subst (λ (log : List (Rec Value StateValue)). IsLogged service (record x { keeper = k; acceptor = a; known = vs }) log) (sym log_is) logged_here
+
+      b : Beside records service x
+      b = beside_of records service x u
+
+      to : replayed_left (is_some x.acting) x.base x.replayed ≤ length x.known
+      to = replayed_to x.acting x.base x.replayed (length x.known) b.based b.replayed
+
+      follower_up : IsUp service follower (here_of records service follower)
+      follower_up =
+          up_of records service follower
+          (record { promised = l.promised; accepted = l.accepted; known = l.known; base = l.base; few = l.few; start = l.start; short = l.short; fits = l.fits; numbers = l.numbers })
+          (record {
+            based = replayed_from x.acting x.base x.replayed b.based;
+            replayed = le_trans to more;
+            ahead = λ _. ap (λ (us : List Value). run service (start_of service) (trace_of us)) (front (replayed_left (is_some x.acting) x.base x.replayed) to)
+                ∙ state_left (λ n s. run service (start_of service) (trace_of (take n x.known)) ≡ Some s) x.acting x.ahead x.start x.base x.replayed u.start u.ahead;
+            proposer = tt;
+            acting = tt;
+            role = tt;
+          })

@@ -1,0 +1,110 @@
+-- How parts of a call follow one another.
+use Rattle.std.proofs.Common.{◌≡◌, ℕ, ◌+◌, ◌<◌, Bool, true, false, List, [], ◌∷◌, ◌++◌, length, Ok, Err, Option, Some, None, refl, sym, ap, subst, ◌∙◌, append_assoc, length-append, arith}
+use Rattle.std.proofs.lemmas.List.{append-nil}
+use Rattle.std.specs.Prelude.{if◌then◌else◌}
+use Rattle.rex_traits.specs.Chains.{Answer, AppendsInTurn}
+use Rattle.rex_traits.specs.declared.keeper.KeepFault.TheVariants.{Failed}
+use Rattle.rex_traits.proofs.Chained.{chained}
+use Rattle.rex_state.specs.Value.{StateValue}
+use Rattle.rex_report.specs.declared.effect.Effect.TheVariants as effect
+use Rattle.rex_safety.specs.Records.{Rec}
+use Rattle.rex_safety.specs.Node.{Failure, down_node}
+use Rattle.rex_safety.specs.Node.Failure.{After}
+use Rattle.rex_safety.specs.Calls.{append, logged}
+use Rattle.rex_safety.specs.Values.{Value}
+use Rattle.rex_safety.specs.Lanes.{CallHere}
+use Rattle.rex_node.specs.Calls.{armed_with, failed_many}
+use Rattle.rex_node.specs.Parts.{failed_records}
+use Rattle.rex_node.specs.Going.{one_later, later, Leads, Fell}
+
+-- a failure after these appends and then those
+later_both : (first second : List (List ℕ)) (f : Option Failure) → later (first ++ second) f ≡ later first (later second f)
+later_both [] second f = refl
+later_both (bytes ∷ first) second f = ap one_later (later_both first second f)
+
+later_count : (first second : List (List ℕ)) (kept : Bool) → later first (Some (After (length second) kept)) ≡ Some (After (length (first ++ second)) kept)
+later_count [] second kept = refl
+later_count (bytes ∷ first) second kept = ap one_later (later_count first second kept)
+
+-- the model's append goes well where it doesn't fail first
+append_later : (me : ℕ) (r : Rec Value StateValue) (d : CallHere) (k : CallHere → CallHere) (f : Option Failure) → append (one_later f) me r (armed_with (one_later f) d) k ≡ k (armed_with f (logged r None d))
+append_later me r d k None = refl
+append_later me r d k (Some (After before kept)) = refl
+
+-- how many records there are after these appends and then those
+both : (first second : List (List ℕ)) (n m l : ℕ) → m ≡ length first + n → l ≡ length second + m → l ≡ length (first ++ second) + n
+both first second n m l h k = let e = length-append first second in omega arith
+
+both_failed : (kept : Bool) (first second : List (List ℕ)) (n m l : ℕ) → m ≡ length first + n → l ≡ failed_many kept (length second) + m → l ≡ failed_many kept (length (first ++ second)) + n
+both_failed true first second n m l h k = let e = length-append first second in omega arith
+both_failed false first second n m l h k = both first second n m l h k
+
+module _ {K : Type 0} (records : K → List (List ℕ)) (gives : K → List ℕ → Answer → K → Type 0) (faults : K → ℕ) where
+  -- where nothing is appended
+  pub leads_same : (whole rest : CallHere → CallHere) (old : K) (d e : CallHere) → length e.node.log ≡ length d.node.log → ((f : Option Failure) → whole (armed_with f d) ≡ rest (armed_with f e)) → Leads records gives faults whole rest old old d e
+  leads_same whole rest old d e same h = record { written = []; grown = sym (append-nil (records old)); appends = (refl, refl); counted = refl; many = omega (arith, same); comes = h }
+
+  -- one part after the other
+  pub leads_then : (whole middle rest : CallHere → CallHere) (a b c : K) (d e f : CallHere) → Leads records gives faults whole middle a b d e → Leads records gives faults middle rest b c e f → Leads records gives faults whole rest a c d f
+  leads_then whole middle rest a b c d e f h k = record {
+    written = h.written ++ k.written;
+    grown = k.grown ∙ ap (λ (l : List (List ℕ)). l ++ k.written) h.grown ∙ append_assoc (records a) h.written k.written;
+    appends = (chained gives).more a b c h.written k.written (Ok tt) h.appends k.appends;
+    counted = k.counted ∙ h.counted;
+    many = both h.written k.written (length d.node.log) (length e.node.log) (length f.node.log) h.many k.many;
+    comes = λ failure. ap (λ (g : Option Failure). whole (armed_with g d)) (later_both h.written k.written failure) ∙ h.comes (later k.written failure) ∙ k.comes failure;
+  }
+
+  pub leads_fell : (whole rest : CallHere → CallHere) (id : ℕ) (a b c : K) (d e f : CallHere) → Leads records gives faults whole rest a b d e → Fell records gives faults rest id b c e f → Fell records gives faults whole id a c d f
+  leads_fell whole rest id a b c d e f h k = record {
+    fails = record {
+      written = h.written ++ k.fails.written;
+      bytes = k.fails.bytes;
+      kept = k.fails.kept;
+      grown = k.fails.grown ∙ ap (λ (l : List (List ℕ)). failed_records k.fails.kept l k.fails.bytes) (ap (λ (l : List (List ℕ)). l ++ k.fails.written) h.grown ∙ append_assoc (records a) h.written k.fails.written);
+      appends = subst (λ (l : List (List ℕ)). AppendsInTurn gives a l (Err Failed) c) (sym (append_assoc h.written k.fails.written (k.fails.bytes ∷ [])))
+          ((chained gives).more a b c h.written (k.fails.written ++ k.fails.bytes ∷ []) (Err Failed) h.appends k.fails.appends);
+      counted = subst (λ (n : ℕ). n < faults c) h.counted k.fails.counted;
+      many = both_failed k.fails.kept h.written k.fails.written (length d.node.log) (length e.node.log) (length f.node.log) h.many k.fails.many;
+      is = ap (λ (g : Option Failure). whole (armed_with g d)) (sym (later_count h.written k.fails.written k.fails.kept)) ∙ h.comes (Some (After (length k.fails.written) k.fails.kept)) ∙ k.fails.is;
+    };
+    front = k.front;
+    told = k.told;
+    quiet = k.quiet;
+  }
+
+  -- a record is appended
+  module _ (whole k : CallHere → CallHere) (me : ℕ) (r : Rec Value StateValue) (d : CallHere) (is : (f : Option Failure) → whole (armed_with f d) ≡ append f me r (armed_with f d) k) (old new : K) (bytes : List ℕ) where
+    pub leads_append : gives old bytes (Ok tt) new → records new ≡ records old ++ bytes ∷ [] → faults new ≡ faults old → Leads records gives faults whole k old new d (logged r None d)
+    leads_append answer grown counted = record {
+      written = bytes ∷ [];
+      grown = grown;
+      appends = (chained gives).one old new bytes (Ok tt) answer;
+      counted = counted;
+      many = omega arith;
+      comes = λ f. is (one_later f) ∙ append_later me r d k f;
+    }
+
+    -- or it fails
+    pub fell_append : (kept : Bool) → gives old bytes (Err Failed) new → records new ≡ failed_records kept (records old) bytes → faults old < faults new
+        → (after : CallHere) → after ≡ record { node = down_node (if kept then r ∷ d.node.log else d.node.log) None; sends = []; effects = d.effects ++ effect.Down me ∷ [] }
+        → Fell records gives faults whole me old new d after
+    fell_append kept answer grown counted after e = record {
+      fails = record {
+        written = [];
+        bytes = bytes;
+        kept = kept;
+        grown = grown ∙ ap (λ (l : List (List ℕ)). failed_records kept l bytes) (sym (append-nil (records old)));
+        appends = (chained gives).one old new bytes (Err Failed) answer;
+        counted = counted;
+        many = ap (λ (c : CallHere). length c.node.log) e ∙ one_failed kept;
+        is = is (Some (After 0 kept)) ∙ sym e;
+      };
+      front = d.effects;
+      told = ap (λ (c : CallHere). c.effects) e;
+      quiet = ap (λ (c : CallHere). c.sends) e;
+    }
+      where
+        one_failed : (kept : Bool) → length (if kept then r ∷ d.node.log else d.node.log) ≡ failed_many kept 0 + length d.node.log
+        one_failed true = omega arith
+        one_failed false = omega arith

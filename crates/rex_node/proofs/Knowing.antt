@@ -1,0 +1,304 @@
+-- A majority accepted the value of the next instance: the node knows it.
+use Rattle.std.proofs.Common.{◌≡◌, ℕ, suc, ◌+◌, ◌<◌, ◌≤◌, Bool, true, not, List, [], ◌∷◌, ◌++◌, length, take, Option, Some, None, filter, refl, sym, ap, subst, ◌∙◌, arith}
+use Rattle.std.specs.Prelude.{map, is_some, option_map, IfSome, IsSome, unwrap_or}
+use Rattle.std.proofs.lemmas.List.{take-append-le}
+use Rattle.std.proofs.lemmas.List.Sums.{length-filter, count_by-le-length}
+use Rattle.rex_ballot.specs.Ballot as ballots
+use Rattle.rex_ballot.specs.Proposals.{IsValue}
+use Rattle.rex_paxos.specs.Acceptor.{AcceptorValue}
+use Rattle.rex_paxos.specs.Proposer.{ProposerValue, closed}
+use Rattle.rex_paxos.proofs.Counted.{counted_none}
+use Rattle.rex_syntax.specs.declared.service.Declarations.{Declarations}
+use Rattle.rex_syntax.specs.Service.{IsService}
+use Rattle.rex_event.specs.declared.event.Event.{Event}
+use Rattle.rex_event.specs.Cuts.{is_below, below, beyond}
+use Rattle.rex_state.specs.Value.{StateValue}
+use Rattle.rex_state.specs.Start.{start_of}
+use Rattle.rex_state.specs.Machine.{run}
+use Rattle.rex_state.specs.Commute.{GoesFirst}
+use Rattle.rex_state.proofs.Run.{run-then}
+use Rattle.rex_state.proofs.Sounds.{run_keeps}
+use Rattle.rex_state.proofs.Cuts.{cuts_go_first}
+use Rattle.rex_record.specs.Value.{releases, state_at}
+use Rattle.rex_record.specs.Kept.{IsRecorder}
+use Rattle.rex_traits.specs.Chains.{Answer}
+use Rattle.rex_durable.specs.declared.records.Rec.{Rec as KeptRec}
+use Rattle.rex_durable.specs.declared.records.Rec.TheVariants as kept
+use Rattle.rex_durable.specs.Spelling.{HasSpelling, record_bytes}
+use Rattle.rex_report.specs.declared.effect.Effect.{Effect}
+use Rattle.rex_report.specs.declared.effect.Effect.TheVariants as effect
+use Rattle.rex_msg.specs.declared.message.Message.{Message as Sent}
+use Rattle.rex_msg.specs.declared.message.Content.TheVariants as sent
+use Rattle.rex_safety.specs.Records.{Rec, Proposal, known}
+use Rattle.rex_safety.specs.Records.Rec.{Known}
+use Rattle.rex_safety.specs.Node.{Failure, Lead, Work}
+use Rattle.rex_safety.specs.Node.Content.{Chosen as Chose}
+use Rattle.rex_safety.specs.Ranges.{LeadFits, RoleFits}
+use Rattle.rex_safety.specs.Calls.{decide, learned, leading, logged, others, released, replayed_known, send, work_known}
+use Rattle.rex_safety.specs.Values.{Value, events_of, release_effect, service_of, trace_of, values_fit}
+use Rattle.rex_safety.specs.Lanes.{CallHere}
+use Rattle.rex_safety.proofs.Replies.{trace_push}
+use Rattle.rex_safety.proofs.Lists.{length_push}
+use Rattle.rex_node.specs.declared.going.Going.{Going}
+use Rattle.rex_node.specs.declared.going.Going.TheVariants.{On, Down}
+use Rattle.rex_node.specs.declared.step.Draft.{Draft}
+use Rattle.rex_node.specs.Messages.{content_in, message_in}
+use Rattle.rex_node.specs.Parts.{NodeValue, ActingValue, Executes, IsActing, IsProposer, Proposes, IsCutAt, IsUp, IsKept, Keeps, Falls, ahead_of, here_of, lead_of, log_of, role_of, work_of}
+use Rattle.rex_node.specs.Calls.{armed_with}
+use Rattle.rex_node.specs.Going.{Appends, IsStuck, Comes, so_far}
+use Rattle.rex_node.specs.Leading.{CanSettle, IsOwnCut, Learns, knowing, releases_in, replayed_to, settling}
+use Rattle.rex_node.proofs.Appended.{instance_fits, logged_known, logged_of, beside_of, up_of, IsLogged, Beside}
+use Rattle.rex_node.proofs.Executing.{start_is}
+use Rattle.rex_node.proofs.GoingLemmas.{leads_same, leads_then}
+use Rattle.rex_node.proofs.Opening.{logged_as, some_of}
+use Rattle.rex_node.proofs.Written.{appends_as, call_is, log_written, stuck_written, written_on, written_down}
+
+-- ---- what is executed
+
+shorter : (p : Event → Bool) (es : List Event) (n : ℕ) → length es ≤ n → length (filter p es) ≤ n
+shorter p es n h = omega (arith, length-filter p es, count_by-le-length p es)
+
+module _ (service : Declarations) (good : IsService service) (values : List Value) (a : ActingValue) (h : Executes service values a) (v : Value) (cut : IsCutAt service values a v) where
+  first : GoesFirst service a.recorder.start a.recorder.state a.proposed a.recorder.live
+  first = cuts_go_first service a.recorder.start a.recorder.state a.proposed a.recorder.live good h.recorder.sound cut.consistent h.recorder.runs
+
+  start_settled : state_at service a.recorder a.proposed ≡ first.state
+  start_settled = ap (λ (o : Option StateValue). unwrap_or o a.recorder.start) first.first
+
+  first_events : run service a.recorder.start (events_of v) ≡ Some first.state
+  first_events = ap (run service a.recorder.start) cut.events ∙ first.first
+
+  recorder_settled : IsRecorder service (record a.recorder { start = first.state; live = beyond a.proposed a.recorder.live })
+  recorder_settled = record {
+    sound = run_keeps service a.recorder.start first.state (below a.proposed a.recorder.live) good h.recorder.sound first.first;
+    runs = first.rest;
+    few = shorter (λ e. not (is_below a.proposed e)) a.recorder.live 4096 h.recorder.few;
+    queue = h.recorder.queue;
+  }
+
+  pub executes_settled : Executes service (values ++ v ∷ []) (settling service a)
+  executes_settled = record {
+    recorder = subst (λ (s : StateValue). IsRecorder service (record a.recorder { start = s; live = beyond a.proposed a.recorder.live })) (sym start_settled) recorder_settled;
+    known = ap (run service (start_of service)) (trace_push values v) ∙ run-then service (start_of service) a.recorder.start (trace_of values) (events_of v) h.known ∙ first_events ∙ ap (λ (s : StateValue). Some s) (sym start_settled);
+    requests = h.requests;
+  }
+
+  -- its work and its releases are the model's
+  work_settled : (seed : ℕ) → work_known (service_of service seed) true (values ++ v ∷ []) (work_of (Some a)) ≡ work_of (Some (settling service a))
+  work_settled seed = ap (λ (es : List Event). let w : Work = record { queue = a.recorder.queue; live = es; dice = a.dice } in w) cut.others
+
+  released_settled : (seed : ℕ) → released (service_of service seed) true values v ≡ releases_in (Some a)
+  released_settled seed =
+      ap (λ (s : StateValue). map release_effect (releases s.clients (events_of v))) (start_is service values a h)
+      ∙ ap (λ (es : List Event). map release_effect (releases a.recorder.start.clients es)) cut.events
+
+-- ---- a node that executes, or doesn't
+
+module _ (service : Declarations) (good : IsService service) (seed : ℕ) (values : List Value) (acceptor : AcceptorValue) (p : ProposerValue) (v : Value) where
+  abbrev IsCut : Option ActingValue → Type 0
+  IsCut w = IfSome w (λ (a : ActingValue). IsCutAt service values a v)
+
+  can_settle : (w : Option ActingValue) → IsActing service values acceptor (Some p) w → IsCut w → IfSome w (CanSettle service)
+  can_settle None h c = tt
+  can_settle (Some a) h c = record { recorder = h.executes.recorder; consistent = c.consistent }
+
+  acting_known : (w : Option ActingValue) → IsActing service values acceptor (Some p) w → IsCut w → IsActing service (values ++ v ∷ []) acceptor (Some (closed p)) (option_map (settling service) w)
+  acting_known None h c = tt
+  acting_known (Some a) h c = record { executes = executes_settled service good values a h.executes v c; open_is_cut = tt }
+
+  work_is : (w : Option ActingValue) → IsActing service values acceptor (Some p) w → IsCut w → work_known (service_of service seed) (is_some w) (values ++ v ∷ []) (work_of w) ≡ work_of (option_map (settling service) w)
+  work_is None h c = refl
+  work_is (Some a) h c = work_settled service good values a h.executes v c seed
+
+  released_are : (w : Option ActingValue) → IsActing service values acceptor (Some p) w → IsCut w → released (service_of service seed) (is_some w) values v ≡ releases_in w
+  released_are None h c = refl
+  released_are (Some a) h c = released_settled service good values a h.executes v c seed
+
+active_same : (service : Declarations) (w : Option ActingValue) → is_some (option_map (settling service) w) ≡ is_some w
+active_same service None = refl
+active_same service (Some a) = refl
+
+replayed_same : (w : Option ActingValue) (i replayed : ℕ) → replayed_known (is_some w) i replayed ≡ replayed_to w i replayed
+replayed_same None i replayed = refl
+replayed_same (Some a) i replayed = refl
+
+replayed_from : (w : Option ActingValue) (based i replayed known : ℕ) → i ≡ known + 1 → based ≤ replayed → replayed ≤ known → based ≤ replayed_to w i replayed
+replayed_from None based i replayed known e h k = h
+replayed_from (Some a) based i replayed known e h k = omega (arith, e, h, k)
+
+replayed_most : (w : Option ActingValue) (i replayed known : ℕ) → i ≡ known + 1 → replayed ≤ known → replayed_to w i replayed ≤ known + 1
+replayed_most None i replayed known e h = omega (arith, h)
+replayed_most (Some a) i replayed known e h = omega (arith, e)
+
+proposes_closed : (nodes id : ℕ) (a : AcceptorValue) (p : ProposerValue) → Proposes nodes id a p → Proposes nodes id a (closed p)
+proposes_closed nodes id a p h = record {
+  nodes_are = h.nodes_are;
+  own = h.own;
+  ballot = h.ballot;
+  once = record { own = h.once.own; promises = h.once.promises; acceptances = counted_none p.nodes };
+  short = h.short;
+  counted = λ _. refl;
+  open_one = tt;
+}
+
+lead_closed : (known more : ℕ) (a : AcceptorValue) (p : ProposerValue) (active now : Bool) → LeadFits known (lead_of a p active) → LeadFits more (lead_of a (closed p) now)
+lead_closed known more a p active now h = record { ballot = h.ballot; reported = h.reported; next = λ q e. absurd (none q e) }
+  where
+    none : (q : Proposal Value) → None ≡ Some q → ⊥
+    none q e = cc
+
+-- what was replayed is still what was replayed
+ahead_known : (service : Declarations) (values : List Value) (v : Value) (w : Option ActingValue) (i replayed : ℕ) (ahead : Option StateValue) (start : StateValue) → replayed ≤ length values
+    → (w ≡ None → run service (start_of service) (trace_of (take replayed values)) ≡ Some (ahead_of ahead start))
+    → option_map (settling service) w ≡ None → run service (start_of service) (trace_of (take (replayed_to w i replayed) (values ++ v ∷ []))) ≡ Some (ahead_of ahead start)
+ahead_known service values v None i replayed ahead start few h e = ap (λ (vs : List Value). run service (start_of service) (trace_of vs)) (take-append-le replayed values (v ∷ []) few) ∙ h refl
+ahead_known service values v (Some a) i replayed ahead start few h e = absurd (cc)
+
+-- ---- a node that learns
+
+module _ {K : Type 0} (records : K → List (List ℕ)) (gives : K → List ℕ → Answer → K → Type 0) (faults : K → ℕ) (service : Declarations) (good : IsService service) (x : NodeValue K) (u : IsUp service x (here_of records service x)) (id : (0 < x.id) × (x.id ≤ x.nodes)) (few : x.nodes ≤ 9)
+    (p : ProposerValue) (e : x.proposer ≡ Some p) (i : ℕ) (v : Value) (next : i ≡ length x.known + 1) (there : ballots.IsInstance i) (short : IsValue v) (fits : values_fit service (x.known ++ v ∷ []) ≡ true) (cut : IsOwnCut service x v) where
+  abbrev log : List (Rec Value StateValue)
+  log = log_of service (records x.keeper)
+
+  abbrev lead : Lead Value
+  lead = lead_of x.acceptor p (is_some x.acting)
+
+  place : i ≡ suc (length x.known)
+  place = omega (arith, next)
+
+  due : i ≡ length (known (log_of service (records x.keeper))) + 1
+  due = next ∙ ap (λ (vs : List Value). length vs + 1) u.known
+
+  acting : IsActing service x.known x.acceptor (Some p) x.acting
+  acting = subst (λ (o : Option ProposerValue). IsActing service x.known x.acceptor o x.acting) e u.acting
+
+  abbrev spelled : HasSpelling (kept.Known i v)
+  spelled = record { in_range = (there, short) }
+
+  abbrev z_at : K → NodeValue K
+  z_at keeper = record x { keeper = keeper; known = x.known ++ v ∷ []; replayed = replayed_to x.acting i x.replayed; proposer = Some (closed p); acting = option_map (settling service) x.acting }
+
+  module _ (keeper : K) (grown : records keeper ≡ records x.keeper ++ record_bytes (kept.Known i v) ∷ []) where
+    log_is : log_of service (records keeper) ≡ Known i v ∷ log
+    log_is = log_written records gives faults service x u (kept.Known i v) spelled due (records keeper) grown
+
+    z_logged : IsLogged service (z_at keeper) (log_of service (records keeper))
+    z_logged = subst (IsLogged service (z_at keeper)) (sym log_is)
+        (logged_as service (record x { known = x.known ++ v ∷ [] }) (z_at keeper) (Known i v ∷ log) refl refl refl refl
+        (logged_known service x log (logged_of records service x u) i v place (instance_fits i there) fits))
+
+    z_beside : Beside records service (z_at keeper)
+    z_beside =
+        let b = beside_of records service x u in
+        let based : x.base ≤ x.replayed = b.based in
+        let replayed : x.replayed ≤ length x.known = b.replayed in
+        record {
+          based = replayed_from x.acting x.base i x.replayed (length x.known) next based replayed;
+          replayed = subst (λ (n : ℕ). replayed_to x.acting i x.replayed ≤ n) (let n : length x.known + 1 ≡ length (x.known ++ v ∷ []) = omega (arith, length_push x.known v) in n) (replayed_most x.acting i x.replayed (length x.known) next replayed);
+          ahead = ahead_known service x.known v x.acting i x.replayed x.ahead x.start replayed b.ahead;
+          proposer = proposes_closed x.nodes x.id x.acceptor p (subst (IsProposer x.nodes x.id x.acceptor) e b.proposer);
+          acting = acting_known service good seed_any x.known x.acceptor p v x.acting acting cut;
+          role = lead_closed (length x.known) (length (x.known ++ v ∷ [])) x.acceptor p (is_some x.acting) (is_some (option_map (settling service) x.acting))
+              (subst (λ (o : Option ProposerValue). RoleFits (length x.known) (role_of x.acceptor o (is_some x.acting))) e b.role);
+        }
+      where
+        seed_any : ℕ
+        seed_any = x.seed
+
+    z_kept : IsKept records service (z_at keeper)
+    z_kept = record { id = id; few = few; up = λ t. up_of records service (z_at keeper) z_logged z_beside }
+
+    -- the model's call comes to the same
+    z_comes : (before after : Draft) (f : Option Failure) → after.effects.items ≡ before.effects.items ++ effect.Known x.id i ∷ releases_in x.acting → map message_in after.sends.items ≡ map message_in before.sends.items ++ others x.nodes x.id (Chose i v)
+        → send (learned (service_of service x.seed) x.id lead i v (known log) (armed_with f (logged (Known i v) None (so_far records service x before)))) (others x.nodes x.id (Chose i v))
+        ≡ armed_with f (so_far records service (z_at keeper) after)
+    z_comes before after f effects sends =
+        call_is (Known i v ∷ log) (log_of service (records keeper)) x.up f (leading lead None [] (is_some x.acting)) (work_known (service_of service x.seed) (is_some x.acting) (known log ++ v ∷ []) (work_of x.acting)) (work_of (option_map (settling service) x.acting))
+        (replayed_known (is_some x.acting) i x.replayed) (replayed_to x.acting i x.replayed)
+        (map message_in before.sends.items ++ others x.nodes x.id (Chose i v)) (map message_in after.sends.items)
+        (before.effects.items ++ (effect.Known x.id i ∷ released (service_of service x.seed) (is_some x.acting) (known log) v)) after.effects.items
+        (sym log_is)
+        (ap (λ (vs : List Value). work_known (service_of service x.seed) (is_some x.acting) (vs ++ v ∷ []) (work_of x.acting)) (sym u.known) ∙ work_is service good x.seed x.known x.acceptor p v x.acting acting cut)
+        (replayed_same x.acting i x.replayed)
+        (sym sends)
+        (ap (λ (es : List Effect). before.effects.items ++ (effect.Known x.id i ∷ es)) (ap (λ (vs : List Value). released (service_of service x.seed) (is_some x.acting) vs v) (sym u.known) ∙ released_are service good x.seed x.known x.acceptor p v x.acting acting cut) ∙ sym effects)
+        ∙ ap (λ (t : Bool). record (armed_with f (so_far records service (z_at keeper) after)) { node = record (armed_with f (so_far records service (z_at keeper) after)).node { role = leading lead None [] t } }) (sym (active_same service x.acting))
+
+  abbrev whole : (CallHere → CallHere) → CallHere → CallHere
+  whole k d = decide x.nodes (service_of service x.seed) x.id d lead i v k
+
+  abbrev rest : (CallHere → CallHere) → CallHere → CallHere
+  rest k d = k (send (learned (service_of service x.seed) x.id lead i v (known log) d) (others x.nodes x.id (Chose i v)))
+
+  -- the call goes on with the value known
+  learns_on : (up : x.up ≡ true) (y z : NodeValue K) (before mid after : Draft) → Keeps records faults gives x y (record_bytes (kept.Known i v)) → mid.effects.items ≡ before.effects.items → mid.sends.items ≡ before.sends.items
+      → z ≡ knowing service y i v → after.effects.items ≡ mid.effects.items ++ effect.Known y.id i ∷ releases_in y.acting → map message_in after.sends.items ≡ map message_in mid.sends.items ++ others y.nodes y.id (Chose i v)
+      → Learns records gives faults service i v x z before after On
+  learns_on up y z before mid after h effects sends z_is more_effects more_sends =
+      subst (λ (o : Option ProposerValue). IfSome o (λ (q : ProposerValue). (k : CallHere → CallHere) → Comes records gives faults service (λ d. decide x.nodes (service_of service x.seed) x.id d (lead_of x.acceptor q (is_some x.acting)) i v k) k x z before after On)) (sym e)
+      (λ k. subst (λ (n : NodeValue K). Comes records gives faults service (whole k) k x n before after On) (sym all) (
+        leads_then records gives faults (whole k) (rest k) k x.keeper y.keeper y.keeper (so_far records service x before) (logged (Known i v) None (so_far records service x before)) (so_far records service (z_at y.keeper) after)
+            (written_on records gives faults service x u (kept.Known i v) spelled due y before (whole k) (rest k) (λ f. refl) h)
+            (leads_same records gives faults (rest k) k y.keeper (logged (Known i v) None (so_far records service x before)) (so_far records service (z_at y.keeper) after) (ap length (log_is y.keeper h.records))
+            (λ f. ap k (z_comes y.keeper h.records before after f effects_are sends_are))),
+        z_kept y.keeper h.records,
+        up,
+      ))
+    where
+      y_is : y ≡ record x { keeper = y.keeper }
+      y_is = h.parts
+
+      all : z ≡ z_at y.keeper
+      all = z_is ∙ ap (λ (n : NodeValue K). knowing service n i v) y_is ∙ ap (λ (o : Option ProposerValue). record (knowing service (record x { keeper = y.keeper }) i v) { proposer = option_map closed o }) e
+
+      effects_are : after.effects.items ≡ before.effects.items ++ effect.Known x.id i ∷ releases_in x.acting
+      effects_are = more_effects ∙ ap (λ (n : NodeValue K). mid.effects.items ++ effect.Known n.id i ∷ releases_in n.acting) y_is ∙ ap (λ (es : List Effect). es ++ effect.Known x.id i ∷ releases_in x.acting) effects
+
+      sends_are : map message_in after.sends.items ≡ map message_in before.sends.items ++ others x.nodes x.id (Chose i v)
+      sends_are = more_sends ∙ ap (λ (n : NodeValue K). map message_in mid.sends.items ++ others n.nodes n.id (Chose i v)) y_is ∙ ap (λ (ms : List Sent). map message_in ms ++ others x.nodes x.id (Chose i v)) sends
+
+  -- or the node is down
+  learns_down : (y : NodeValue K) (before after : Draft) → Falls records faults gives x y (record_bytes (kept.Known i v)) → after.effects.items ≡ before.effects.items ++ effect.Down x.id ∷ [] → after.sends.items ≡ []
+      → Learns records gives faults service i v x y before after Down
+  learns_down y before after h effects sends =
+      subst (λ (o : Option ProposerValue). IfSome o (λ (q : ProposerValue). (k : CallHere → CallHere) → Comes records gives faults service (λ d. decide x.nodes (service_of service x.seed) x.id d (lead_of x.acceptor q (is_some x.acting)) i v k) k x y before after Down)) (sym e)
+      (λ k. written_down records gives faults service x u (kept.Known i v) spelled due y before (whole k) (rest k) (λ f. refl) after refl h effects sends k)
+
+-- ---- the same of the call
+
+module _ {K : Type 0} (records : K → List (List ℕ)) (gives : K → List ℕ → Answer → K → Type 0) (faults : K → ℕ) (service : Declarations) (good : IsService service) (x : NodeValue K) (kept_so : IsKept records service x) (up : x.up ≡ true) (leads : IsSome x.proposer)
+    (i : ℕ) (v : Value) (next : i ≡ length x.known + 1) (there : ballots.IsInstance i) (short : IsValue v) (fits : values_fit service (x.known ++ v ∷ []) ≡ true) (cut : IsOwnCut service x v) where
+  -- its recorder can settle
+  pub learn_settles : (y : NodeValue K) → y ≡ record x { keeper = y.keeper } → IfSome y.acting (CanSettle service)
+  learn_settles y y_is =
+      let s = some_of x.proposer leads in
+      subst (λ (n : NodeValue K). IfSome n.acting (CanSettle service)) (sym y_is)
+      (can_settle service good x.seed x.known x.acceptor s.0 v x.acting (subst (λ (o : Option ProposerValue). IsActing service x.known x.acceptor o x.acting) s.1 (kept_so.up up).acting) cut)
+
+  module _ (w : Value) (w_is : w ≡ v) (y : NodeValue K) (before mid : Draft) (g : Going) (h : Appends records faults gives x y before mid (record_bytes (kept.Known i w)) g) where
+    same_rec : (let r : KeptRec = kept.Known i w in r) ≡ kept.Known i v
+    same_rec = ap (λ (z : Value). kept.Known i z) w_is
+
+    pub learn_parts : g ≡ On → y ≡ record x { keeper = y.keeper }
+    learn_parts e = let k : Appends records faults gives x y before mid (record_bytes (kept.Known i v)) On = appends_as records gives faults x y before mid (kept.Known i w) (kept.Known i v) g On same_rec e h in k.0.parts
+
+    pub learn_down : g ≡ Down → Learns records gives faults service i v x y before mid Down
+    learn_down e =
+        let s = some_of x.proposer leads in
+        let k : Appends records faults gives x y before mid (record_bytes (kept.Known i v)) Down = appends_as records gives faults x y before mid (kept.Known i w) (kept.Known i v) g Down same_rec e h in
+        learns_down records gives faults service good x (kept_so.up up) kept_so.id kept_so.few s.0 s.1 i v next there short fits cut y before mid k.0 k.1 k.2
+
+    pub learn_on : g ≡ On → (z : NodeValue K) (after : Draft) → z ≡ knowing service y i v → after.effects.items ≡ mid.effects.items ++ effect.Known y.id i ∷ releases_in y.acting → map message_in after.sends.items ≡ map message_in mid.sends.items ++ others y.nodes y.id (content_in (sent.Chosen i v))
+        → Learns records gives faults service i v x z before after On
+    learn_on e z after z_is effects sends =
+        let s = some_of x.proposer leads in
+        let k : Appends records faults gives x y before mid (record_bytes (kept.Known i v)) On = appends_as records gives faults x y before mid (kept.Known i w) (kept.Known i v) g On same_rec e h in
+        learns_on records gives faults service good x (kept_so.up up) kept_so.id kept_so.few s.0 s.1 i v next there short fits cut up y z before mid after k.0 k.1 k.2 z_is effects sends
+
+    pub learn_stuck : g ≡ On → (z : NodeValue K) → z.keeper ≡ y.keeper → z.base ≡ y.base → IsStuck records service x z
+    learn_stuck e z keeper based =
+        let s = some_of x.proposer leads in
+        let k : Appends records faults gives x y before mid (record_bytes (kept.Known i v)) On = appends_as records gives faults x y before mid (kept.Known i w) (kept.Known i v) g On same_rec e h in
+        stuck_written records gives faults service x (kept_so.up up) (kept.Known i v) (spelled records gives faults service good x (kept_so.up up) kept_so.id kept_so.few s.0 s.1 i v next there short fits cut)
+        (due records gives faults service good x (kept_so.up up) kept_so.id kept_so.few s.0 s.1 i v next there short fits cut) y z refl k.0 keeper based

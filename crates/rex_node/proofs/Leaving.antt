@@ -1,0 +1,74 @@
+-- A node that leaves its role.
+use Rattle.std.proofs.Common.{◌≡◌, ℕ, ◌≤◌, Bool, List, Option, Some, None, refl, sym, ap, subst, ◌∙◌, arith}
+use Rattle.std.specs.Prelude.{take, length, is_some}
+use Rattle.rex_syntax.specs.declared.service.Declarations.{Declarations}
+use Rattle.rex_state.specs.Value.{StateValue}
+use Rattle.rex_state.specs.Start.{start_of}
+use Rattle.rex_state.specs.Machine.{run}
+use Rattle.rex_paxos.specs.Acceptor.{AcceptorValue}
+use Rattle.rex_paxos.specs.Proposer.{ProposerValue}
+use Rattle.rex_safety.specs.Records.{known, base}
+use Rattle.rex_safety.specs.Node.{Work, no_work, is_active}
+use Rattle.rex_safety.specs.Node.Role.{Follower}
+use Rattle.rex_safety.specs.Calls.{begin, work_left, replayed_left, with_role}
+use Rattle.rex_safety.specs.Values.{Value, trace_of}
+use Rattle.rex_safety.specs.Lanes.{Here}
+use Rattle.rex_node.specs.Parts.{ActingValue, NodeValue, IsActing, IsUp, IsNode, here_of, role_of, work_of, ahead_of, ahead_left, leaving}
+
+pub role_active : (service : Declarations) (values : List Value) (a : AcceptorValue) (o : Option ProposerValue) (w : Option ActingValue) → IsActing service values a o w → is_active (role_of a o (is_some w)) ≡ is_some w
+role_active service values a None None h = refl
+role_active service values a None (Some b) h = absurd h
+role_active service values a (Some p) w h = refl
+
+pub no_work_left : (w : Option ActingValue) → work_left (is_some w) (work_of w) ≡ no_work
+no_work_left None = refl
+no_work_left (Some a) = refl
+
+pub replayed_from : (w : Option ActingValue) (based replayed : ℕ) → based ≤ replayed → based ≤ replayed_left (is_some w) based replayed
+replayed_from None based replayed h = h
+replayed_from (Some a) based replayed h = omega arith
+
+pub replayed_to : (w : Option ActingValue) (based replayed known : ℕ) → based ≤ replayed → replayed ≤ known → replayed_left (is_some w) based replayed ≤ known
+replayed_to None based replayed known h k = k
+replayed_to (Some a) based replayed known h k = omega (arith, h, k)
+
+pub state_left : (P : ℕ → StateValue → Type 0) (w : Option ActingValue) (ahead : Option StateValue) (start : StateValue) (based replayed : ℕ) → P based start → (w ≡ None → P replayed (ahead_of ahead start))
+    → P (replayed_left (is_some w) based replayed) (ahead_of (ahead_left (is_some w) ahead) start)
+state_left P None ahead start based replayed h k = k refl
+state_left P (Some a) ahead start based replayed h k = h
+
+module _ {K : Type 0} (records : K → List (List ℕ)) (service : Declarations) (x : NodeValue K) (u : IsUp service x (here_of records service x)) where
+  -- the node is then a follower, as in the model
+  pub leaves : here_of records service (leaving x) ≡ (with_role Follower (begin (here_of records service x))).node
+  leaves =
+      ap (λ (b : ℕ). record h { role = Follower; work = no_work; replayed = replayed_left (is_some x.acting) b x.replayed }) u.base
+      ∙ ap (λ (work : Work). record h { role = Follower; work = work; replayed = replayed_left (is_some x.acting) (base h.log) x.replayed }) (sym (no_work_left x.acting))
+      ∙ ap (λ (t : Bool). record h { role = Follower; work = work_left t (work_of x.acting); replayed = replayed_left t (base h.log) x.replayed }) (sym (role_active service x.known x.acceptor x.proposer x.acting u.acting))
+    where
+      h : Here
+      h = here_of records service x
+
+  pub up_left : IsUp service (leaving x) (here_of records service (leaving x))
+  up_left = record {
+    promised = u.promised;
+    accepted = u.accepted;
+    known = u.known;
+    base = u.base;
+    start = u.start;
+    replayed = record {
+      based = subst (λ (b : ℕ). b ≤ replayed_left (is_some x.acting) x.base x.replayed) u.base (replayed_from x.acting x.base x.replayed based);
+      replayed = replayed_to x.acting x.base x.replayed (length (known (here_of records service x).log)) based u.replayed.replayed;
+    };
+    ahead = λ _. state_left (λ n s. run service (start_of service) (trace_of (take n x.known)) ≡ Some s) x.acting x.ahead x.start x.base x.replayed u.start u.ahead;
+    proposer = tt;
+    acting = tt;
+    fits = u.fits;
+    short = u.short;
+    numbers = record { log = u.numbers.log; role = tt };
+  }
+    where
+      based : x.base ≤ x.replayed
+      based = subst (λ (b : ℕ). b ≤ x.replayed) (sym u.base) u.replayed.based
+
+pub node_left : {K : Type 0} (records : K → List (List ℕ)) (service : Declarations) (x : NodeValue K) → IsNode records service x → IsNode records service (leaving x)
+node_left records service x h = record { id = h.id; few = h.few; up = λ t. up_left records service x (h.up t); rests = λ t. tt }

@@ -1,0 +1,34 @@
+-- Limits, one lane after another.
+use Rattle.std.proofs.Common.{◌≡◌, ℕ, ◌+◌, ◌<◌, ◌≤◌, List, [], ◌∷◌, ◌++◌, length, get_or, take, min, refl, sym, ap, ◌∙◌, arith}
+use Rattle.std.proofs.lemmas.List.{take_more, length-take, take_all}
+use Rattle.rex_safety.specs.Lanes.{limits_between}
+
+-- limits of one more lane
+push : (a b c : List ℕ) (x y z : ℕ) → length a ≡ length c → length b ≡ length c → limits_between (a ++ x ∷ []) (b ++ y ∷ []) (c ++ z ∷ []) ≡ limits_between a b c ++ min (x + z) y ∷ []
+push [] [] [] x y z e k = refl
+push (p ∷ a) (q ∷ b) (r ∷ c) x y z e k = ap (λ (ns : List ℕ). min (p + r) q ∷ ns) (push a b c x y z (omega (arith, e)) (omega (arith, k)))
+push [] b (r ∷ c) x y z e k = absurd (omega (arith, e))
+push (p ∷ a) b [] x y z e k = absurd (omega (arith, e))
+push a [] (r ∷ c) x y z e k = absurd (omega (arith, k))
+push a (q ∷ b) [] x y z e k = absurd (omega (arith, k))
+
+-- limits of as many lanes as were gone over, with one more
+pub limits_more : (a b c : List ℕ) (i x y z : ℕ) → i < length c → length a ≡ length c → length b ≡ length c → x ≡ get_or a i 0 → y ≡ get_or b i 0 → z ≡ get_or c i 0
+    → limits_between (take i a) (take i b) (take i c) ++ min (x + z) y ∷ [] ≡ limits_between (take (i + 1) a) (take (i + 1) b) (take (i + 1) c)
+limits_more a b c i x y z there e k xe ye ze =
+    let la : length (take i a) ≡ length (take i c) = omega (arith, length-take i a, length-take i c, e, there) in
+    let lb : length (take i b) ≡ length (take i c) = omega (arith, length-take i b, length-take i c, k, there) in
+    sym (push (take i a) (take i b) (take i c) x y z la lb)
+    ∙ ap (λ (ns : List ℕ). limits_between ns (take i b ++ y ∷ []) (take i c ++ z ∷ [])) (sym (one a x (omega (arith, there, e)) xe))
+    ∙ ap (λ (ns : List ℕ). limits_between (take (i + 1) a) ns (take i c ++ z ∷ [])) (sym (one b y (omega (arith, there, k)) ye))
+    ∙ ap (λ (ns : List ℕ). limits_between (take (i + 1) a) (take (i + 1) b) ns) (sym (one c z there ze))
+  where
+    one : (ns : List ℕ) (n : ℕ) → i < length ns → n ≡ get_or ns i 0 → take (i + 1) ns ≡ take i ns ++ n ∷ []
+    one ns n lt is = take_more ns i 0 lt ∙ ap (λ (m : ℕ). take i ns ++ m ∷ []) (sym is)
+
+-- limits of all lanes
+pub limits_whole : (a b c : List ℕ) (i : ℕ) → length c ≤ i → length a ≡ length c → length b ≡ length c → limits_between (take i a) (take i b) (take i c) ≡ limits_between a b c
+limits_whole a b c i most e k =
+    ap (λ (ns : List ℕ). limits_between ns (take i b) (take i c)) (take_all i a (omega (arith, most, e)))
+    ∙ ap (λ (ns : List ℕ). limits_between a ns (take i c)) (take_all i b (omega (arith, most, k)))
+    ∙ ap (λ (ns : List ℕ). limits_between a b ns) (take_all i c most)

@@ -1,0 +1,238 @@
+-- A majority accepted the open proposal of a node that leads: it knows the value, and goes on.
+use Rattle.std.proofs.Common.{◌≡◌, ℕ, suc, ◌+◌, ◌-◌, ◌*◌, ◌^◌, ◌<◌, ◌≤◌, Bool, true, false, cond, not, ◌||◌, List, [], ◌∷◌, ◌++◌, length, Option, Some, None, refl, sym, ap, subst, ◌∙◌, arith}
+use Rattle.std.specs.Prelude.{map, is_some, option_map, IfSome, IsSome, IfOk, OnErr, Result, Ok, Err, if◌then◌else◌}
+use Rattle.std.proofs.lemmas.Bool.{false≢true}
+use Rattle.std.proofs.lemmas.Option.{same_Some}
+use Rattle.std.proofs.lemmas.List.{length-map}
+use Rattle.std.specs.declared.alloc.AllocError.{AllocError}
+use Rattle.rex_ballot.specs.declared.proposal.Proposal.{Proposal as Kept}
+use Rattle.rex_ballot.specs.Ballot as ballots
+use Rattle.rex_ballot.specs.Proposals.{IsValue, proposal_for}
+use Rattle.rex_paxos.specs.declared.answers.Vote.{Vote}
+use Rattle.rex_paxos.specs.declared.answers.Vote.TheVariants as vote
+use Rattle.rex_paxos.specs.declared.answers.Why.{Why}
+use Rattle.rex_paxos.specs.declared.answers.Count.TheVariants as count
+use Rattle.rex_paxos.specs.Counting as counting
+use Rattle.rex_paxos.specs.Proposer.{ProposerValue, acceptance_refusal, acceptance_vote, closed, is_candidate, voted}
+use Rattle.rex_syntax.specs.declared.service.Declarations.{Declarations}
+use Rattle.rex_syntax.specs.Service.{IsService}
+use Rattle.rex_syntax.specs.Check.{IsChecked}
+use Rattle.rex_state.specs.Value.{StateValue}
+use Rattle.rex_traits.specs.Chains.{Answer}
+use Rattle.rex_safety.specs.Records.{Proposal, known}
+use Rattle.rex_safety.specs.Records.Rec.{Known}
+use Rattle.rex_safety.specs.Node.{Lead, Service}
+use Rattle.rex_safety.specs.Node.Role.{Leads as Leading}
+use Rattle.rex_safety.specs.Node.Content.{Chosen as Chose}
+use Rattle.rex_safety.specs.Quorum.{IsNode as IsNodeOf, is_majority}
+use Rattle.rex_safety.specs.Ranges as ranges
+use Rattle.rex_safety.specs.Ranges.{LeadFits, RoleFits}
+use Rattle.rex_safety.specs.Calls.{decide, enough, lead as lead_on, learned, led, logged, on_voted, others, send, settle}
+use Rattle.rex_safety.specs.Values.{Value, service_of, values_fit}
+use Rattle.rex_safety.specs.Lanes.{CallHere}
+use Rattle.rex_node.specs.declared.going.Going.{Going}
+use Rattle.rex_node.specs.declared.going.Going.TheVariants.{On, Down}
+use Rattle.rex_node.specs.declared.step.Draft.{Draft}
+use Rattle.rex_node.specs.Electing.{acceptance_vote_on, reports_of}
+use Rattle.rex_node.specs.Parts.{NodeValue, ActingValue, HasGoneOn, IsActing, IsCutAt, IsKept, IsNode, IsProposer, IsSame, IsUp, OpenIsCut, Proposes, here_of, lead_of, open_of, proposal_in, role_of}
+use Rattle.rex_node.specs.Calls.{armed_with}
+use Rattle.rex_node.specs.Going.{Comes, Ends, IsStuck, Leads, MayGoOn, RunsOn, above, so_far}
+use Rattle.rex_node.specs.Leading.{IsFree, IsOwnCut, Learns, knowing, replayed_to, settling}
+use Rattle.rex_node.proofs.Adopting.{decide_led}
+use Rattle.rex_node.proofs.Appended.{beside_of, fits_instance}
+use Rattle.rex_node.proofs.Candidates.{above_most}
+use Rattle.rex_node.proofs.GoingLemmas.{leads_same, leads_then, leads_fell}
+use Rattle.rex_node.proofs.Grows.{fits_before, rest_runs, settle_learns}
+use Rattle.rex_node.proofs.Turns.{ends_then, settles_as, stuck_longer, stuck_then}
+use Rattle.rex_node.proofs.Votes.{found_all, found_instance, is_quorum, majority_more, one, one_more, opens, outcome, parts, whole_is}
+
+-- what a majority is for: the node's proposer, its open proposal, and what makes the vote one
+pub record Chosen {K : Type 0} (x : NodeValue K) (from ballot i : ℕ) (v : Value) : Type 0 where
+  pub p : ProposerValue
+  pub p_is : x.proposer ≡ Some p
+  pub none : acceptance_refusal p ballot i from ≡ None
+  pub many : counting.is_majority p.nodes (length p.accepted + 1) ≡ true
+  pub q : Kept
+  pub q_is : proposal_for i x.acceptor.accepted ≡ Some q
+  pub v_is : q.value ≡ v
+
+pub chosen_of : {K : Type 0} (x : NodeValue K) (from ballot i : ℕ) (v : Value) → acceptance_vote_on x.proposer ballot i from ≡ vote.Quorum → option_map (λ (q : Kept). q.value) (proposal_for i x.acceptor.accepted) ≡ Some v → Chosen x from ballot i v
+chosen_of {K} x from ballot i v vote_is value_is = by x.proposer refl vote_is (proposal_for i x.acceptor.accepted) refl value_is
+  where
+    by : (o : Option ProposerValue) → x.proposer ≡ o → acceptance_vote_on o ballot i from ≡ vote.Quorum → (a : Option Kept) → proposal_for i x.acceptor.accepted ≡ a → option_map (λ (q : Kept). q.value) a ≡ Some v → Chosen x from ballot i v
+    by None e f a s t = absurd (cc)
+    by (Some p) e f None s t = absurd (cc)
+    by (Some p) e f (Some q) s t =
+        let n = is_quorum (acceptance_refusal p ballot i from) p.nodes (length p.accepted + 1) f in
+        record { p = p; p_is = e; none = n.0; many = n.1; q = q; q_is = s; v_is = same_Some q.value v t }
+
+module _ {K : Type 0} (records : K → List (List ℕ)) (gives : K → List ℕ → Answer → K → Type 0) (faults : K → ℕ) (service : Declarations) (good : IsService service) (checked : IsChecked service) (x : NodeValue K) (node : IsNode records service x) (up : x.up ≡ true) (from ballot i : ℕ) (there : IsNodeOf x.nodes from) (before : Draft)
+    (v : Value) (c : Chosen x from ballot i v) where
+  u : IsUp service x (here_of records service x)
+  u = node.up up
+
+  abbrev whole : CallHere → CallHere
+  whole d = on_voted x.nodes (service_of service x.seed) x.id from ballot i d d.node.role
+
+  abbrev l : Lead Value
+  l = lead_of x.acceptor c.p (is_some x.acting)
+
+  abbrev rest : CallHere → CallHere
+  rest = settle (2 * length c.p.reported + 2) x.nodes (service_of service x.seed) x.id
+
+  proposes : Proposes x.nodes x.id x.acceptor c.p
+  proposes = subst (IsProposer x.nodes x.id x.acceptor) c.p_is u.proposer
+
+  lead_fits : LeadFits (length x.known) (lead_of x.acceptor c.p (is_some x.acting))
+  lead_fits = subst (λ (o : Option ProposerValue). RoleFits (length x.known) (role_of x.acceptor o (is_some x.acting))) c.p_is (beside_of records service x u).role
+
+  opens_i : c.p.open_instance ≡ Some i
+  opens_i = opens records gives faults service x node up from ballot i there before c.p c.p_is c.none
+
+  proposal_is : open_of x.acceptor c.p.open_instance ≡ Some (proposal_in c.q)
+  proposal_is = ap (open_of x.acceptor) opens_i ∙ ap (option_map proposal_in) c.q_is
+
+  q_place : (c.q.instance ≡ suc (length x.known)) × ranges.IsInstance c.q.instance
+  q_place = lead_fits.next (proposal_in c.q) proposal_is
+
+  q_instance : c.q.instance ≡ i
+  q_instance = found_instance i x.acceptor.accepted c.q c.q_is
+
+  pub choose_next : i ≡ length x.known + 1
+  choose_next = let e : c.q.instance ≡ suc (length x.known) = q_place.0 in omega (arith, e, q_instance)
+
+  pub choose_there : ballots.IsInstance i
+  choose_there = subst ballots.IsInstance q_instance (fits_instance c.q.instance q_place.1)
+
+  pub choose_short : IsValue v
+  choose_short = subst IsValue c.v_is (found_all (λ (q : Kept). IsValue q.value) i x.acceptor.accepted c.q u.short c.q_is)
+
+  pub choose_leads : IsSome x.proposer
+  choose_leads = subst (λ (o : Option ProposerValue). IsSome o) (sym c.p_is) refl
+
+  pub choose_kept : IsKept records service x
+  choose_kept = record { id = node.id; few = node.few; up = node.up }
+
+  cut_of : (w : Option ActingValue) → IsActing service x.known x.acceptor (Some c.p) w → IfSome w (λ (a : ActingValue). IsCutAt service x.known a v)
+  cut_of None h = tt
+  cut_of (Some a) h = subst (IsCutAt service x.known a) c.v_is (subst (OpenIsCut service x.known a) proposal_is h.open_is_cut)
+
+  pub choose_cut : IsOwnCut service x v
+  choose_cut = cut_of x.acting (subst (λ (o : Option ProposerValue). IsActing service x.known x.acceptor o x.acting) c.p_is u.acting)
+
+  -- the model's call decides it
+  abbrev sv : Service Value StateValue
+  sv = service_of service x.seed
+
+  abbrev more : Lead Value
+  more = one_more x.nodes sv x.id from (lead_of x.acceptor c.p (is_some x.acting))
+
+  majority : is_majority x.nodes (c.p.accepted ++ from ∷ []) ≡ true
+  majority =
+      majority_more x.nodes x.id x.acceptor c.p proposes (is_some x.acting) sv from ballot i (one records gives faults service x node up from ballot i there before) (so_far records service x before) (parts records gives faults service x node up from ballot i there before c.p c.p_is c.none).2
+      ∙ c.many
+
+  vote_at : acceptance_vote c.p ballot i from ≡ vote.Quorum
+  vote_at = ap (λ (r : Option Why). voted r c.p.nodes (length c.p.accepted + 1)) c.none ∙ ap (λ (t : Bool). counting.vote_of (if t then count.Quorum else count.NotYet (length c.p.accepted + 1))) c.many
+
+  turns_are : enough (map proposal_in c.p.reported) ≡ suc (2 * length c.p.reported + 2)
+  turns_are = ap (λ (n : ℕ). 2 * n + 3) (length-map c.p.reported proposal_in) ∙ (let n : 2 * length c.p.reported + 3 ≡ suc (2 * length c.p.reported + 2) = omega arith in n)
+
+  decides : (d : CallHere) → d.node.role ≡ role_of x.acceptor x.proposer (is_some x.acting) → whole d ≡ decide x.nodes sv x.id d l i v rest
+  decides d role =
+      whole_is records gives faults service x node up from ballot i there before c.p c.p_is d role
+      ∙ ap (λ (w : Vote). outcome x.nodes sv x.id from (lead_of x.acceptor c.p (is_some x.acting)) w d) vote_at
+      ∙ ap (λ (t : ℕ). settle t x.nodes sv x.id (led (Leading more) d)) turns_are
+      ∙ ap (λ (o : Option (Proposal Value)). lead_on x.nodes sv x.id (led (Leading more) d) more o rest) proposal_is
+      ∙ ap (λ (t : Bool). cond t (decide x.nodes sv x.id (led (Leading more) d) more c.q.instance c.q.value rest) (led (Leading more) d)) majority
+      ∙ ap (λ (j : ℕ). decide x.nodes sv x.id (led (Leading more) d) more j c.q.value rest) q_instance
+      ∙ ap (λ (w : Value). decide x.nodes sv x.id (led (Leading more) d) more i w rest) c.v_is
+      ∙ decide_led x.nodes sv x.id d l (Leading more) (open_of x.acceptor c.p.open_instance) (c.p.accepted ++ from ∷ []) i v rest
+
+  leads_decide : Leads records gives faults whole (λ d. decide x.nodes sv x.id d l i v rest) x.keeper x.keeper (so_far records service x before) (so_far records service x before)
+  leads_decide = leads_same records gives faults whole (λ d. decide x.nodes sv x.id d l i v rest) x.keeper (so_far records service x before) (so_far records service x before) refl (λ f. decides (armed_with f (so_far records service x before)) refl)
+
+  -- what it knows then runs on
+  pub choose_fits : RunsOn service whole (so_far records service x before) → values_fit service (x.known ++ v ∷ []) ≡ true
+  choose_fits runs =
+      subst (λ (vs : List Value). values_fit service (vs ++ v ∷ []) ≡ true) (sym u.known)
+      (fits_before service good checked d (rest d) (settle_learns x.nodes sv x.id (2 * length c.p.reported + 2) d)
+      (subst (λ (e : CallHere). values_fit service (known e.node.log) ≡ true) (decides (so_far records service x before) refl) runs))
+    where
+      d : CallHere
+      d = send (learned sv x.id l i v (known (so_far records service x before).node.log) (logged (Known i v) None (so_far records service x before))) (others x.nodes x.id (Chose i v))
+
+  -- ---- and learns the value
+
+  learns_at : (z : NodeValue K) (mid : Draft) (g : Going) → Learns records gives faults service i v x z before mid g → Comes records gives faults service (λ d. decide x.nodes sv x.id d l i v rest) rest x z before mid g
+  learns_at z mid g learns =
+      subst (λ (o : Option ProposerValue). IfSome o (λ (q : ProposerValue). (k : CallHere → CallHere) → Comes records gives faults service (λ d. decide x.nodes sv x.id d (lead_of x.acceptor q (is_some x.acting)) i v k) k x z before mid g)) c.p_is learns rest
+
+  -- the append failed
+  pub choose_down : (z : NodeValue K) (mid : Draft) → IsSame x z → Learns records gives faults service i v x z before mid Down → Ends records gives faults service whole x z before mid Down
+  choose_down z mid same learns =
+      let o = learns_at z mid Down learns in
+      let down : z.up ≡ false = o.1 in (
+        (leads_fell records gives faults whole (λ d. decide x.nodes sv x.id d l i v rest) x.id x.keeper x.keeper z.keeper (so_far records service x before) (so_far records service x before) (so_far records service z mid) leads_decide o.0, o.1),
+        record {
+          id = (subst (λ (n : ℕ). 0 < n) (sym same.id) node.id.0, let least = node.id.1 in let a : z.id ≡ x.id = same.id in let b : z.nodes ≡ x.nodes = same.nodes in omega (arith, least));
+          few = subst (λ (n : ℕ). n ≤ 9) (sym same.nodes) node.few;
+          up = λ t. absurd (false≢true (sym down ∙ t));
+          rests = λ t. absurd (false≢true (sym down ∙ t));
+        },
+      )
+
+  module _ (z : NodeValue K) (mid : Draft) (same : IsSame x z) (learns : Learns records gives faults service i v x z before mid On) (known_is : z ≡ record (knowing service x i v) { keeper = z.keeper }) (longer : length (records x.keeper) < length (records z.keeper))
+      (turns : ℕ) (turns_is : turns ≡ 2 * reports_of x.proposer + 3) where
+    comes_z : Comes records gives faults service (λ d. decide x.nodes sv x.id d l i v rest) rest x z before mid On
+    comes_z = learns_at z mid On learns
+
+    leads_z : Leads records gives faults whole rest x.keeper z.keeper (so_far records service x before) (so_far records service z mid)
+    leads_z = leads_then records gives faults whole (λ d. decide x.nodes sv x.id d l i v rest) rest x.keeper x.keeper z.keeper (so_far records service x before) (so_far records service x before) (so_far records service z mid) leads_decide comes_z.0
+
+    left : turns - 1 ≡ 2 * length c.p.reported + 2
+    left = let e : turns ≡ 2 * length c.p.reported + 3 = turns_is ∙ ap (λ (o : Option ProposerValue). 2 * reports_of o + 3) c.p_is in omega (arith, e)
+
+    z_is : z ≡ record x { keeper = z.keeper; known = x.known ++ v ∷ []; replayed = replayed_to x.acting i x.replayed; proposer = Some (closed c.p); acting = option_map (settling service) x.acting }
+    z_is = known_is ∙ ap (λ (o : Option ProposerValue). record (knowing service x i v) { keeper = z.keeper; proposer = option_map closed o }) c.p_is
+
+    pub chosen_kept : IsKept records service z
+    chosen_kept = comes_z.1
+
+    pub chosen_up : z.up ≡ true
+    chosen_up = comes_z.2
+
+    elected : is_candidate c.p ≡ false
+    elected =
+        let h : HasGoneOn (Some c.p) (is_some x.acting) = subst (λ (o : Option ProposerValue). HasGoneOn o (is_some x.acting)) c.p_is (node.rests up) in
+        h ∙ ap (λ (o : Option ℕ). not (is_some x.acting || is_some o)) opens_i ∙ go (is_some x.acting)
+      where
+        go : (t : Bool) → not (t || true) ≡ false
+        go true = refl
+        go false = refl
+
+    pub chosen_free : IsFree z.proposer (is_some z.acting)
+    chosen_free = subst (λ (n : NodeValue K). IsFree n.proposer (is_some n.acting)) (sym z_is) (refl, λ t. elected)
+
+    pub chosen_may : MayGoOn z (turns - 1)
+    chosen_may =
+        subst (λ (n : NodeValue K). MayGoOn n (turns - 1)) (sym z_is)
+        (let few : above (length (x.known ++ v ∷ [])) c.p.reported ≤ length c.p.reported = above_most (length (x.known ++ v ∷ [])) c.p.reported in omega (arith, few, left))
+
+    rest_of : settle (turns - 1) z.nodes (service_of service z.seed) z.id ≡ rest
+    rest_of = settles_as records gives faults service x z (turns - 1) same ∙ ap (λ (t : ℕ). settle t x.nodes sv x.id) left
+
+    pub chosen_runs : RunsOn service whole (so_far records service x before) → RunsOn service (settle (turns - 1) z.nodes (service_of service z.seed) z.id) (so_far records service z mid)
+    chosen_runs runs = subst (λ (k : CallHere → CallHere). RunsOn service k (so_far records service z mid)) (sym rest_of) (rest_runs records gives faults service whole rest x z before mid leads_z runs)
+
+    pub chosen_count : faults x.keeper < 2 ^ 64 - 1 → faults z.keeper < 2 ^ 64 - 1
+    chosen_count h = subst (λ (n : ℕ). n < 2 ^ 64 - 1) (sym leads_z.counted) h
+
+    -- as going on ends, so does the call
+    pub chosen_ends : (y : NodeValue K) (after : Draft) (result : Result Going AllocError) → IfOk result (Ends records gives faults service (settle (turns - 1) z.nodes (service_of service z.seed) z.id) z y mid after) → IfOk result (Ends records gives faults service whole x y before after)
+    chosen_ends y after (Ok going) h = ends_then records gives faults service whole rest x z y before mid after going same.id leads_z (subst (λ (k : CallHere → CallHere). Ends records gives faults service k z y mid after going) rest_of h)
+    chosen_ends y after (Err e) h = tt
+
+    pub chosen_stuck : (y : NodeValue K) (result : Result Going AllocError) → OnErr result (IsStuck records service z y) → OnErr result (IsStuck records service x y)
+    chosen_stuck y (Ok going) h = tt
+    chosen_stuck y (Err e) h = stuck_then records service x z y (stuck_longer records service x z leads_z.written leads_z.grown longer (chosen_kept.up chosen_up).base) h

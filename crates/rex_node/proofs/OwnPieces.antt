@@ -1,0 +1,238 @@
+-- A node proposes the piece that it has made.
+use Rattle.std.proofs.Common.{◌≡◌, ℕ, suc, ◌+◌, ◌<◌, Bool, true, false, cond, List, [], ◌∷◌, ◌++◌, length, Option, Some, None, Result, Ok, Err, refl, sym, ap, subst, ◌∙◌, arith}
+use Rattle.std.specs.Prelude.{IfSome, IfOk, is_some, is_err, nat_le, option_map}
+use Rattle.std.proofs.lemmas.Bool.{false≢true, lt-leb}
+use Rattle.rex_syntax.specs.declared.service.Declarations.{Declarations}
+use Rattle.rex_syntax.specs.Service.{IsService}
+use Rattle.rex_event.specs.declared.event.Event.{Event}
+use Rattle.rex_event.specs.Cuts.{below}
+use Rattle.rex_cut.specs.Greatest.{greatest_cut}
+use Rattle.rex_paxos.specs.Proposer.{ProposerValue}
+use Rattle.rex_report.specs.declared.effect.Effect.TheVariants as effect
+use Rattle.rex_traits.specs.Chains.{Answer}
+use Rattle.rex_safety.specs.Records.{Proposal, known}
+use Rattle.rex_safety.specs.Node.{Lead, Failure}
+use Rattle.rex_safety.specs.Calls.{enough, propose, say, settle}
+use Rattle.rex_safety.specs.Values.{Value, service_of, values_fit}
+use Rattle.rex_safety.specs.Lanes as lanes
+use Rattle.rex_safety.specs.Lanes.{CallHere, Here, active_only, cut_lead, cut_live, cut_role, is_faithful, propose_cut, value_at}
+use Rattle.rex_node.specs.declared.going.Going.{Going}
+use Rattle.rex_node.specs.declared.going.Going.TheVariants.{On, Down}
+use Rattle.rex_node.specs.declared.pieces.Piece.{Piece}
+use Rattle.rex_node.specs.declared.step.Draft.{Draft}
+use Rattle.rex_node.specs.Calls.{armed_with, counts_for}
+use Rattle.rex_node.specs.Going.{Ends, Fell, Leads as LeadsOn, so_far}
+use Rattle.rex_node.specs.Leading.{IsOwnCut}
+use Rattle.rex_node.specs.Cutting.{HasPiece, IsIdle, IsOwnPiece, IsPieceOf, ProposesCut, ProposesPiece, counts_in, cut_at, cut_in, with_cut}
+use Rattle.rex_node.specs.Parts.{ActingValue, NodeValue, Executes, IsCutAt, IsNode, IsUp, here_of, lead_of, open_of, role_of, work_of}
+use Rattle.rex_node.proofs.Dues.{counts_are}
+use Rattle.rex_node.proofs.Executing.{executes}
+use Rattle.rex_node.proofs.GoingLemmas.{leads_fell, leads_same, leads_then}
+use Rattle.rex_node.proofs.Openings.{from_lead, lead_from}
+use Rattle.rex_node.proofs.ProposedCuts.{idle_leads}
+use Rattle.rex_node.proofs.Proposing.{piece_cut, piece_faithful, piece_fits}
+
+add_one : (n : ℕ) → suc n ≡ n + 1
+add_one n = omega arith
+
+-- what is executed, and the piece of it
+own_piece : (w : Option ActingValue) (limits : Option (List ℕ)) (p : Piece) → IsOwnPiece w limits p → (a : ActingValue) × (w ≡ Some a) × IsPieceOf a (cut_in a limits) p
+own_piece None limits p h = absurd h
+own_piece (Some a) limits p h = (a, refl, h)
+
+module _ {K : Type 0} (records : K → List (List ℕ)) (gives : K → List ℕ → Answer → K → Type 0) (faults : K → ℕ) (service : Declarations) where
+  -- a call that does the same ends as the other
+  ends_as : (whole other : CallHere → CallHere) (x y : NodeValue K) (first draft : Draft) (going : Going) → ((f : Option Failure) → other (armed_with f (so_far records service x first)) ≡ whole (armed_with f (so_far records service x first)))
+      → Ends records gives faults service whole x y first draft going → Ends records gives faults service other x y first draft going
+  ends_as whole other x y first draft On same h = (
+    (
+      leads_then records gives faults other whole (λ d. d) x.keeper x.keeper y.keeper (so_far records service x first) (so_far records service x first) (so_far records service y draft)
+          (leads_same records gives faults other whole x.keeper (so_far records service x first) (so_far records service x first) refl same) h.0.0,
+      h.0.1,
+      h.0.2,
+    ),
+    h.1,
+  )
+  ends_as whole other x y first draft Down same h = (
+    (
+      leads_fell records gives faults other whole x.id x.keeper x.keeper y.keeper (so_far records service x first) (so_far records service x first) (so_far records service y draft)
+          (leads_same records gives faults other whole x.keeper (so_far records service x first) (so_far records service x first) refl same) h.0.0,
+      h.0.1,
+    ),
+    h.1,
+  )
+
+module _ {K : Type 0} (records : K → List (List ℕ)) (service : Declarations) (x : NodeValue K) (node : IsNode records service x) (p : Piece) (has : HasPiece service x p) where
+  is_up : IsUp service x (here_of records service x)
+  is_up = node.up has.can.up
+
+  -- what is executed
+  abbrev one : (a : ActingValue) × (x.acting ≡ Some a) × IsPieceOf a (cut_in a has.limits) p
+  one = own_piece x.acting has.limits p has.can.piece
+
+  runs : Executes service x.known one.0
+  runs = executes service x.known x.acceptor x.proposer x.acting one.0 is_up.acting one.1
+
+  -- the value of the piece runs on after what is known
+  pub own_fits : IsService service → (vs : List Value) (v : Value) → vs ≡ x.known → v ≡ p.value → values_fit service (vs ++ v ∷ []) ≡ true
+  own_fits good vs v vs_are v_is =
+      subst (λ (ws : List Value). values_fit service (ws ++ v ∷ []) ≡ true) (sym vs_are)
+      (subst (λ (w : Value). values_fit service (x.known ++ w ∷ []) ≡ true) (sym v_is) (piece_fits service good x.known one.0 runs is_up.fits has.limits has.many p one.2))
+
+  -- and it is the cut that the node proposed last, once that is the piece's
+  pub own_cut : IsService service → (y : NodeValue K) (v : Value) → y ≡ with_cut x p.cut.counts → v ≡ p.value → IsOwnCut service y v
+  own_cut good y v y_is v_is =
+      subst (λ (z : NodeValue K). IsOwnCut service z v) (sym y_is)
+      (subst (λ (w : Option ActingValue). IfSome (option_map (cut_at p.cut.counts) w) (λ (a : ActingValue). IsCutAt service x.known a v)) (sym one.1)
+      (subst (λ (w : Value). IsCutAt service x.known (cut_at p.cut.counts one.0) w) (sym v_is) (piece_cut service good x.known one.0 runs is_up.fits has.limits has.many p one.2)))
+
+  -- ---- the call
+
+  module _ (gives : K → List ℕ → Answer → K → Type 0) (faults : K → ℕ) where
+    abbrev cut : List ℕ
+    cut = p.cut.counts
+
+    abbrev at : NodeValue K
+    at = with_cut x cut
+
+    -- the model sees nothing of the cut that was proposed last
+    here_with : (w : Option ActingValue) → here_of records service (record x { acting = option_map (cut_at cut) w }) ≡ here_of records service (record x { acting = w })
+    here_with None = refl
+    here_with (Some a) = refl
+
+    draft_with : (before : Draft) → so_far records service at before ≡ so_far records service x before
+    draft_with before = ap (λ (h : Here). record (so_far records service x before) { node = h }) (here_with x.acting)
+
+    active_same : (w : Option ActingValue) → is_some (option_map (cut_at cut) w) ≡ is_some w
+    active_same None = refl
+    active_same (Some a) = refl
+
+    -- the call that proposes a value of so many events
+    abbrev proposes : ℕ → Value → Lead Value → CallHere → CallHere
+    proposes events v l d = propose x.nodes x.id (effect.Proposes x.id (length x.known + 1) events) d l (length x.known + 1) v (settle (enough l.reported) x.nodes (service_of service x.seed) x.id)
+
+    -- it is the one that proposes the cut
+    module _ (before : Draft) (l : Lead Value) (armed : Option Failure) where
+      abbrev now : CallHere
+      now = armed_with armed (so_far records service x before)
+
+      abbrev of_parts : ℕ → ℕ → Value → CallHere
+      of_parts i events v = propose x.nodes x.id (effect.Proposes x.id i events) now l i v (settle (enough l.reported) x.nodes (service_of service x.seed) x.id)
+
+      abbrev of_live : ℕ → List ℕ → List Event → CallHere
+      of_live i c live = of_parts i (length (below c live)) (value_at c live)
+
+      same_call : propose_cut service x.seed x.nodes x.id cut l now ≡ proposes p.events p.value l now
+      same_call =
+          ap (λ (vs : List Value). of_live (suc (length vs)) cut (work_of x.acting).live) (sym is_up.known)
+          ∙ ap (λ (i : ℕ). of_live i cut (work_of x.acting).live) (add_one (length x.known))
+          ∙ ap (λ (w : Option ActingValue). of_live (length x.known + 1) cut (work_of w).live) one.1
+          ∙ ap (λ (c : List ℕ). of_live (length x.known + 1) c one.0.recorder.live) one.2.cut_is
+          ∙ ap (λ (e : ℕ). of_parts (length x.known + 1) e (value_at (cut_in one.0 has.limits) one.0.recorder.live)) (sym one.2.events)
+          ∙ ap (λ (v : Value). of_parts (length x.known + 1) p.events v) (sym one.2.value)
+
+    module _ (y : NodeValue K) (before after : Draft) where
+      abbrev EndsBy : (CallHere → CallHere) → NodeValue K → Going → Type 0
+      EndsBy whole z going = Ends records gives faults service whole z y before after going
+
+      -- a call of the node with this cut is one of the node
+      ends_with : (l : Lead Value) (going : Going) → EndsBy (proposes p.events p.value l) at going → EndsBy (propose_cut service x.seed x.nodes x.id cut l) x going
+      ends_with l going h =
+          ends_as records gives faults service (proposes p.events p.value l) (propose_cut service x.seed x.nodes x.id cut l) x y before after going (λ f. same_call before l f) (begins_here l going h)
+        where
+          begins_here : (m : Lead Value) (going : Going) → EndsBy (proposes p.events p.value m) at going → EndsBy (proposes p.events p.value m) x going
+          begins_here m On k = ((subst (λ (d : CallHere). LeadsOn records gives faults (proposes p.events p.value m) (λ e. e) x.keeper y.keeper d (so_far records service y after)) (draft_with before) k.0.0, k.0.1, k.0.2), k.1)
+          begins_here m Down k = ((subst (λ (d : CallHere). Fell records gives faults (proposes p.events p.value m) x.id x.keeper y.keeper d (so_far records service y after)) (draft_with before) k.0.0, k.0.1), k.1)
+
+      pub piece_ends : (mid : NodeValue K) → mid ≡ with_cut x p.cut.counts → (value : Value) → value ≡ p.value → (going : Going)
+          → ProposesCut records gives faults service p.events value mid y before after going → ProposesPiece records gives faults service p.cut.counts x y before after going
+      piece_ends mid mid_is value value_is going h =
+          from_lead x (λ l. EndsBy (propose_cut service x.seed x.nodes x.id cut l) x going)
+          (λ q leads. ends_with (lead_of x.acceptor q (is_some x.acting)) going
+          (subst (λ (t : Bool). EndsBy (proposes p.events p.value (lead_of x.acceptor q t)) at going) (active_same x.acting)
+          (lead_from at (λ l. EndsBy (proposes p.events p.value l) at going) q leads h_at)))
+        where
+          h_at : ProposesCut records gives faults service p.events p.value at y before after going
+          h_at =
+              subst (λ (z : NodeValue K). ProposesCut records gives faults service p.events p.value z y before after going) mid_is
+              (subst (λ (v : Value). ProposesCut records gives faults service p.events v mid y before after going) value_is h)
+
+-- a result that is an error says nothing
+pub if_error : {A E : Type 0} (P : A → Type 0) (r : Result A E) → is_err r ≡ true → IfOk r P
+if_error P (Ok x) e = absurd (false≢true e)
+if_error P (Err e) h = tt
+
+pub if_then : {A E : Type 0} (P Q : A → Type 0) (r : Result A E) → ((x : A) → P x → Q x) → IfOk r P → IfOk r Q
+if_then P Q (Ok x) f h = f x h
+if_then P Q (Err e) f h = tt
+
+-- ---- the whole call
+
+module _ {K : Type 0} (records : K → List (List ℕ)) (service : Declarations) (x : NodeValue K) (node : IsNode records service x) (p : Piece) (has : HasPiece service x p) (good : IsService service) (q : ProposerValue) (leads : x.proposer ≡ Some q) (first : Draft) (armed : Option Failure) where
+  up_now : IsUp service x (here_of records service x)
+  up_now = node.up has.can.up
+
+  abbrev has_one : (a : ActingValue) × (x.acting ≡ Some a) × IsPieceOf a (cut_in a has.limits) p
+  has_one = own_piece x.acting has.limits p has.can.piece
+
+  abbrev a : ActingValue
+  a = has_one.0
+
+  abbrev counts : List ℕ
+  counts = counts_for service (here_of records service x) has.limits
+
+  abbrev d : CallHere
+  d = armed_with armed (so_far records service x first)
+
+  abbrev l : Lead Value
+  l = lead_of x.acceptor q (is_some x.acting)
+
+  abbrev live : List Event
+  live = (work_of x.acting).live
+
+  counts_of_it : counts ≡ counts_in a has.limits
+  counts_of_it = counts_are records service x node has.can.up a has_one.1 has.limits
+
+  -- what is computed from the node's counts and live events is computed from what it executes
+  there : {T : Type 0} (f : List ℕ → List Event → T) → f counts live ≡ f (counts_in a has.limits) a.recorder.live
+  there f = ap (λ (w : Option ActingValue). f counts (work_of w).live) has_one.1 ∙ ap (λ (cs : List ℕ). f cs a.recorder.live) counts_of_it
+
+  faithful : is_faithful service x.seed (known d.node.log) (greatest_cut counts live) live ≡ true
+  faithful =
+      ap (λ (vs : List Value). is_faithful service x.seed vs (greatest_cut counts live) live) (sym up_now.known)
+      ∙ there (λ cs es. is_faithful service x.seed x.known (greatest_cut cs es) es)
+      ∙ piece_faithful service good x.known a (executes service x.known x.acceptor x.proposer x.acting a up_now.acting has_one.1) up_now.fits has.limits has.many p has_one.2 x.seed
+
+  some : 0 < length (below (greatest_cut counts live) live)
+  some = subst (λ (n : ℕ). 0 < n) (sym (there (λ cs es. length (below (greatest_cut cs es) es)))) has_one.2.some
+
+  idle : open_of x.acceptor q.open_instance ≡ None
+  idle = subst (IsIdle x.acceptor) leads has.can.idle
+
+  left : nat_le 65535 (length (known d.node.log)) ≡ false
+  left = lt-leb 65535 (length (known d.node.log)) (subst (λ (vs : List Value). length vs < 65535) up_now.known has.can.left)
+
+  proposes_some : (es : List Event) → 0 < length es → cut_live service x.seed x.nodes x.id (greatest_cut counts live) l es d ≡ propose_cut service x.seed x.nodes x.id (greatest_cut counts live) l d
+  proposes_some [] h = absurd (omega arith)
+  proposes_some (e ∷ es) h = ap (λ (t : Bool). cond t (propose_cut service x.seed x.nodes x.id (greatest_cut counts live) l d) (say effect.Nothing d)) faithful
+
+  -- the call of a cut proposes the piece
+  pub cuts_piece : lanes.cut service x.seed x.nodes x.id counts d ≡ propose_cut service x.seed x.nodes x.id p.cut.counts l d
+  cuts_piece =
+      ap (λ (o : Option ProposerValue). cut_role service x.seed x.nodes x.id counts (role_of x.acceptor o (is_some x.acting)) d) leads
+      ∙ ap (λ (w : Option ActingValue). active_only (is_some w) d (cut_lead service x.seed x.nodes x.id counts l l.proposal d)) has_one.1
+      ∙ ap (λ (o : Option (Proposal Value)). cut_lead service x.seed x.nodes x.id counts l o d) idle
+      ∙ ap (λ (t : Bool). cond t (say effect.Ended d) (cut_live service x.seed x.nodes x.id (greatest_cut counts live) l (below (greatest_cut counts live) live) d)) left
+      ∙ proposes_some (below (greatest_cut counts live) live) some
+      ∙ ap (λ (c : List ℕ). propose_cut service x.seed x.nodes x.id c l d) (there greatest_cut ∙ sym has_one.2.cut_is)
+
+module _ {K : Type 0} (records : K → List (List ℕ)) (gives : K → List ℕ → Answer → K → Type 0) (faults : K → ℕ) (service : Declarations) where
+  -- a cut ends as its piece is proposed
+  pub cut_ends : (x : NodeValue K) (node : IsNode records service x) (p : Piece) (has : HasPiece service x p) → IsService service → (y : NodeValue K) (first draft : Draft) (going : Going)
+      → ProposesPiece records gives faults service p.cut.counts x y first draft going
+      → Ends records gives faults service (lanes.cut service x.seed x.nodes x.id (counts_for service (here_of records service x) has.limits)) x y first draft going
+  cut_ends x node p has good y first draft going h =
+      let o = idle_leads x.acceptor x.proposer has.can.idle in
+      ends_as records gives faults service (propose_cut service x.seed x.nodes x.id p.cut.counts (lead_of x.acceptor o.0 (is_some x.acting))) (lanes.cut service x.seed x.nodes x.id (counts_for service (here_of records service x) has.limits)) x y first draft going
+      (λ f. cuts_piece records service x node p has good o.0 o.1 first f)
+      (lead_from x (λ l. Ends records gives faults service (propose_cut service x.seed x.nodes x.id p.cut.counts l) x y first draft going) o.0 o.1 h)

@@ -1,0 +1,222 @@
+-- What a node does on a Prepare and on an Accept.
+use Rattle.std.proofs.Common.{◌≡◌, ℕ, ◌<◌, Bool, true, false, List, [], ◌∷◌, Option, None, refl, sym, ap, subst, ◌∙◌, arith, le_refl}
+use Rattle.std.specs.Prelude.{map, not, nat_lt, is_some, cond, Result, Ok, Err, OnErr}
+use Rattle.std.proofs.lemmas.Bool.{lt-ltb, le-ltb}
+use Rattle.rex_msg.specs.declared.message.Content.TheVariants as sent
+use Rattle.rex_ballot.specs.Ballot.{IsBallot, IsInstance}
+use Rattle.rex_ballot.specs.Proposals.{IsValue, from_instance, proposal_for}
+use Rattle.rex_paxos.specs.Acceptor.{AcceptorValue, accepting, answer_to_accept, is_of_ballot, promising}
+use Rattle.rex_paxos.specs.declared.answers.Asked.TheVariants as asked
+use Rattle.rex_syntax.specs.declared.service.Declarations.{Declarations}
+use Rattle.rex_durable.specs.declared.records.Rec.{Rec as KeptRec}
+use Rattle.rex_durable.specs.declared.records.Rec.TheVariants as kept
+use Rattle.rex_durable.specs.Spelling.{HasSpelling, record_bytes}
+use Rattle.rex_report.specs.declared.effect.Effect.TheVariants as effect
+use Rattle.rex_traits.specs.Chains.{Answer}
+use Rattle.rex_safety.specs.Records.{Proposal, promise, accepted, from_on}
+use Rattle.rex_safety.specs.Records.Rec.{Promised, Accepted}
+use Rattle.rex_safety.specs.Node.{Failure}
+use Rattle.rex_safety.specs.Node.Content.{Promise, Accepted as Voted, Nack}
+use Rattle.rex_safety.specs.Calls.{answer, append, follow, followed, has_last, logged, on_accept, on_prepare, promised, send}
+use Rattle.rex_safety.specs.Values.{Value}
+use Rattle.rex_safety.specs.Lanes.{CallHere}
+use Rattle.rex_safety.specs.Ranges.{AreRising}
+use Rattle.rex_safety.proofs.Ranged.{accepted_rising}
+use Rattle.rex_node.specs.declared.step.Draft.{Draft}
+use Rattle.rex_node.specs.declared.going.Going.{Going}
+use Rattle.rex_node.specs.declared.going.Going.TheVariants.{On, Down}
+use Rattle.rex_node.specs.Calls.{armed_with}
+use Rattle.rex_node.specs.Going.{Appends, Fell, IsStuck, Sends, Tells, answering, so_far}
+use Rattle.rex_node.specs.Parts.{NodeValue, IsUp, IsNode, here_of, leaving, log_of, proposal_in, role_of}
+use Rattle.rex_node.proofs.Appended.{ballot_fits, instance_fits, logged_of, logged_promised, logged_accepted, IsLogged}
+use Rattle.rex_node.proofs.Instances.{from_kept, last_kept, rising_zero}
+use Rattle.rex_node.proofs.Following.{EndsWell, ends_same}
+use Rattle.rex_node.proofs.Recorded.{sends_to, recorded_stuck, recorded_down, recorded_on, follows_node, follows_up, follows_keeper, follows_to}
+
+-- what holds anyway holds of an error
+pub on_err_anyway : {T E : Type 0} (r : Result T E) (P : Type 0) → P → OnErr r P
+on_err_anyway (Ok x) P p = tt
+on_err_anyway (Err e) P p = p
+
+-- what an append came to
+pub appends_at : {K : Type 0} (records : K → List (List ℕ)) (gives : K → List ℕ → Answer → K → Type 0) (faults : K → ℕ) (x y : NodeValue K) (before mid : Draft) (r s : KeptRec) (g h : Going) → r ≡ s → g ≡ h
+    → Appends records faults gives x y before mid (record_bytes r) g → Appends records faults gives x y before mid (record_bytes s) h
+appends_at records gives faults x y before mid r s g h a b k =
+    subst (λ (z : Going). Appends records faults gives x y before mid (record_bytes s) z) b (subst (λ (z : KeptRec). Appends records faults gives x y before mid (record_bytes z) g) a k)
+
+module _ {K : Type 0} (records : K → List (List ℕ)) (gives : K → List ℕ → Answer → K → Type 0) (faults : K → ℕ) (service : Declarations) (x : NodeValue K) (node : IsNode records service x) (up : x.up ≡ true) (before : Draft) (from b : ℕ) where
+  u : IsUp service x (here_of records service x)
+  u = node.up up
+
+  -- ---- a Prepare
+
+  module _ (first : ℕ) where
+    abbrev prepare : CallHere → CallHere
+    prepare = on_prepare x.id from b first
+
+    -- one below the promise is refused
+    pub prepare_refused : (after : Draft) → b < x.acceptor.promised → Sends before after (answering x.id from (sent.Nack b x.acceptor.promised)) → EndsWell records gives faults service x x before after prepare
+    prepare_refused after less s =
+        ends_same records gives faults service x x before after prepare refl node up
+        (λ f. ap (λ (t : Bool). cond t (nacks f) (others f)) (lt-ltb b (promise (here_of records service x).log) (omega (arith, less, u.promised)))
+        ∙ ap (λ (p : ℕ). send (armed_with f (so_far records service x before)) (answer x.id from (Nack b p))) (sym u.promised)
+        ∙ ap (armed_with f) (sym (sends_to records service x before after from (sent.Nack b x.acceptor.promised) s)))
+      where
+        nacks : Option Failure → CallHere
+        nacks f = send (armed_with f (so_far records service x before)) (answer x.id from (Nack b (promise (here_of records service x).log)))
+
+        others : Option Failure → CallHere
+        others f =
+            cond (nat_lt (promise (here_of records service x).log) b)
+            (append f x.id (Promised b) (armed_with f (so_far records service x before)) (λ e. promised x.id from b first (follow x.id (effect.Promised x.id b ∷ []) e)))
+            (promised x.id from b first (armed_with f (so_far records service x before)))
+
+    -- the same promise is made again
+    pub prepare_again : (after : Draft) → b ≡ x.acceptor.promised → Sends before after (answering x.id from (sent.Promise b (from_instance first x.acceptor.accepted))) → EndsWell records gives faults service x x before after prepare
+    prepare_again after same s =
+        ends_same records gives faults service x x before after prepare refl node up
+        (λ f. ap (λ (t : Bool). cond t (nacks f) (cond (nat_lt (promise (here_of records service x).log) b) (raises f) (again f))) (le-ltb b (promise (here_of records service x).log) (omega (arith, same, u.promised)))
+        ∙ ap (λ (t : Bool). cond t (raises f) (again f)) (le-ltb (promise (here_of records service x).log) b (omega (arith, same, u.promised)))
+        ∙ ap (λ (ps : List (Proposal Value)). send (armed_with f (so_far records service x before)) (answer x.id from (Promise b ps))) (sym (from_kept first x.acceptor.accepted ∙ ap (from_on first) u.accepted))
+        ∙ ap (armed_with f) (sym (sends_to records service x before after from (sent.Promise b (from_instance first x.acceptor.accepted)) s)))
+      where
+        nacks : Option Failure → CallHere
+        nacks f = send (armed_with f (so_far records service x before)) (answer x.id from (Nack b (promise (here_of records service x).log)))
+
+        raises : Option Failure → CallHere
+        raises f = append f x.id (Promised b) (armed_with f (so_far records service x before)) (λ e. promised x.id from b first (follow x.id (effect.Promised x.id b ∷ []) e))
+
+        again : Option Failure → CallHere
+        again f = promised x.id from b first (armed_with f (so_far records service x before))
+
+    -- a greater one is promised
+    module _ (ballot : IsBallot b) (above : x.acceptor.promised < b) (y : NodeValue K) (mid : Draft) where
+      spelled : HasSpelling (kept.Promised b)
+      spelled = record { in_range = ballot }
+
+      raises_is : (f : Option Failure) → on_prepare x.id from b first (armed_with f (so_far records service x before))
+          ≡ append f x.id (Promised b) (armed_with f (so_far records service x before)) (λ e. promised x.id from b first (follow x.id (effect.Promised x.id b ∷ []) e))
+      raises_is f =
+          ap (λ (t : Bool). cond t nacks (cond (nat_lt (promise (here_of records service x).log) b) raises again)) (le-ltb b (promise (here_of records service x).log) (omega (arith, above, u.promised)))
+          ∙ ap (λ (t : Bool). cond t raises again) (lt-ltb (promise (here_of records service x).log) b (omega (arith, above, u.promised)))
+        where
+          nacks : CallHere
+          nacks = send (armed_with f (so_far records service x before)) (answer x.id from (Nack b (promise (here_of records service x).log)))
+
+          raises : CallHere
+          raises = append f x.id (Promised b) (armed_with f (so_far records service x before)) (λ e. promised x.id from b first (follow x.id (effect.Promised x.id b ∷ []) e))
+
+          again : CallHere
+          again = promised x.id from b first (armed_with f (so_far records service x before))
+
+      pub raise_down : Appends records faults gives x y before mid (record_bytes (kept.Promised b)) Down
+          → (Fell records gives faults prepare x.id x.keeper y.keeper (so_far records service x before) (so_far records service y mid) × (y.up ≡ false)) × IsNode records service y
+      raise_down h = recorded_down records gives faults service x y before mid node up (kept.Promised b) spelled tt refl prepare _ raises_is h
+
+      pub raise_stuck : Appends records faults gives x y before mid (record_bytes (kept.Promised b)) On → (z : NodeValue K) → z.keeper ≡ y.keeper → z.base ≡ y.base → IsStuck records service x z
+      raise_stuck h z keeper based = recorded_stuck records gives faults service x y before mid node up (kept.Promised b) spelled tt refl h z keeper based
+
+      pub raise_on : Appends records faults gives x y before mid (record_bytes (kept.Promised b)) On → (z : NodeValue K) (told after : Draft) → z ≡ record (leaving y) { acceptor = promising y.acceptor b }
+          → Tells mid told (effect.Promised y.id b ∷ followed y.id (role_of y.acceptor y.proposer (is_some y.acting)))
+          → Sends told after (answering z.id from (sent.Promise b (from_instance first z.acceptor.accepted))) → EndsWell records gives faults service x z before after prepare
+      raise_on h z told after z_is t s =
+          recorded_on records gives faults service x y before mid node up (kept.Promised b) spelled tt refl prepare (λ e. promised x.id from b first (follow x.id (effect.Promised x.id b ∷ []) e)) raises_is h z after
+          (follows_keeper records gives faults service x y before mid node up (kept.Promised b) spelled tt refl h a x.known logged_here (le_refl _) (λ n l. refl) z z_here)
+          (follows_node records gives faults service x y before mid node up (kept.Promised b) spelled tt refl h a x.known logged_here (le_refl _) (λ n l. refl) z z_here)
+          (follows_up records gives faults service x y before mid node up (kept.Promised b) spelled tt refl h a x.known logged_here (le_refl _) (λ n l. refl) z z_here)
+          (λ f. refl)
+          (sends_to records service z told after from (sent.Promise b (from_instance first z.acceptor.accepted)) s
+          ∙ ap (λ (e : CallHere). send e (answer z.id from (Promise b (map proposal_in (from_instance first z.acceptor.accepted)))))
+          (follows_to records gives faults service x y before mid node up (kept.Promised b) spelled tt refl h a x.known logged_here (le_refl _) (λ n l. refl) z z_here told (effect.Promised x.id b)
+          (subst (λ (i : ℕ). Tells mid told (effect.Promised i b ∷ followed y.id (role_of y.acceptor y.proposer (is_some y.acting)))) (ap (λ (n : NodeValue K). n.id) h.0.parts) t))
+          ∙ ap (λ (n : NodeValue K). send (follow x.id (effect.Promised x.id b ∷ []) (logged (Promised b) None (so_far records service x before))) (answer n.id from (Promise b (map proposal_in (from_instance first n.acceptor.accepted))))) z_here
+          ∙ ap (λ (ps : List (Proposal Value)). send (follow x.id (effect.Promised x.id b ∷ []) (logged (Promised b) None (so_far records service x before))) (answer x.id from (Promise b ps))) (from_kept first x.acceptor.accepted ∙ ap (from_on first) u.accepted))
+        where
+          a : AcceptorValue
+          a = promising x.acceptor b
+
+          z_here : z ≡ record (leaving x) { keeper = y.keeper; acceptor = promising x.acceptor b; known = x.known }
+          z_here = z_is ∙ ap (λ (n : NodeValue K). record (leaving n) { acceptor = promising n.acceptor b }) h.0.parts
+
+          logged_here : IsLogged service (record x { keeper = y.keeper; acceptor = promising x.acceptor b; known = x.known }) (Promised b ∷ log_of service (records x.keeper))
+          logged_here =
+              let l : IsLogged service (record x { acceptor = promising x.acceptor b }) (Promised b ∷ log_of service (records x.keeper)) = logged_promised service x (log_of service (records x.keeper)) (logged_of records service x u) b (ballot_fits b ballot) in
+              record { promised = l.promised; accepted = l.accepted; known = l.known; base = l.base; few = l.few; start = l.start; short = l.short; fits = l.fits; numbers = l.numbers }
+
+  -- ---- an Accept
+
+  -- a proposal that is no less than the promise, and accepted before or not
+  asked_parts : (less has fresh : Bool) (p : ℕ) → cond less (asked.Nack p) (asked.Accept (not has)) ≡ asked.Accept fresh → (less ≡ false) × (has ≡ not fresh)
+  asked_parts true has fresh p e = absurd (cc)
+  asked_parts false true true p e = absurd (let n : asked.Accept false ≡ asked.Accept true = e in cc)
+  asked_parts false true false p e = (refl, refl)
+  asked_parts false false true p e = (refl, refl)
+  asked_parts false false false p e = absurd (let n : asked.Accept true ≡ asked.Accept false = e in cc)
+
+  module _ (i : ℕ) (v : Value) where
+    abbrev accept : CallHere → CallHere
+    accept = on_accept x.id from b i v
+
+    module _ (fresh : Bool) (answer_is : answer_to_accept x.acceptor b i ≡ asked.Accept fresh) where
+      not_less : nat_lt b (promise (here_of records service x).log) ≡ false
+      not_less = ap (nat_lt b) (sym u.promised) ∙ (asked_parts (nat_lt b x.acceptor.promised) (is_of_ballot b (proposal_for i x.acceptor.accepted)) fresh x.acceptor.promised answer_is).0
+
+      has_it : has_last b i (accepted (here_of records service x).log) ≡ not fresh
+      has_it =
+          ap (has_last b i) (sym u.accepted)
+          ∙ last_kept b i 0 x.acceptor.accepted (rising_zero x.acceptor.accepted (subst (λ (ps : List (Proposal Value)). AreRising 0 ps) (sym u.accepted) (accepted_rising (here_of records service x).log u.numbers.log.instances)))
+          ∙ (asked_parts (nat_lt b x.acceptor.promised) (is_of_ballot b (proposal_for i x.acceptor.accepted)) fresh x.acceptor.promised answer_is).1
+
+      -- then the call is this
+      abbrev accepts : Option Failure → CallHere
+      accepts f = append f x.id (Accepted b i v) (armed_with f (so_far records service x before)) (λ e. send (follow x.id (effect.Accepted x.id b i ∷ []) e) (answer x.id from (Voted b i)))
+
+      accept_is : (f : Option Failure) → on_accept x.id from b i v (armed_with f (so_far records service x before)) ≡ cond (not fresh) (send (armed_with f (so_far records service x before)) (answer x.id from (Voted b i))) (accepts f)
+      accept_is f =
+          ap (λ (t : Bool). cond t (send (armed_with f (so_far records service x before)) (answer x.id from (Nack b (promise (here_of records service x).log)))) (cond (has_last b i (accepted (here_of records service x).log)) (send (armed_with f (so_far records service x before)) (answer x.id from (Voted b i))) (accepts f))) not_less
+          ∙ ap (λ (t : Bool). cond t (send (armed_with f (so_far records service x before)) (answer x.id from (Voted b i))) (accepts f)) has_it
+
+    -- the last acceptance for the instance is at the ballot
+    pub accept_again : (after : Draft) → answer_to_accept x.acceptor b i ≡ asked.Accept false → Sends before after (answering x.id from (sent.Accepted b i)) → EndsWell records gives faults service x x before after accept
+    accept_again after e s =
+        ends_same records gives faults service x x before after accept refl node up
+        (λ f. accept_is false e f ∙ ap (armed_with f) (sym (sends_to records service x before after from (sent.Accepted b i) s)))
+
+    -- or it is accepted
+    module _ (ballot : IsBallot b) (there : IsInstance i) (short : IsValue v) (e : answer_to_accept x.acceptor b i ≡ asked.Accept true) (y : NodeValue K) (mid : Draft) where
+      valued : HasSpelling (kept.Accepted b i v)
+      valued = record { in_range = (ballot, there, short) }
+
+      pub accept_down : Appends records faults gives x y before mid (record_bytes (kept.Accepted b i v)) Down
+          → (Fell records gives faults accept x.id x.keeper y.keeper (so_far records service x before) (so_far records service y mid) × (y.up ≡ false)) × IsNode records service y
+      accept_down h = recorded_down records gives faults service x y before mid node up (kept.Accepted b i v) valued tt refl accept _ (accept_is true e) h
+
+      pub accept_stuck : Appends records faults gives x y before mid (record_bytes (kept.Accepted b i v)) On → (z : NodeValue K) → z.keeper ≡ y.keeper → z.base ≡ y.base → IsStuck records service x z
+      accept_stuck h z keeper based = recorded_stuck records gives faults service x y before mid node up (kept.Accepted b i v) valued tt refl h z keeper based
+
+      pub accept_on : Appends records faults gives x y before mid (record_bytes (kept.Accepted b i v)) On → (z : NodeValue K) (told after : Draft) → z ≡ record (leaving y) { acceptor = accepting y.acceptor (record { instance = i; ballot = b; value = v }) }
+          → Tells mid told (effect.Accepted y.id b i ∷ followed y.id (role_of y.acceptor y.proposer (is_some y.acting)))
+          → Sends told after (answering z.id from (sent.Accepted b i)) → EndsWell records gives faults service x z before after accept
+      accept_on h z told after z_is t s =
+          recorded_on records gives faults service x y before mid node up (kept.Accepted b i v) valued tt refl accept (λ n. send (follow x.id (effect.Accepted x.id b i ∷ []) n) (answer x.id from (Voted b i))) (accept_is true e) h z after
+          (follows_keeper records gives faults service x y before mid node up (kept.Accepted b i v) valued tt refl h a x.known logged_here (le_refl _) (λ n l. refl) z z_here)
+          (follows_node records gives faults service x y before mid node up (kept.Accepted b i v) valued tt refl h a x.known logged_here (le_refl _) (λ n l. refl) z z_here)
+          (follows_up records gives faults service x y before mid node up (kept.Accepted b i v) valued tt refl h a x.known logged_here (le_refl _) (λ n l. refl) z z_here)
+          (λ f. refl)
+          (sends_to records service z told after from (sent.Accepted b i) s
+          ∙ ap (λ (n : CallHere). send n (answer z.id from (Voted b i)))
+          (follows_to records gives faults service x y before mid node up (kept.Accepted b i v) valued tt refl h a x.known logged_here (le_refl _) (λ n l. refl) z z_here told (effect.Accepted x.id b i)
+          (subst (λ (j : ℕ). Tells mid told (effect.Accepted j b i ∷ followed y.id (role_of y.acceptor y.proposer (is_some y.acting)))) (ap (λ (n : NodeValue K). n.id) h.0.parts) t))
+          ∙ ap (λ (j : ℕ). send (follow x.id (effect.Accepted x.id b i ∷ []) (logged (Accepted b i v) None (so_far records service x before))) (answer j from (Voted b i))) (ap (λ (n : NodeValue K). n.id) z_here))
+        where
+          a : AcceptorValue
+          a = accepting x.acceptor (record { instance = i; ballot = b; value = v })
+
+          z_here : z ≡ record (leaving x) { keeper = y.keeper; acceptor = accepting x.acceptor (record { instance = i; ballot = b; value = v }); known = x.known }
+          z_here = z_is ∙ ap (λ (n : NodeValue K). record (leaving n) { acceptor = accepting n.acceptor (record { instance = i; ballot = b; value = v }) }) h.0.parts
+
+          logged_here : IsLogged service (record x { keeper = y.keeper; acceptor = accepting x.acceptor (record { instance = i; ballot = b; value = v }); known = x.known }) (Accepted b i v ∷ log_of service (records x.keeper))
+          logged_here =
+              let l : IsLogged service (record x { acceptor = accepting x.acceptor (record { instance = i; ballot = b; value = v }) }) (Accepted b i v ∷ log_of service (records x.keeper)) =
+              logged_accepted service x (log_of service (records x.keeper)) (logged_of records service x u) b i v (ballot_fits b ballot) (instance_fits i there) short in
+              record { promised = l.promised; accepted = l.accepted; known = l.known; base = l.base; few = l.few; start = l.start; short = l.short; fits = l.fits; numbers = l.numbers }

@@ -1,0 +1,131 @@
+-- An open proposal stays the cut that was proposed last where a lane has its turn.
+use Rattle.std.proofs.Common.{◌≡◌, ℕ, true, false, cond, not, ◌⊎◌, inl, inr, List, [], ◌∷◌, ◌++◌, refl, sym, ap, subst, ◌∙◌, arith, le_trans, le-ltb, append-nil, Option, Some, None}
+use Rattle.std.specs.Prelude.{unwrap_or}
+use Rattle.std.proofs.lemmas.Bool.{false≢true, eqb-true}
+use Rattle.std.proofs.lemmas.List.Elements.{filter-append}
+use Rattle.rand_pcg.specs.Lcg.{Lcg}
+use Rattle.rex_syntax.specs.declared.service.Declarations.{Declarations}
+use Rattle.rex_syntax.specs.Service.{IsService}
+use Rattle.rex_event.specs.declared.event.Event.{Event}
+use Rattle.rex_event.specs.Order.{Has, Precedes, ConflictsBefore, Chain}
+use Rattle.rex_event.specs.Cuts.{count_at, is_below, below, beyond, IsConsistent, IsWithin}
+use Rattle.rex_state.specs.Value.{StateValue}
+use Rattle.rex_state.specs.Start.{start_of}
+use Rattle.rex_state.specs.Machine.{run, next, lane_of}
+use Rattle.rex_state.specs.Commute.{GoesFirst}
+use Rattle.rex_state.specs.Counts.{counts_of}
+use Rattle.rex_state.proofs.Keep.{IsNext, next_is}
+use Rattle.rex_state.proofs.Run.{run-then, run-push, run-first}
+use Rattle.rex_state.proofs.Counts.{count_is, runs_rise}
+use Rattle.rex_state.proofs.Cuts.{cuts_go_first}
+use Rattle.rex_record.specs.declared.turns.Turn.{Turn}
+use Rattle.rex_record.specs.declared.turns.Turn.TheVariants as turn
+use Rattle.rex_record.specs.Value.{turned}
+use Rattle.rex_record.specs.Kept.{IsRecorder}
+use Rattle.rex_safety.specs.Records.{Proposal}
+use Rattle.rex_safety.specs.Values.{Value, events_of, trace_of, state_after}
+use Rattle.rex_safety.proofs.Replies.{state_is, trace_push}
+use Rattle.rex_node.specs.Parts.{ActingValue, Executes, IsCutAt, OpenIsCut}
+
+-- ---- consistent cuts
+
+has_push : (x e : Event) (es : List Event) → Has x (es ++ e ∷ []) → Has x es ⊎ (e ≡ x)
+has_push x e [] (inl h) = inr h
+has_push x e [] (inr h) = absurd h
+has_push x e (y ∷ ys) (inl h) = inl (inl h)
+has_push x e (y ∷ ys) (inr h) = go (has_push x e ys h)
+  where
+    go : Has x ys ⊎ (e ≡ x) → Has x (y ∷ ys) ⊎ (e ≡ x)
+    go (inl k) = inl (inr k)
+    go (inr k) = inr k
+
+precedes_push : (d x e : Event) (es : List Event) → Precedes d x (es ++ e ∷ []) → Precedes d x es ⊎ (e ≡ x)
+precedes_push d x e [] (inl h) = absurd h.1
+precedes_push d x e [] (inr h) = absurd h
+precedes_push d x e (y ∷ ys) (inl h) = go (has_push x e ys h.1)
+  where
+    go : Has x ys ⊎ (e ≡ x) → Precedes d x (y ∷ ys) ⊎ (e ≡ x)
+    go (inl k) = inl (inl (h.0, k))
+    go (inr k) = inr k
+precedes_push d x e (y ∷ ys) (inr h) = go (precedes_push d x e ys h)
+  where
+    go : Precedes d x ys ⊎ (e ≡ x) → Precedes d x (y ∷ ys) ⊎ (e ≡ x)
+    go (inl k) = inl (inr k)
+    go (inr k) = inr k
+
+-- a consistent cut stays one with an event that isn't below it
+pub consistent_push : (cut : List ℕ) (es : List Event) (e : Event) → IsConsistent es cut → is_below cut e ≡ false → IsConsistent (es ++ e ∷ []) cut
+consistent_push cut es e c out = record { closed = λ d x o. closed o.0 d x o.1 }
+  where
+    step : (d x : Event) → ConflictsBefore (es ++ e ∷ []) d x → is_below cut x ≡ true → is_below cut d ≡ true
+    step d x s b = go (precedes_push d x e es s.before)
+      where
+        go : Precedes d x es ⊎ (e ≡ x) → is_below cut d ≡ true
+        go (inl k) = c.closed d x ([], record { before = k; meets = s.meets }) b
+        go (inr k) = absurd (false≢true (sym out ∙ ap (is_below cut) k ∙ b))
+
+    closed : (via : List Event) (d x : Event) → Chain (ConflictsBefore (es ++ e ∷ [])) d via x → is_below cut x ≡ true → is_below cut d ≡ true
+    closed [] d x s b = step d x s b
+    closed (y ∷ ys) d x s b = step d y s.0 (closed ys y x s.1 b)
+
+-- ---- what is below a cut, with one event more that isn't
+
+below_push : (cut : List ℕ) (es : List Event) (e : Event) → is_below cut e ≡ false → below cut (es ++ e ∷ []) ≡ below cut es
+below_push cut es e out = filter-append (is_below cut) es (e ∷ []) ∙ ap (λ t. below cut es ++ cond t (e ∷ []) []) out ∙ append-nil (below cut es)
+
+beyond_push : (cut : List ℕ) (es : List Event) (e : Event) → is_below cut e ≡ false → beyond cut (es ++ e ∷ []) ≡ beyond cut es ++ e ∷ []
+beyond_push cut es e out = filter-append (λ x. not (is_below cut x)) es (e ∷ []) ∙ ap (λ t. beyond cut es ++ cond (not t) (e ∷ []) []) out
+
+module _ (service : Declarations) (good : IsService service) (values : List Value) (a : ActingValue) (h : Executes service values a) (value : Value) (c : IsCutAt service values a value) where
+  -- an event that goes on from the live state isn't below counts that the live ones are not below
+  not_below : (counts : List ℕ) (e : Event) (after : StateValue) → IsWithin (counts_of a.recorder.state) counts → next service a.recorder.state e ≡ Some after → is_below counts e ≡ false
+  not_below counts e after w k =
+      let n : IsNext service a.recorder.state e after = next_is service a.recorder.state e after k in
+      let index : (lane_of a.recorder.state e.lane).done ≡ e.index = eqb-true _ _ n.index in
+      le-ltb e.index (count_at counts e.lane) (omega (arith, w e.lane, count_is a.recorder.state e.lane, index))
+
+  go : GoesFirst service a.recorder.start a.recorder.state a.proposed a.recorder.live
+  go = cuts_go_first service a.recorder.start a.recorder.state a.proposed a.recorder.live good h.recorder.sound c.consistent h.recorder.runs
+
+  -- the state after the value
+  mid : state_after service (trace_of (values ++ value ∷ [])) ≡ go.state
+  mid =
+      state_is service (trace_of (values ++ value ∷ [])) go.state
+      (ap (run service (start_of service)) (trace_push values value)
+      ∙ run-then service (start_of service) a.recorder.start (trace_of values) (events_of value) h.known
+      ∙ ap (run service a.recorder.start) c.events ∙ go.first)
+
+  mid_within : IsWithin (counts_of a.recorder.state) (counts_of (state_after service (trace_of (values ++ value ∷ []))))
+  mid_within = subst (λ (s : StateValue). IsWithin (counts_of a.recorder.state) (counts_of s)) (sym mid) (λ lane. (runs_rise service go.state a.recorder.state (beyond a.proposed a.recorder.live) go.rest).rise lane)
+
+  -- with one event more
+  cut_pushed : (e : Event) (after : StateValue) (queue : List _) (dice : Lcg) → next service a.recorder.state e ≡ Some after
+      → IsCutAt service values (record { recorder = record { start = a.recorder.start; live = a.recorder.live ++ e ∷ []; state = after; queue = queue }; dice = dice; proposed = a.proposed }) value
+  cut_pushed e after queue dice k = record {
+    consistent = consistent_push a.proposed a.recorder.live e c.consistent out;
+    within = λ lane. le_trans (c.within lane) ((runs_rise service a.recorder.state after (e ∷ []) (run-push service a.recorder.state a.recorder.state after [] e refl k)).rise lane);
+    events = c.events ∙ sym (below_push a.proposed a.recorder.live e out);
+    others =
+        beyond_push (counts_of (state_after service (trace_of (values ++ value ∷ [])))) a.recorder.live e (not_below (counts_of (state_after service (trace_of (values ++ value ∷ [])))) e after mid_within k)
+        ∙ ap (λ (es : List Event). es ++ e ∷ []) c.others
+        ∙ sym (beyond_push a.proposed a.recorder.live e out);
+  }
+    where
+      out : is_below a.proposed e ≡ false
+      out = not_below a.proposed e after c.within k
+
+  -- after a turn
+  cut_turned : (t : Turn) (dice : Lcg) → IsRecorder service (turned service a.recorder t) → IsCutAt service values (record { recorder = turned service a.recorder t; dice = dice; proposed = a.proposed }) value
+  cut_turned (turn.Done e) dice k =
+      let r = run-first service a.recorder.state (unwrap_or (next service a.recorder.state e) a.recorder.state) e [] (sym (run-then service a.recorder.start a.recorder.state a.recorder.live (e ∷ []) h.recorder.runs) ∙ k.runs) in
+      cut_pushed e (unwrap_or (next service a.recorder.state e) a.recorder.state) _ dice (r.1 ∙ r.2)
+  cut_turned turn.Full dice k = record { consistent = c.consistent; within = c.within; events = c.events; others = c.others }
+  cut_turned turn.Idle dice k = record { consistent = c.consistent; within = c.within; events = c.events; others = c.others }
+  cut_turned (turn.Held by) dice k = record { consistent = c.consistent; within = c.within; events = c.events; others = c.others }
+  cut_turned turn.Unsignalled dice k = record { consistent = c.consistent; within = c.within; events = c.events; others = c.others }
+
+-- an open proposal stays the cut that it is
+pub open_turned : (service : Declarations) → IsService service → (values : List Value) (a : ActingValue) → Executes service values a → (t : Turn) (dice : Lcg) → IsRecorder service (turned service a.recorder t)
+    → (o : Option (Proposal Value)) → OpenIsCut service values a o → OpenIsCut service values (record { recorder = turned service a.recorder t; dice = dice; proposed = a.proposed }) o
+open_turned service good values a h t dice k None c = tt
+open_turned service good values a h t dice k (Some p) c = cut_turned service good values a h p.value c t dice k

@@ -1,0 +1,299 @@
+-- How a node ends a call in which it has proposed a cut.
+use Rattle.std.proofs.Common.{◌≡◌, ℕ, suc, ◌+◌, ◌*◌, ◌<◌, ◌≤◌, Bool, true, false, not, List, [], ◌∷◌, ◌++◌, length, Result, Option, Some, None, Ok, Err, refl, sym, ap, subst, ◌∙◌, arith, append_assoc}
+use Rattle.std.specs.Prelude.{IfOk, OnErr, is_some, option_map}
+use Rattle.std.proofs.lemmas.Bool.{false≢true}
+use Rattle.rex_paxos.specs.Acceptor.{AcceptorValue, accepting}
+use Rattle.rex_paxos.specs.Counting as counting
+use Rattle.rex_paxos.specs.Proposer.{ProposerValue, is_candidate, proposed, closed}
+use Rattle.rex_syntax.specs.declared.service.Declarations.{Declarations}
+use Rattle.rex_report.specs.declared.effect.Effect.{Effect}
+use Rattle.rex_report.specs.declared.effect.Effect.TheVariants as effect
+use Rattle.rex_traits.specs.Chains.{Answer, AppendsInTurn}
+use Rattle.rex_state.specs.Value.{StateValue}
+use Rattle.rex_safety.specs.Records.{proposal_of}
+use Rattle.rex_safety.specs.Quorum.{is_majority}
+use Rattle.rex_safety.specs.Node.{Service, Lead, Role}
+use Rattle.rex_safety.specs.Node.Role.{Leads}
+use Rattle.rex_safety.specs.Calls.{leading, led, propose, decide, settle, enough}
+use Rattle.rex_safety.specs.Values.{Value, service_of}
+use Rattle.rex_safety.specs.Lanes.{CallHere}
+use Rattle.rex_node.specs.declared.going.Going.{Going}
+use Rattle.rex_node.specs.declared.going.Going.TheVariants.{On, Down}
+use Rattle.rex_node.specs.declared.step.Draft.{Draft}
+use Rattle.rex_node.specs.Calls.{armed_with}
+use Rattle.rex_node.specs.Going.{Comes, Ends, Fell, IsStuck, Leads as LeadsOn, later, so_far}
+use Rattle.rex_node.specs.Parts.{ActingValue, NodeValue, HasGoneOn, IsKept, IsNode, IsProposer, IsSame, Proposes, here_of, lead_of, log_of, role_of}
+use Rattle.rex_node.specs.Leading.{HasLearned, HasOpened, Learns, Opens, accept_own, settling}
+use Rattle.rex_node.specs.Cutting.{IsIdle, ProposesCut, has_open}
+use Rattle.rex_node.proofs.GoingLemmas.{leads_fell, leads_same, leads_then}
+use Rattle.rex_node.proofs.Openings.{candidate_same, from_lead, knows_at_once, lead_from, opened_role, own_majority, proposed_closed, proposed_open, settles_active, stays_open}
+
+false_or_true : (t : Bool) → t ≡ true → t ≡ false → ⊥
+false_or_true t e f = false≢true (sym f ∙ e)
+
+first_none : (xs ys : List (List ℕ)) → xs ++ ys ≡ [] → xs ≡ []
+first_none [] ys h = refl
+first_none (x ∷ xs) ys h = absurd cc
+
+-- ---- results
+
+pub if_both : {A E : Type 0} (P Q R : A → Type 0) (r : Result A E) → ((x : A) → P x → Q x → R x) → IfOk r P → IfOk r Q → IfOk r R
+if_both P Q R (Ok x) f h k = f x h k
+if_both P Q R (Err e) f h k = tt
+
+pub on_error : {A E : Type 0} (P Q : Type 0) (r : Result A E) → (P → Q) → OnErr r P → OnErr r Q
+on_error P Q (Ok x) f h = tt
+on_error P Q (Err e) f h = f h
+
+-- ---- a proposal
+
+-- what is told of a proposal
+pub told_same : (id other instance next events : ℕ) → id ≡ other → instance ≡ next → effect.Proposes id instance events ≡ effect.Proposes other next events
+told_same id other instance next events e f = ap (λ (n : ℕ). effect.Proposes n instance events) e ∙ ap (λ (n : ℕ). effect.Proposes other n events) f
+
+-- a node without an open proposal leads
+pub idle_leads : (acceptor : AcceptorValue) (o : Option ProposerValue) → IsIdle acceptor o → (p : ProposerValue) × (o ≡ Some p)
+idle_leads acceptor None h = absurd h
+idle_leads acceptor (Some p) h = (p, refl)
+
+module _ {K : Type 0} (records : K → List (List ℕ)) (gives : K → List ℕ → Answer → K → Type 0) (faults : K → ℕ) (service : Declarations) where
+  -- a node that is down is kept
+  down_kept : (x y : NodeValue K) → IsNode records service x → IsSame x y → y.up ≡ false → IsNode records service y
+  down_kept x y node same down = record {
+    id = subst (λ (n : ℕ). (0 < n) × (n ≤ y.nodes)) (sym same.id) (subst (λ (n : ℕ). (0 < x.id) × (x.id ≤ n)) (sym same.nodes) node.id);
+    few = subst (λ (n : ℕ). n ≤ 9) (sym same.nodes) node.few;
+    up = λ t. absurd (false_or_true y.up t down);
+    rests = λ t. absurd (false_or_true y.up t down);
+  }
+
+  up_kept : (y : NodeValue K) → IsKept records service y → HasGoneOn y.proposer (is_some y.acting) → IsNode records service y
+  up_kept y kept rests = record { id = kept.id; few = kept.few; up = kept.up; rests = λ _. rests }
+
+  module _ (x : NodeValue K) (node : IsNode records service x) (up : x.up ≡ true) (a : ActingValue) (acts : x.acting ≡ Some a) (events instance : ℕ) (value : Value) (told : Effect) (told_is : told ≡ effect.Proposes x.id (length x.known + 1) events) (next : instance ≡ length x.known + 1)
+      (mid : NodeValue K) (before between : Draft) where
+    abbrev sv : Service Value StateValue
+    sv = service_of service x.seed
+
+    -- the rest of the call
+    abbrev goes : Lead Value → CallHere → CallHere
+    goes l = settle (enough l.reported) x.nodes sv x.id
+
+    -- the call that proposes the value for this instance, with this told
+    abbrev whole_of : ℕ → Effect → Lead Value → CallHere → CallHere
+    whole_of n t l d = propose x.nodes x.id t d l n value (goes l)
+
+    -- and what is left of it where the proposal is open
+    abbrev open_at : ℕ → Lead Value → CallHere → CallHere
+    open_at n l d = goes l (led (leading l (Some (proposal_of l.ballot n value)) (x.id ∷ []) l.active) d)
+
+    abbrev ComesAt : Going → ℕ → Effect → Lead Value → Type 0
+    ComesAt going n t l = Comes records gives faults service (whole_of n t l) (open_at n l) x mid before between going
+
+    abbrev EndsAt : NodeValue K → Draft → Going → Lead Value → Type 0
+    EndsAt y after going l = Ends records gives faults service (whole_of (length x.known + 1) (effect.Proposes x.id (length x.known + 1) events) l) x y before after going
+
+    -- the model's call goes on so, whatever is left of it
+    abbrev OpensAt : Going → Lead Value → Type 0
+    OpensAt going l =
+        (k : CallHere → CallHere)
+        → Comes records gives faults service (λ d. propose x.nodes x.id told d l instance value k)
+        (λ d. k (led (leading l (Some (proposal_of l.ballot instance value)) (x.id ∷ []) l.active) d)) x mid before between going
+
+    opens_next : (going : Going) → Opens records gives faults service told instance value x mid before between going → (p : ProposerValue) → x.proposer ≡ Some p
+        → ComesAt going (length x.known + 1) (effect.Proposes x.id (length x.known + 1) events) (lead_of x.acceptor p (is_some x.acting))
+    opens_next going h p leads =
+        subst (λ (n : ℕ). ComesAt going n (effect.Proposes x.id (length x.known + 1) events) (lead_of x.acceptor p (is_some x.acting))) next
+        (subst (λ (t : Effect). ComesAt going instance t (lead_of x.acceptor p (is_some x.acting))) told_is
+        (lead_from x (OpensAt going) p leads h (goes (lead_of x.acceptor p (is_some x.acting)))))
+
+    -- ---- the append failed
+
+    pub cut_fell : Opens records gives faults service told instance value x mid before between Down → IsSame x mid → ProposesCut records gives faults service events value x mid before between Down
+    cut_fell h same = from_lead x (EndsAt mid between Down) (λ p leads. fell p (opens_next Down h p leads))
+      where
+        fell : (p : ProposerValue) → ComesAt Down (length x.known + 1) (effect.Proposes x.id (length x.known + 1) events) (lead_of x.acceptor p (is_some x.acting)) → EndsAt mid between Down (lead_of x.acceptor p (is_some x.acting))
+        fell p o = (o, down_kept x mid node same o.1)
+
+    -- ---- the node goes on
+
+    module _ (h : Opens records gives faults service told instance value x mid before between On) (parts : HasOpened x mid instance value On) (p : ProposerValue) (leads : x.proposer ≡ Some p) where
+      abbrev l : Lead Value
+      l = lead_of x.acceptor p (is_some x.acting)
+
+      abbrev role_open : Role Value
+      role_open = leading l (Some (proposal_of l.ballot instance value)) (x.id ∷ []) l.active
+
+      -- no more than the append was done
+      appended : LeadsOn records gives faults (λ d. propose x.nodes x.id told d l instance value (λ e. e)) (led role_open) x.keeper mid.keeper (so_far records service x before) (so_far records service mid between)
+      appended = (lead_from x (OpensAt On) p leads h (λ d. d)).0
+
+      -- the node has one record more, at least
+      grown_some : appended.written ≡ [] → ⊥
+      grown_some none =
+          let keeper : mid.keeper ≡ x.keeper = (subst (λ (ws : List (List ℕ)). AppendsInTurn gives x.keeper ws (Ok tt) mid.keeper) none appended.appends).1 in
+          let comes = subst (λ (ws : List (List ℕ)). propose x.nodes x.id told (armed_with (later ws None) (so_far records service x before)) l instance value (λ e. e) ≡ led role_open (armed_with None (so_far records service mid between))) none (appended.comes None) in
+          let longer : suc (length (log_of service (records x.keeper))) ≡ length (log_of service (records x.keeper)) =
+          ap (λ (d : CallHere). length d.node.log) comes ∙ ap (λ (k : K). length (log_of service (records k))) keeper in
+          absurd (omega arith)
+
+      pub counted_between : faults mid.keeper ≡ faults x.keeper
+      counted_between = appended.counted
+
+      pub kept_between : IsKept records service mid
+      kept_between = (opens_next On h p leads).1
+
+      pub stuck_after : (y : NodeValue K) → IsStuck records service mid y → IsStuck records service x y
+      stuck_after y s = record {
+        more = appended.written ++ s.more;
+        grown = s.grown ∙ ap (λ (r : List (List ℕ)). r ++ s.more) appended.grown ∙ append_assoc (records x.keeper) appended.written s.more;
+        same = λ none. absurd (grown_some (first_none appended.written s.more none));
+        based = s.based;
+      }
+
+      proposes : Proposes x.nodes x.id x.acceptor p
+      proposes = subst (IsProposer x.nodes x.id x.acceptor) leads (node.up up).proposer
+
+      alone : is_majority x.nodes (x.id ∷ []) ≡ counting.is_majority p.nodes 1
+      alone = own_majority x.nodes x.id x.acceptor p node.id proposes
+
+      mid_proposer : mid.proposer ≡ Some (proposed p instance)
+      mid_proposer = ap (λ (z : NodeValue K). z.proposer) parts ∙ ap (option_map (λ (q : ProposerValue). proposed q instance)) leads
+
+      mid_acting : mid.acting ≡ x.acting
+      mid_acting = ap (λ (z : NodeValue K). z.acting) parts
+
+      mid_acceptor : mid.acceptor ≡ accepting x.acceptor (record { instance = instance; ballot = p.ballot; value = value })
+      mid_acceptor = ap (λ (z : NodeValue K). z.acceptor) parts ∙ ap (λ (o : Option ProposerValue). accept_own o x.acceptor instance value) leads
+
+      -- a majority has promised already
+      rests_before : is_candidate p ≡ false
+      rests_before = subst (λ (w : Option ActingValue). HasGoneOn (Some p) (is_some w)) acts (subst (λ (o : Option ProposerValue). HasGoneOn o (is_some x.acting)) leads (node.rests up))
+
+      rests_between : HasGoneOn mid.proposer (is_some mid.acting)
+      rests_between =
+          subst (λ (o : Option ProposerValue). HasGoneOn o (is_some mid.acting)) (sym mid_proposer)
+          (subst (λ (w : Option ActingValue). HasGoneOn (Some (proposed p instance)) (is_some w)) (sym (mid_acting ∙ acts)) (candidate_same p instance ∙ rests_before))
+
+      open_or_closed : (t : Bool) → counting.is_majority p.nodes 1 ≡ t → has_open mid.proposer ≡ not t
+      open_or_closed true e = ap has_open (mid_proposer ∙ ap (λ (q : ProposerValue). Some q) (proposed_closed p instance e))
+      open_or_closed false e = ap has_open (mid_proposer ∙ ap (λ (q : ProposerValue). Some q) (proposed_open p instance e))
+
+      majority_where : (t : Bool) → has_open mid.proposer ≡ not t → counting.is_majority p.nodes 1 ≡ t
+      majority_where t e = by (counting.is_majority p.nodes 1) t (λ u k. open_or_closed u k) e refl
+        where
+          by : (u t : Bool) → ((v : Bool) → counting.is_majority p.nodes 1 ≡ v → has_open mid.proposer ≡ not v) → has_open mid.proposer ≡ not t → counting.is_majority p.nodes 1 ≡ u → u ≡ t
+          by true true f e k = refl
+          by false false f e k = refl
+          by true false f e k = absurd (false≢true (sym (f true k) ∙ e))
+          by false true f e k = absurd (false≢true (sym e ∙ f false k))
+
+      -- ---- where the proposal waits for a majority
+
+      ends_open : has_open mid.proposer ≡ true → EndsAt mid between On l
+      ends_open e =
+          let o = opens_next On h p leads in (
+            (
+              leads_then records gives faults (whole_of (length x.known + 1) (effect.Proposes x.id (length x.known + 1) events) l) (open_at (length x.known + 1) l) (λ d. d) x.keeper mid.keeper mid.keeper
+                  (so_far records service x before) (so_far records service mid between) (so_far records service mid between) o.0
+                  (leads_same records gives faults (open_at (length x.known + 1) l) (λ d. d) mid.keeper (so_far records service mid between) (so_far records service mid between) refl
+                  (λ f. stays_open x.nodes sv x.id l (proposal_of p.ballot (length x.known + 1) value) (armed_with f (so_far records service mid between)) role (alone ∙ majority_where false e))),
+              o.1,
+              o.2,
+            ),
+            up_kept mid o.1 rests_between,
+          )
+        where
+          role : (here_of records service mid).role ≡ leading l (Some (proposal_of p.ballot (length x.known + 1) value)) (x.id ∷ []) l.active
+          role =
+              ap (λ (c : AcceptorValue). role_of c mid.proposer (is_some mid.acting)) mid_acceptor
+              ∙ ap (λ (q : Option ProposerValue). role_of (accepting x.acceptor (record { instance = instance; ballot = p.ballot; value = value })) q (is_some mid.acting)) mid_proposer
+              ∙ ap (λ (w : Option ActingValue). role_of (accepting x.acceptor (record { instance = instance; ballot = p.ballot; value = value })) (Some (proposed p instance)) (is_some w)) mid_acting
+              ∙ opened_role x.acceptor p (is_some x.acting) x.id instance value proposes.own (majority_where false e)
+              ∙ ap (λ (n : ℕ). leading l (Some (proposal_of p.ballot n value)) (x.id ∷ []) l.active) next
+
+      -- ---- where the node is a majority by itself, and knows the value
+
+      module _ (closed_now : has_open mid.proposer ≡ false) (same : IsSame x mid) (y : NodeValue K) (after : Draft) where
+        abbrev closed_one : ProposerValue
+        closed_one = record p { open_instance = None; accepted = [] }
+
+        mid_closed : mid.proposer ≡ Some closed_one
+        mid_closed = mid_proposer ∙ ap (λ (q : ProposerValue). Some q) (proposed_closed p instance (majority_where true closed_now))
+
+        abbrev left : ℕ
+        left = 2 * length l.reported + 2
+
+        abbrev lead_closed : Bool → Lead Value
+        lead_closed active = record { ballot = l.ballot; counted = l.counted; reported = l.reported; proposal = None; accepted_by = []; active = active }
+
+        abbrev decides : ℕ → ℕ → ℕ → Bool → ℕ → CallHere → CallHere
+        decides n seed id active i d = decide n (service_of service seed) id d (lead_closed active) i value (settle left x.nodes sv x.id)
+
+        abbrev LearnsAt : Going → Lead Value → Type 0
+        LearnsAt going m =
+            (k : CallHere → CallHere) → Comes records gives faults service (λ d. decide mid.nodes (service_of service mid.seed) mid.id d m instance value k) k mid y between after going
+
+        learns_next : (going : Going) → Learns records gives faults service instance value mid y between after going
+            → Comes records gives faults service (decides x.nodes x.seed x.id (is_some x.acting) (length x.known + 1)) (settle left x.nodes sv x.id) mid y between after going
+        learns_next going hl =
+            subst (λ (i : ℕ). Comes records gives faults service (decides x.nodes x.seed x.id (is_some x.acting) i) (settle left x.nodes sv x.id) mid y between after going) next
+            (subst (λ (w : Option ActingValue). Comes records gives faults service (decides x.nodes x.seed x.id (is_some w) instance) (settle left x.nodes sv x.id) mid y between after going) mid_acting
+            (subst (λ (id : ℕ). Comes records gives faults service (decides x.nodes x.seed id (is_some mid.acting) instance) (settle left x.nodes sv x.id) mid y between after going) same.id
+            (subst (λ (seed : ℕ). Comes records gives faults service (decides x.nodes seed mid.id (is_some mid.acting) instance) (settle left x.nodes sv x.id) mid y between after going) same.seed
+            (subst (λ (n : ℕ). Comes records gives faults service (decides n mid.seed mid.id (is_some mid.acting) instance) (settle left x.nodes sv x.id) mid y between after going) same.nodes
+            (lead_from mid (LearnsAt going) closed_one mid_closed hl (settle left x.nodes sv x.id))))))
+
+        to_decide : LeadsOn records gives faults (whole_of (length x.known + 1) (effect.Proposes x.id (length x.known + 1) events) l) (decides x.nodes x.seed x.id (is_some x.acting) (length x.known + 1)) x.keeper mid.keeper (so_far records service x before) (so_far records service mid between)
+        to_decide =
+            leads_then records gives faults (whole_of (length x.known + 1) (effect.Proposes x.id (length x.known + 1) events) l) (open_at (length x.known + 1) l) (decides x.nodes x.seed x.id (is_some x.acting) (length x.known + 1)) x.keeper mid.keeper mid.keeper
+            (so_far records service x before) (so_far records service mid between) (so_far records service mid between) (opens_next On h p leads).0
+            (leads_same records gives faults (open_at (length x.known + 1) l) (decides x.nodes x.seed x.id (is_some x.acting) (length x.known + 1)) mid.keeper (so_far records service mid between) (so_far records service mid between) refl
+            (λ f. knows_at_once x.nodes sv x.id l (proposal_of p.ballot (length x.known + 1) value) (armed_with f (so_far records service mid between)) (alone ∙ majority_where true closed_now)))
+
+        ends_learned : (going : Going) → Learns records gives faults service instance value mid y between after going → HasLearned service mid y instance value going → IsSame mid y → EndsAt y after going l
+        ends_learned On hl learned same_now =
+            let o = learns_next On hl in (
+              (
+                leads_then records gives faults (whole_of (length x.known + 1) (effect.Proposes x.id (length x.known + 1) events) l) (decides x.nodes x.seed x.id (is_some x.acting) (length x.known + 1)) (λ d. d) x.keeper mid.keeper y.keeper
+                    (so_far records service x before) (so_far records service mid between) (so_far records service y after) to_decide
+                    (leads_then records gives faults (decides x.nodes x.seed x.id (is_some x.acting) (length x.known + 1)) (settle left x.nodes sv x.id) (λ d. d) mid.keeper y.keeper y.keeper
+                    (so_far records service mid between) (so_far records service y after) (so_far records service y after) o.0
+                    (leads_same records gives faults (settle left x.nodes sv x.id) (λ d. d) y.keeper (so_far records service y after) (so_far records service y after) refl
+                    (λ f. settles_active left x.nodes sv x.id (armed_with f (so_far records service y after)) (lead_of y.acceptor (closed closed_one) true) role refl refl))),
+                o.1,
+                o.2,
+              ),
+              up_kept y o.1 rests,
+            )
+          where
+            y_proposer : y.proposer ≡ Some (closed closed_one)
+            y_proposer = ap (λ (z : NodeValue K). z.proposer) learned ∙ ap (option_map closed) mid_closed
+
+            y_acting : y.acting ≡ Some (settling service a)
+            y_acting = ap (λ (z : NodeValue K). z.acting) learned ∙ ap (option_map (settling service)) (mid_acting ∙ acts)
+
+            role : (here_of records service y).role ≡ Leads (lead_of y.acceptor (closed closed_one) true)
+            role = ap (λ (q : Option ProposerValue). role_of y.acceptor q (is_some y.acting)) y_proposer ∙ ap (λ (w : Option ActingValue). role_of y.acceptor (Some (closed closed_one)) (is_some w)) y_acting
+
+            rests : HasGoneOn y.proposer (is_some y.acting)
+            rests = subst (λ (q : Option ProposerValue). HasGoneOn q (is_some y.acting)) (sym y_proposer) (subst (λ (w : Option ActingValue). HasGoneOn (Some (closed closed_one)) (is_some w)) (sym y_acting) rests_before)
+        ends_learned Down hl learned same_now =
+            let o = learns_next Down hl in (
+              (
+                leads_fell records gives faults (whole_of (length x.known + 1) (effect.Proposes x.id (length x.known + 1) events) l) (decides x.nodes x.seed x.id (is_some x.acting) (length x.known + 1)) x.id x.keeper mid.keeper y.keeper
+                    (so_far records service x before) (so_far records service mid between) (so_far records service y after) to_decide
+                    (subst (λ (id : ℕ). Fell records gives faults (decides x.nodes x.seed x.id (is_some x.acting) (length x.known + 1)) id mid.keeper y.keeper (so_far records service mid between) (so_far records service y after)) same.id o.0),
+                o.1,
+              ),
+              down_kept x y node (record { id = same_now.id ∙ same.id; nodes = same_now.nodes ∙ same.nodes; seed = same_now.seed ∙ same.seed }) o.1,
+            )
+
+    -- ---- the same, whatever the node leads with
+
+    pub cut_waits : Opens records gives faults service told instance value x mid before between On → HasOpened x mid instance value On → has_open mid.proposer ≡ true → ProposesCut records gives faults service events value x mid before between On
+    cut_waits h parts e = from_lead x (EndsAt mid between On) (λ p leads. ends_open h parts p leads e)
+
+    pub cut_known : Opens records gives faults service told instance value x mid before between On → HasOpened x mid instance value On → has_open mid.proposer ≡ false → IsSame x mid
+        → (y : NodeValue K) (after : Draft) (going : Going) → Learns records gives faults service instance value mid y between after going → HasLearned service mid y instance value going → IsSame mid y
+        → ProposesCut records gives faults service events value x y before after going
+    cut_known h parts e same y after going hl learned same_now = from_lead x (EndsAt y after going) (λ p leads. ends_learned h parts p leads e same y after going hl learned same_now)

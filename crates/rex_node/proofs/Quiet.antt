@@ -1,0 +1,231 @@
+-- A call under which no append fails doesn't report that its node is down.
+use Rattle.std.proofs.Common.{◌≡◌, ℕ, zero, suc, Bool, true, false, cond, ◌⊎◌, List, [], ◌∷◌, ◌++◌, length, Option, Some, None, refl, sym, subst, inl, inr}
+use Rattle.std.specs.Prelude.{map, ◌==◌, nat_lt, nat_le}
+use Rattle.rex_event.specs.declared.event.Event.{Event}
+use Rattle.rex_event.specs.Cuts.{below}
+use Rattle.rex_cut.specs.Greatest.{greatest_cut}
+use Rattle.rex_record.specs.declared.recorder.Release.{Release}
+use Rattle.rex_record.specs.Value.{releases}
+use Rattle.rex_syntax.specs.declared.service.Declarations.{Declarations}
+use Rattle.rex_report.specs.declared.effect.Effect.{Effect}
+use Rattle.rex_report.specs.declared.effect.Effect.TheVariants as effect
+use Rattle.rex_safety.specs.Records.{Rec, Proposal, promise, accepted, known}
+use Rattle.rex_safety.specs.Records.Rec.{Promised, Accepted, Known}
+use Rattle.rex_safety.specs.Quorum.{round_of, ballot_above, is_in, is_majority}
+use Rattle.rex_safety.specs.Node.{Service, Content, Lead, Role, Failure, role_name}
+use Rattle.rex_safety.specs.Node.Content.{Prepare, Promise, Accept, Accepted as Voted, Chosen as Chose, Nack, Ask}
+use Rattle.rex_safety.specs.Node.Role.{Follower, Leads}
+use Rattle.rex_safety.specs.Releases.{IsAmong}
+use Rattle.rex_safety.specs.Values.{Value, events_of, trace_of, state_after, release_effect, service_of}
+use Rattle.rex_safety.specs.Lanes.{CallHere, active_only, is_faithful, cut_live, cut_lead, cut_role, cut, value_at}
+use Rattle.rex_safety.specs.Calls.{Call, say, follow, followed, append, logged, propose, released, decide, best, choose, lead, turn, settle, enough, own_reports, stand, elect, on_prepare, heard, on_own_promise, on_promise, has_last, on_accept, voted, on_own_vote, on_voted, on_chosen, on_nack, receive}
+use Rattle.rex_safety.proofs.Saying.{among_either}
+
+-- ---- effects
+
+-- none of these tells that a node is down
+abbrev pub IsQuiet : List Effect → Type 0
+IsQuiet es = (id : ℕ) → IsAmong (effect.Down id) es → ⊥
+
+-- this one doesn't
+abbrev Other : Effect → Type 0
+Other e = (id : ℕ) → e ≡ effect.Down id → ⊥
+
+quiet_one : (e : Effect) → Other e → IsQuiet (e ∷ [])
+quiet_one e o id (inl h) = o id h
+quiet_one e o id (inr h) = h
+
+quiet_both : (xs ys : List Effect) → IsQuiet xs → IsQuiet ys → IsQuiet (xs ++ ys)
+quiet_both xs ys p q id h = go (among_either (effect.Down id) xs ys h)
+  where
+    go : IsAmong (effect.Down id) xs ⊎ IsAmong (effect.Down id) ys → ⊥
+    go (inl k) = p id k
+    go (inr k) = q id k
+
+quiet_none : IsQuiet []
+quiet_none id h = h
+
+quiet_followed : {V : Type 0} (me : ℕ) (r : Role V) → IsQuiet (followed me r)
+quiet_followed me Follower = quiet_none
+quiet_followed me (Leads l) = quiet_one (effect.Followed me) (λ id e. cc)
+
+-- ---- calls
+
+module _ {V S : Type 0} (n : ℕ) (sv : Service V S) (me : ℕ) (replies : (before : List V) (v : V) → IsQuiet (sv.replies before v)) where
+  -- no append will fail, and the call hasn't told that its node is down
+  pub record IsWell (d : Call V S) : Type 0 where
+    pub armed : d.node.armed ≡ None
+    pub quiet : IsQuiet d.effects
+
+  abbrev Goes : (Call V S → Call V S) → Type 0
+  Goes k = (e : Call V S) → IsWell e → IsWell (k e)
+
+  if_well : (t : Bool) {d e : Call V S} → IsWell d → IsWell e → IsWell (cond t d e)
+  if_well true h k = h
+  if_well false h k = k
+
+  say_well : (e : Effect) (d : Call V S) → IsWell d → Other e → IsWell (say e d)
+  say_well e d h o = record { armed = h.armed; quiet = quiet_both d.effects (e ∷ []) h.quiet (quiet_one e o) }
+
+  append_well : (a : Option Failure) (r : Rec V S) (d : Call V S) (k : Call V S → Call V S) → a ≡ None → IsWell (k (logged r None d)) → IsWell (append a me r d k)
+  append_well a r d k e h = subst (λ (b : Option Failure). IsWell (append b me r d k)) (sym e) h
+
+  propose_well : (told : Effect) (d : Call V S) (l : Lead V) (i : ℕ) (v : V) (k : Call V S → Call V S) → Other told → IsWell d → Goes k → IsWell (propose n me told d l i v k)
+  propose_well told d l i v k o h g = append_well d.node.armed (Accepted l.ballot i v) d _ h.armed (g _ (record { armed = refl; quiet = quiet_both d.effects (told ∷ []) h.quiet (quiet_one told o) }))
+
+  released_quiet : (t : Bool) (before : List V) (v : V) → IsQuiet (released sv t before v)
+  released_quiet true before v = replies before v
+  released_quiet false before v = quiet_none
+
+  decide_well : (d : Call V S) (l : Lead V) (i : ℕ) (v : V) (k : Call V S → Call V S) → IsWell d → Goes k → IsWell (decide n sv me d l i v k)
+  decide_well d l i v k h g =
+      append_well d.node.armed (Known i v) d _ h.armed
+      (g _ (record {
+        armed = refl;
+        quiet = quiet_both d.effects (effect.Known me i ∷ released sv l.active (known d.node.log) v) h.quiet
+            (quiet_both (effect.Known me i ∷ []) (released sv l.active (known d.node.log) v) (quiet_one (effect.Known me i) (λ id e. cc)) (released_quiet l.active (known d.node.log) v));
+      }))
+
+  pub settle_well : (f : ℕ) → Goes (settle f n sv me)
+  settle_well zero d h = h
+  settle_well (suc f) d h = by d.node.role (settle_well f)
+    where
+      choose_well : (l : Lead V) (i : ℕ) (o : Option (Proposal V)) → Goes (settle f n sv me) → IsWell (choose n sv me d l i o (settle f n sv me))
+      choose_well l i None g = record { armed = h.armed; quiet = quiet_both d.effects (effect.Active me l.ballot ∷ []) h.quiet (quiet_one (effect.Active me l.ballot) (λ id e. cc)) }
+      choose_well l i (Some p) g = propose_well (effect.Adopts me i (sv.size p.value)) d l i p.value (settle f n sv me) (λ id e. cc) h g
+
+      lead_well : (l : Lead V) (o : Option (Proposal V)) → Goes (settle f n sv me) → IsWell (lead n sv me d l o (settle f n sv me))
+      lead_well l (Some p) g = if_well (is_majority n l.accepted_by) (decide_well d l p.instance p.value (settle f n sv me) h g) h
+      lead_well l None g =
+          if_well l.active h
+          (if_well (is_majority n l.counted) (choose_well l (suc (length (known d.node.log))) (best (suc (length (known d.node.log))) l.reported) g) h)
+
+      by : (r : Role V) → Goes (settle f n sv me) → IsWell (turn n sv me d r (settle f n sv me))
+      by Follower g = h
+      by (Leads l) g = lead_well l l.proposal g
+
+  -- with another role
+  led_well : (r : Role V) (d : Call V S) → IsWell d → IsWell (record d { node = record d.node { role = r } })
+  led_well r d h = record { armed = h.armed; quiet = h.quiet }
+
+  -- with other messages
+  sent_well : (ms : List _) (d : Call V S) → IsWell d → IsWell (record d { sends = ms })
+  sent_well ms d h = record { armed = h.armed; quiet = h.quiet }
+
+  follow_well : (cause : List Effect) (d : Call V S) → IsWell d → IsQuiet cause → IsWell (follow me cause d)
+  follow_well cause d h c = record { armed = h.armed; quiet = quiet_both d.effects (cause ++ followed me d.node.role) h.quiet (quiet_both cause (followed me d.node.role) c (quiet_followed me d.node.role)) }
+
+  pub stand_well : (b : ℕ) (d : Call V S) → IsWell d → IsWell (stand n sv me b d)
+  stand_well b d h =
+      append_well d.node.armed (Promised b) d _ h.armed
+      (settle_well (enough (own_reports d.node.log)) _ (record { armed = refl; quiet = quiet_both d.effects (effect.Candidate me b ∷ []) h.quiet (quiet_one (effect.Candidate me b) (λ id e. cc)) }))
+
+  pub elect_well : (d : Call V S) → IsWell d → IsWell (elect n sv me d)
+  elect_well d h =
+      if_well (nat_lt 4294967296 (round_of (ballot_above me (promise d.node.log)))) (say_well (effect.Spent me) d h (λ id e. cc))
+      (stand_well (ballot_above me (promise d.node.log)) d h)
+
+  -- a node that follows after a record
+  followed_well : (r : Rec V S) (cause : List Effect) (d : Call V S) → IsWell d → IsQuiet cause → IsWell (follow me cause (logged r None d))
+  followed_well r cause d h c = follow_well cause (logged r None d) (record { armed = refl; quiet = h.quiet }) c
+
+  prepare_well : (from b first : ℕ) (d : Call V S) → IsWell d → IsWell (on_prepare me from b first d)
+  prepare_well from b first d h =
+      if_well (nat_lt b (promise d.node.log)) (sent_well _ d h)
+      (if_well (nat_lt (promise d.node.log) b)
+      (append_well d.node.armed (Promised b) d _ h.armed (sent_well _ _ (followed_well (Promised b) (effect.Promised me b ∷ []) d h (quiet_one (effect.Promised me b) (λ id e. cc)))))
+      (sent_well _ d h))
+
+  promise_well : (from b : ℕ) (ps : List (Proposal V)) (d : Call V S) → IsWell d → (r : Role V) → IsWell (on_promise n sv me from b ps d r)
+  promise_well from b ps d h Follower = say_well (effect.IgnoredBallot b 0) d h (λ id e. cc)
+  promise_well from b ps d h (Leads l) = if_well (l.ballot == b) (own l.proposal) (say_well (effect.IgnoredBallot b l.ballot) d h (λ id e. cc))
+    where
+      own : (o : Option (Proposal V)) → IsWell (on_own_promise n sv me from ps d l o)
+      own (Some p) = say_well effect.IgnoredLate d h (λ id e. cc)
+      own None =
+          if_well l.active (say_well effect.IgnoredLate d h (λ id e. cc))
+          (if_well (is_in from l.counted) (say_well (effect.IgnoredAgain from) d h (λ id e. cc))
+          (if_well (is_majority n (heard l from ps).counted) (settle_well (enough (heard l from ps).reported) _ (led_well (Leads (heard l from ps)) d h))
+          (say_well (effect.Have (length (heard l from ps).counted)) _ (led_well (Leads (heard l from ps)) d h) (λ id e. cc))))
+
+  accept_well : (from b i : ℕ) (v : V) (d : Call V S) → IsWell d → IsWell (on_accept me from b i v d)
+  accept_well from b i v d h =
+      if_well (nat_lt b (promise d.node.log)) (sent_well _ d h)
+      (if_well (has_last b i (accepted d.node.log)) (sent_well _ d h)
+      (append_well d.node.armed (Accepted b i v) d _ h.armed (sent_well _ _ (followed_well (Accepted b i v) (effect.Accepted me b i ∷ []) d h (quiet_one (effect.Accepted me b i) (λ id e. cc))))))
+
+  voted_well : (from b i : ℕ) (d : Call V S) → IsWell d → (r : Role V) → IsWell (on_voted n sv me from b i d r)
+  voted_well from b i d h Follower = say_well (effect.IgnoredBallot b 0) d h (λ id e. cc)
+  voted_well from b i d h (Leads l) = if_well (l.ballot == b) (own l.proposal) (say_well (effect.IgnoredBallot b l.ballot) d h (λ id e. cc))
+    where
+      own : (o : Option (Proposal V)) → IsWell (on_own_vote n sv me from i d l o)
+      own None = say_well (effect.IgnoredInstance i 0) d h (λ id e. cc)
+      own (Some p) =
+          if_well (p.instance == i)
+          (if_well (is_in from l.accepted_by) (say_well (effect.IgnoredAgain from) d h (λ id e. cc))
+          (if_well (is_majority n (voted l from p).accepted_by) (settle_well (enough (voted l from p).reported) _ (led_well (Leads (voted l from p)) d h))
+          (say_well (effect.Have (length (voted l from p).accepted_by)) _ (led_well (Leads (voted l from p)) d h) (λ id e. cc))))
+          (say_well (effect.IgnoredInstance i p.instance) d h (λ id e. cc))
+
+  chosen_well : (i : ℕ) (v : V) (d : Call V S) → IsWell d → IsWell (on_chosen me i v d)
+  chosen_well i v d h =
+      if_well (i == suc (length (known d.node.log)))
+      (append_well d.node.armed (Known i v) d _ h.armed (followed_well (Known i v) (effect.Known me i ∷ []) d h (quiet_one (effect.Known me i) (λ id e. cc))))
+      (say_well (effect.IgnoredInstance i (suc (length (known d.node.log)))) d h (λ id e. cc))
+
+  nack_well : (p : ℕ) (d : Call V S) → IsWell d → (r : Role V) → IsWell (on_nack me p d r)
+  nack_well p d h Follower = say_well (effect.IgnoredBallot p 0) d h (λ id e. cc)
+  nack_well p d h (Leads l) = if_well (nat_lt l.ballot p) (follow_well [] d h quiet_none) (say_well (effect.IgnoredBallot p l.ballot) d h (λ id e. cc))
+
+  pub receive_well : (from : ℕ) (m : Content V) → Goes (receive n sv me from m)
+  receive_well from (Prepare b first) d h = prepare_well from b first d h
+  receive_well from (Promise b ps) d h = promise_well from b ps d h d.node.role
+  receive_well from (Accept b i v) d h = accept_well from b i v d h
+  receive_well from (Voted b i) d h = voted_well from b i d h d.node.role
+  receive_well from (Chose i v) d h = chosen_well i v d h
+  receive_well from (Nack b p) d h = nack_well p d h d.node.role
+  receive_well from (Ask first) d h = if_well (nat_lt (length (known d.node.log)) first) (say_well effect.Nothing d h (λ id e. cc)) (sent_well _ d h)
+
+-- ---- a service's replies
+
+released_quietly : (rs : List Release) → IsQuiet (map release_effect rs)
+released_quietly [] id h = h
+released_quietly (r ∷ rs) id (inl h) = absurd (cc)
+released_quietly (r ∷ rs) id (inr h) = released_quietly rs id h
+
+-- its replies tell of no node
+pub replies_quiet : (service : Declarations) (seed : ℕ) (before : List Value) (v : Value) → IsQuiet ((service_of service seed).replies before v)
+replies_quiet service seed before v = released_quietly (releases (state_after service (trace_of before)).clients (events_of v))
+
+-- ---- a cut
+
+module _ (service : Declarations) (seed n me : ℕ) where
+  abbrev Well : CallHere → Type 0
+  Well d = IsWell n (service_of service seed) me (replies_quiet service seed) d
+
+  says : (e : Effect) (d : CallHere) → Well d → Other e → Well (say e d)
+  says e d h o = say_well n (service_of service seed) me (replies_quiet service seed) e d h o
+
+  live_well : (counts : List ℕ) (l : Lead Value) (es : List Event) (d : CallHere) → Well d → Well (cut_live service seed n me counts l es d)
+  live_well counts l [] d h = says effect.Nothing d h (λ id e. cc)
+  live_well counts l (e ∷ es) d h =
+      if_well n (service_of service seed) me (replies_quiet service seed) (is_faithful service seed (known d.node.log) counts d.node.work.live)
+      (propose_well n (service_of service seed) me (replies_quiet service seed) (effect.Proposes me (suc (length (known d.node.log))) (length (below counts d.node.work.live))) d l (suc (length (known d.node.log))) (value_at counts d.node.work.live) _ (λ id e. cc) h (settle_well n (service_of service seed) me (replies_quiet service seed) (enough l.reported)))
+      (says effect.Nothing d h (λ id e. cc))
+
+  lead_cut_well : (counts : List ℕ) (l : Lead Value) (o : Option (Proposal Value)) (d : CallHere) → Well d → Well (cut_lead service seed n me counts l o d)
+  lead_cut_well counts l (Some p) d h = says (effect.Open p.instance) d h (λ id e. cc)
+  lead_cut_well counts l None d h =
+      if_well n (service_of service seed) me (replies_quiet service seed) (nat_le 65535 (length (known d.node.log))) (says effect.Ended d h (λ id e. cc))
+      (live_well (greatest_cut counts d.node.work.live) l (below (greatest_cut counts d.node.work.live) d.node.work.live) d h)
+
+  role_well : (counts : List ℕ) (r : Role Value) (d : CallHere) → Well d → Well (cut_role service seed n me counts r d)
+  role_well counts Follower d h = says (effect.NotActive (role_name d.node.role)) d h (λ id e. cc)
+  role_well counts (Leads l) d h = active l.active
+    where
+      active : (t : Bool) → Well (active_only t d (cut_lead service seed n me counts l l.proposal d))
+      active true = lead_cut_well counts l l.proposal d h
+      active false = says (effect.NotActive (role_name d.node.role)) d h (λ id e. cc)
+
+  pub cut_well : (counts : List ℕ) (d : CallHere) → Well d → Well (cut service seed n me counts d)
+  cut_well counts d h = role_well counts d.node.role d h

@@ -1,0 +1,215 @@
+-- A node that leads goes on, a round at a time.
+use Rattle.std.proofs.Common.{◌≡◌, ℕ, zero, suc, ◌+◌, ◌-◌, ◌*◌, ◌≤◌, Bool, true, false, cond, not, ◌||◌, ◌&&◌, List, [], ◌∷◌, ◌++◌, length, Option, Some, None, refl, sym, ap, subst, ◌∙◌, arith, le_refl}
+use Rattle.std.specs.Prelude.{map, is_some, is_none, option_map, unwrap_or, IfSome}
+use Rattle.std.proofs.lemmas.List.Elements.{All-nil}
+use Rattle.rand_pcg.specs.Lcg.{Lcg}
+use Rattle.rex_ballot.specs.declared.proposal.Proposal.{Proposal as Kept}
+use Rattle.rex_paxos.specs.Counting as counting
+use Rattle.rex_paxos.specs.Counting.{AreCounted}
+use Rattle.rex_paxos.specs.Proposer.{ProposerValue, is_candidate}
+use Rattle.rex_paxos.specs.Reports.{best_for}
+use Rattle.rex_syntax.specs.declared.service.Declarations.{Declarations}
+use Rattle.rex_scenario.specs.Fits.{RequestFits}
+use Rattle.rex_record.specs.Value.{RecorderValue, started}
+use Rattle.rex_state.specs.Value.{StateValue}
+use Rattle.rex_traits.specs.Chains.{Answer}
+use Rattle.rex_report.specs.declared.effect.Effect.TheVariants as effect
+use Rattle.rex_safety.specs.Records.{Proposal, known}
+use Rattle.rex_safety.specs.Node.{Failure, Lead, Role, Service, dice_of}
+use Rattle.rex_safety.specs.Node.Role.{Leads as Leading}
+use Rattle.rex_safety.specs.Quorum.{is_majority}
+use Rattle.rex_safety.specs.Ranges.{LeadFits, RoleFits}
+use Rattle.rex_safety.specs.Calls.{Call, activate, best, choose, lead, leading, settle, turn}
+use Rattle.rex_safety.specs.Values.{Value, service_of}
+use Rattle.rex_safety.specs.Lanes.{CallHere}
+use Rattle.rex_node.specs.declared.going.Going.TheVariants.{On}
+use Rattle.rex_node.specs.declared.going.Round.TheVariants.{Done}
+use Rattle.rex_node.specs.declared.step.Draft.{Draft}
+use Rattle.rex_node.specs.Messages.{message_in}
+use Rattle.rex_node.specs.Parts.{NodeValue, ActingValue, ActsFor, HasGoneOn, IsActing, IsKept, IsProposer, IsUp, OpenIsCut, Proposes, here_of, lead_of, log_of, open_of, proposal_in, role_of, work_of}
+use Rattle.rex_node.specs.Calls.{armed_with}
+use Rattle.rex_node.specs.Going.{MayGoOn, above, so_far}
+use Rattle.rex_node.specs.Leading.{GoesRound, IsActive, IsFree, activated, fresh, goes_on, may_lead, reported_value}
+use Rattle.rex_node.proofs.Appended.{beside_of, logged_of, up_of}
+use Rattle.rex_node.proofs.Adopting.{goes_parts, turn_chooses}
+use Rattle.rex_node.proofs.Bridges as bridges
+use Rattle.rex_node.proofs.GoingLemmas.{leads_same}
+use Rattle.rex_node.proofs.Opening.{logged_as}
+use Rattle.rex_node.proofs.Written.{call_is}
+
+-- ---- a node that is active from here on
+
+module _ {K : Type 0} (x z : NodeValue K) (z_is : z ≡ x) (s : StateValue) (n : ℕ) (r : RecorderValue) (d : Lcg) (counts : List ℕ) (b seed : ℕ) where
+  pub activated_is : n ≡ length x.known → r ≡ started s → b ≡ unwrap_or (option_map (λ (p : ProposerValue). p.ballot) x.proposer) 0 → seed ≡ x.seed → d ≡ dice_of seed b → counts ≡ [] → record z { replayed = n; ahead = None; acting = Some (record { recorder = r; dice = d; proposed = counts }) } ≡ activated x s
+  activated_is n_is r_is b_is seed_is d_is counts_are =
+      ap (λ (y : NodeValue K). record y { replayed = n; ahead = None; acting = Some (record { recorder = r; dice = d; proposed = counts }) }) z_is
+      ∙ ap (λ (m : ℕ). record x { replayed = m; ahead = None; acting = Some (record { recorder = r; dice = d; proposed = counts }) }) n_is
+      ∙ ap (λ (a : ActingValue). record x { replayed = length x.known; ahead = None; acting = Some a })
+      (ap (λ (q : RecorderValue). record { recorder = q; dice = d; proposed = counts }) r_is
+      ∙ ap (λ (q : Lcg). record { recorder = started s; dice = q; proposed = counts }) (d_is ∙ ap (λ (k : ℕ). dice_of k b) seed_is ∙ ap (dice_of x.seed) b_is)
+      ∙ ap (λ (q : List ℕ). record { recorder = started s; dice = dice_of x.seed (unwrap_or (option_map (λ (p : ProposerValue). p.ballot) x.proposer) 0); proposed = q }) counts_are)
+
+-- ---- a node that goes no further
+
+module _ {V S : Type 0} (n : ℕ) (sv : Service V S) (me : ℕ) where
+  -- without a proposal, and active or without a majority
+  settle_rests : (t : ℕ) (d : Call V S) (l : Lead V) → d.node.role ≡ Leading l → l.proposal ≡ None → (l.active || not (is_majority n l.counted)) ≡ true → settle t n sv me d ≡ d
+  settle_rests zero d l role none stops = refl
+  settle_rests (suc t) d l role none stops =
+      ap (λ (r : Role V). turn n sv me d r (settle t n sv me)) role ∙ ap (λ (o : Option (Proposal V)). lead n sv me d l o (settle t n sv me)) none ∙ by l.active (is_majority n l.counted) stops
+    where
+      by : (a m : Bool) → (a || not m) ≡ true → cond a d (cond m (choose n sv me d l (suc (length (known d.node.log))) (best (suc (length (known d.node.log))) l.reported) (settle t n sv me)) d) ≡ d
+      by true m e = refl
+      by false true e = absurd (cc)
+      by false false e = refl
+
+  settle_follows : (t : ℕ) (d : Call V S) → d.node.role ≡ Role.Follower → settle t n sv me d ≡ d
+  settle_follows zero d role = refl
+  settle_follows (suc t) d role = ap (λ (r : Role V). turn n sv me d r (settle t n sv me)) role
+
+module _ {K : Type 0} (records : K → List (List ℕ)) (gives : K → List ℕ → Answer → K → Type 0) (faults : K → ℕ) (service : Declarations) (x : NodeValue K) (kept_so : IsKept records service x) (up : x.up ≡ true) (turns : ℕ) (before : Draft) where
+  abbrev settles : CallHere → CallHere
+  settles = settle turns x.nodes (service_of service x.seed) x.id
+
+  u : IsUp service x (here_of records service x)
+  u = kept_so.up up
+
+  same_majority : (p : ProposerValue) → x.proposer ≡ Some p → is_majority x.nodes p.promised ≡ counting.is_majority p.nodes (length p.promised)
+  same_majority p e =
+      let h : Proposes x.nodes x.id x.acceptor p = subst (IsProposer x.nodes x.id x.acceptor) e u.proposer in
+      bridges.majority_is x.nodes p.promised (subst (λ (n : ℕ). AreCounted n p.promised) h.nodes_are h.once.promises) ∙ ap (λ (n : ℕ). counting.is_majority n (length p.promised)) (sym h.nodes_are)
+
+  -- what its proposer and its being active say
+  rests_with : (p : ProposerValue) (active : Bool) → may_lead p active ≡ false → IsFree (Some p) active → ((active || is_candidate p) ≡ true) × HasGoneOn (Some p) active
+  rests_with p active g free = by active (is_candidate p) p.open_instance free.0 g free.1
+    where
+      by : (a c : Bool) (o : Option ℕ) → o ≡ None → (not a && is_none o && not c) ≡ false → (a ≡ true → c ≡ false) → ((a || c) ≡ true) × (c ≡ not (a || is_some o))
+      by true c o n e f = (refl, f refl)
+      by false true o n e f = (refl, sym (ap (λ (z : Option ℕ). not (is_some z)) n))
+      by false false o n e f = absurd (let q : is_none o ≡ true = ap (λ (z : Option ℕ). is_none z) n in let r : (is_none o && true) ≡ false = e in let s : (is_none o && true) ≡ true = ap (λ (t : Bool). t && true) q in cc)
+
+  stays : HasGoneOn x.proposer (is_some x.acting) → ((f : Option Failure) → settles (armed_with f (so_far records service x before)) ≡ armed_with f (so_far records service x before)) → GoesRound records gives faults service turns x x before before (Done On)
+  stays gone same = ((leads_same records gives faults settles (λ d. d) x.keeper (so_far records service x before) (so_far records service x before) refl same, kept_so, up), record { id = kept_so.id; few = kept_so.few; up = kept_so.up; rests = λ t. gone })
+
+  pub round_rests : goes_on x.proposer (is_some x.acting) ≡ false → IsFree x.proposer (is_some x.acting) → GoesRound records gives faults service turns x x before before (Done On)
+  round_rests g free = by x.proposer refl g free
+    where
+      by : (o : Option ProposerValue) → x.proposer ≡ o → goes_on o (is_some x.acting) ≡ false → IsFree o (is_some x.acting) → GoesRound records gives faults service turns x x before before (Done On)
+      by None e g free = stays (subst (λ (o : Option ProposerValue). HasGoneOn o (is_some x.acting)) (sym e) tt)
+          (λ f. settle_follows x.nodes (service_of service x.seed) x.id turns (armed_with f (so_far records service x before)) (ap (λ (o : Option ProposerValue). role_of x.acceptor o (is_some x.acting)) e))
+      by (Some p) e g free =
+          let r = rests_with p (is_some x.acting) g free in
+          stays (subst (λ (o : Option ProposerValue). HasGoneOn o (is_some x.acting)) (sym e) r.1)
+          (λ f. settle_rests x.nodes (service_of service x.seed) x.id turns (armed_with f (so_far records service x before)) (lead_of x.acceptor p (is_some x.acting)) (ap (λ (o : Option ProposerValue). role_of x.acceptor o (is_some x.acting)) e) (ap (open_of x.acceptor) free.0)
+          (ap (λ (t : Bool). is_some x.acting || not t) (same_majority p e) ∙ r.0))
+
+  -- ---- it is active
+
+  module _ (may : MayGoOn x turns) (goes : goes_on x.proposer (is_some x.acting) ≡ true) (i : ℕ) (next : i ≡ length x.known + 1) (unreported : reported_value x.proposer i ≡ None) (z : NodeValue K) (h : IsActive service x z) (after : Draft)
+      (effects : after.effects.items ≡ before.effects.items ++ effect.Active x.id (unwrap_or (option_map (λ (p : ProposerValue). p.ballot) x.proposer) 0) ∷ []) (sends : after.sends.items ≡ before.sends.items) where
+    module _ (p : ProposerValue) (e : x.proposer ≡ Some p) where
+      goes_p : may_lead p (is_some x.acting) ≡ true
+      goes_p = subst (λ (o : Option ProposerValue). goes_on o (is_some x.acting) ≡ true) e goes
+
+      idle : x.acting ≡ None
+      idle = (goes_parts p x.acting goes_p).0
+
+      none : p.open_instance ≡ None
+      none = (goes_parts p x.acting goes_p).1
+
+      majority : counting.is_majority p.nodes (length p.promised) ≡ true
+      majority = (goes_parts p x.acting goes_p).2
+
+      proposes : Proposes x.nodes x.id x.acceptor p
+      proposes = subst (IsProposer x.nodes x.id x.acceptor) e u.proposer
+
+      abbrev l : Lead Value
+      l = lead_of x.acceptor p (is_some x.acting)
+
+      abbrev z_at : NodeValue K
+      z_at = record x { replayed = length x.known; ahead = None; acting = Some (fresh x.seed p.ballot h.state) }
+
+      z_is : z ≡ z_at
+      z_is = h.is ∙ ap (λ (o : Option ProposerValue). record x { replayed = length x.known; ahead = None; acting = Some (fresh x.seed (unwrap_or (option_map (λ (q : ProposerValue). q.ballot) o) 0) h.state) }) e
+
+      none_best : (o : Option Kept) → option_map (λ (q : Kept). q.value) o ≡ None → o ≡ None
+      none_best None t = refl
+      none_best (Some q) t = absurd (cc)
+
+      best_none : best i (map proposal_in p.reported) ≡ None
+      best_none = bridges.best_is i p.reported ∙ ap (option_map proposal_in) (none_best (best_for i p.reported) (subst (λ (o : Option ProposerValue). reported_value o i ≡ None) e unreported))
+
+      place : suc (length (known (so_far records service x before).node.log)) ≡ i
+      place = ap (λ (vs : List Value). suc (length vs)) (sym u.known) ∙ (let n : suc (length x.known) ≡ i = omega (arith, next) in n)
+
+      some : turns ≡ suc (turns - 1)
+      some =
+          let m : 2 * above (length x.known) p.reported + 1 ≤ turns = subst (λ (o : Option ProposerValue). IfSome o (λ (q : ProposerValue). 2 * above (length x.known) q.reported + 1 ≤ turns)) e may in
+          omega (arith, m)
+
+      -- the model's node is active too
+      activates : (f : Option Failure) → settles (armed_with f (so_far records service x before)) ≡ activate (service_of service x.seed) x.id l (armed_with f (so_far records service x before))
+      activates f =
+          ap (λ (t : ℕ). settle t x.nodes (service_of service x.seed) x.id (armed_with f (so_far records service x before))) some
+          ∙ turn_chooses x.nodes (service_of service x.seed) x.id (armed_with f (so_far records service x before)) l (settle (turns - 1) x.nodes (service_of service x.seed) x.id)
+          (ap (λ (o : Option ProposerValue). role_of x.acceptor o (is_some x.acting)) e) (ap (open_of x.acceptor) none) (ap (λ (w : Option ActingValue). is_some w) idle) (same_majority p e ∙ majority)
+          ∙ ap (λ (o : Option (Proposal Value)). choose x.nodes (service_of service x.seed) x.id (armed_with f (so_far records service x before)) l (suc (length (known (so_far records service x before).node.log))) o (settle (turns - 1) x.nodes (service_of service x.seed) x.id))
+          (ap (λ (j : ℕ). best j (map proposal_in p.reported)) place ∙ best_none)
+
+      role_is : leading (lead_of x.acceptor p (is_some x.acting)) None [] true ≡ role_of x.acceptor x.proposer true
+      role_is =
+          ap (λ (ns : List ℕ). leading (lead_of x.acceptor p (is_some x.acting)) None ns true) (sym (proposes.counted none))
+          ∙ ap (λ (o : Option ℕ). leading (lead_of x.acceptor p (is_some x.acting)) (open_of x.acceptor o) p.accepted true) (sym none)
+          ∙ ap (λ (o : Option ProposerValue). role_of x.acceptor o true) (sym e)
+
+      comes : (f : Option Failure) → settles (armed_with f (so_far records service x before)) ≡ armed_with f (so_far records service z_at after)
+      comes f =
+          activates f
+          ∙ call_is (log_of service (records x.keeper)) (log_of service (records x.keeper)) x.up f (leading (lead_of x.acceptor p (is_some x.acting)) None [] true) (work_of (Some (fresh x.seed p.ballot h.state))) (work_of (Some (fresh x.seed p.ballot h.state)))
+          (length (known (log_of service (records x.keeper)))) (length x.known) (map message_in before.sends.items) (map message_in after.sends.items) (before.effects.items ++ effect.Active x.id p.ballot ∷ []) after.effects.items
+          refl refl (ap (λ (vs : List Value). length vs) (sym u.known)) (ap (map message_in) (sym sends))
+          (sym (effects ∙ ap (λ (o : Option ProposerValue). before.effects.items ++ effect.Active x.id (unwrap_or (option_map (λ (q : ProposerValue). q.ballot) o) 0) ∷ []) e))
+          ∙ ap (λ (r : Role Value). record (armed_with f (so_far records service z_at after)) { node = record (armed_with f (so_far records service z_at after)).node { role = r } }) role_is
+
+      acts : ActsFor service x.known (open_of x.acceptor p.open_instance) (fresh x.seed p.ballot h.state)
+      acts = record {
+        executes = record {
+          recorder = record { sound = h.sound; runs = refl; few = omega arith; queue = tt };
+          known = h.runs;
+          requests = All-nil (RequestFits service);
+        };
+        open_is_cut = subst (λ (o : Option ℕ). OpenIsCut service x.known (fresh x.seed p.ballot h.state) (open_of x.acceptor o)) (sym none) tt;
+      }
+
+      lead_same : (k : ℕ) (a b : Bool) → LeadFits k (lead_of x.acceptor p a) → LeadFits k (lead_of x.acceptor p b)
+      lead_same k a b f = record { ballot = f.ballot; reported = f.reported; next = f.next }
+
+      z_up : IsUp service z_at (here_of records service z_at)
+      z_up =
+          let b = beside_of records service x u in
+          let g = logged_of records service x u in
+          up_of records service z_at
+          (logged_as service x z_at (log_of service (records x.keeper)) refl refl refl refl g)
+          (record {
+            based = g.few;
+            replayed = le_refl (length x.known);
+            ahead = λ t. absurd (cc);
+            proposer = b.proposer;
+            acting = subst (λ (o : Option ProposerValue). IsActing service x.known x.acceptor o (Some (fresh x.seed p.ballot h.state))) (sym e) acts;
+            role = subst (λ (o : Option ProposerValue). RoleFits (length x.known) (role_of x.acceptor o true)) (sym e)
+                (lead_same (length x.known) (is_some x.acting) true (subst (λ (o : Option ProposerValue). RoleFits (length x.known) (role_of x.acceptor o (is_some x.acting))) e b.role));
+          })
+
+      gone : HasGoneOn x.proposer true
+      gone = subst (λ (o : Option ProposerValue). HasGoneOn o true) (sym e) (ap not majority)
+
+      active_at : GoesRound records gives faults service turns x z before after (Done On)
+      active_at = subst (λ (n : NodeValue K). GoesRound records gives faults service turns x n before after (Done On)) (sym z_is)
+          ((leads_same records gives faults settles (λ d. d) x.keeper (so_far records service x before) (so_far records service z_at after) refl comes, record { id = kept_so.id; few = kept_so.few; up = λ t. z_up }, up), record { id = kept_so.id; few = kept_so.few; up = λ t. z_up; rests = λ t. gone })
+
+    pub round_active : GoesRound records gives faults service turns x z before after (Done On)
+    round_active = by x.proposer refl
+      where
+        by : (o : Option ProposerValue) → x.proposer ≡ o → GoesRound records gives faults service turns x z before after (Done On)
+        by None e = absurd (let t : false ≡ true = subst (λ (o : Option ProposerValue). goes_on o (is_some x.acting) ≡ true) e goes in cc)
+        by (Some p) e = active_at p e

@@ -1,0 +1,322 @@
+-- A node says that it accepted the proposal of a node that leads.
+use Rattle.std.proofs.Common.{◌≡◌, ℕ, ◌+◌, Bool, true, false, cond, not, eqb, List, [], ◌∷◌, ◌++◌, length, Option, Some, None, refl, sym, ap, subst, ◌∙◌, arith, eqb-true, length-append}
+use Rattle.std.specs.Prelude.{map, is_some, option_map, unwrap_or, IfSome, if◌then◌else◌}
+use Rattle.std.specs.List.{All}
+use Rattle.std.proofs.lemmas.Option.{same_Some}
+use Rattle.std.proofs.lemmas.List.Elements.{All-head, All-tail}
+use Rattle.rex_ballot.specs.declared.proposal.Proposal.{Proposal as Kept}
+use Rattle.rex_ballot.specs.Proposals.{proposal_for}
+use Rattle.rex_paxos.specs.declared.answers.Vote.{Vote}
+use Rattle.rex_paxos.specs.declared.answers.Vote.TheVariants as vote
+use Rattle.rex_paxos.specs.declared.answers.Why.{Why}
+use Rattle.rex_paxos.specs.declared.answers.Why.TheVariants as why
+use Rattle.rex_paxos.specs.Acceptor.{AcceptorValue}
+use Rattle.rex_paxos.specs.Counting as counting
+use Rattle.rex_paxos.specs.declared.answers.Count.TheVariants as count
+use Rattle.rex_paxos.specs.Counting.{IsOneOf, AreCounted, is_counted}
+use Rattle.rex_paxos.specs.Proposer.{ProposerValue, acceptance_refusal, acceptance_vote, acceptance_counted, is_open, voted, with_acceptance}
+use Rattle.rex_paxos.proofs.Counted.{counted_push}
+use Rattle.rex_syntax.specs.declared.service.Declarations.{Declarations}
+use Rattle.rex_state.specs.Value.{StateValue}
+use Rattle.rex_traits.specs.Chains.{Answer}
+use Rattle.rex_report.specs.declared.effect.Effect.{Effect}
+use Rattle.rex_report.specs.declared.effect.Effect.TheVariants as effect
+use Rattle.rex_safety.specs.Records.{Proposal}
+use Rattle.rex_safety.specs.Node.{Lead, Role, Service}
+use Rattle.rex_safety.specs.Node.Role.{Leads as Leading}
+use Rattle.rex_safety.specs.Quorum.{IsNode as IsNodeOf, is_in, is_majority}
+use Rattle.rex_safety.specs.Calls.{Call, count_vote, led, on_own_vote, on_voted, say, settle}
+use Rattle.rex_safety.specs.Calls as calls
+use Rattle.rex_safety.specs.Values.{Value, service_of}
+use Rattle.rex_safety.specs.Lanes.{CallHere}
+use Rattle.rex_node.specs.Electing.{acceptance_vote_on, accepting_from, told_of}
+use Rattle.rex_node.specs.Messages.{message_in}
+use Rattle.rex_node.specs.declared.going.Going.TheVariants.{On}
+use Rattle.rex_node.specs.declared.step.Draft.{Draft}
+use Rattle.rex_node.specs.Parts.{NodeValue, ActingValue, HasGoneOn, HasOpen, IsActing, IsKept, IsNode, IsProposer, IsUp, Proposes, here_of, lead_of, log_of, open_of, proposal_in, role_of, work_of}
+use Rattle.rex_node.specs.Calls.{armed_with}
+use Rattle.rex_node.specs.Going.{Ends, so_far}
+use Rattle.rex_node.proofs.Appended.{beside_of, logged_of, up_of}
+use Rattle.rex_node.proofs.GoingLemmas.{leads_same}
+use Rattle.rex_node.proofs.Opening.{logged_as}
+use Rattle.rex_node.proofs.Written.{call_is}
+use Rattle.rex_safety.specs.Ranges.{LeadFits, RoleFits}
+use Rattle.rex_node.proofs.Bridges as bridges
+
+-- ---- what is made of an acceptance
+
+module _ {V S : Type 0} (n : ℕ) (sv : Service V S) (me from : ℕ) (l : Lead V) where
+  -- it leads with one more that accepted its open proposal
+  abbrev pub one_more : Lead V
+  one_more = record { ballot = l.ballot; counted = l.counted; reported = l.reported; proposal = l.proposal; accepted_by = l.accepted_by ++ from ∷ []; active = l.active }
+
+  -- what the model does, by what a proposer answers
+  abbrev pub outcome : Vote → Call V S → Call V S
+  outcome vote.Quorum d = settle (calls.enough l.reported) n sv me (led (Leading one_more) d)
+  outcome (vote.NotYet have) d = say (effect.Have have) (led (Leading one_more) d)
+  outcome (vote.Ignored w) d = say (told_of w) d
+
+-- what was found is for the instance
+pub found_instance : (i : ℕ) (ps : List Kept) (q : Kept) → proposal_for i ps ≡ Some q → q.instance ≡ i
+found_instance i [] q e = absurd (cc)
+found_instance i (p ∷ ps) q e = by (eqb p.instance i) refl e (found_instance i ps q)
+  where
+    by : (t : Bool) → eqb p.instance i ≡ t → cond t (Some p) (proposal_for i ps) ≡ Some q → (proposal_for i ps ≡ Some q → q.instance ≡ i) → q.instance ≡ i
+    by true s f more = ap (λ (r : Kept). r.instance) (sym (same_Some p q f)) ∙ eqb-true p.instance i s
+    by false s f more = more f
+
+pub found_all : (P : Kept → Type 0) (i : ℕ) (ps : List Kept) (q : Kept) → All P ps → proposal_for i ps ≡ Some q → P q
+found_all P i [] q h e = absurd (cc)
+found_all P i (p ∷ ps) q h e = by (eqb p.instance i) e (found_all P i ps q (All-tail P p ps h))
+  where
+    by : (t : Bool) → cond t (Some p) (proposal_for i ps) ≡ Some q → (proposal_for i ps ≡ Some q → P q) → P q
+    by true f more = subst P (same_Some p q f) (All-head P p ps h)
+    by false f more = more f
+
+module _ (nodes id : ℕ) (a : AcceptorValue) (p : ProposerValue) (h : Proposes nodes id a p) (active : Bool) (sv : Service Value StateValue) (from ballot i : ℕ) (one : IsOneOf nodes from) (d : CallHere) where
+  abbrev l : Lead Value
+  l = lead_of a p active
+
+  -- the open proposal is for the open instance
+  pub open_at : (o : ℕ) → p.open_instance ≡ Some o → (q : Kept) × (open_of a p.open_instance ≡ Some (proposal_in q)) × (q.instance ≡ o) × (proposal_for o a.accepted ≡ Some q)
+  open_at o e =
+      let k : HasOpen a p.ballot (Some o) = subst (HasOpen a p.ballot) e h.open_one in
+      (k.0, ap (open_of a) e ∙ ap (option_map proposal_in) k.1, found_instance o a.accepted k.0 k.1, k.1)
+
+  -- with one more it is a majority where the proposer's count is
+  pub majority_more : is_counted from p.accepted ≡ false → is_majority nodes (p.accepted ++ from ∷ []) ≡ counting.is_majority p.nodes (length p.accepted + 1)
+  majority_more new =
+      bridges.majority_is nodes (p.accepted ++ from ∷ []) (counted_push nodes p.accepted from (subst (λ (n : ℕ). AreCounted n p.accepted) h.nodes_are h.once.acceptances) one new)
+      ∙ ap (λ (n : ℕ). counting.is_majority n (length (p.accepted ++ from ∷ []))) (sym h.nodes_are)
+      ∙ ap (counting.is_majority p.nodes) (length-append p.accepted (from ∷ []))
+
+  -- the proposer's answer, by its tests
+  abbrev answer : Bool → Option ℕ → Bool → Vote
+  answer own o again = voted (if not own then Some (why.Ballot ballot p.ballot) else if not (is_open o i) then Some (why.Instance i (unwrap_or o 0)) else if again then Some (why.Again from) else None) p.nodes (length p.accepted + 1)
+
+  -- a vote for the open proposal is counted
+  counts : (q : Kept) → open_of a p.open_instance ≡ Some (proposal_in q) → is_counted from p.accepted ≡ false
+      → count_vote nodes sv id (calls.voted l from (proposal_in q)) d ≡ outcome nodes sv id from l (voted None p.nodes (length p.accepted + 1)) d
+  counts q e new =
+      ap (λ (o : Option (Proposal Value)). count_vote nodes sv id (record { ballot = p.ballot; counted = p.promised; reported = map proposal_in p.reported; proposal = o; accepted_by = p.accepted ++ from ∷ []; active = active }) d) (sym e)
+      ∙ ap (λ (t : Bool). cond t (settle (calls.enough (map proposal_in p.reported)) nodes sv id (led (Leading (one_more nodes sv id from l)) d)) (say (effect.Have (length (p.accepted ++ from ∷ []))) (led (Leading (one_more nodes sv id from l)) d))) (majority_more new)
+      ∙ ap (λ (k : ℕ). cond (counting.is_majority p.nodes (length p.accepted + 1)) (settle (calls.enough (map proposal_in p.reported)) nodes sv id (led (Leading (one_more nodes sv id from l)) d)) (say (effect.Have k) (led (Leading (one_more nodes sv id from l)) d))) (length-append p.accepted (from ∷ []))
+      ∙ go (counting.is_majority p.nodes (length p.accepted + 1))
+    where
+      go : (t : Bool) → cond t (settle (calls.enough (map proposal_in p.reported)) nodes sv id (led (Leading (one_more nodes sv id from l)) d)) (say (effect.Have (length p.accepted + 1)) (led (Leading (one_more nodes sv id from l)) d))
+          ≡ outcome nodes sv id from l (counting.vote_of (if t then count.Quorum else count.NotYet (length p.accepted + 1))) d
+      go true = refl
+      go false = refl
+
+  -- the same of an open instance
+  at_open : (o : ℕ) → p.open_instance ≡ Some o → on_own_vote nodes sv id from i d l (open_of a p.open_instance) ≡ outcome nodes sv id from l (answer true (Some o) (is_counted from p.accepted)) d
+  at_open o e =
+      let q = open_at o e in
+      ap (on_own_vote nodes sv id from i d l) q.1
+      ∙ ap (λ (k : ℕ). cond (eqb k i) (cond (is_in from p.accepted) (say (effect.IgnoredAgain from) d) (count_vote nodes sv id (calls.voted l from (proposal_in q.0)) d)) (say (effect.IgnoredInstance i k) d)) q.2
+      ∙ ap (λ (t : Bool). cond t (cond (is_in from p.accepted) (say (effect.IgnoredAgain from) d) (count_vote nodes sv id (calls.voted l from (proposal_in q.0)) d)) (say (effect.IgnoredInstance i o) d)) (bridges.same_test o i)
+      ∙ go (eqb i o) q.0 q.1
+    where
+      again : (q : Kept) → open_of a p.open_instance ≡ Some (proposal_in q) → (t : Bool) → is_counted from p.accepted ≡ t → cond t (say (effect.IgnoredAgain from) d) (count_vote nodes sv id (calls.voted l from (proposal_in q)) d)
+          ≡ outcome nodes sv id from l (voted (if t then Some (why.Again from) else None) p.nodes (length p.accepted + 1)) d
+      again q f true g = refl
+      again q f false g = counts q f g
+
+      go : (t : Bool) (q : Kept) → open_of a p.open_instance ≡ Some (proposal_in q) → cond t (cond (is_in from p.accepted) (say (effect.IgnoredAgain from) d) (count_vote nodes sv id (calls.voted l from (proposal_in q)) d)) (say (effect.IgnoredInstance i o) d)
+          ≡ outcome nodes sv id from l (voted (if not t then Some (why.Instance i o) else if is_counted from p.accepted then Some (why.Again from) else None) p.nodes (length p.accepted + 1)) d
+      go false q f = refl
+      go true q f =
+          ap (λ (t : Bool). cond t (say (effect.IgnoredAgain from) d) (count_vote nodes sv id (calls.voted l from (proposal_in q)) d)) (bridges.in_counted from p.accepted)
+          ∙ again q f (is_counted from p.accepted) refl
+
+  at_any : (o : Option ℕ) → p.open_instance ≡ o → on_own_vote nodes sv id from i d l (open_of a p.open_instance) ≡ outcome nodes sv id from l (answer true o (is_counted from p.accepted)) d
+  at_any None e = ap (λ (o : Option ℕ). on_own_vote nodes sv id from i d l (open_of a o)) e
+  at_any (Some o) e = at_open o e
+
+  -- the model does what the proposer's answer says
+  voted_is : on_voted nodes sv id from ballot i d (Leading l) ≡ outcome nodes sv id from l (acceptance_vote p ballot i from) d
+  voted_is = ap (λ (t : Bool). cond t (on_own_vote nodes sv id from i d l (open_of a p.open_instance)) (say (effect.IgnoredBallot ballot p.ballot) d)) (bridges.same_test p.ballot ballot) ∙ go (eqb ballot p.ballot)
+    where
+      go : (t : Bool) → cond t (on_own_vote nodes sv id from i d l (open_of a p.open_instance)) (say (effect.IgnoredBallot ballot p.ballot) d) ≡ outcome nodes sv id from l (answer t p.open_instance (is_counted from p.accepted)) d
+      go false = refl
+      go true = at_any p.open_instance refl
+
+-- ---- answers
+
+no_refusal : (own at again : Bool) (x y z : Why) → (if not own then Some x else if not at then Some y else if again then Some z else None) ≡ None → (own ≡ true) × (at ≡ true) × (again ≡ false)
+no_refusal false at again x y z e = absurd (cc)
+no_refusal true false again x y z e = absurd (cc)
+no_refusal true true true x y z e = absurd (cc)
+no_refusal true true false x y z e = (refl, refl, refl)
+
+open_is : (o : Option ℕ) (i : ℕ) → is_open o i ≡ true → o ≡ Some i
+open_is None i e = absurd (cc)
+open_is (Some k) i e = ap (λ (n : ℕ). Some n) (sym (eqb-true i k e))
+
+not_yet : (r : Option Why) (nodes n have : ℕ) → voted r nodes n ≡ vote.NotYet have → (r ≡ None) × (counting.is_majority nodes n ≡ false) × (have ≡ n)
+not_yet (Some w) nodes n have e = absurd (cc)
+not_yet None nodes n have e = go (counting.is_majority nodes n) refl e
+  where
+    go : (t : Bool) → counting.is_majority nodes n ≡ t → counting.vote_of (if t then count.Quorum else count.NotYet n) ≡ vote.NotYet have → (let r : Option Why = None in r ≡ None) × (counting.is_majority nodes n ≡ false) × (have ≡ n)
+    go true s f = absurd (cc)
+    go false s f = (refl, s, cc)
+
+pub is_quorum : (r : Option Why) (nodes n : ℕ) → voted r nodes n ≡ vote.Quorum → (r ≡ None) × (counting.is_majority nodes n ≡ true)
+is_quorum (Some w) nodes n e = absurd (cc)
+is_quorum None nodes n e = go (counting.is_majority nodes n) refl e
+  where
+    go : (t : Bool) → counting.is_majority nodes n ≡ t → counting.vote_of (if t then count.Quorum else count.NotYet n) ≡ vote.Quorum → (let r : Option Why = None in r ≡ None) × (counting.is_majority nodes n ≡ true)
+    go true s f = (refl, s)
+    go false s f = absurd (cc)
+
+abbrev told_from : Vote → Effect
+told_from (vote.Ignored w) = told_of w
+told_from _ = effect.IgnoredLate
+
+-- ---- a node
+
+module _ {K : Type 0} (records : K → List (List ℕ)) (gives : K → List ℕ → Answer → K → Type 0) (faults : K → ℕ) (service : Declarations) (x : NodeValue K) (node : IsNode records service x) (up : x.up ≡ true) (from ballot i : ℕ) (there : IsNodeOf x.nodes from) (before : Draft) where
+  u : IsUp service x (here_of records service x)
+  u = node.up up
+
+  abbrev whole : CallHere → CallHere
+  whole d = on_voted x.nodes (service_of service x.seed) x.id from ballot i d d.node.role
+
+  pub one : IsOneOf x.nodes from
+  one = record { first = let a = there.0 in omega arith; last = there.1 }
+
+  proposes_of : (p : ProposerValue) → x.proposer ≡ Some p → Proposes x.nodes x.id x.acceptor p
+  proposes_of p e = subst (IsProposer x.nodes x.id x.acceptor) e u.proposer
+
+  -- the model's call, by the proposer's answer
+  pub whole_is : (p : ProposerValue) → x.proposer ≡ Some p → (d : CallHere) → d.node.role ≡ role_of x.acceptor x.proposer (is_some x.acting)
+      → whole d ≡ outcome x.nodes (service_of service x.seed) x.id from (lead_of x.acceptor p (is_some x.acting)) (acceptance_vote p ballot i from) d
+  whole_is p e d role =
+      ap (λ (r : Role Value). on_voted x.nodes (service_of service x.seed) x.id from ballot i d r) (role ∙ ap (λ (o : Option ProposerValue). role_of x.acceptor o (is_some x.acting)) e)
+      ∙ voted_is x.nodes x.id x.acceptor p (proposes_of p e) (is_some x.acting) (service_of service x.seed) from ballot i one d
+
+  kept_so : IsKept records service x
+  kept_so = record { id = node.id; few = node.few; up = node.up }
+
+  -- ---- it isn't counted
+
+  ignores : (w : Why) → acceptance_vote_on x.proposer ballot i from ≡ vote.Ignored w → (d : CallHere) → d.node.role ≡ role_of x.acceptor x.proposer (is_some x.acting) → whole d ≡ say (told_of w) d
+  ignores w v d role = by x.proposer refl v
+    where
+      by : (o : Option ProposerValue) → x.proposer ≡ o → acceptance_vote_on o ballot i from ≡ vote.Ignored w → whole d ≡ say (told_of w) d
+      by None e f =
+          ap (λ (r : Role Value). on_voted x.nodes (service_of service x.seed) x.id from ballot i d r) (role ∙ ap (λ (o : Option ProposerValue). role_of x.acceptor o (is_some x.acting)) e)
+          ∙ ap (λ (t : Effect). say t d) (ap told_from f)
+      by (Some p) e f = whole_is p e d role ∙ ap (λ (z : Vote). outcome x.nodes (service_of service x.seed) x.id from (lead_of x.acceptor p (is_some x.acting)) z d) f
+
+  pub vote_ignored : (w : Why) → acceptance_vote_on x.proposer ballot i from ≡ vote.Ignored w → (after : Draft) → after.effects.items ≡ before.effects.items ++ told_of w ∷ [] → after.sends.items ≡ before.sends.items → Ends records gives faults service whole x x before after On
+  vote_ignored w v after effects sends = (
+    (
+      leads_same records gives faults whole (λ d. d) x.keeper (so_far records service x before) (so_far records service x after) refl
+          (λ f. ignores w v (armed_with f (so_far records service x before)) refl
+          ∙ call_is (log_of service (records x.keeper)) (log_of service (records x.keeper)) x.up f (role_of x.acceptor x.proposer (is_some x.acting)) (work_of x.acting) (work_of x.acting) x.replayed x.replayed
+          (map message_in before.sends.items) (map message_in after.sends.items) (before.effects.items ++ told_of w ∷ []) after.effects.items refl refl refl (ap (map message_in) (sym sends)) (sym effects)),
+      kept_so,
+      up,
+    ),
+    node,
+  )
+
+  -- ---- it is counted
+
+  module _ (p : ProposerValue) (e : x.proposer ≡ Some p) (none : acceptance_refusal p ballot i from ≡ None) where
+    pub parts : (eqb ballot p.ballot ≡ true) × (is_open p.open_instance i ≡ true) × (is_counted from p.accepted ≡ false)
+    parts = no_refusal (eqb ballot p.ballot) (is_open p.open_instance i) (is_counted from p.accepted) (why.Ballot ballot p.ballot) (why.Instance i (unwrap_or p.open_instance 0)) (why.Again from) none
+
+    pub opens : p.open_instance ≡ Some i
+    opens = open_is p.open_instance i parts.1
+
+    more_counted : AreCounted p.nodes (p.accepted ++ from ∷ [])
+    more_counted =
+        let h = proposes_of p e in
+        counted_push p.nodes p.accepted from h.once.acceptances (subst (λ (n : ℕ). IsOneOf n from) (sym h.nodes_are) one) parts.2
+
+    module _ (few : counting.is_majority p.nodes (length p.accepted + 1) ≡ false) where
+      abbrev q : ProposerValue
+      q = record p { accepted = p.accepted ++ from ∷ [] }
+
+      q_is : acceptance_counted p ballot i from ≡ q
+      q_is = ap (λ (r : Option Why). with_acceptance r p from) none ∙ ap (λ (t : Bool). cond t (record p { open_instance = None; accepted = [] }) (record p { accepted = p.accepted ++ from ∷ [] })) few
+
+      abbrev y_at : NodeValue K
+      y_at = record x { proposer = Some q }
+
+      proposes_more : Proposes x.nodes x.id x.acceptor q
+      proposes_more =
+          let h = proposes_of p e in
+          record {
+            nodes_are = h.nodes_are;
+            own = h.own;
+            ballot = h.ballot;
+            once = record { own = h.once.own; promises = h.once.promises; acceptances = more_counted };
+            short = h.short;
+            counted = λ z. absurd (no_open z);
+            open_one = h.open_one;
+          }
+        where
+          no_open : p.open_instance ≡ None → ⊥
+          no_open z = let t : Some i ≡ None = sym opens ∙ z in cc
+
+      acting_more : (w : Option ActingValue) → IsActing service x.known x.acceptor (Some p) w → IsActing service x.known x.acceptor (Some q) w
+      acting_more None h = h
+      acting_more (Some a) h = h
+
+      y_up : IsUp service y_at (here_of records service y_at)
+      y_up =
+          let b = beside_of records service x u in
+          let g = logged_of records service x u in
+          up_of records service y_at
+          (logged_as service x y_at (log_of service (records x.keeper)) refl refl refl refl g)
+          (record {
+            based = b.based;
+            replayed = b.replayed;
+            ahead = b.ahead;
+            proposer = proposes_more;
+            acting = acting_more x.acting (subst (λ (o : Option ProposerValue). IsActing service x.known x.acceptor o x.acting) e b.acting);
+            role = let f : LeadFits (length x.known) (lead_of x.acceptor p (is_some x.acting)) = subst (λ (o : Option ProposerValue). RoleFits (length x.known) (role_of x.acceptor o (is_some x.acting))) e b.role in record { ballot = f.ballot; reported = f.reported; next = f.next };
+          })
+
+      y_node : IsNode records service y_at
+      y_node = record { id = node.id; few = node.few; up = λ t. y_up; rests = λ t. let h : HasGoneOn (Some p) (is_some x.acting) = subst (λ (o : Option ProposerValue). HasGoneOn o (is_some x.acting)) e (node.rests up) in h }
+
+      vote_at : acceptance_vote p ballot i from ≡ vote.NotYet (length p.accepted + 1)
+      vote_at = ap (λ (r : Option Why). voted r p.nodes (length p.accepted + 1)) none ∙ ap (λ (t : Bool). counting.vote_of (if t then count.Quorum else count.NotYet (length p.accepted + 1))) few
+
+      counted_at : (after : Draft) → after.effects.items ≡ before.effects.items ++ effect.Have (length p.accepted + 1) ∷ [] → after.sends.items ≡ before.sends.items → Ends records gives faults service whole x y_at before after On
+      counted_at after effects sends = (
+        (
+          leads_same records gives faults whole (λ d. d) x.keeper (so_far records service x before) (so_far records service y_at after) refl
+              (λ f. whole_is p e (armed_with f (so_far records service x before)) refl
+              ∙ ap (λ (z : Vote). outcome x.nodes (service_of service x.seed) x.id from (lead_of x.acceptor p (is_some x.acting)) z (armed_with f (so_far records service x before))) vote_at
+              ∙ call_is (log_of service (records x.keeper)) (log_of service (records x.keeper)) x.up f (Leading (lead_of x.acceptor q (is_some x.acting))) (work_of x.acting) (work_of x.acting) x.replayed x.replayed
+              (map message_in before.sends.items) (map message_in after.sends.items) (before.effects.items ++ effect.Have (length p.accepted + 1) ∷ []) after.effects.items refl refl refl (ap (map message_in) (sym sends)) (sym effects)),
+          record { id = node.id; few = node.few; up = λ t. y_up },
+          up,
+        ),
+        y_node,
+      )
+
+  pub vote_counted : (have : ℕ) → acceptance_vote_on x.proposer ballot i from ≡ vote.NotYet have → (y : NodeValue K) → y ≡ accepting_from x ballot i from → (after : Draft) → after.effects.items ≡ before.effects.items ++ effect.Have have ∷ [] → after.sends.items ≡ before.sends.items
+      → Ends records gives faults service whole x y before after On
+  vote_counted have v y y_is after effects sends = by x.proposer refl v
+    where
+      by : (o : Option ProposerValue) → x.proposer ≡ o → acceptance_vote_on o ballot i from ≡ vote.NotYet have → Ends records gives faults service whole x y before after On
+      by None e f = absurd (cc)
+      by (Some p) e f =
+          let n = not_yet (acceptance_refusal p ballot i from) p.nodes (length p.accepted + 1) have f in
+          let all : y ≡ record x { proposer = Some (record p { accepted = p.accepted ++ from ∷ [] }) } =
+          y_is ∙ ap (λ (o : Option ProposerValue). record x { proposer = option_map (λ (q : ProposerValue). acceptance_counted q ballot i from) o }) e ∙ ap (λ (q : ProposerValue). record x { proposer = Some q }) (q_is p e n.0 n.1) in
+          subst (λ (z : NodeValue K). Ends records gives faults service whole x z before after On) (sym all)
+          (counted_at p e n.0 n.1 after (effects ∙ ap (λ (k : ℕ). before.effects.items ++ effect.Have k ∷ []) n.2) sends)
+
+  pub vote_one : IfSome x.proposer (λ (p : ProposerValue). IsOneOf p.nodes from)
+  vote_one = by x.proposer refl
+    where
+      by : (o : Option ProposerValue) → x.proposer ≡ o → IfSome o (λ (p : ProposerValue). IsOneOf p.nodes from)
+      by None e = tt
+      by (Some p) e = subst (λ (n : ℕ). IsOneOf n from) (sym (proposes_of p e).nodes_are) one

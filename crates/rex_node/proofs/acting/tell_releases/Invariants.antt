@@ -1,0 +1,14 @@
+use Rattle.std.proofs.Common.{◌≡◌, ◌++◌, List}
+use Rattle.std.specs.Prelude.{map, take}
+use Rattle.rex_report.specs.declared.effect.Effect.{Effect}
+use Rattle.rex_msg.specs.declared.message.Message.{Message}
+use Rattle.rex_safety.specs.Values.{release_effect}
+use Rattle.rex_node.proofs.acting.tell_releases.Given as goal
+
+-- the replies up to this one were told, and nothing was sent
+pub record Tells (told had more : List Effect) (sends sent : List Message) : Type 0 where
+  pub effects : told ≡ had ++ more
+  pub sends_are : sends ≡ sent
+
+abbrev pub invariant-loop-release : goal.invariant-loop-release
+invariant-loop-release l = Tells l.draft.effects.items l.initial.draft.effects.items (map release_effect (take l.release-index l.releases)) l.draft.sends.items l.initial.draft.sends.items

@@ -1,0 +1,9 @@
+pub mod Calls
+pub mod Cutting
+pub mod Electing
+pub mod Going
+pub mod Leading
+pub mod Messages
+pub mod Parts
+pub mod Restarting
+pub mod Submitting

@@ -1,0 +1,285 @@
+-- A node's parts, and the node of the cluster's model that they are.
+use Rattle.std.specs.Prelude.{◌≡◌, ℕ, ◌<◌, ◌≤◌, ◌||◌, not, ℤ, Bool, true, false, List, [], ◌∷◌, ◌++◌, length, map, take, fold, is_some, Result, Ok, Err, Option, Some, None, option_map}
+use Rattle.std.specs.List.{All}
+use Rattle.rand_pcg.specs.Lcg.{Lcg}
+use Rattle.rex_ballot.specs.declared.proposal.Proposal.{Proposal as Kept}
+use Rattle.rex_ballot.specs.Ballot.{node_of}
+use Rattle.rex_ballot.specs.Proposals.{IsValue, proposal_for}
+use Rattle.rex_syntax.specs.declared.service.Declarations.{Declarations}
+use Rattle.rex_state.specs.Value.{StateValue}
+use Rattle.rex_state.specs.Counts.{counts_of}
+use Rattle.rex_state.specs.Start.{start_of}
+use Rattle.rex_state.specs.Machine.{run}
+use Rattle.rex_record.specs.Value.{RecorderValue}
+use Rattle.rex_record.specs.Kept.{IsRecorder}
+use Rattle.rex_paxos.specs.Acceptor.{AcceptorValue}
+use Rattle.rex_paxos.specs.Proposer.{ProposerValue, CountsOnce, is_candidate}
+use Rattle.rex_durable.specs.declared.records.Rec.{Rec as KeptRec}
+use Rattle.rex_durable.specs.declared.records.Rec.TheVariants as kept
+use Rattle.rex_durable.specs.Reading.{record_in}
+use Rattle.rex_scenario.specs.Fits.{RequestFits}
+use Rattle.rex_safety.specs.Records.{Rec, Proposal, proposal_of, promise, accepted, known, base}
+use Rattle.rex_safety.specs.Records.Rec.{Promised, Accepted, Known, Checkpoint}
+use Rattle.rex_safety.specs.Node.{Lead, Role, Work, no_work}
+use Rattle.rex_safety.specs.Node.Role.{Follower, Leads}
+use Rattle.rex_safety.specs.Calls.{replayed_left}
+use Rattle.rex_event.specs.Cuts.{IsConsistent, IsWithin, below, beyond}
+use Rattle.rex_safety.specs.Values.{Value, events_of, trace_of, state_after, values_fit, still_live}
+use Rattle.rex_safety.specs.Ranges.{NodeFits}
+use Rattle.rex_safety.specs.Invariant.{IsReplayed}
+use Rattle.rex_traits.specs.declared.keeper.KeepFault.{KeepFault}
+use Rattle.rex_traits.specs.declared.keeper.KeepFault.TheVariants.{Failed, OutOfMemory}
+use Rattle.rex_traits.specs.Chains.{Answer}
+use Rattle.rex_safety.specs.Lanes.{Here}
+
+-- ---- parts
+
+-- what an active node executes: its recorder, its random generator, and the cut of its live events that it proposed last
+pub record ActingValue : Type 0 where
+  pub recorder : RecorderValue
+  pub dice : Lcg
+  pub proposed : List ℕ
+
+-- the node's number and how many there are; the seed; its keeper; whether it is up; its acceptor; the values that it knows; how many its last checkpoint is after, and the state then; how many it has replayed, and the state then where that is another one and the node isn't active; its proposer where it has asked to lead; and what it executes where it is active
+pub record NodeValue (K : Type 0) : Type 0 where
+  pub id : ℕ
+  pub nodes : ℕ
+  pub seed : ℕ
+  pub keeper : K
+  pub up : Bool
+  pub acceptor : AcceptorValue
+  pub known : List Value
+  pub base : ℕ
+  pub start : StateValue
+  pub replayed : ℕ
+  pub ahead : Option StateValue
+  pub proposer : Option ProposerValue
+  pub acting : Option ActingValue
+
+-- ---- its records
+
+-- what a record that was read says
+abbrev pub rec_of : Declarations → List (Rec Value StateValue) → KeptRec → Rec Value StateValue
+rec_of service log (kept.Promised b) = Promised b
+rec_of service log (kept.Accepted b i v) = Accepted b i v
+rec_of service log (kept.Known i v) = Known i v
+rec_of service log (kept.Checkpoint k bytes) = Checkpoint k (state_after service (trace_of (take k (known log))))
+
+-- the records with one more; bytes that spell none change nothing
+abbrev pub log_with : Declarations → List (Rec Value StateValue) → Result KeptRec ℕ → List (Rec Value StateValue)
+log_with service log (Ok r) = rec_of service log r ∷ log
+log_with service log (Err at) = log
+
+-- the records that lists of bytes spell, the newest first
+abbrev pub log_of : Declarations → List (List ℕ) → List (Rec Value StateValue)
+log_of service kept = fold (λ log bytes. log_with service log (record_in (length (known log)) bytes)) [] kept
+
+-- each of the lists of bytes spells a record
+abbrev pub AreRead : Declarations → List (List ℕ) → Type 0
+AreRead service kept = length (log_of service kept) ≡ length kept
+
+-- ---- its role and its work
+
+abbrev pub proposal_in : Kept → Proposal Value
+proposal_in p = proposal_of p.ballot p.instance p.value
+
+-- the open proposal is what the node itself accepted for the open instance
+abbrev pub open_of : AcceptorValue → Option ℕ → Option (Proposal Value)
+open_of a None = None
+open_of a (Some i) = option_map proposal_in (proposal_for i a.accepted)
+
+-- what a proposer leads with
+abbrev pub lead_of : AcceptorValue → ProposerValue → Bool → Lead Value
+lead_of a p active = record {
+  ballot = p.ballot;
+  counted = p.promised;
+  reported = map proposal_in p.reported;
+  proposal = open_of a p.open_instance;
+  accepted_by = p.accepted;
+  active = active;
+}
+
+abbrev pub role_of : AcceptorValue → Option ProposerValue → Bool → Role Value
+role_of a None active = Follower
+role_of a (Some p) active = Leads (lead_of a p active)
+
+abbrev pub work_of : Option ActingValue → Work
+work_of None = no_work
+work_of (Some a) = record { queue = a.recorder.queue; live = a.recorder.live; dice = a.dice }
+
+-- ---- the node
+
+-- the node that these parts are, where its keeper has these records; which append will fail is for its keeper to know
+abbrev pub here_of : {K : Type 0} → (K → List (List ℕ)) → Declarations → NodeValue K → Here
+here_of records service x = record {
+  log = log_of service (records x.keeper);
+  up = x.up;
+  armed = None;
+  role = role_of x.acceptor x.proposer (is_some x.acting);
+  work = work_of x.acting;
+  replayed = x.replayed;
+}
+
+-- ---- what is kept of a node
+
+-- the state at the number of values that were replayed: that of the checkpoint where there is no other one
+abbrev pub ahead_of : Option StateValue → StateValue → StateValue
+ahead_of None s = s
+ahead_of (Some t) s = t
+
+abbrev pub state_of : {K : Type 0} → NodeValue K → StateValue
+state_of x = ahead_of x.ahead x.start
+
+-- the values of the variables in the state that is executed, or else in the one that was replayed
+abbrev pub variables_with : Option ActingValue → StateValue → List ℤ
+variables_with None s = s.variables
+variables_with (Some a) s = a.recorder.state.variables
+
+abbrev pub variables_of : {K : Type 0} → NodeValue K → List ℤ
+variables_of x = variables_with x.acting (state_of x)
+
+-- the recorder begins at the state after what the node knows, and could begin each of its requests, whose numbers are in their ranges
+pub record Executes (service : Declarations) (values : List Value) (a : ActingValue) : Type 0 where
+  pub recorder : IsRecorder service a.recorder
+  pub known : run service (start_of service) (trace_of values) ≡ Some a.recorder.start
+  pub requests : All (RequestFits service) a.recorder.queue
+
+-- an open proposal is the delta of the live events below the cut that was proposed last, which counts none but live events
+pub record IsCutAt (service : Declarations) (values : List Value) (a : ActingValue) (value : Value) : Type 0 where
+  pub consistent : IsConsistent a.recorder.live a.proposed
+  pub within : IsWithin (counts_of a.recorder.state) a.proposed
+  pub events : events_of value ≡ below a.proposed a.recorder.live
+  pub others : still_live service (values ++ value ∷ []) a.recorder.live ≡ beyond a.proposed a.recorder.live
+
+abbrev pub OpenIsCut : Declarations → List Value → ActingValue → Option (Proposal Value) → Type 0
+OpenIsCut service values a None = Unit {0}
+OpenIsCut service values a (Some p) = IsCutAt service values a p.value
+
+-- what is executed is executed by a node that leads, and its open proposal is a cut of it
+pub record ActsFor (service : Declarations) (values : List Value) (open_one : Option (Proposal Value)) (a : ActingValue) : Type 0 where
+  pub executes : Executes service values a
+  pub open_is_cut : OpenIsCut service values a open_one
+
+abbrev pub IsActing : Declarations → List Value → AcceptorValue → Option ProposerValue → Option ActingValue → Type 0
+IsActing service values acceptor proposer None = Unit {0}
+IsActing service values acceptor None (Some a) = ⊥
+IsActing service values acceptor (Some p) (Some a) = ActsFor service values (open_of acceptor p.open_instance) a
+
+-- no value is too long to be written down
+abbrev pub AreShort : List Kept → Type 0
+AreShort ps = All (λ (p : Kept). IsValue p.value) ps
+
+-- the node accepted a value itself for the open instance, at this ballot
+abbrev pub HasOpen : AcceptorValue → ℕ → Option ℕ → Type 0
+HasOpen a ballot None = Unit {0}
+HasOpen a ballot (Some i) = (q : Kept) × (proposal_for i a.accepted ≡ Some q) × (q.ballot ≡ ballot)
+
+-- a proposer is of the node's own ballot, which is its promise; it counts acceptances for an open proposal alone
+pub record Proposes (nodes id : ℕ) (a : AcceptorValue) (p : ProposerValue) : Type 0 where
+  pub nodes_are : p.nodes ≡ nodes
+  pub own : node_of p.ballot ≡ id
+  pub ballot : p.ballot ≡ a.promised
+  pub once : CountsOnce p
+  pub short : AreShort p.reported
+  pub counted : p.open_instance ≡ None → p.accepted ≡ []
+  pub open_one : HasOpen a p.ballot p.open_instance
+
+abbrev pub IsProposer : ℕ → ℕ → AcceptorValue → Option ProposerValue → Type 0
+IsProposer nodes id a None = Unit {0}
+IsProposer nodes id a (Some p) = Proposes nodes id a p
+
+-- the parts of a node that is up are what its records say, and its states those after the values that it has a checkpoint of and that it has replayed
+pub record IsUp {K : Type 0} (service : Declarations) (x : NodeValue K) (h : Here) : Type 0 where
+  pub promised : x.acceptor.promised ≡ promise h.log
+  pub accepted : map proposal_in x.acceptor.accepted ≡ accepted h.log
+  pub known : x.known ≡ known h.log
+  pub base : x.base ≡ base h.log
+  pub start : run service (start_of service) (trace_of (take x.base x.known)) ≡ Some x.start
+  pub replayed : IsReplayed h
+  pub ahead : x.acting ≡ None → run service (start_of service) (trace_of (take x.replayed x.known)) ≡ Some (state_of x)
+  pub short : AreShort x.acceptor.accepted
+  pub proposer : IsProposer x.nodes x.id x.acceptor x.proposer
+  pub acting : IsActing service x.known x.acceptor x.proposer x.acting
+  pub fits : values_fit service x.known ≡ true
+  pub numbers : NodeFits h
+
+-- what is kept of a node also within a call
+pub record IsKept {K : Type 0} (records : K → List (List ℕ)) (service : Declarations) (x : NodeValue K) : Type 0 where
+  pub id : (0 < x.id) × (x.id ≤ x.nodes)
+  pub few : x.nodes ≤ 9
+  pub up : x.up ≡ true → IsUp service x (here_of records service x)
+
+-- a node that leads has gone on as far as it can: where a majority promised, it is active or has an open proposal
+abbrev pub HasGoneOn : Option ProposerValue → Bool → Type 0
+HasGoneOn None active = Unit {0}
+HasGoneOn (Some p) active = is_candidate p ≡ not (active || is_some p.open_instance)
+
+-- what is kept of a node between calls
+pub record IsNode {K : Type 0} (records : K → List (List ℕ)) (service : Declarations) (x : NodeValue K) : Type 0 where
+  pub id : (0 < x.id) × (x.id ≤ x.nodes)
+  pub few : x.nodes ≤ 9
+  pub up : x.up ≡ true → IsUp service x (here_of records service x)
+  pub rests : x.up ≡ true → HasGoneOn x.proposer (is_some x.acting)
+
+-- the same node of the same cluster
+pub record IsSame {K : Type 0} (before after : NodeValue K) : Type 0 where
+  pub id : after.id ≡ before.id
+  pub nodes : after.nodes ≡ before.nodes
+  pub seed : after.seed ≡ before.seed
+
+-- the same node of the same cluster, and kept
+pub record StaysNode {K : Type 0} (records : K → List (List ℕ)) (service : Declarations) (before after : NodeValue K) : Type 0 where
+  pub same : IsSame before after
+  pub kept : IsNode records service after
+
+-- ---- leaving a role
+
+-- what was replayed past the checkpoint is forgotten by a node that was active
+abbrev pub ahead_left : Bool → Option StateValue → Option StateValue
+ahead_left true ahead = None
+ahead_left false ahead = ahead
+
+-- the node is a follower
+abbrev pub leaving : {K : Type 0} → NodeValue K → NodeValue K
+leaving x = record x {
+  replayed = replayed_left (is_some x.acting) x.base x.replayed;
+  ahead = ahead_left (is_some x.acting) x.ahead;
+  proposer = None;
+  acting = None;
+}
+
+-- ---- appending a record
+
+-- a node whose append failed has its keeper, and nothing else that counts
+abbrev pub fallen : {K : Type 0} → NodeValue K → NodeValue K
+fallen x = record x { up = false; replayed = x.base; ahead = None; proposer = None; acting = None }
+
+-- the record is kept, and nothing else has changed
+pub record Keeps {K : Type 0} (records_of : K → List (List ℕ)) (faults_of : K → ℕ) (gives : K → List ℕ → Answer → K → Type 0) (before after : NodeValue K) (bytes : List ℕ) : Type 0 where
+  pub parts : after ≡ record before { keeper = after.keeper }
+  pub records : records_of after.keeper ≡ records_of before.keeper ++ bytes ∷ []
+  pub faults : faults_of after.keeper ≡ faults_of before.keeper
+  pub answer : gives before.keeper bytes (Ok tt) after.keeper
+
+-- the records after an append that failed: its record is kept or lost
+abbrev pub failed_records : Bool → List (List ℕ) → List ℕ → List (List ℕ)
+failed_records true records bytes = records ++ bytes ∷ []
+failed_records false records bytes = records
+
+-- the append failed, and the node is down
+pub record Falls {K : Type 0} (records_of : K → List (List ℕ)) (faults_of : K → ℕ) (gives : K → List ℕ → Answer → K → Type 0) (before after : NodeValue K) (bytes : List ℕ) : Type 0 where
+  pub parts : after ≡ record (fallen before) { keeper = after.keeper }
+  pub kept : Bool
+  pub records : records_of after.keeper ≡ failed_records kept (records_of before.keeper) bytes
+  pub faults : faults_of before.keeper < faults_of after.keeper
+  pub answer : gives before.keeper bytes (Err Failed) after.keeper
+
+-- memory was short, and nothing has changed
+pub record Stands {K : Type 0} (records_of : K → List (List ℕ)) (before after : NodeValue K) : Type 0 where
+  pub parts : after ≡ record before { keeper = after.keeper }
+  pub records : records_of after.keeper ≡ records_of before.keeper
+
+abbrev pub Writes : {K : Type 0} → (K → List (List ℕ)) → (K → ℕ) → (K → List ℕ → Answer → K → Type 0) → NodeValue K → NodeValue K → List ℕ → Result (Unit {0}) KeepFault → Type 0
+Writes records faults gives before after bytes (Ok x) = Keeps records faults gives before after bytes
+Writes records faults gives before after bytes (Err Failed) = Falls records faults gives before after bytes
+Writes records faults gives before after bytes (Err OutOfMemory) = Stands records before after

@@ -1,0 +1,147 @@
+//! What an active node executes.
+
+ghost use Rattle.std.specs.Prelude.{◌≡◌, ◌<◌, ◌≤◌, ◌+◌, ◌++◌, ◌^◌, length, map, IfOk, OnOk, OnErr};
+ghost use Rattle.rand_pcg.specs.Pcg.{pcg32};
+ghost use Rattle.rex_state.specs.Machine.{lane_of};
+ghost use Rattle.rex_record.specs.Turn.{turn_of, does_draw, dice_after};
+ghost use Rattle.rex_event.specs.Cuts.{below, IsConsistent};
+ghost use Rattle.rex_record.specs.Value.{turned, releases};
+ghost use Rattle.rex_safety.specs.Values as values;
+ghost use Rattle.rex_record.specs.Kept.{IsRecorder};
+ghost use Rattle.rex_scenario.specs.Fits.{RequestFits};
+ghost use Rattle.rex_node.specs.Leading.{settling};
+ghost use Rattle.rex_node.specs.Submitting.{answer_in, effect_of, taken};
+
+use crate::answers::{Answer, answer_of};
+use crate::step::Draft;
+use rand_pcg::Lcg64Xsh32;
+use rex_event::Cut;
+use rex_record::{Recorder, Release, Turn};
+use rex_report::Effect;
+use rex_syntax::checked::Checked;
+use rex_syntax::request::Request;
+use std::alloc::{AllocError, Global};
+use std::marker::Model;
+
+/// The recorder of an active node, its random generator, and the cut of its live events that it proposed last.
+#[derive(Drop)]
+pub struct Acting {
+    pub(crate) recorder: Recorder,
+    pub(crate) dice: Lcg64Xsh32,
+    pub(crate) proposed: Cut,
+}
+
+impl Model for Acting {
+    ghost use Rattle.rex_node.specs.Parts.{ActingValue};
+
+    ghost Value = { ActingValue };
+
+    ghost view = { λ a. record { recorder = a.recorder.value; dice = a.dice; proposed = a.proposed.counts } };
+}
+
+impl Acting {
+    /// How many events are live.
+    pub fn live(&self) -> u32
+        requires { length self.now.recorder.live ≤ 4096 }
+        ensures { result ≡ length self.now.recorder.live }
+    {
+        self.recorder.trace().len() as u32
+    }
+
+    /// The values of the variables in the live state.
+    pub fn variables(&self) -> &[i64]
+        ensures { result.now ≡ self.now.recorder.state.variables }
+    {
+        self.recorder.state().variables()
+    }
+
+    // The answer to a request.
+    fn answer(&self, request: &Request) -> Answer
+        ensures { effect_of request.now result ≡ answer_in self.now request.now }
+    {
+        let queued = self.recorder.queued(request.client);
+        let live = self.recorder.state().entry(request.client);
+        let known = self.recorder.start().entry(request.client);
+        answer_of(request, queued, live, known)
+    }
+
+    // A request that is answered `Queued` joins the queue.
+    fn take(&mut self, svc: &Checked, request: &Request, answer: Answer) -> Result<(), AllocError>
+        requires recorder { IsRecorder svc.now self.old.recorder }
+        requires request { RequestFits svc.now request.now }
+        requires answer { effect_of request.now answer ≡ answer_in self.old request.now }
+        ensures ok { OnOk result (self.new ≡ taken self.old request.now (effect_of request.now answer)) }
+        ensures err { OnErr result (self.new ≡ self.old) }
+    {
+        let _service = svc.declarations();
+        if let Answer::Queued = answer {
+            self.recorder.queue(svc, *request)?;
+        }
+        Ok(())
+    }
+
+    /// Answers a request, and queues it where it is due.
+    pub fn submit(&mut self, svc: &Checked, request: &Request) -> Result<Answer, AllocError>
+        requires recorder { IsRecorder svc.now self.old.recorder }
+        requires request { RequestFits svc.now request.now }
+        ensures answer { IfOk result (λ a. effect_of request.now a ≡ answer_in self.old request.now) }
+        ensures ok { IfOk result (λ a. self.new ≡ taken self.old request.now (effect_of request.now a)) }
+        ensures err { OnErr result (self.new ≡ self.old) }
+    {
+        let answer = self.answer(request);
+        self.take(svc, request, answer)?;
+        Ok(answer)
+    }
+
+    /// A lane's turn, where the clock reads this.
+    pub fn lane(&mut self, svc: &Checked, lane: u8, now: i64) -> Result<Turn, AllocError>
+        requires recorder { IsRecorder svc.now self.old.recorder }
+        requires there { lane < svc.now.lanes }
+        requires count { (lane_of self.old.recorder.state lane).done + 1 < 2 ^ 32 }
+        ensures turn { IfOk result (λ t. t ≡ turn_of svc.now self.old.recorder.state self.old.recorder.queue (length self.old.recorder.live) lane now (pcg32 self.old.dice).0) }
+        ensures ok { IfOk result (λ t. self.new ≡ record { recorder = turned svc.now self.old.recorder t; dice = dice_after (does_draw svc.now self.old.recorder.state (length self.old.recorder.live) lane) self.old.dice; proposed = self.old.proposed }) }
+        ensures err { OnErr result (self.new ≡ self.old) }
+        ensures kept { IsRecorder svc.now self.new.recorder }
+    {
+        self.recorder.lane_step(svc, lane, now, &mut self.dice)
+    }
+
+    /// The live events below the cut that was proposed last are known: they are live no longer, and their replies are
+    /// released.
+    pub fn settle(
+        &mut self,
+        svc: &Checked,
+        alloc: Global,
+        draft: &mut Draft,
+    ) -> Result<(), AllocError>
+        requires recorder { IsRecorder svc.now self.old.recorder }
+        requires consistent { IsConsistent self.old.recorder.live self.old.proposed }
+        ensures ok { OnOk result (self.new ≡ settling svc.now self.old) }
+        ensures effects { OnOk result (draft.new.effects.items ≡ draft.old.effects.items ++ map values.release_effect (releases self.old.recorder.start.clients (below self.old.proposed self.old.recorder.live))) }
+        ensures sends { OnOk result (draft.new.sends.items ≡ draft.old.sends.items) }
+    {
+        let released = self.recorder.settle(svc, alloc, &self.proposed)?;
+        tell_releases(draft, released.as_slice())
+    }
+}
+
+fn release_effect(release: &Release) -> Effect
+    ensures { result ≡ values.release_effect release.now }
+{
+    Effect::Released {
+        client: release.client,
+        sequence: release.sequence,
+        value: release.value,
+    }
+}
+
+// Tells of replies that are released.
+fn tell_releases(draft: &mut Draft, releases: &[Release]) -> Result<(), AllocError>
+    ensures effects { OnOk result (draft.new.effects.items ≡ draft.old.effects.items ++ map values.release_effect releases.now) }
+    ensures sends { OnOk result (draft.new.sends.items ≡ draft.old.sends.items) }
+{
+    for release in releases {
+        draft.tell(release_effect(release))?;
+    }
+    Ok(())
+}

@@ -1,0 +1,234 @@
+//! The answers that a node that leads, or asks to, counts.
+
+ghost use Rattle.std.specs.Prelude.{◌≡◌, ◌<◌, ◌+◌, ◌*◌, ◌-◌, ◌^◌, map, true, option_map, IfSome, IfOk, OnOk, OnErr};
+ghost use Rattle.std.specs.List.{All};
+ghost use Rattle.rex_ballot.specs.Proposals.{IsProposal, proposal_for};
+ghost use Rattle.rex_ballot.specs.declared.proposal.Proposal.{Proposal as Kept};
+ghost use Rattle.rex_paxos.specs.declared.answers.Vote.TheVariants as vote;
+ghost use Rattle.rex_paxos.specs.Counting.{IsOneOf};
+ghost use Rattle.rex_paxos.specs.Proposer.{ProposerValue};
+ghost use Rattle.rex_safety.specs.Quorum.{IsNode as IsNodeOf};
+ghost use Rattle.rex_safety.specs.Calls as calls;
+ghost use Rattle.rex_safety.specs.Values.{service_of};
+ghost use Rattle.rex_node.specs.Parts.{IsNode, IsSame, proposal_in};
+ghost use Rattle.rex_node.specs.Electing.{acceptance_vote_on, accepting_from, counting, reports_of, told_of, uncounting, vote_on};
+ghost use Rattle.rex_node.specs.Going.{Ends, IsStuck, RunsOn, so_far};
+
+use crate::going::Going;
+use crate::leading::copied;
+use crate::node::Node;
+use crate::step::Draft;
+use rex_ballot::{Proposal, Value};
+use rex_paxos::{Vote, Why};
+use rex_replay::Replayer;
+use rex_report::Effect;
+use rex_syntax::checked::Checked;
+use rex_traits::Keeper;
+use std::alloc::AllocError;
+
+impl<K: Keeper> Node<K> {
+    /// A promise of a ballot comes from a node, with what it accepted.
+    pub(crate) fn on_promise<R: Replayer>(
+        &mut self,
+        svc: &Checked,
+        replayer: &mut R,
+        draft: &mut Draft,
+        from: u8,
+        ballot: u64,
+        reported: &[Proposal],
+    ) -> Result<Going, AllocError>
+        requires node { IsNode K.records svc.now self.old }
+        requires up { self.old.up ≡ true }
+        requires ready { R.ready replayer.old }
+        requires from { IsNodeOf self.old.nodes from }
+        requires reported { All IsProposal reported.now }
+        requires runs { RunsOn svc.now (λ d. calls.on_promise self.old.nodes (service_of svc.now self.old.seed) self.old.id from ballot (map proposal_in reported.now) d d.node.role) (so_far K.records svc.now self.old draft.old) }
+        requires count { K.faults self.old.keeper < 2 ^ 64 - 1 }
+        ensures ends { IfOk result (Ends K.records K.append_gives K.faults svc.now (λ d. calls.on_promise self.old.nodes (service_of svc.now self.old.seed) self.old.id from ballot (map proposal_in reported.now) d d.node.role) self.old self.new draft.old draft.new) }
+        ensures stuck { OnErr result (IsStuck K.records svc.now self.old self.new) }
+        ensures same { IsSame self.old self.new }
+        ensures ready { R.ready replayer.new }
+    {
+        let _service = svc.declarations();
+        match self.count_promise(from, ballot, reported)? {
+            Vote::Ignored { why } => {
+                draft.tell(told_of(why))?;
+                Ok(Going::On)
+            }
+            Vote::NotYet { have } => match draft.tell(Effect::Have { count: have }) {
+                Ok(()) => Ok(Going::On),
+                Err(short) => {
+                    self.take_back(reported.len());
+                    Err(short)
+                }
+            },
+            Vote::Quorum => {
+                let turns = self.turns();
+                match self.go_on(svc, replayer, draft, turns) {
+                    Ok(going) => Ok(going),
+                    Err(short) => {
+                        self.take_back(reported.len());
+                        Err(short)
+                    }
+                }
+            }
+        }
+    }
+
+    // Counts a promise, or says why it isn't counted. Where memory is short nothing changes.
+    fn count_promise(
+        &mut self,
+        from: u8,
+        ballot: u64,
+        reported: &[Proposal],
+    ) -> Result<Vote, AllocError>
+        requires from { IfSome self.old.proposer (λ (p : ProposerValue). IsOneOf p.nodes from) }
+        ensures vote { IfOk result (λ vote. vote ≡ vote_on self.old.proposer ballot from) }
+        ensures counted { OnOk result (self.new ≡ counting self.old ballot from reported.now) }
+        ensures err { OnErr result (self.new ≡ self.old) }
+    {
+        match &mut self.proposer {
+            None => Ok(Vote::Ignored {
+                why: Why::Ballot {
+                    got: ballot,
+                    own: 0,
+                },
+            }),
+            Some(proposer) => proposer.on_promise(ballot, from, reported),
+        }
+    }
+
+    // Takes the promise back that was counted last, with so many reports. It takes no memory.
+    fn take_back(&mut self, reports: usize)
+        ensures { self.new ≡ uncounting self.old reports }
+    {
+        if let Some(proposer) = &mut self.proposer {
+            proposer.take_back(reports);
+        }
+    }
+
+    // So many turns are enough to go on as far as the node can.
+    fn turns(&self) -> u64
+        ensures { result ≡ 2 * reports_of self.now.proposer + 3 }
+    {
+        match &self.proposer {
+            None => 3,
+            Some(proposer) => 2 * proposer.reports() as u64 + 3,
+        }
+    }
+
+    /// A node says that it accepted the proposal of a ballot for an instance.
+    pub(crate) fn on_accepted<R: Replayer>(
+        &mut self,
+        svc: &Checked,
+        replayer: &mut R,
+        draft: &mut Draft,
+        from: u8,
+        ballot: u64,
+        instance: u32,
+    ) -> Result<Going, AllocError>
+        requires node { IsNode K.records svc.now self.old }
+        requires up { self.old.up ≡ true }
+        requires ready { R.ready replayer.old }
+        requires from { IsNodeOf self.old.nodes from }
+        requires runs { RunsOn svc.now (λ d. calls.on_voted self.old.nodes (service_of svc.now self.old.seed) self.old.id from ballot instance d d.node.role) (so_far K.records svc.now self.old draft.old) }
+        requires count { K.faults self.old.keeper < 2 ^ 64 - 1 }
+        ensures ends { IfOk result (Ends K.records K.append_gives K.faults svc.now (λ d. calls.on_voted self.old.nodes (service_of svc.now self.old.seed) self.old.id from ballot instance d d.node.role) self.old self.new draft.old draft.new) }
+        ensures stuck { OnErr result (IsStuck K.records svc.now self.old self.new) }
+        ensures same { IsSame self.old self.new }
+        ensures ready { R.ready replayer.new }
+    {
+        match self.acceptance_vote(from, ballot, instance) {
+            Vote::Ignored { why } => {
+                draft.tell(told_of(why))?;
+                Ok(Going::On)
+            }
+            Vote::NotYet { have } => {
+                draft.tell(Effect::Have { count: have })?;
+                self.count_acceptance(from, ballot, instance);
+                Ok(Going::On)
+            }
+            Vote::Quorum => self.choose(svc, replayer, draft, from, ballot, instance),
+        }
+    }
+
+    // What is made of an acceptance. It changes nothing.
+    fn acceptance_vote(&self, from: u8, ballot: u64, instance: u32) -> Vote
+        ensures { result ≡ acceptance_vote_on self.now.proposer ballot instance from }
+    {
+        match &self.proposer {
+            None => Vote::Ignored {
+                why: Why::Ballot {
+                    got: ballot,
+                    own: 0,
+                },
+            },
+            Some(proposer) => proposer.acceptance_vote(ballot, instance, from),
+        }
+    }
+
+    // Counts an acceptance. It takes no memory.
+    fn count_acceptance(&mut self, from: u8, ballot: u64, instance: u32)
+        requires from { IfSome self.old.proposer (λ (p : ProposerValue). IsOneOf p.nodes from) }
+        ensures { self.new ≡ accepting_from self.old ballot instance from }
+    {
+        if let Some(proposer) = &mut self.proposer {
+            proposer.on_accepted(ballot, instance, from);
+        }
+    }
+
+    // The value that the node itself accepted for an instance.
+    fn own_value(&self, instance: u32) -> Result<Option<Value>, AllocError>
+        ensures { IfOk result (λ value. value ≡ option_map (λ (p : Kept). p.value) (proposal_for instance self.now.acceptor.accepted)) }
+    {
+        match self.acceptor.accepted_for(instance) {
+            None => Ok(None),
+            Some(proposal) => Ok(Some(copied(self.alloc, proposal.value.as_slice())?)),
+        }
+    }
+
+    // A majority accepted the open proposal with this acceptance: its value is known, and the node goes on.
+    fn choose<R: Replayer>(
+        &mut self,
+        svc: &Checked,
+        replayer: &mut R,
+        draft: &mut Draft,
+        from: u8,
+        ballot: u64,
+        instance: u32,
+    ) -> Result<Going, AllocError>
+        requires node { IsNode K.records svc.now self.old }
+        requires up { self.old.up ≡ true }
+        requires ready { R.ready replayer.old }
+        requires from { IsNodeOf self.old.nodes from }
+        requires vote { acceptance_vote_on self.old.proposer ballot instance from ≡ vote.Quorum }
+        requires runs { RunsOn svc.now (λ d. calls.on_voted self.old.nodes (service_of svc.now self.old.seed) self.old.id from ballot instance d d.node.role) (so_far K.records svc.now self.old draft.old) }
+        requires count { K.faults self.old.keeper < 2 ^ 64 - 1 }
+        ensures ends { IfOk result (Ends K.records K.append_gives K.faults svc.now (λ d. calls.on_voted self.old.nodes (service_of svc.now self.old.seed) self.old.id from ballot instance d d.node.role) self.old self.new draft.old draft.new) }
+        ensures stuck { OnErr result (IsStuck K.records svc.now self.old self.new) }
+        ensures same { IsSame self.old self.new }
+        ensures ready { R.ready replayer.new }
+    {
+        let _service = svc.declarations();
+        let Some(value) = self.own_value(instance)? else {
+            return Err(AllocError);
+        };
+        let turns = self.turns() - 1;
+        match self.learn(svc, draft, instance, value.as_slice())? {
+            Going::Down => Ok(Going::Down),
+            Going::On => self.go_on(svc, replayer, draft, turns),
+        }
+    }
+}
+
+// Why a message was ignored.
+fn told_of(why: Why) -> Effect
+    ensures { result ≡ told_of why }
+{
+    match why {
+        Why::Ballot { got, own } => Effect::IgnoredBallot { got, own },
+        Why::Instance { got, want } => Effect::IgnoredInstance { got, wanted: want },
+        Why::Late => Effect::IgnoredLate,
+        Why::Again { from } => Effect::IgnoredAgain { from },
+    }
+}

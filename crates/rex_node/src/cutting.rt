@@ -1,0 +1,208 @@
+//! How a node proposes what it executed.
+
+ghost use Rattle.std.specs.Prelude.{◌≡◌, ◌<◌, ◌-◌, ◌++◌, ◌∷◌, ◌^◌, [], true, length, Some, None, is_some, option_map, IfSome, IsSome, IfOk, OnErr};
+ghost use Rattle.rex_ballot.specs.Proposals.{IsValue};
+ghost use Rattle.rex_safety.specs.Values.{values_fit};
+ghost use Rattle.rex_node.specs.Going.{IsStuck};
+ghost use Rattle.rex_node.specs.Leading.{IsOwnCut};
+ghost use Rattle.std.specs.Option.{option_copied};
+ghost use Rattle.rex_event.specs.Cuts.{below};
+ghost use Rattle.rex_cut.specs.Greatest.{greatest_cut};
+ghost use Rattle.rex_safety.specs.Lanes as lanes;
+ghost use Rattle.rex_record.specs.Kept.{IsRecorder};
+ghost use Rattle.rex_node.specs.Cutting.{CanMakePiece, CanPropose, HasPiece, IsIdle, MakesPieceOf, ProposesCut, ProposesPiece, cut_before, has_open, with_cut};
+ghost use Rattle.rex_node.specs.Parts.{ActingValue, here_of, open_of, proposal_in, role_of, IsNode, IsSame, StaysNode};
+ghost use Rattle.rex_node.specs.Calls.{AreLimits, CanBeCut, Does, EndsDown, IsSpared, Leaves, RefusesThen, counts_for, if_active, if_up, refusal_of_lead, refusal_of_none, refusal_of_open, refusal_of_cut};
+
+use crate::going::Going;
+use crate::node::Node;
+use crate::pieces::Piece;
+use crate::refusal::Refusal;
+use crate::step::{Draft, Step};
+use rex_ballot::{INSTANCES, Proposal};
+use rex_event::Cut;
+use rex_paxos::{Acceptor, Proposer};
+use rex_report::Effect;
+use rex_syntax::checked::Checked;
+use rex_traits::Keeper;
+use std::alloc::AllocError;
+use std::mem::replace;
+
+impl<K: Keeper> Node<K> {
+    // Why the node doesn't cut, before it makes the cut.
+    fn cut_refusal(&self) -> Option<Refusal>
+        ensures { result ≡ if_up self.now.up (if_active (role_of self.now.acceptor self.now.proposer (is_some self.now.acting)) (refusal_of_lead (role_of self.now.acceptor self.now.proposer (is_some self.now.acting)) (length self.now.known))) }
+    {
+        if let Some(refusal) = self.active_refusal() {
+            return Some(refusal);
+        }
+        match &self.proposer {
+            None => None,
+            Some(proposer) => open_refusal(&self.acceptor, proposer, self.known.len()),
+        }
+    }
+
+    // The piece of what is executed.
+    fn own_piece(&self, svc: &Checked, limits: Option<&[u32]>) -> Result<Piece, Refusal>
+        requires recorder { IfSome self.now.acting (λ (a : ActingValue). IsRecorder svc.now a.recorder) }
+        requires limits { AreLimits svc.now (option_copied limits) }
+        requires spelling { IfSome self.now.acting (CanMakePiece (option_copied limits)) }
+        ensures { MakesPieceOf self.now.acting (option_copied limits.entry) result }
+    {
+        match &self.acting {
+            None => Err(Refusal::OutOfMemory),
+            Some(acting) => acting.piece(self.alloc, svc, limits),
+        }
+    }
+
+    // The piece that the node can propose, or why there is none.
+    fn piece(&self, svc: &Checked, limits: Option<&[u32]>) -> Result<Piece, Refusal>
+        requires node { IsNode K.records svc.now self.now }
+        requires limits { AreLimits svc.now (option_copied limits) }
+        requires spelling { CanBeCut (here_of K.records svc.now self.now) (counts_for svc.now (here_of K.records svc.now self.now) (option_copied limits)) }
+        ensures refused { RefusesThen (refusal_of_cut (here_of K.records svc.now self.now) (length self.now.known)) (refusal_of_none (below (greatest_cut (counts_for svc.now (here_of K.records svc.now self.now) (option_copied limits.entry)) (here_of K.records svc.now self.now).work.live) (here_of K.records svc.now self.now).work.live)) result }
+        ensures can { IfOk result (CanPropose self.now (option_copied limits.entry)) }
+    {
+        match self.cut_refusal() {
+            Some(refusal) => Err(refusal),
+            None => self.own_piece(svc, limits),
+        }
+    }
+
+    // The cut that is proposed last is this one from here on; answers the one before.
+    fn replace_cut(&mut self, cut: Cut) -> Cut
+        ensures replaced { self.new ≡ with_cut self.old cut.counts }
+        ensures before { result.counts ≡ cut_before self.old.acting cut.counts }
+    {
+        match &mut self.acting {
+            None => cut,
+            Some(acting) => replace(&mut acting.proposed, cut),
+        }
+    }
+
+    // Whether a proposal is open.
+    fn has_open(&self) -> bool
+        ensures { result ≡ has_open self.now.proposer }
+    {
+        match &self.proposer {
+            None => false,
+            Some(proposer) => proposer.open_instance().is_some(),
+        }
+    }
+
+    // Proposes the value of so many events, a cut of what is executed. A node alone knows it at once.
+    fn propose_value(
+        &mut self,
+        svc: &Checked,
+        draft: &mut Draft,
+        events: u32,
+        value: &[u8],
+    ) -> Result<Going, AllocError>
+        requires node { IsNode K.records svc.now self.old }
+        requires up { self.old.up ≡ true }
+        requires active { IsSome self.old.acting }
+        requires idle { IsIdle self.old.acceptor self.old.proposer }
+        requires left { length self.old.known < 65535 }
+        requires value { IsValue value.now }
+        requires cut { IsOwnCut svc.now self.old value.now }
+        requires fits { values_fit svc.now (self.old.known ++ value.now ∷ []) ≡ true }
+        requires count { K.faults self.old.keeper < 2 ^ 64 - 1 }
+        ensures ends { IfOk result (ProposesCut K.records K.append_gives K.faults svc.now events value.now self.old self.new draft.old draft.new) }
+        ensures stuck { OnErr result (IsStuck K.records svc.now self.old self.new) }
+        ensures same { IsSame self.old self.new }
+    {
+        let node = self.id;
+        let instance = self.known.len() as u32 + 1;
+        let told = Effect::Proposes {
+            node,
+            instance,
+            events,
+        };
+        match self.propose(svc, draft, told, instance, value)? {
+            Going::Down => Ok(Going::Down),
+            Going::On => {
+                if self.has_open() {
+                    return Ok(Going::On);
+                }
+                self.learn(svc, draft, instance, value)
+            }
+        }
+    }
+
+    // Proposes the piece.
+    fn propose_piece(
+        &mut self,
+        svc: &Checked,
+        draft: &mut Draft,
+        piece: Piece,
+    ) -> Result<Going, AllocError>
+        requires node { IsNode K.records svc.now self.old }
+        requires can { HasPiece svc.now self.old piece }
+        requires count { K.faults self.old.keeper < 2 ^ 64 - 1 }
+        ensures ends { IfOk result (ProposesPiece K.records K.append_gives K.faults svc.now piece.cut.counts self.old self.new draft.old draft.new) }
+        ensures stuck { OnErr result (IsStuck K.records svc.now self.old self.new) }
+        ensures same { IsSame self.old self.new }
+    {
+        let _service = svc.declarations();
+        let Piece { cut, events, value } = piece;
+        let before = self.replace_cut(cut);
+        let end = self.propose_value(svc, draft, events, value.as_slice());
+        if end.is_err() {
+            self.replace_cut(before);
+        }
+        end
+    }
+
+    /// Proposes live events as the value of the next instance: all of them, or at most so many of each lane.
+    pub fn cut(&mut self, svc: &Checked, limits: Option<&[u32]>) -> Result<Step, Refusal>
+        requires node { IsNode K.records svc.now self.old }
+        requires limits { AreLimits svc.now (option_copied limits) }
+        requires spelling { CanBeCut (here_of K.records svc.now self.old) (counts_for svc.now (here_of K.records svc.now self.old) (option_copied limits)) }
+        requires count { K.faults self.old.keeper < 2 ^ 64 - 1 }
+        ensures refused { RefusesThen (refusal_of_cut (here_of K.records svc.now self.old) (length self.old.known)) (refusal_of_none (below (greatest_cut (counts_for svc.now (here_of K.records svc.now self.old) (option_copied limits.entry)) (here_of K.records svc.now self.old).work.live) (here_of K.records svc.now self.old).work.live)) result }
+        ensures told { IfOk result (Does K.records K.append_gives K.faults svc.now (lanes.cut svc.now self.old.seed self.old.nodes self.old.id (counts_for svc.now (here_of K.records svc.now self.old) (option_copied limits.entry))) self.old self.new) }
+        ensures down { IfOk result (EndsDown self.old.id (K.faults self.old.keeper) (K.faults self.new.keeper)) }
+        ensures left { Leaves result (here_of K.records svc.now self.old) (here_of K.records svc.now self.new) }
+        ensures same { IsSpared result self.old self.new }
+        ensures kept { StaysNode K.records svc.now self.old self.new }
+    {
+        let _service = svc.declarations();
+        let piece = self.piece(svc, limits)?;
+        let before = self.keeper.len();
+        let mut draft = Draft::new(self.alloc);
+        let end = self.propose_piece(svc, &mut draft, piece);
+        self.finish(before, draft, end)
+    }
+}
+
+// Why a node that leads doesn't cut: a proposal is open, or no instance is left.
+fn open_refusal(acceptor: &Acceptor, proposer: &Proposer, known: usize) -> Option<Refusal>
+    ensures { result ≡ refusal_of_open (open_of acceptor.now proposer.now.open_instance) known }
+{
+    match proposer.open_instance() {
+        None => ended(known),
+        Some(instance) => open_or_ended(acceptor.accepted_for(instance), known),
+    }
+}
+
+fn open_or_ended(proposal: Option<&Proposal>, known: usize) -> Option<Refusal>
+    ensures { result ≡ refusal_of_open (option_map proposal_in (option_copied proposal.entry)) known }
+{
+    match proposal {
+        None => ended(known),
+        Some(proposal) => {
+            let instance = proposal.instance;
+            Some(Refusal::Open { instance })
+        }
+    }
+}
+
+fn ended(known: usize) -> Option<Refusal>
+    ensures { result ≡ refusal_of_open None known }
+{
+    if known >= INSTANCES as usize {
+        Some(Refusal::Ended)
+    } else {
+        None
+    }
+}

@@ -1,0 +1,413 @@
+//! How a node that leads, or asks to, goes on.
+
+ghost use Rattle.std.specs.Prelude.{◌≡◌, ◌<◌, ◌≤◌, ◌+◌, ◌*◌, ◌-◌, ◌++◌, ◌∷◌, ◌^◌, [], length, map, unwrap_or, true, false, suc, is_some, option_map, None, Some, IfSome, IsSome, IfOk, OnOk, OnErr};
+ghost use Rattle.std.specs.Option.{option_copied};
+ghost use Rattle.rex_ballot.specs.Ballot.{IsInstance};
+ghost use Rattle.rex_ballot.specs.Proposals.{IsValue};
+ghost use Rattle.rex_ballot.specs.declared.proposal.Proposal.{Proposal as Kept};
+ghost use Rattle.rex_paxos.specs.Proposer.{ProposerValue, closed};
+ghost use Rattle.rex_paxos.specs.Reports.{best_for};
+ghost use Rattle.rex_safety.specs.Calls as calls;
+ghost use Rattle.rex_safety.specs.Values.{events_of, release_effect, replies_of, service_of, values_fit};
+ghost use Rattle.rex_node.specs.Parts.{IsKept, IsSame};
+ghost use Rattle.rex_node.specs.Messages.{content_in, message_in};
+ghost use Rattle.rex_node.specs.Going.{Ends, IsStuck, RunsOn, so_far, MayGoOn};
+ghost use Rattle.rex_msg.specs.declared.message.Content.TheVariants as sent;
+ghost use Rattle.rex_report.specs.declared.effect.Effect.TheVariants as effect;
+ghost use Rattle.rex_node.specs.Leading as spec;
+ghost use Rattle.rex_node.specs.Leading.{CanSettle, FromLead, IsOwnCut, releases_in, Opens, HasOpened, Learns, HasLearned, IsActive, IsFree, IsLonger, GoesRound, opened, knowing, goes_on};
+
+use crate::acting::Acting;
+use crate::going::{Going, Round};
+use crate::node::Node;
+use crate::step::Draft;
+use rand_pcg::Lcg64Xsh32;
+use rex_ballot::Value;
+use rex_delta::{DecodeError, decode};
+use rex_durable::Rec;
+use rex_event::Cut;
+use rex_list::List;
+use rex_msg::{Content, Message};
+use rex_paxos::Proposer;
+use rex_record::Recorder;
+use rex_replay::Replayer;
+use rex_report::Effect;
+use rex_syntax::checked::Checked;
+use rex_traits::Keeper;
+use std::alloc::{AllocError, Global};
+
+/// The same value.
+pub(crate) fn copied(alloc: Global, value: &[u8]) -> Result<Value, AllocError>
+    ensures { IfOk result (λ v. v ≡ value.now) }
+{
+    Ok(List::from_vec(value.to_vec(alloc)?))
+}
+
+// How many events the delta has that a value spells; 0 where it spells none.
+fn events_in(alloc: Global, value: &[u8]) -> Result<u32, AllocError>
+    ensures { IfOk result (λ n. n ≡ length (events_of value.now)) }
+{
+    match decode(alloc, value) {
+        Ok(delta) => Ok(delta.events.len() as u32),
+        Err(DecodeError::OutOfMemory) => Err(AllocError),
+        Err(DecodeError::Bad { .. }) => Ok(0),
+    }
+}
+
+impl<K: Keeper> Node<K> {
+    /// Sends the same to each other node, in rising order.
+    pub(crate) fn send_others(&self, draft: &mut Draft, content: &Content) -> Result<(), AllocError>
+        ensures sends { OnOk result (map message_in draft.new.sends.items ≡ map message_in draft.old.sends.items ++ calls.others self.now.nodes self.now.id (content_in content.now)) }
+        ensures effects { OnOk result (draft.new.effects.items ≡ draft.old.effects.items) }
+    {
+        for before in 0..self.nodes {
+            let to = before + 1;
+            if to != self.id {
+                let content = content.copy(self.alloc)?;
+                let from = self.id;
+                draft.sends.push(Message { from, to, content })?;
+            }
+        }
+        Ok(())
+    }
+
+    /// Proposes a value for the next instance: accepts it itself, tells this of it, and asks the others to accept it.
+    pub(crate) fn propose(
+        &mut self,
+        svc: &Checked,
+        draft: &mut Draft,
+        told: Effect,
+        instance: u32,
+        value: &[u8],
+    ) -> Result<Going, AllocError>
+        requires kept { IsKept K.records svc.now self.old }
+        requires up { self.old.up ≡ true }
+        requires leads { IsSome self.old.proposer }
+        requires next { instance ≡ length self.old.known + 1 }
+        requires there { IsInstance instance }
+        requires value { IsValue value.now }
+        requires cut { IsOwnCut svc.now self.old value.now }
+        requires count { K.faults self.old.keeper < 2 ^ 64 - 1 }
+        ensures opens { IfOk result (Opens K.records K.append_gives K.faults svc.now told instance value.now self.old self.new draft.old draft.new) }
+        ensures parts { IfOk result (HasOpened self.old self.new instance value.now) }
+        ensures longer { IfOk result (IsLonger K.records self.old self.new) }
+        ensures stuck { OnErr result (IsStuck K.records svc.now self.old self.new) }
+        ensures same { IsSame self.old self.new }
+    {
+        let ballot = self.own_ballot().unwrap_or(0);
+        let rec = Rec::Accepted {
+            ballot,
+            instance,
+            value: copied(self.alloc, value)?,
+        };
+        match self.append(draft, &rec)? {
+            Going::Down => Ok(Going::Down),
+            Going::On => {
+                self.open(draft, told, instance, value)?;
+                Ok(Going::On)
+            }
+        }
+    }
+
+    // The own acceptance of the value is written down.
+    fn open(
+        &mut self,
+        draft: &mut Draft,
+        told: Effect,
+        instance: u32,
+        value: &[u8],
+    ) -> Result<(), AllocError>
+        ensures opened { OnOk result (self.new ≡ opened self.old instance value.now) }
+        ensures effects { OnOk result (draft.new.effects.items ≡ draft.old.effects.items ++ told ∷ []) }
+        ensures sends { OnOk result (FromLead self.old (λ l. map message_in draft.new.sends.items ≡ map message_in draft.old.sends.items ++ calls.others self.old.nodes self.old.id (content_in (sent.Accept l.ballot instance value.now)))) }
+        ensures keeper { self.new.keeper ≡ self.old.keeper }
+        ensures base { self.new.base ≡ self.old.base }
+        ensures same { IsSame self.old self.new }
+    {
+        let Some(proposer) = &mut self.proposer else {
+            return Err(AllocError);
+        };
+        let ballot = proposer.ballot();
+        self.acceptor.set_accepted(ballot, instance, value)?;
+        proposer.propose(instance);
+        draft.tell(told)?;
+        let value = copied(self.alloc, value)?;
+        let content = Content::Accept {
+            ballot,
+            instance,
+            value,
+        };
+        self.send_others(draft, &content)
+    }
+
+    /// A majority accepted the value of the next instance: it is known, and the others are told.
+    pub(crate) fn learn(
+        &mut self,
+        svc: &Checked,
+        draft: &mut Draft,
+        instance: u32,
+        value: &[u8],
+    ) -> Result<Going, AllocError>
+        requires kept { IsKept K.records svc.now self.old }
+        requires up { self.old.up ≡ true }
+        requires leads { IsSome self.old.proposer }
+        requires next { instance ≡ length self.old.known + 1 }
+        requires there { IsInstance instance }
+        requires value { IsValue value.now }
+        requires fits { values_fit svc.now (self.old.known ++ value.now ∷ []) ≡ true }
+        requires cut { IsOwnCut svc.now self.old value.now }
+        requires count { K.faults self.old.keeper < 2 ^ 64 - 1 }
+        ensures learns { IfOk result (Learns K.records K.append_gives K.faults svc.now instance value.now self.old self.new draft.old draft.new) }
+        ensures parts { IfOk result (HasLearned svc.now self.old self.new instance value.now) }
+        ensures longer { IfOk result (IsLonger K.records self.old self.new) }
+        ensures stuck { OnErr result (IsStuck K.records svc.now self.old self.new) }
+        ensures same { IsSame self.old self.new }
+    {
+        let _service = svc.declarations();
+        let rec = Rec::Known {
+            instance,
+            value: copied(self.alloc, value)?,
+        };
+        match self.append(draft, &rec)? {
+            Going::Down => Ok(Going::Down),
+            Going::On => {
+                self.know(svc, draft, instance, value)?;
+                Ok(Going::On)
+            }
+        }
+    }
+
+    // The known value is written down.
+    fn know(
+        &mut self,
+        svc: &Checked,
+        draft: &mut Draft,
+        instance: u32,
+        value: &[u8],
+    ) -> Result<(), AllocError>
+        requires recorder { IfSome self.old.acting (CanSettle svc.now) }
+        ensures knows { OnOk result (self.new ≡ knowing svc.now self.old instance value.now) }
+        ensures effects { OnOk result (draft.new.effects.items ≡ draft.old.effects.items ++ effect.Known self.old.id instance ∷ releases_in self.old.acting) }
+        ensures sends { OnOk result (map message_in draft.new.sends.items ≡ map message_in draft.old.sends.items ++ calls.others self.old.nodes self.old.id (content_in (sent.Chosen instance value.now))) }
+        ensures keeper { self.new.keeper ≡ self.old.keeper }
+        ensures base { self.new.base ≡ self.old.base }
+        ensures same { IsSame self.old self.new }
+    {
+        let node = self.id;
+        self.known.push(copied(self.alloc, value)?)?;
+        draft.tell(Effect::Known { node, instance })?;
+        self.settle(svc, draft, instance)?;
+        self.close();
+        let value = copied(self.alloc, value)?;
+        let content = Content::Chosen { instance, value };
+        self.send_others(draft, &content)
+    }
+
+    // An active node has the events of the value that became known no longer live, and releases their replies.
+    fn settle(&mut self, svc: &Checked, draft: &mut Draft, instance: u32) -> Result<(), AllocError>
+        requires recorder { IfSome self.old.acting (CanSettle svc.now) }
+        ensures settled { OnOk result (self.new ≡ record self.old { replayed = spec.replayed_to self.old.acting instance self.old.replayed; acting = option_map (spec.settling svc.now) self.old.acting }) }
+        ensures effects { OnOk result (draft.new.effects.items ≡ draft.old.effects.items ++ releases_in self.old.acting) }
+        ensures sends { OnOk result (draft.new.sends.items ≡ draft.old.sends.items) }
+        ensures keeper { self.new.keeper ≡ self.old.keeper }
+        ensures base { self.new.base ≡ self.old.base }
+        ensures same { IsSame self.old self.new }
+    {
+        if let Some(acting) = &mut self.acting {
+            acting.settle(svc, self.alloc, draft)?;
+            self.replayed = instance;
+        }
+        Ok(())
+    }
+
+    // No proposal is open.
+    fn close(&mut self)
+        ensures { self.new ≡ record self.old { proposer = option_map closed self.old.proposer } }
+    {
+        if let Some(proposer) = &mut self.proposer {
+            proposer.close();
+        }
+    }
+
+    // Adopts the value that was reported for the next instance; alone the node knows it at once.
+    fn adopt(
+        &mut self,
+        svc: &Checked,
+        draft: &mut Draft,
+        turns: u64,
+        instance: u32,
+        value: &[u8],
+    ) -> Result<Round, AllocError>
+        requires kept { IsKept K.records svc.now self.old }
+        requires up { self.old.up ≡ true }
+        requires goes { goes_on self.old.proposer (is_some self.old.acting) ≡ true }
+        requires next { instance ≡ length self.old.known + 1 }
+        requires reported { spec.reported_value self.old.proposer instance ≡ Some value.now }
+        requires turns { MayGoOn self.old turns }
+        requires runs { RunsOn svc.now (calls.settle turns self.old.nodes (service_of svc.now self.old.seed) self.old.id) (so_far K.records svc.now self.old draft.old) }
+        requires count { K.faults self.old.keeper < 2 ^ 64 - 1 }
+        ensures goes { IfOk result (GoesRound K.records K.append_gives K.faults svc.now turns self.old self.new draft.old draft.new) }
+        ensures stuck { OnErr result (IsStuck K.records svc.now self.old self.new) }
+        ensures same { IsSame self.old self.new }
+    {
+        let _service = svc.declarations();
+        let node = self.id;
+        let events = events_in(self.alloc, value)?;
+        let told = Effect::Adopts {
+            node,
+            instance,
+            events,
+        };
+        match self.propose(svc, draft, told, instance, value)? {
+            Going::Down => Ok(Round::Done(Going::Down)),
+            Going::On => {
+                if self.nodes > 1 {
+                    return Ok(Round::Done(Going::On));
+                }
+                match self.learn(svc, draft, instance, value)? {
+                    Going::Down => Ok(Round::Done(Going::Down)),
+                    Going::On => Ok(Round::Again),
+                }
+            }
+        }
+    }
+
+    // A round of going on, where so many turns of the model are left.
+    fn round<R: Replayer>(
+        &mut self,
+        svc: &Checked,
+        replayer: &mut R,
+        draft: &mut Draft,
+        turns: u64,
+    ) -> Result<Round, AllocError>
+        requires kept { IsKept K.records svc.now self.old }
+        requires up { self.old.up ≡ true }
+        requires ready { R.ready replayer.old }
+        requires free { IsFree self.old.proposer (is_some self.old.acting) }
+        requires turns { MayGoOn self.old turns }
+        requires runs { RunsOn svc.now (calls.settle turns self.old.nodes (service_of svc.now self.old.seed) self.old.id) (so_far K.records svc.now self.old draft.old) }
+        requires count { K.faults self.old.keeper < 2 ^ 64 - 1 }
+        ensures goes { IfOk result (GoesRound K.records K.append_gives K.faults svc.now turns self.old self.new draft.old draft.new) }
+        ensures stuck { OnErr result (IsStuck K.records svc.now self.old self.new) }
+        ensures same { IsSame self.old self.new }
+        ensures ready { R.ready replayer.new }
+    {
+        let _service = svc.declarations();
+        if !self.goes_on() {
+            return Ok(Round::Done(Going::On));
+        }
+        let instance = self.known.len() as u32 + 1;
+        match self.reported_for(instance)? {
+            None => {
+                self.activate(svc, replayer, draft)?;
+                Ok(Round::Done(Going::On))
+            }
+            Some(value) => self.adopt(svc, draft, turns, instance, value.as_slice()),
+        }
+    }
+
+    /// A node that leads goes on: while it isn't active, has no open proposal, and a majority promised, it adopts the value
+    /// that was reported for the next instance, or is active where none was; alone it knows at once what it adopts.
+    ///
+    /// So many turns of the model are enough.
+    pub(crate) fn go_on<R: Replayer>(
+        &mut self,
+        svc: &Checked,
+        replayer: &mut R,
+        draft: &mut Draft,
+        turns: u64,
+    ) -> Result<Going, AllocError>
+        requires kept { IsKept K.records svc.now self.old }
+        requires up { self.old.up ≡ true }
+        requires ready { R.ready replayer.old }
+        requires free { IsFree self.old.proposer (is_some self.old.acting) }
+        requires turns { MayGoOn self.old turns }
+        requires runs { RunsOn svc.now (calls.settle turns self.old.nodes (service_of svc.now self.old.seed) self.old.id) (so_far K.records svc.now self.old draft.old) }
+        requires count { K.faults self.old.keeper < 2 ^ 64 - 1 }
+        ensures ends { IfOk result (Ends K.records K.append_gives K.faults svc.now (calls.settle turns self.old.nodes (service_of svc.now self.old.seed) self.old.id) self.old self.new draft.old draft.new) }
+        ensures stuck { OnErr result (IsStuck K.records svc.now self.old self.new) }
+        ensures same { IsSame self.old self.new }
+        ensures ready { R.ready replayer.new }
+    {
+        let mut left = turns;
+        loop {
+            match self.round(svc, replayer, draft, left)? {
+                Round::Again => left -= 2,
+                Round::Done(going) => return Ok(going),
+            }
+        }
+    }
+
+    // Whether the node goes on from here.
+    fn goes_on(&self) -> bool
+        ensures { result ≡ goes_on self.now.proposer (is_some self.now.acting) }
+    {
+        match &self.proposer {
+            None => false,
+            Some(proposer) => may_lead(proposer, self.acting.is_some()),
+        }
+    }
+
+    // The value that was reported for an instance.
+    fn reported_for(&self, instance: u32) -> Result<Option<Value>, AllocError>
+        ensures { IfOk result (λ value. value ≡ spec.reported_value self.now.proposer instance) }
+    {
+        match &self.proposer {
+            None => Ok(None),
+            Some(proposer) => copied_value(self.alloc, proposer.value_for(instance)),
+        }
+    }
+
+    // The node is active from here on: it replays what it knows, and executes with a generator of its ballot.
+    fn activate<R: Replayer>(
+        &mut self,
+        svc: &Checked,
+        replayer: &mut R,
+        draft: &mut Draft,
+    ) -> Result<(), AllocError>
+        requires kept { IsKept K.records svc.now self.old }
+        requires up { self.old.up ≡ true }
+        requires acting { self.old.acting ≡ None }
+        requires ready { R.ready replayer.old }
+        ensures active { OnOk result (IsActive svc.now self.old self.new) }
+        ensures same { IsSame self.old self.new }
+        ensures effects { OnOk result (draft.new.effects.items ≡ draft.old.effects.items ++ effect.Active self.old.id (unwrap_or (option_map (λ (p : ProposerValue). p.ballot) self.old.proposer) 0) ∷ []) }
+        ensures sends { OnOk result (draft.new.sends.items ≡ draft.old.sends.items) }
+        ensures err { OnErr result (self.new ≡ self.old) }
+        ensures ready { R.ready replayer.new }
+    {
+        let _service = svc.declarations();
+        let node = self.id;
+        let ballot = self.own_ballot().unwrap_or(0);
+        let state = self.replayed_state(svc, replayer)?;
+        let recorder = Recorder::new(self.alloc, state)?;
+        draft.tell(Effect::Active { node, ballot })?;
+        let dice = Lcg64Xsh32::new(self.seed as u64, ballot);
+        let counts = List::new(self.alloc);
+        let proposed = Cut { counts };
+        self.acting = Some(Acting {
+            recorder,
+            dice,
+            proposed,
+        });
+        self.replayed = self.known.len() as u32;
+        self.ahead = None;
+        Ok(())
+    }
+}
+
+// Whether a node with this proposer, active or not, goes on.
+fn may_lead(proposer: &Proposer, active: bool) -> bool
+    ensures { result ≡ spec.may_lead proposer.now active }
+{
+    !active && proposer.open_instance().is_none() && !proposer.is_candidate()
+}
+
+fn copied_value(alloc: Global, value: Option<&[u8]>) -> Result<Option<Value>, AllocError>
+    ensures { IfOk result (λ copy. option_copied value.entry ≡ copy) }
+{
+    match value {
+        None => Ok(None),
+        Some(value) => Ok(Some(copied(alloc, value)?)),
+    }
+}

@@ -1,0 +1,30 @@
+//! One node of a cluster: what it answers to clients, lanes, messages of other nodes and its own schedule, each call the same
+//! as in the cluster's model.
+#![tactic(auto)]
+
+mod acting;
+mod answers;
+mod bounds;
+mod choosing;
+mod counting;
+mod cutting;
+mod electing;
+mod going;
+mod leading;
+mod messages;
+mod node;
+mod pieces;
+mod promising;
+mod refusal;
+mod replaying;
+mod restart;
+mod step;
+mod telling;
+mod values;
+mod writing;
+
+pub use answers::Answer;
+pub use node::Node;
+pub use refusal::Refusal;
+pub use restart::{NotStarted, RestartFault};
+pub use step::Step;

@@ -1,0 +1,208 @@
+//! A node, and what its clients and lanes get of it.
+
+ghost use Rattle.std.specs.Prelude.{◌≡◌, ◌<◌, ◌+◌, ◌^◌, ◌∷◌, [], false, Some, None, is_some, option_map, IfOk, OnOk, OnErr};
+ghost use Rattle.std.specs.Option.{option_copied};
+ghost use Rattle.rex_state.specs.Machine.{lane_of};
+ghost use Rattle.rex_scenario.specs.Fits.{RequestFits};
+ghost use Rattle.rex_safety.specs.Node.{role_name, lead_name};
+ghost use Rattle.rex_safety.specs.Calls.{begin};
+ghost use Rattle.rex_safety.specs.Lanes.{live_state, submit_request, turned};
+ghost use Rattle.rex_node.specs.Parts.{here_of, role_of, open_of, proposal_in, IsNode, StaysNode};
+ghost use Rattle.rex_node.specs.Calls.{Refuses, LeadsTo, if_up, if_active, refusal_active, turn_at};
+ghost use Rattle.rex_node.specs.Submitting.{effect_of};
+
+use crate::acting::Acting;
+use crate::answers::Answer;
+use crate::refusal::Refusal;
+use rex_ballot::{Proposal, Value};
+use rex_paxos::{Acceptor, Proposer};
+use rex_record::Turn;
+use rex_report::Role;
+use rex_state::state::State;
+use rex_syntax::checked::Checked;
+use rex_syntax::request::Request;
+use rex_traits::Keeper;
+use std::alloc::Global;
+use std::marker::Model;
+
+/// One node of a cluster, over the keeper of its records. What it is beside them it is only while it is up.
+///
+/// Each call does to the node what the cluster's model does to it; `here_of` is the node of the model that its parts are.
+#[derive(Drop)]
+pub struct Node<K: Keeper> {
+    pub(crate) alloc: Global,
+    pub(crate) id: u8,
+    pub(crate) nodes: u8,
+    pub(crate) seed: u32,
+    pub(crate) keeper: K,
+    pub(crate) up: bool,
+    pub(crate) acceptor: Acceptor,
+    /// The bytes of the known values.
+    pub(crate) known: Vec<Value>,
+    /// How many values the last checkpoint is after, and the state then.
+    pub(crate) base: u32,
+    pub(crate) start: State,
+    /// How many values were replayed, and the state then, unless that is the one of the checkpoint or what is executed has it.
+    pub(crate) replayed: u32,
+    pub(crate) ahead: Option<State>,
+    /// There while the node leads, or asks to.
+    pub(crate) proposer: Option<Proposer>,
+    /// There while the node is active.
+    pub(crate) acting: Option<Acting>,
+}
+
+impl<K: Keeper> Model for Node<K> {
+    ghost use Rattle.rex_node.specs.Parts.{NodeValue};
+
+    ghost Value = { NodeValue K };
+
+    ghost view = { λ n. record {
+      id = n.id;
+      nodes = n.nodes;
+      seed = n.seed;
+      keeper = n.keeper;
+      up = n.up;
+      acceptor = n.acceptor;
+      known = n.known.items;
+      base = n.base;
+      start = n.start;
+      replayed = n.replayed;
+      ahead = n.ahead;
+      proposer = n.proposer;
+      acting = n.acting;
+    } };
+}
+
+impl<K: Keeper> Node<K> {
+    /// The node's number, from 1.
+    pub fn id(&self) -> u8
+        ensures { result ≡ self.now.id }
+    {
+        self.id
+    }
+
+    /// Whether the node is up.
+    pub fn is_up(&self) -> bool
+        ensures { result ≡ self.now.up }
+    {
+        self.up
+    }
+
+    /// The keeper, for the one who made it.
+    pub fn keeper(&self) -> &K
+        ensures { result.now ≡ self.now.keeper }
+    {
+        &self.keeper
+    }
+
+    /// How many values the node knows.
+    pub fn known(&self) -> &[Value]
+        ensures { result.now ≡ self.now.known }
+    {
+        &self.known
+    }
+
+    /// What the node does in its cluster.
+    pub fn role(&self) -> Role
+        ensures { result ≡ role_name (role_of self.now.acceptor self.now.proposer (is_some self.now.acting)) }
+    {
+        match &self.proposer {
+            None => Role::Follower,
+            Some(proposer) => lead_role(&self.acceptor, proposer, self.acting.is_some()),
+        }
+    }
+
+    /// Stops the node, and gives its keeper back: with the keeper's records it starts again.
+    pub fn stop(self) -> K
+        ensures { result ≡ self.keeper }
+    {
+        self.keeper
+    }
+
+    // Why the node doesn't do what only an active node does.
+    pub(crate) fn active_refusal(&self) -> Option<Refusal>
+        ensures { result ≡ if_up self.now.up (if_active (role_of self.now.acceptor self.now.proposer (is_some self.now.acting)) None) }
+    {
+        if !self.up {
+            return Some(Refusal::Down);
+        }
+        if self.proposer.is_some() && self.acting.is_some() {
+            return None;
+        }
+        let role = self.role();
+        Some(Refusal::NotActive { role })
+    }
+
+    /// Answers a client's request, and queues it where it is due.
+    pub fn submit(&mut self, svc: &Checked, request: &Request) -> Result<Answer, Refusal>
+        requires node { IsNode K.records svc.now self.old }
+        requires request { RequestFits svc.now request.now }
+        ensures refused { Refuses (refusal_active (here_of K.records svc.now self.old)) result }
+        ensures told { IfOk result (λ answer. effect_of request.now answer ∷ [] ≡ (submit_request svc.now (Some request.now) (begin (here_of K.records svc.now self.old))).effects) }
+        ensures node { OnOk result (LeadsTo (submit_request svc.now (Some request.now)) (here_of K.records svc.now self.old) (here_of K.records svc.now self.new)) }
+        ensures same { OnErr result (self.new ≡ self.old) }
+        ensures keeper { self.new.keeper ≡ self.old.keeper }
+        ensures kept { StaysNode K.records svc.now self.old self.new }
+    {
+        let _service = svc.declarations();
+        if let Some(refusal) = self.active_refusal() {
+            return Err(refusal);
+        }
+        match self.acting.take() {
+            None => Err(Refusal::OutOfMemory),
+            Some(mut acting) => {
+                let answer = acting.submit(svc, request);
+                self.acting = Some(acting);
+                Ok(answer?)
+            }
+        }
+    }
+
+    /// A lane's turn, where the clock reads this: the next event of the lane, or why it makes none.
+    pub fn lane(&mut self, svc: &Checked, lane: u8, now: i64) -> Result<Turn, Refusal>
+        requires node { IsNode K.records svc.now self.old }
+        requires there { lane < svc.now.lanes }
+        requires count { (lane_of (live_state svc.now (here_of K.records svc.now self.old)) lane).done + 1 < 2 ^ 32 }
+        ensures refused { Refuses (refusal_active (here_of K.records svc.now self.old)) result }
+        ensures told { IfOk result (λ turn. turn ≡ turn_at svc.now (here_of K.records svc.now self.old) lane now) }
+        ensures node { IfOk result (λ turn. LeadsTo (turned svc.now lane turn) (here_of K.records svc.now self.old) (here_of K.records svc.now self.new)) }
+        ensures same { OnErr result (self.new ≡ self.old) }
+        ensures keeper { self.new.keeper ≡ self.old.keeper }
+        ensures kept { StaysNode K.records svc.now self.old self.new }
+    {
+        let _service = svc.declarations();
+        if let Some(refusal) = self.active_refusal() {
+            return Err(refusal);
+        }
+        match self.acting.take() {
+            None => Err(Refusal::OutOfMemory),
+            Some(mut acting) => {
+                let turn = acting.lane(svc, lane, now);
+                self.acting = Some(acting);
+                Ok(turn?)
+            }
+        }
+    }
+}
+
+// What a node that leads, or asks to, does in its cluster.
+fn lead_role(acceptor: &Acceptor, proposer: &Proposer, active: bool) -> Role
+    ensures { result ≡ lead_name active (open_of acceptor.now proposer.now.open_instance) }
+{
+    if active {
+        return Role::Active;
+    }
+    match proposer.open_instance() {
+        None => Role::Candidate,
+        Some(instance) => adopting(acceptor.accepted_for(instance)),
+    }
+}
+
+fn adopting(proposal: Option<&Proposal>) -> Role
+    ensures { result ≡ lead_name false (option_map proposal_in (option_copied proposal.entry)) }
+{
+    match proposal {
+        None => Role::Candidate,
+        Some(_) => Role::Adopting,
+    }
+}

@@ -1,0 +1,253 @@
+-- Each step keeps what active nodes work with.
+use Rattle.std.proofs.Common.{◌≡◌, ℕ, zero, suc, ◌<◌, ◌≤◌, Bool, true, false, cond, ◌⊎◌, List, [], ◌∷◌, length, Option, Some, None, eqb, refl, sym, ◌∙◌, ap, subst, inl, inr, arith, le_refl}
+use Rattle.std.specs.Prelude.{map, slice_get, nat_le}
+use Rattle.rex_syntax.specs.declared.request.Request.{Request}
+use Rattle.rex_syntax.specs.declared.service.Declarations.{Declarations}
+use Rattle.rex_event.specs.declared.event.Event.{Event}
+use Rattle.rex_event.specs.Cuts.{below}
+use Rattle.rex_cut.specs.Greatest.{greatest_cut}
+use Rattle.rex_state.specs.Value.{StateValue}
+use Rattle.rex_scenario.specs.declared.scenario.ScheduleLine.{ScheduleLine}
+use Rattle.rex_scenario.specs.declared.scenario.ScheduleLine.TheVariants as line
+use Rattle.rex_safety.specs.Records.{Proposal, known}
+use Rattle.rex_safety.specs.Quorum.{IsNode}
+use Rattle.rex_safety.specs.Node.{Service, Message, Lead, Role, is_active}
+use Rattle.rex_safety.specs.Node.Role.{Follower, Leads}
+use Rattle.rex_safety.specs.Calls.{begin, enough, elect, receive, ask, replay, checkpoint, stop, start, arm}
+use Rattle.rex_safety.specs.Values.{Value, service_of}
+use Rattle.rex_safety.specs.Lanes.{Here, CallHere, active_only, submit_request, lane_turn, cut_live, cut_lead, cut_role, cut, value_at, no_limits, with_limits}
+use Rattle.rex_safety.specs.World.{World, node_at, put, beginning, after, if_up, at_node, start_if, with_handed, deliver_found, message_at, step, waiting_from, flush_steps, steps_of, steps, row, after_lines}
+use Rattle.std.specs.Prelude.{is_some}
+use Rattle.std.specs.List.{All}
+use Rattle.std.proofs.lemmas.List.Elements.{All-head, All-tail}
+use Rattle.std.proofs.lemmas.Option.{same_Some}
+use Rattle.rex_syntax.specs.Service.{IsService}
+use Rattle.rex_syntax.specs.Check.{IsChecked}
+use Rattle.rex_event.specs.Cuts.{count_at}
+use Rattle.rex_cut.specs.Greatest.{IsCutOf}
+use Rattle.rex_state.specs.Counts.{counts_of}
+use Rattle.rex_scenario.specs.Fits.{RequestFits}
+use Rattle.rex_safety.specs.Records.{proposal_of}
+use Rattle.rex_safety.specs.Lanes.{is_faithful, known_state, limits_between, turn_in}
+use Rattle.rex_safety.specs.Acting.{IsActing, HasLane}
+use Rattle.rex_safety.specs.Agreed.{world_after}
+use Rattle.rex_safety.specs.Laws.{ActsRightly}
+use Rattle.rex_safety.proofs.Nodes.{node_put, put_none, IsFresh, fresh_at}
+use Rattle.rex_safety.proofs.Worlds.{IsWorld, node_or_not, node_of_lead}
+use Rattle.rex_safety.proofs.Moments.{known_run}
+use Rattle.rex_safety.proofs.Steps.{step_ok, row_ok, beginning_ok, reached_ok}
+use Rattle.rex_safety.proofs.Acting.{acting_new, acting_known, acting_answered, acting_turned, acting_proposed, IsLiveCut, live_cut, firsts_long, rises, known_is, live_is, live_runs}
+use Rattle.rex_safety.proofs.Working.{Works, passive, if_works, propose_works, settle_works, elect_works, receive_works, replay_works, checkpoint_works}
+
+-- ---- limits between two lists of counts
+
+pub between_long : (firsts lasts limits : List ℕ) → length lasts ≡ length firsts → length limits ≡ length firsts → length (limits_between firsts lasts limits) ≡ length firsts
+between_long [] lasts limits h k = refl
+between_long (a ∷ xs) [] limits h k = absurd (omega arith)
+between_long (a ∷ xs) (b ∷ ys) [] h k = absurd (omega arith)
+between_long (a ∷ xs) (b ∷ ys) (l ∷ ls) h k = ap suc (between_long xs ys ls (omega arith) (omega arith))
+
+pub between_from : (firsts lasts limits : List ℕ) (lane : ℕ) → length lasts ≡ length firsts → length limits ≡ length firsts → ((m : ℕ) → count_at firsts m ≤ count_at lasts m)
+    → count_at firsts lane ≤ count_at (limits_between firsts lasts limits) lane
+between_from [] lasts limits lane h k below = omega arith
+between_from (a ∷ xs) [] limits lane h k below = absurd (omega arith)
+between_from (a ∷ xs) (b ∷ ys) [] lane h k below = absurd (omega arith)
+between_from (a ∷ xs) (b ∷ ys) (l ∷ ls) zero h k below = let f : a ≤ b = below 0 in omega arith
+between_from (a ∷ xs) (b ∷ ys) (l ∷ ls) (suc lane) h k below = between_from xs ys ls lane (omega arith) (omega arith) (λ m. below (suc m))
+
+pub between_to : (firsts lasts limits : List ℕ) (lane : ℕ) → count_at (limits_between firsts lasts limits) lane ≤ count_at lasts lane
+between_to [] lasts limits lane = omega arith
+between_to (a ∷ xs) [] limits lane = omega arith
+between_to (a ∷ xs) (b ∷ ys) [] lane = omega arith
+between_to (a ∷ xs) (b ∷ ys) (l ∷ ls) zero = omega arith
+between_to (a ∷ xs) (b ∷ ys) (l ∷ ls) (suc lane) = between_to xs ys ls lane
+
+-- ---- calls
+
+module _ (service : Declarations) (good : IsService service) (checked : IsChecked service) (seed n me : ℕ) where
+  abbrev pub WorksHere : CallHere → Type 0
+  WorksHere d = Works n (service_of service seed) me (IsActing service) (acting_new service good checked) (acting_known service good checked seed) d
+
+  active_works : (t : Bool) (d e : CallHere) → WorksHere d → WorksHere e → WorksHere (active_only t d e)
+  active_works true d e w h = h
+  active_works false d e w h = record { each = w.each }
+
+  found : (rs : List Request) → All (RequestFits service) rs → (k : ℕ) → (r : Request) → slice_get rs k ≡ Some r → RequestFits service r
+  found [] f k r e = absurd (cc)
+  found (y ∷ ys) f zero r e = subst (RequestFits service) (same_Some y r e) (All-head (RequestFits service) y ys f)
+  found (y ∷ ys) f (suc k) r e = found ys (All-tail (RequestFits service) y ys f) k r e
+
+  request_works : (o : Option Request) → ((r : Request) → o ≡ Some r → RequestFits service r) → (d : CallHere) → WorksHere d → WorksHere (submit_request service o d)
+  request_works None f d w = record { each = w.each }
+  request_works (Some r) f d w = record { each = λ l e a g. acting_answered service good checked (known d.node.log) l.proposal d.node.work (w.each l e a g) r (known_state service d.node) (f r refl) }
+
+  pub submit_works : (requests : List Request) → All (RequestFits service) requests → (number : ℕ) (d : CallHere) → WorksHere d → WorksHere (active_only (is_active d.node.role) d (submit_request service (slice_get requests number) d))
+  submit_works requests fit number d w = active_works (is_active d.node.role) d _ w (request_works (slice_get requests number) (found requests fit number) d w)
+
+  pub turn_works : (done lane : ℕ) → lane < service.lanes → (d : CallHere) → WorksHere d → WorksHere (active_only (is_active d.node.role) d (lane_turn service done lane d))
+  turn_works done lane there d w =
+      active_works (is_active d.node.role) d _ w
+      (record { each = λ l e a g. acting_turned service good checked (known d.node.log) l.proposal d.node.work (w.each l e a g) lane _ _ _ (turn_in service d.node done lane) there refl })
+
+  pub cut_works : (counts : List ℕ) (d : CallHere) → ((o : Option (Proposal Value)) → IsActing service (known d.node.log) o d.node.work → IsCutOf d.node.work.live counts) → WorksHere d → WorksHere (cut service seed n me counts d)
+  cut_works counts d is w = by d.node.role refl
+    where
+      live : (l : Lead Value) → d.node.role ≡ Leads l → l.proposal ≡ None → (es : List Event) → WorksHere (cut_live service seed n me (greatest_cut counts d.node.work.live) l es d)
+      live l e p [] = record { each = w.each }
+      live l e p (y ∷ ys) =
+          if_works n (service_of service seed) me (IsActing service) (acting_new service good checked) (acting_known service good checked seed) (is_faithful service seed (known d.node.log) (greatest_cut counts d.node.work.live) d.node.work.live)
+          (λ f. propose_works n (service_of service seed) me (IsActing service) (acting_new service good checked) (acting_known service good checked seed) _ d l (suc (length (known d.node.log))) (value_at (greatest_cut counts d.node.work.live) d.node.work.live) _
+          (λ a g. let h = subst (λ (o : Option (Proposal Value)). IsActing service (known d.node.log) o d.node.work) p (w.each l e a g) in
+          acting_proposed service good checked (known d.node.log) None d.node.work h seed counts (proposal_of l.ballot (suc (length (known d.node.log))) (value_at (greatest_cut counts d.node.work.live) d.node.work.live)) (is None h) refl f)
+          (settle_works n (service_of service seed) me (IsActing service) (acting_new service good checked) (acting_known service good checked seed) (enough l.reported)))
+          (λ _. record { each = w.each })
+
+      led : (l : Lead Value) → d.node.role ≡ Leads l → (o : Option (Proposal Value)) → l.proposal ≡ o → WorksHere (cut_lead service seed n me counts l o d)
+      led l e (Some p) q = record { each = w.each }
+      led l e None q =
+          if_works n (service_of service seed) me (IsActing service) (acting_new service good checked) (acting_known service good checked seed) (nat_le 65535 (length (known d.node.log))) (λ _. record { each = w.each })
+          (λ _. live l e q (below (greatest_cut counts d.node.work.live) d.node.work.live))
+
+      active : (l : Lead Value) → d.node.role ≡ Leads l → (t : Bool) → WorksHere (active_only t d (cut_lead service seed n me counts l l.proposal d))
+      active l e true = led l e l.proposal refl
+      active l e false = record { each = w.each }
+
+      by : (r : Role Value) → d.node.role ≡ r → WorksHere (cut_role service seed n me counts r d)
+      by Follower e = record { each = w.each }
+      by (Leads l) e = active l e l.active
+
+-- ---- a cut's counts
+
+module _ (service : Declarations) (good : IsService service) (checked : IsChecked service) (x : Here) (o : Option (Proposal Value)) (a : IsActing service (known x.log) o x.work) where
+  pub no_limits_live : IsLiveCut a.start a.state (no_limits service x)
+  no_limits_live =
+      let r = rises service good checked (known x.log) o x.work a in
+      subst (λ (s : StateValue). IsLiveCut a.start a.state (counts_of s)) (sym (live_is service good checked (known x.log) o x.work a)) (record { long = r.long; from = r.rise; to = λ lane. le_refl _ })
+
+  pub with_limits_live : (limits : List ℕ) → length limits ≡ service.lanes → IsLiveCut a.start a.state (with_limits service x limits)
+  with_limits_live limits many =
+      let r = rises service good checked (known x.log) o x.work a in
+      let long : length limits ≡ length (counts_of a.start) = many ∙ sym (firsts_long service good checked (known x.log) o x.work a) in
+      subst (λ (s : StateValue). IsLiveCut a.start a.state (limits_between (counts_of (known_state service x)) (counts_of s) limits)) (sym (live_is service good checked (known x.log) o x.work a))
+      (subst (λ (s : StateValue). IsLiveCut a.start a.state (limits_between (counts_of s) (counts_of a.state) limits)) (sym (known_is service good checked (known x.log) o x.work a))
+      (record {
+        long = between_long (counts_of a.start) (counts_of a.state) limits r.long long;
+        from = λ lane. between_from (counts_of a.start) (counts_of a.state) limits lane r.long long r.rise;
+        to = λ lane. between_to (counts_of a.start) (counts_of a.state) limits lane;
+      }))
+
+  no_limits_cut : IsCutOf x.work.live (no_limits service x)
+  no_limits_cut = live_cut service good checked (known x.log) o x.work a (no_limits service x) no_limits_live
+
+  with_limits_cut : (limits : List ℕ) → length limits ≡ service.lanes → IsCutOf x.work.live (with_limits service x limits)
+  with_limits_cut limits many = live_cut service good checked (known x.log) o x.work a (with_limits service x limits) (with_limits_live limits many)
+
+-- ---- worlds
+
+module _ (service : Declarations) (good : IsService service) (checked : IsChecked service) (requests : List Request) (fit : All (RequestFits service) requests) (seed n : ℕ) (few : n ≤ 9) where
+  abbrev sv : Service Value StateValue
+  sv = service_of service seed
+
+  -- each node works with a recorder where it is active
+  abbrev pub AllWork : World → Type 0
+  AllWork w = (m : ℕ) → WorksHere service good checked seed n m (begin (node_at w.nodes m))
+
+  after_work : (w : World) → length w.nodes ≡ n → AllWork w → (m : ℕ) (d : CallHere) → WorksHere service good checked seed n m d → AllWork (after w m d).world
+  after_work w many h m d k q = go (node_or_not n m)
+    where
+      place : (t : Bool) → eqb q m ≡ t → node_at (put w.nodes m d.node) q ≡ cond t d.node (node_at w.nodes q) → WorksHere service good checked seed n q (begin (node_at (put w.nodes m d.node) q))
+      place true e p = subst (λ (y : Here). WorksHere service good checked seed n q (begin y)) (sym p) (record { each = k.each })
+      place false e p = subst (λ (y : Here). WorksHere service good checked seed n q (begin y)) (sym p) (h q)
+
+      go : IsNode n m ⊎ (IsNode n m → ⊥) → WorksHere service good checked seed n q (begin (node_at (put w.nodes m d.node) q))
+      go (inl min) = place (eqb q m) refl (node_put w.nodes m d.node q (subst (λ k. IsNode k m) (sym many) min))
+      go (inr none) = subst (λ (xs : List Here). WorksHere service good checked seed n q (begin (node_at xs q))) (sym (put_none w.nodes m d.node (λ l. none (subst (λ k. IsNode k m) many l)))) (h q)
+
+  at_node_work : (w : World) → length w.nodes ≡ n → AllWork w → (m : ℕ) (call : CallHere → CallHere) → ((d : CallHere) → WorksHere service good checked seed n m d → WorksHere service good checked seed n m (call d)) → AllWork (at_node w m call).world
+  at_node_work w many h m call k = go (node_at w.nodes m).up
+    where
+      go : (t : Bool) → AllWork (if_up t w m (call (begin (node_at w.nodes m)))).world
+      go true = after_work w many h m (call (begin (node_at w.nodes m))) (k (begin (node_at w.nodes m)) (h m))
+      go false = h
+
+  deliver_work : (w : World) → length w.nodes ≡ n → AllWork w → (number : ℕ) (o : Option (Message Value)) → AllWork (deliver_found service seed n w number o).world
+  deliver_work w many h number None = h
+  deliver_work w many h number (Some y) =
+      at_node_work (with_handed w number) many h y.to (receive n sv y.to y.from y.content)
+      (λ d k. receive_works n sv y.to (IsActing service) (acting_new service good checked) (acting_known service good checked seed) y.from y.content d k)
+
+  start_work : (w : World) → length w.nodes ≡ n → AllWork w → (m : ℕ) (t : Bool) → AllWork (start_if t w m).world
+  start_work w many h m true = h
+  start_work w many h m false = after_work w many h m (start m (begin (node_at w.nodes m))) (passive n sv m (IsActing service) (acting_new service good checked) (acting_known service good checked seed) _ refl)
+
+  pub step_work : (w : World) → length w.nodes ≡ n → AllWork w → (x : ScheduleLine) → HasLane service x → AllWork (step service requests seed n w x).world
+  step_work w many h (line.Elect m) l = at_node_work w many h m (elect n sv m) (λ d k. elect_works n sv m (IsActing service) (acting_new service good checked) (acting_known service good checked seed) d k)
+  step_work w many h (line.Submit m r) l = at_node_work w many h m _ (λ d k. submit_works service good checked seed n m requests fit r d k)
+  step_work w many h (line.Lane m lane) l = at_node_work w many h m _ (λ d k. turn_works service good checked seed n m w.done lane l d k)
+  step_work w many h (line.Cut m) l = at_node_work w many h m _ (λ d k. cut_works service good checked seed n m (no_limits service d.node) d (λ o a. no_limits_cut service good checked d.node o a) k)
+  step_work w many h (line.CutBelow m limits) l = at_node_work w many h m _ (λ d k. cut_works service good checked seed n m (with_limits service d.node limits) d (λ o a. with_limits_cut service good checked d.node o a limits l) k)
+  step_work w many h (line.Deliver number) l = deliver_work w many h number (message_at w.messages number)
+  step_work w many h line.Flush l = h
+  step_work w many h (line.Replay m) l = at_node_work w many h m (replay m) (λ d k. replay_works n sv m (IsActing service) (acting_new service good checked) (acting_known service good checked seed) d k)
+  step_work w many h (line.Ask m other) l = at_node_work w many h m (ask m other) (λ d k. record { each = k.each })
+  step_work w many h (line.Stop m) l = at_node_work w many h m (stop m) (λ d k. passive n sv m (IsActing service) (acting_new service good checked) (acting_known service good checked seed) _ refl)
+  step_work w many h (line.Start m) l = start_work w many h m (node_at w.nodes m).up
+  step_work w many h (line.Checkpoint m) l = at_node_work w many h m (checkpoint sv m) (λ d k. checkpoint_works n sv m (IsActing service) (acting_new service good checked) (acting_known service good checked seed) d k)
+  step_work w many h (line.KeepFail m kept) l = after_work w many h m (arm m kept (begin (node_at w.nodes m))) (record { each = (h m).each })
+
+  -- the steps of a line name lanes that are there
+  abbrev HaveLanes : List ScheduleLine → Type 0
+  HaveLanes [] = Unit {0}
+  HaveLanes (x ∷ xs) = HasLane service x × HaveLanes xs
+
+  delivers_lanes : (numbers : List ℕ) → HaveLanes (map line.Deliver numbers)
+  delivers_lanes [] = tt
+  delivers_lanes (k ∷ ks) = (tt, delivers_lanes ks)
+
+  flush_lanes : (numbers : List ℕ) → HaveLanes (flush_steps numbers)
+  flush_lanes [] = (tt, tt)
+  flush_lanes (k ∷ ks) = delivers_lanes (k ∷ ks)
+
+  steps_lanes : (w : World) (x : ScheduleLine) → HasLane service x → HaveLanes (steps_of w x)
+  steps_lanes w line.Flush l = flush_lanes (waiting_from 1 w.handed)
+  steps_lanes w (line.Elect m) l = (l, tt)
+  steps_lanes w (line.Submit m r) l = (l, tt)
+  steps_lanes w (line.Lane m lane) l = (l, tt)
+  steps_lanes w (line.Cut m) l = (l, tt)
+  steps_lanes w (line.CutBelow m limits) l = (l, tt)
+  steps_lanes w (line.Deliver number) l = (l, tt)
+  steps_lanes w (line.Replay m) l = (l, tt)
+  steps_lanes w (line.Ask m other) l = (l, tt)
+  steps_lanes w (line.Stop m) l = (l, tt)
+  steps_lanes w (line.Start m) l = (l, tt)
+  steps_lanes w (line.Checkpoint m) l = (l, tt)
+  steps_lanes w (line.KeepFail m kept) l = (l, tt)
+
+  steps_work : (w : World) (xs : List ScheduleLine) → IsWorld n sv w → AllWork w → HaveLanes xs → AllWork (steps service requests seed n w xs).world
+  steps_work w [] ok h l = h
+  steps_work w (x ∷ xs) ok h l = steps_work (step service requests seed n w x).world xs (step_ok service requests seed n few w x ok).0 (step_work w ok.many h x l.0) l.1
+
+  lines_work : (w : World) (xs : List ScheduleLine) → IsWorld n sv w → AllWork w → All (HasLane service) xs → AllWork (after_lines service requests seed n w xs)
+  lines_work w [] ok h l = h
+  lines_work w (x ∷ xs) ok h l =
+      lines_work (row service requests seed n w x).world xs (row_ok service requests seed n few w x ok).0
+      (steps_work w (steps_of w x) ok h (steps_lanes w x (All-head (HasLane service) x xs l))) (All-tail (HasLane service) x xs l)
+
+  fresh_works : (m : ℕ) (x : Here) → IsFresh x → WorksHere service good checked seed n m (begin x)
+  fresh_works m x (inl e) = subst (λ (y : Here). WorksHere service good checked seed n m (begin y)) (sym e) (passive n sv m (IsActing service) (acting_new service good checked) (acting_known service good checked seed) _ refl)
+  fresh_works m x (inr e) = subst (λ (y : Here). WorksHere service good checked seed n m (begin y)) (sym e) (passive n sv m (IsActing service) (acting_new service good checked) (acting_known service good checked seed) _ refl)
+
+  pub active_traces_run : (lines : List ScheduleLine) → All (HasLane service) lines → (m : ℕ) (l : Lead Value) → (node_at (world_after service requests seed n lines).nodes m).role ≡ Leads l → l.active ≡ true → ActsRightly service (node_at (world_after service requests seed n lines).nodes m) l
+  active_traces_run lines lanes m l e a = record { acting = acting; trace_runs = ap is_some (live_runs service good checked (known x.log) l.proposal x.work acting) }
+    where
+      x : Here
+      x = node_at (world_after service requests seed n lines).nodes m
+
+      all : AllWork (world_after service requests seed n lines)
+      all = lines_work (beginning n) lines (beginning_ok service requests seed n few) (λ q. fresh_works q (node_at (beginning n).nodes q) (fresh_at Value StateValue n q)) lanes
+
+      min : IsNode n m
+      min = node_of_lead n sv (world_after service requests seed n lines) (reached_ok service requests seed n few lines) m l e
+
+      acting : IsActing service (known (node_at (world_after service requests seed n lines).nodes m).log) l.proposal (node_at (world_after service requests seed n lines).nodes m).work
+      acting = (all m).each l e a (known_run service good checked requests fit seed n few (world_after service requests seed n lines) (reached_ok service requests seed n few lines) m min)

@@ -1,0 +1,213 @@
+-- Each line keeps numbers in their ranges.
+use Rattle.std.proofs.Common.{◌≡◌, ℕ, zero, suc, ◌<◌, ◌≤◌, Bool, true, false, cond, ◌⊎◌, List, [], ◌∷◌, ◌++◌, length, Option, Some, None, eqb, refl, sym, ◌∙◌, ap, subst, inl, inr, arith, append-nil}
+use Rattle.std.specs.Prelude.{map, slice_get, nat_le}
+use Rattle.std.proofs.lemmas.Bool.{false≢true}
+use Rattle.rex_syntax.specs.declared.request.Request.{Request}
+use Rattle.rex_syntax.specs.declared.service.Declarations.{Declarations}
+use Rattle.rex_event.specs.declared.event.Event.{Event}
+use Rattle.rex_event.specs.Cuts.{below}
+use Rattle.rex_cut.specs.Greatest.{greatest_cut}
+use Rattle.rex_state.specs.Value.{StateValue}
+use Rattle.rex_scenario.specs.declared.scenario.ScheduleLine.{ScheduleLine}
+use Rattle.rex_scenario.specs.declared.scenario.ScheduleLine.TheVariants as line
+use Rattle.rex_safety.specs.Records.{Proposal, known}
+use Rattle.rex_safety.specs.Quorum.{IsNode}
+use Rattle.rex_safety.specs.Node.{Service, Message, Lead, Role, is_active}
+use Rattle.rex_safety.specs.Node.Role.{Follower, Leads}
+use Rattle.rex_safety.specs.Calls.{begin, enough, elect, receive, ask, replay, checkpoint, stop, start, arm}
+use Rattle.rex_safety.specs.Values.{Value, service_of}
+use Rattle.rex_safety.specs.Lanes.{Here, CallHere, active_only, submit_request, lane_turn, cut_live, cut_lead, cut_role, cut, value_at, no_limits, with_limits}
+use Rattle.rex_safety.specs.World.{World, node_at, put, beginning, after, if_up, at_node, start_if, with_handed, deliver_found, message_at, step, waiting_from, flush_steps, steps_of, steps, row, after_lines}
+use Rattle.rex_safety.specs.Invariant.{IsIn}
+use Rattle.std.proofs.Common.{leb-false}
+use Rattle.std.specs.List.{All}
+use Rattle.std.proofs.lemmas.List.Elements.{All-head, All-tail}
+use Rattle.rex_scenario.specs.Fits.{LineFits}
+use Rattle.rex_safety.specs.Lanes.{is_faithful}
+use Rattle.rex_safety.specs.Agreed.{world_after}
+use Rattle.rex_safety.specs.Ranges.{MessageFits, LogFits, LeadFits, RoleFits, NodeFits}
+use Rattle.rex_safety.specs.Laws.{NumbersFit}
+use Rattle.rex_safety.proofs.Lists.{in_cases}
+use Rattle.rex_safety.proofs.Nodes.{node_put, put_none, none_down, IsFresh, fresh_at}
+use Rattle.rex_safety.proofs.Worlds.{IsWorld, nth_in, node_or_not}
+use Rattle.rex_safety.proofs.Steps.{step_ok, row_ok, beginning_ok}
+use Rattle.rex_safety.proofs.Ranged.{Fits, if_fits, elect_fits, receive_fits, ask_fits, replay_fits, checkpoint_fits, proposed_fits}
+
+module _ (service : Declarations) (requests : List Request) (seed n : ℕ) (few : n ≤ 9) where
+  abbrev sv : Service Value StateValue
+  sv = service_of service seed
+
+  abbrev FitsAt : (m : ℕ) → IsNode n m → CallHere → Type 0
+  FitsAt m min d = Fits n few sv m min d
+
+  -- ---- calls of a node
+
+  module _ (m : ℕ) (min : IsNode n m) where
+    active_fits : (t : Bool) (d e : CallHere) → FitsAt m min d → FitsAt m min e → FitsAt m min (active_only t d e)
+    active_fits true d e h k = k
+    active_fits false d e h k = record { log = h.log; role = h.role; sends = h.sends }
+
+    submit_fits : (o : Option Request) (d : CallHere) → FitsAt m min d → FitsAt m min (submit_request service o d)
+    submit_fits None d h = record { log = h.log; role = h.role; sends = h.sends }
+    submit_fits (Some r) d h = record { log = h.log; role = h.role; sends = h.sends }
+
+    cut_fits : (counts : List ℕ) (d : CallHere) → FitsAt m min d → FitsAt m min (cut service seed n m counts d)
+    cut_fits counts d h = by d.node.role h.role
+      where
+        live : (c : List ℕ) (l : Lead Value) → LeadFits (length (known d.node.log)) l → length (known d.node.log) < 65535 → (es : List Event) → FitsAt m min (cut_live service seed n m c l es d)
+        live c l k i [] = record { log = h.log; role = h.role; sends = h.sends }
+        live c l k i (y ∷ ys) =
+            if_fits n few sv m min (is_faithful service seed (known d.node.log) c d.node.work.live)
+            (λ _. proposed_fits n few sv m min _ d l (value_at c d.node.work.live) (enough l.reported) h k i)
+            (λ _. record { log = h.log; role = h.role; sends = h.sends })
+
+        led : (l : Lead Value) → LeadFits (length (known d.node.log)) l → (o : Option (Proposal Value)) → FitsAt m min (cut_lead service seed n m counts l o d)
+        led l k (Some p) = record { log = h.log; role = h.role; sends = h.sends }
+        led l k None =
+            if_fits n few sv m min (nat_le 65535 (length (known d.node.log))) (λ _. record { log = h.log; role = h.role; sends = h.sends })
+            (λ e. live (greatest_cut counts d.node.work.live) l k (leb-false 65535 (length (known d.node.log)) e) (below (greatest_cut counts d.node.work.live) d.node.work.live))
+
+        active : (l : Lead Value) → LeadFits (length (known d.node.log)) l → (t : Bool) → FitsAt m min (active_only t d (cut_lead service seed n m counts l l.proposal d))
+        active l k true = led l k l.proposal
+        active l k false = record { log = h.log; role = h.role; sends = h.sends }
+
+        by : (r : Role Value) → RoleFits (length (known d.node.log)) r → FitsAt m min (cut_role service seed n m counts r d)
+        by Follower k = record { log = h.log; role = h.role; sends = h.sends }
+        by (Leads l) k = active l k l.active
+
+  -- ---- worlds
+
+  abbrev AllFit : World → Type 0
+  AllFit w = NumbersFit n w
+
+  begun : (w : World) → AllFit w → (m : ℕ) (min : IsNode n m) → FitsAt m min (begin (node_at w.nodes m))
+  begun w h m min = let x = h.nodes m min in record { log = x.log; role = x.role; sends = λ y i. absurd i }
+
+  after_fits : (w : World) → length w.nodes ≡ n → AllFit w → (m : ℕ) (min : IsNode n m) (d : CallHere) → FitsAt m min d → AllFit (after w m d).world
+  after_fits w many h m min d k = record { nodes = nodes; messages = λ x i. sent x (in_cases x w.messages d.sends i) }
+    where
+      sent : (x : Message Value) → IsIn x w.messages ⊎ IsIn x d.sends → MessageFits n x
+      sent x (inl i) = h.messages x i
+      sent x (inr i) = k.sends x i
+
+      place : (q : ℕ) → IsNode n q → (t : Bool) → NodeFits (cond t d.node (node_at w.nodes q))
+      place q qin true = record { log = k.log; role = k.role }
+      place q qin false = h.nodes q qin
+
+      nodes : (q : ℕ) → IsNode n q → NodeFits (node_at (put w.nodes m d.node) q)
+      nodes q qin = subst NodeFits (sym (node_put w.nodes m d.node q (subst (λ k. IsNode k m) (sym many) min))) (place q qin (eqb q m))
+
+  -- a number of no node that sends nothing
+  none_fits : (w : World) → length w.nodes ≡ n → AllFit w → (m : ℕ) → (IsNode n m → ⊥) → (d : CallHere) → d.sends ≡ [] → AllFit (after w m d).world
+  none_fits w many h m none d e = record {
+    nodes = λ q qin. subst (λ (xs : List Here). NodeFits (node_at xs q)) (sym (put_none w.nodes m d.node (λ l. none (subst (λ k. IsNode k m) many l)))) (h.nodes q qin);
+    messages = λ x i. h.messages x (subst (IsIn x) (ap (λ xs. w.messages ++ xs) e ∙ append-nil w.messages) i);
+  }
+
+  any_fits : (w : World) → length w.nodes ≡ n → AllFit w → (m : ℕ) (call : CallHere → CallHere) → ((min : IsNode n m) (d : CallHere) → FitsAt m min d → FitsAt m min (call d)) → AllFit (at_node w m call).world
+  any_fits w many h m call k = go (node_at w.nodes m).up refl (node_or_not n m)
+    where
+      go : (t : Bool) → (node_at w.nodes m).up ≡ t → IsNode n m ⊎ (IsNode n m → ⊥) → AllFit (if_up t w m (call (begin (node_at w.nodes m)))).world
+      go false e o = record { nodes = h.nodes; messages = h.messages }
+      go true e (inl min) = after_fits w many h m min (call (begin (node_at w.nodes m))) (k min (begin (node_at w.nodes m)) (begun w h m min))
+      go true e (inr none) = absurd (false≢true (sym (ap (λ (x : Here). x.up) (none_down w.nodes m (λ l. none (subst (λ k. IsNode k m) many l)))) ∙ e))
+
+  deliver_fits : (w : World) → length w.nodes ≡ n → AllFit w → (number : ℕ) (o : Option (Message Value)) → message_at w.messages number ≡ o → AllFit (deliver_found service seed n w number o).world
+  deliver_fits w many h number None e = record { nodes = h.nodes; messages = h.messages }
+  deliver_fits w many h number (Some x) e =
+      let f = h.messages x (found number e) in
+      any_fits (with_handed w number) many (record { nodes = h.nodes; messages = h.messages }) x.to (receive n sv x.to x.from x.content)
+      (λ min d k. receive_fits n few sv x.to min x.from f.from (λ s. f.apart (sym s)) x.content f.content d k)
+    where
+      found : (k : ℕ) → message_at w.messages k ≡ Some x → IsIn x w.messages
+      found zero e = absurd (cc)
+      found (suc k) e = nth_in k w.messages x e
+
+  down_fits : (w : World) → AllFit w → (m : ℕ) (min : IsNode n m) → (d : CallHere) → d.node.log ≡ (node_at w.nodes m).log → d.node.role ≡ Follower → d.sends ≡ [] → FitsAt m min d
+  down_fits w h m min d l r s = record {
+    log = subst LogFits (sym l) (h.nodes m min).log;
+    role = subst (RoleFits (length (known d.node.log))) (sym r) tt;
+    sends = λ x i. absurd (subst (IsIn x) s i);
+  }
+
+  start_fits : (w : World) → length w.nodes ≡ n → AllFit w → (m : ℕ) (t : Bool) → AllFit (start_if t w m).world
+  start_fits w many h m true = record { nodes = h.nodes; messages = h.messages }
+  start_fits w many h m false = go (node_or_not n m)
+    where
+      go : IsNode n m ⊎ (IsNode n m → ⊥) → AllFit (after w m (start m (begin (node_at w.nodes m)))).world
+      go (inl min) = after_fits w many h m min (start m (begin (node_at w.nodes m))) (down_fits w h m min (start m (begin (node_at w.nodes m))) refl refl refl)
+      go (inr none) = none_fits w many h m none (start m (begin (node_at w.nodes m))) refl
+
+  arm_fits : (w : World) → length w.nodes ≡ n → AllFit w → (m : ℕ) (kept : Bool) → AllFit (after w m (arm m kept (begin (node_at w.nodes m)))).world
+  arm_fits w many h m kept = go (node_or_not n m)
+    where
+      go : IsNode n m ⊎ (IsNode n m → ⊥) → AllFit (after w m (arm m kept (begin (node_at w.nodes m)))).world
+      go (inl min) = let x = h.nodes m min in after_fits w many h m min (arm m kept (begin (node_at w.nodes m))) (record { log = x.log; role = x.role; sends = λ y i. absurd i })
+      go (inr none) = none_fits w many h m none (arm m kept (begin (node_at w.nodes m))) refl
+
+  pub step_fits : (w : World) → length w.nodes ≡ n → AllFit w → (x : ScheduleLine) → LineFits n (length requests) service.lanes x → AllFit (step service requests seed n w x).world
+  step_fits w many h (line.Elect m) l = any_fits w many h m (elect n sv m) (λ min d k. elect_fits n few sv m min d k)
+  step_fits w many h (line.Submit m r) l = any_fits w many h m _ (λ min d k. active_fits m min (is_active d.node.role) d _ k (submit_fits m min (slice_get requests r) d k))
+  step_fits w many h (line.Lane m lane) l = any_fits w many h m _ (λ min d k. active_fits m min (is_active d.node.role) d (lane_turn service w.done lane d) k (record { log = k.log; role = k.role; sends = k.sends }))
+  step_fits w many h (line.Cut m) l = any_fits w many h m _ (λ min d k. cut_fits m min (no_limits service d.node) d k)
+  step_fits w many h (line.CutBelow m limits) l = any_fits w many h m _ (λ min d k. cut_fits m min (with_limits service d.node limits) d k)
+  step_fits w many h (line.Deliver number) l = deliver_fits w many h number (message_at w.messages number) refl
+  step_fits w many h line.Flush l = record { nodes = h.nodes; messages = h.messages }
+  step_fits w many h (line.Replay m) l = any_fits w many h m (replay m) (λ min d k. replay_fits n few sv m min d k)
+  step_fits w many h (line.Ask m other) l = any_fits w many h m (ask m other) (λ min d k. ask_fits n few sv m min other l.1.0 l.1.1 d k)
+  step_fits w many h (line.Stop m) l = any_fits w many h m (stop m) (λ min d k. record { log = k.log; role = tt; sends = k.sends })
+  step_fits w many h (line.Start m) l = start_fits w many h m (node_at w.nodes m).up
+  step_fits w many h (line.Checkpoint m) l = any_fits w many h m (checkpoint sv m) (λ min d k. checkpoint_fits n few sv m min d k)
+  step_fits w many h (line.KeepFail m kept) l = arm_fits w many h m kept
+
+  -- ---- lines
+
+  abbrev pub AllLinesFit : List ScheduleLine → Type 0
+  AllLinesFit [] = Unit {0}
+  AllLinesFit (x ∷ xs) = LineFits n (length requests) service.lanes x × AllLinesFit xs
+
+  waiting_fit : (k : ℕ) (flags : List Bool) → 0 < k → AllLinesFit (map line.Deliver (waiting_from k flags))
+  waiting_fit k [] l = tt
+  waiting_fit k (true ∷ flags) l = waiting_fit (suc k) flags (omega arith)
+  waiting_fit k (false ∷ flags) l = (l, waiting_fit (suc k) flags (omega arith))
+
+  flush_fit : (numbers : List ℕ) → AllLinesFit (map line.Deliver numbers) → AllLinesFit (flush_steps numbers)
+  flush_fit [] h = (tt, tt)
+  flush_fit (k ∷ ks) h = h
+
+  pub steps_fit : (w : World) (x : ScheduleLine) → LineFits n (length requests) service.lanes x → AllLinesFit (steps_of w x)
+  steps_fit w line.Flush l = flush_fit (waiting_from 1 w.handed) (waiting_fit 1 w.handed (omega arith))
+  steps_fit w (line.Elect m) l = (l, tt)
+  steps_fit w (line.Submit m r) l = (l, tt)
+  steps_fit w (line.Lane m lane) l = (l, tt)
+  steps_fit w (line.Cut m) l = (l, tt)
+  steps_fit w (line.CutBelow m limits) l = (l, tt)
+  steps_fit w (line.Deliver number) l = (l, tt)
+  steps_fit w (line.Replay m) l = (l, tt)
+  steps_fit w (line.Ask m other) l = (l, tt)
+  steps_fit w (line.Stop m) l = (l, tt)
+  steps_fit w (line.Start m) l = (l, tt)
+  steps_fit w (line.Checkpoint m) l = (l, tt)
+  steps_fit w (line.KeepFail m kept) l = (l, tt)
+
+  all_steps_fit : (w : World) (xs : List ScheduleLine) → IsWorld n sv w → AllFit w → AllLinesFit xs → AllFit (steps service requests seed n w xs).world
+  all_steps_fit w [] ok h l = h
+  all_steps_fit w (x ∷ xs) ok h l = all_steps_fit (step service requests seed n w x).world xs (step_ok service requests seed n few w x ok).0 (step_fits w ok.many h x l.0) l.1
+
+  row_fits : (w : World) (x : ScheduleLine) → IsWorld n sv w → AllFit w → LineFits n (length requests) service.lanes x → AllFit (row service requests seed n w x).world
+  row_fits w x ok h l = let r = all_steps_fit w (steps_of w x) ok h (steps_fit w x l) in record { nodes = r.nodes; messages = r.messages }
+
+  lines_fit : (w : World) (xs : List ScheduleLine) → IsWorld n sv w → AllFit w → All (LineFits n (length requests) service.lanes) xs → AllFit (after_lines service requests seed n w xs)
+  lines_fit w [] ok h l = h
+  lines_fit w (x ∷ xs) ok h l =
+      lines_fit (row service requests seed n w x).world xs (row_ok service requests seed n few w x ok).0
+      (row_fits w x ok h (All-head (LineFits n (length requests) service.lanes) x xs l)) (All-tail (LineFits n (length requests) service.lanes) x xs l)
+
+  fresh_fits : (x : Here) → IsFresh x → NodeFits x
+  fresh_fits x (inl e) = subst NodeFits (sym e) (record { log = record { ballots = λ b h. absurd h; instances = λ b i v h. absurd h; few = omega arith }; role = tt })
+  fresh_fits x (inr e) = subst NodeFits (sym e) (record { log = record { ballots = λ b h. absurd h; instances = λ b i v h. absurd h; few = omega arith }; role = tt })
+
+  pub numbers_fit : (lines : List ScheduleLine) → All (LineFits n (length requests) service.lanes) lines → NumbersFit n (world_after service requests seed n lines)
+  numbers_fit lines l =
+      lines_fit (beginning n) lines (beginning_ok service requests seed n few)
+      (record { nodes = λ q qin. fresh_fits (node_at (beginning n).nodes q) (fresh_at Value StateValue n q); messages = λ x h. absurd h }) l

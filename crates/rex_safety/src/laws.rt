@@ -1,0 +1,140 @@
+//! What holds of every run of a world, whatever its schedule: messages may be lost, repeated and reordered, nodes may stop, fail and
+//! come back. Each function is the statement that its contract makes, and does nothing.
+
+ghost use Rattle.rex_safety.specs.Laws.{ChosenValuesAgree, KnownBeginsAgreed, ListsOnlyGrow, KnownListsArePrefixes, AgreedTracesRun, BasesAreRight, RulesAreKept, RepliesStand, RequestsHappenOnce, ActiveTracesRun, CutsAreFaithful, LeadersGoOnToTheEnd, NextValuesFit, NumbersStayInRange, CountsAreFew, AgreedCausesAreRight, AgreedCutsGoFirst, ValuesStayBytes, ValuesStayShort, NodesStayKept};
+ghost use Rattle.rex_safety.specs.Keeping.{BeginningsAreKept, StepsAreKept, LinesAreKept, KeptValuesFit, KeptCutsAreSpelled, KeptCutsAreFaithful, KeptCountsHaveRoom};
+
+/// Two values that are chosen for one instance are equal (Lamport, 2001).
+pub fn chosen_values_agree()
+    ensures { ChosenValuesAgree }
+{}
+
+/// What each node knows begins the agreed list.
+pub fn known_begins_agreed()
+    ensures { KnownBeginsAgreed }
+{}
+
+/// What a node knows only grows, and so does the agreed list.
+pub fn lists_only_grow()
+    ensures { ListsOnlyGrow }
+{}
+
+/// Of what two nodes know, at whatever moments, one list begins the other.
+pub fn known_lists_are_prefixes()
+    ensures { KnownListsArePrefixes }
+{}
+
+/// Each front of the agreed list runs from the start on one thread.
+pub fn agreed_traces_run()
+    ensures { AgreedTracesRun }
+{}
+
+/// A checkpoint is of the state to which the known deltas up to it run.
+pub fn bases_are_right()
+    ensures { BasesAreRight }
+{}
+
+/// The rules by which Paxos is explained hold after any lines.
+pub fn rules_are_kept()
+    ensures { RulesAreKept }
+{}
+
+/// Each released reply stands in the trace of every later leader.
+pub fn released_replies_stand()
+    ensures { RepliesStand }
+{}
+
+/// Each request has at most one begin and at most one reply in the agreed trace.
+pub fn requests_happen_once()
+    ensures { RequestsHappenOnce }
+{}
+
+/// The known deltas and then the live events of an active node run from the start on one thread.
+pub fn active_traces_run()
+    ensures { ActiveTracesRun }
+{}
+
+/// A cut of an active node is faithful wherever its delta has a spelling, so it is proposed.
+pub fn cuts_are_faithful()
+    ensures { CutsAreFaithful }
+{}
+
+/// A node that leads goes on until it can't.
+pub fn leaders_go_on_to_the_end()
+    ensures { LeadersGoOnToTheEnd }
+{}
+
+/// What a node knows fits, and so does each value that it may know next.
+pub fn next_values_fit()
+    ensures { NextValuesFit }
+{}
+
+/// The ballots, instances and nodes in records and messages stay in their ranges.
+pub fn numbers_stay_in_range()
+    ensures { NumbersStayInRange }
+{}
+
+/// Each lane did at most 4,096 events for each agreed value.
+pub fn counts_are_few()
+    ensures { CountsAreFew }
+{}
+
+/// The causes of each agreed delta tell the order of its events.
+pub fn agreed_causes_are_right()
+    ensures { AgreedCausesAreRight }
+{}
+
+/// The events below a consistent cut of the agreed trace may go first.
+pub fn agreed_cuts_go_first()
+    ensures { AgreedCutsGoFirst }
+{}
+
+/// Each value is bytes.
+pub fn values_stay_bytes()
+    ensures { ValuesStayBytes }
+{}
+
+/// No value grows too long for its bytes.
+pub fn values_stay_short()
+    ensures { ValuesStayShort }
+{}
+
+/// Each node's records are in order, and what it has replayed lies between its base and what it knows.
+pub fn nodes_stay_kept()
+    ensures { NodesStayKept }
+{}
+
+/// What every step keeps is so before the first line.
+pub fn beginnings_are_kept()
+    ensures { BeginningsAreKept }
+{}
+
+/// Each step keeps it.
+pub fn steps_are_kept()
+    ensures { StepsAreKept }
+{}
+
+/// Each line keeps it.
+pub fn lines_are_kept()
+    ensures { LinesAreKept }
+{}
+
+/// In a kept world values fit, are short and are bytes, nodes are kept, and active nodes act rightly.
+pub fn kept_values_fit()
+    ensures { KeptValuesFit }
+{}
+
+/// The delta below a cut of an active node of a kept world has its numbers in their ranges, and few bytes.
+pub fn kept_cuts_are_spelled()
+    ensures { KeptCutsAreSpelled }
+{}
+
+/// A cut of an active node of a kept world is faithful where the numbers of its events are of their types.
+pub fn kept_cuts_are_faithful()
+    ensures { KeptCutsAreFaithful }
+{}
+
+/// The count of each lane of an active node of a kept world has room for one more event.
+pub fn kept_counts_have_room()
+    ensures { KeptCountsHaveRoom }
+{}

@@ -1,0 +1,258 @@
+-- What a call of a node comes to where its keeper isn't armed.
+use Rattle.std.proofs.Common.{◌≡◌, ℕ, Bool, true, false, List, [], ◌∷◌, length, Result, Ok, Err, Option, Some, None, IfOk, OnErr, nat_lt, nat_le, refl, sym, ap, subst, ◌∙◌, if◌then◌else◌}
+use Rattle.rex_syntax.specs.declared.service.Declarations.{Declarations}
+use Rattle.rex_event.specs.declared.event.Event.{Event}
+use Rattle.rex_report.specs.declared.effect.Effect.TheVariants as effect
+use Rattle.rex_traits.specs.Keeping.{KeeperValue}
+use Rattle.rex_safety.specs.Records.{Proposal, promise, known}
+use Rattle.rex_safety.specs.Quorum.{ballot_above, round_of}
+use Rattle.rex_safety.specs.Node.{Content, Lead, Role, Service, role_name}
+use Rattle.rex_safety.specs.Node.Role.{Follower, Leads}
+use Rattle.rex_safety.specs.Calls.{begin, say, elect, receive}
+use Rattle.rex_safety.specs.Values.{Value, service_of}
+use Rattle.rex_safety.specs.Lanes.{Here, CallHere, active_only, cut, cut_role, cut_lead, cut_live}
+use Rattle.rex_state.specs.Value.{StateValue}
+use Rattle.rex_node.specs.declared.refusal.Refusal.{Refusal}
+use Rattle.rex_node.specs.declared.refusal.Refusal.TheVariants as why
+use Rattle.rex_node.specs.declared.step.Step.{Step}
+use Rattle.rex_node.specs.Parts.{IsNode, NodeValue, StaysNode, here_of}
+use Rattle.rex_node.specs.Calls.{Does, IsSpared, Leaves, Refuses, RefusesThen, if_active, if_up, refusal_of_cut, refusal_of_elect, refusal_of_lead, refusal_of_none, refusal_of_open, refusal_up}
+use Rattle.rex_node.specs.Restarting.{CameUp}
+use Rattle.rex_world.specs.declared.seats.Seat.{Seat}
+use Rattle.rex_world.specs.declared.seats.Seat.TheVariants.{Running, Stopped}
+use Rattle.rex_world.specs.Seats.{IsKeeping, IsRunner, IsSeat, keeper_in, records_of}
+use Rattle.rex_world.specs.Calls.{Acts, IsDone, IsWhole, effect_of}
+use Rattle.rex_world.proofs.Sure.{follows, is_done, stays_keeping}
+
+-- ---- refusals
+
+-- what the model's call comes to says of a refusal that is due what is reported of it
+abbrev pub Excused : CallHere → ℕ → Here → Option Refusal → Type 0
+Excused after number before None = Unit {0}
+Excused after number before (Some why.Down) = ⊥
+Excused after number before (Some why.OutOfMemory) = Unit {0}
+Excused after number before (Some refusal) = after ≡ say (effect_of number refusal) (begin before)
+
+abbrev err_of : Refusal → Result Step Refusal
+err_of refusal = Err refusal
+
+module _ (call : CallHere → CallHere) (number : ℕ) (before after : Here) where
+  refused : (refusal : Refusal) → before.up ≡ true → Leaves (err_of refusal) before after → Excused (call (begin before)) number before (Some refusal) → Acts call number before after (Err refusal)
+  refused why.Down up left says = absurd says
+  refused why.OutOfMemory up left says = tt
+  refused (why.NotActive role) up left says = record { up = up; same = left; says = says }
+  refused (why.Open i) up left says = record { up = up; same = left; says = says }
+  refused why.Ended up left says = record { up = up; same = left; says = says }
+  refused why.Nothing up left says = record { up = up; same = left; says = says }
+  refused (why.Live many) up left says = record { up = up; same = left; says = says }
+  refused why.UpToDate up left says = record { up = up; same = left; says = says }
+  refused why.Spent up left says = record { up = up; same = left; says = says }
+
+  refused_late : (refusal : Refusal) (late : Option Refusal) → before.up ≡ true → Leaves (err_of refusal) before after → RefusesThen None late (err_of refusal) → Excused (call (begin before)) number before late → Acts call number before after (Err refusal)
+  refused_late why.OutOfMemory late up left is says = tt
+  refused_late why.Down late up left is says = absurd (subst (Excused (call (begin before)) number before) is says)
+  refused_late (why.NotActive role) late up left is says = refused (why.NotActive role) up left (subst (Excused (call (begin before)) number before) is says)
+  refused_late (why.Open i) late up left is says = refused (why.Open i) up left (subst (Excused (call (begin before)) number before) is says)
+  refused_late why.Ended late up left is says = refused why.Ended up left (subst (Excused (call (begin before)) number before) is says)
+  refused_late why.Nothing late up left is says = refused why.Nothing up left (subst (Excused (call (begin before)) number before) is says)
+  refused_late (why.Live many) late up left is says = refused (why.Live many) up left (subst (Excused (call (begin before)) number before) is says)
+  refused_late why.UpToDate late up left is says = refused why.UpToDate up left (subst (Excused (call (begin before)) number before) is says)
+  refused_late why.Spent late up left is says = refused why.Spent up left (subst (Excused (call (begin before)) number before) is says)
+
+  was_down : (result : Result Step Refusal) → before.up ≡ false → result ≡ Err why.Down → Leaves result before after → Acts call number before after result
+  was_down result down is left =
+      subst (Acts call number before after) (sym is) (record { down = down; same = subst (λ (r : Result Step Refusal). Leaves r before after) is left })
+
+  acts_up : (due late : Option Refusal) (result : Result Step Refusal) → before.up ≡ true → RefusesThen due late result → Leaves result before after → Excused (call (begin before)) number before due → (due ≡ None → Excused (call (begin before)) number before late) → IfOk result (IsDone call before after) → Acts call number before after result
+  acts_up (Some refusal) late result up is left says later done =
+      subst (Acts call number before after) (sym is) (refused refusal up (subst (λ (r : Result Step Refusal). Leaves r before after) is left) says)
+  acts_up None late (Ok step) up is left says later done = done
+  acts_up None late (Err refusal) up is left says later done = refused_late refusal late up left is (later refl)
+
+  -- a call comes to what it is due, or is done
+  pub acts_then : (due late : Option Refusal) (result : Result Step Refusal) → RefusesThen (if_up before.up due) late result → Leaves result before after → Excused (call (begin before)) number before due → (due ≡ None → Excused (call (begin before)) number before late) → (before.up ≡ true → IfOk result (IsDone call before after)) → Acts call number before after result
+  acts_then due late result is left says later done = by before.up refl is
+    where
+      by : (up : Bool) → before.up ≡ up → RefusesThen (if_up up due) late result → Acts call number before after result
+      by true e h = acts_up due late result e h left says later (done e)
+      by false e h = was_down result e h left
+
+  due_first : (due : Option Refusal) (result : Result Step Refusal) → Refuses due result → RefusesThen due None result
+  due_first (Some refusal) result is = is
+  due_first None (Ok step) is = refl
+  due_first None (Err refusal) is = subst (λ (r : Refusal). RefusesThen None None (err_of r)) (sym is) tt
+
+  pub acts : (due : Option Refusal) (result : Result Step Refusal) → Refuses (if_up before.up due) result → Leaves result before after → Excused (call (begin before)) number before due → (before.up ≡ true → IfOk result (IsDone call before after)) → Acts call number before after result
+  acts due result is left says done = acts_then due None result (due_first (if_up before.up due) result is) left says (λ _. tt) done
+
+-- ---- elections
+
+module _ (number : ℕ) (h : Here) where
+  pub elect_excused : (n : ℕ) (sv : Service Value StateValue) → Excused (elect n sv number (begin h)) number h (if nat_lt 4294967296 (round_of (ballot_above number (promise h.log))) then Some why.Spent else None)
+  elect_excused n sv = by (nat_lt 4294967296 (round_of (ballot_above number (promise h.log)))) refl
+    where
+      by : (b : Bool) → nat_lt 4294967296 (round_of (ballot_above number (promise h.log))) ≡ b → Excused (elect n sv number (begin h)) number h (if b then Some why.Spent else None)
+      by true e = rw e refl
+      by false e = tt
+
+-- ---- cuts
+
+module _ (service : Declarations) (seed n number : ℕ) (counts : List ℕ) (h : Here) where
+  by_role : (role : Role Value) → h.role ≡ role → cut service seed n number counts (begin h) ≡ cut_role service seed n number counts role (begin h)
+  by_role role e = ap (λ (r : Role Value). cut_role service seed n number counts r (begin h)) e
+
+  by_lead : (l : Lead Value) (b : Bool) (q : Option (Proposal Value)) → h.role ≡ Leads l → l.active ≡ b → l.proposal ≡ q → cut service seed n number counts (begin h) ≡ active_only b (begin h) (cut_lead service seed n number counts l q (begin h))
+  by_lead l b q e active open_one =
+      by_role (Leads l) e
+      ∙ ap (λ (a : Bool). active_only a (begin h) (cut_lead service seed n number counts l l.proposal (begin h))) active
+      ∙ ap (λ (o : Option (Proposal Value)). active_only b (begin h) (cut_lead service seed n number counts l o (begin h))) open_one
+
+  not_active : (role : Role Value) → h.role ≡ role → say (effect.NotActive (role_name h.role)) (begin h) ≡ say (effect.NotActive (role_name role)) (begin h)
+  not_active role e = ap (λ (r : Role Value). say (effect.NotActive (role_name r)) (begin h)) e
+
+  -- no instance is left
+  ended : (l : Lead Value) (b : Bool) → h.role ≡ Leads l → l.active ≡ true → l.proposal ≡ None → nat_le 65535 (length (known h.log)) ≡ b → Excused (cut service seed n number counts (begin h)) number h (if b then Some why.Ended else None)
+  ended l false e active open_one left = tt
+  ended l true e active open_one left = by_lead l true None e active open_one ∙ rw left refl
+
+  open_one : (l : Lead Value) (q : Option (Proposal Value)) → h.role ≡ Leads l → l.active ≡ true → l.proposal ≡ q → Excused (cut service seed n number counts (begin h)) number h (refusal_of_open q (length (known h.log)))
+  open_one l (Some p) e active is = by_lead l true (Some p) e active is
+  open_one l None e active is = ended l (nat_le 65535 (length (known h.log))) e active is refl
+
+  led : (l : Lead Value) (b : Bool) → h.role ≡ Leads l → l.active ≡ b → Excused (cut service seed n number counts (begin h)) number h (if b then refusal_of_open l.proposal (length (known h.log)) else Some (why.NotActive (role_name (Leads l))))
+  led l true e active = open_one l l.proposal e active refl
+  led l false e active = by_lead l false l.proposal e active refl ∙ not_active (Leads l) e
+
+  pub cut_excused : Excused (cut service seed n number counts (begin h)) number h (if_active h.role (refusal_of_lead h.role (length (known h.log))))
+  cut_excused = by h.role refl
+    where
+      by : (role : Role Value) → h.role ≡ role → Excused (cut service seed n number counts (begin h)) number h (if_active role (refusal_of_lead role (length (known h.log))))
+      by Follower e = by_role Follower e ∙ not_active Follower e
+      by (Leads l) e = led l l.active e refl
+
+  -- where nothing else is due, the model says what it says of a leader without an open proposal, where an instance is left
+  pub cut_late : (late : Option Refusal) → ((l : Lead Value) → nat_le 65535 (length (known h.log)) ≡ false → Excused (cut_lead service seed n number counts l None (begin h)) number h late) → if_active h.role (refusal_of_lead h.role (length (known h.log))) ≡ None → Excused (cut service seed n number counts (begin h)) number h late
+  cut_late late says = by h.role refl
+    where
+      none : (l : Lead Value) (b : Bool) → h.role ≡ Leads l → l.active ≡ true → l.proposal ≡ None → nat_le 65535 (length (known h.log)) ≡ b → ◌≡◌ {A = Option Refusal} (if b then Some why.Ended else None) None → Excused (cut service seed n number counts (begin h)) number h late
+      none l true e active is left due = absurd (cc)
+      none l false e active is left due = subst (λ (d : CallHere). Excused d number h late) (sym (by_lead l true None e active is)) (says l left)
+
+      unopened : (l : Lead Value) (q : Option (Proposal Value)) → h.role ≡ Leads l → l.active ≡ true → l.proposal ≡ q → refusal_of_open q (length (known h.log)) ≡ None → Excused (cut service seed n number counts (begin h)) number h late
+      unopened l (Some p) e active is due = absurd (cc)
+      unopened l None e active is due = none l (nat_le 65535 (length (known h.log))) e active is refl due
+
+      leads : (l : Lead Value) (b : Bool) → h.role ≡ Leads l → l.active ≡ b → ◌≡◌ {A = Option Refusal} (if b then refusal_of_open l.proposal (length (known h.log)) else Some (why.NotActive (role_name (Leads l)))) None → Excused (cut service seed n number counts (begin h)) number h late
+      leads l true e active due = unopened l l.proposal e active refl due
+      leads l false e active due = absurd (cc)
+
+      by : (role : Role Value) → h.role ≡ role → if_active role (refusal_of_lead role (length (known h.log))) ≡ None → Excused (cut service seed n number counts (begin h)) number h late
+      by Follower e due = absurd (cc)
+      by (Leads l) e due = leads l l.active e refl due
+
+  -- such a leader has nothing to propose where no live event is below the cut
+  pub nothing_below : (cut_at : List ℕ) (events : List Event) (l : Lead Value) → nat_le 65535 (length (known h.log)) ≡ false → Excused (if nat_le 65535 (length (known h.log)) then say effect.Ended (begin h) else cut_live service seed n number cut_at l events (begin h)) number h (refusal_of_none events)
+  nothing_below cut_at [] l left = rw left refl
+  nothing_below cut_at (e ∷ es) l left = tt
+
+-- ---- a node that is kept, and its keeper unarmed
+
+module _ (service : Declarations) (seed nodes number : ℕ) (old : NodeValue KeeperValue) (runner : IsRunner service seed nodes number old) where
+  -- the node's numbers are these
+  pub named : (P : ℕ → ℕ → ℕ → Type 0) → P old.nodes old.seed old.id → P nodes seed number
+  named P h = subst (λ (m : ℕ). P nodes seed m) runner.id (subst (λ (s : ℕ). P nodes s old.id) runner.seed_is (subst (λ (n : ℕ). P n old.seed old.id) runner.nodes_are h))
+
+  pub unnamed : (P : ℕ → ℕ → ℕ → Type 0) → P nodes seed number → P old.nodes old.seed old.id
+  unnamed P h = subst (λ (m : ℕ). P old.nodes old.seed m) (sym runner.id) (subst (λ (s : ℕ). P old.nodes s number) (sym runner.seed_is) (subst (λ (n : ℕ). P n seed number) (sym runner.nodes_are) h))
+
+  module _ (new : NodeValue KeeperValue) where
+    pub stays_runner : StaysNode records_of service old new → IsKeeping service new.keeper → IsRunner service seed nodes number new
+    stays_runner stays keeping = record {
+      id = stays.same.id ∙ runner.id;
+      nodes_are = stays.same.nodes ∙ runner.nodes_are;
+      seed_is = stays.same.seed ∙ runner.seed_is;
+      node = stays.kept;
+      keeping = keeping;
+    }
+
+    -- so it stays after a call, unless memory was short
+    pub stays_seat : (call : CallHere → CallHere) (result : Result Step Refusal) → StaysNode records_of service old new → IfOk result (Does records_of follows (λ k. k.faults) service call old new) → IsSpared result old new → IsWhole result → IsRunner service seed nodes number new
+    stays_seat call (Ok step) stays does spared whole = stays_runner stays (stays_keeping service call old new step runner.keeping does)
+    stays_seat call (Err why.OutOfMemory) stays does spared whole = absurd whole
+    stays_seat call (Err why.Down) stays does spared whole = subst (IsRunner service seed nodes number) (sym spared) runner
+    stays_seat call (Err (why.NotActive role)) stays does spared whole = subst (IsRunner service seed nodes number) (sym spared) runner
+    stays_seat call (Err (why.Open i)) stays does spared whole = subst (IsRunner service seed nodes number) (sym spared) runner
+    stays_seat call (Err why.Ended) stays does spared whole = subst (IsRunner service seed nodes number) (sym spared) runner
+    stays_seat call (Err why.Nothing) stays does spared whole = subst (IsRunner service seed nodes number) (sym spared) runner
+    stays_seat call (Err (why.Live many)) stays does spared whole = subst (IsRunner service seed nodes number) (sym spared) runner
+    stays_seat call (Err why.UpToDate) stays does spared whole = subst (IsRunner service seed nodes number) (sym spared) runner
+    stays_seat call (Err why.Spent) stays does spared whole = subst (IsRunner service seed nodes number) (sym spared) runner
+
+    done_if : (call : CallHere → CallHere) (result : Result Step Refusal) → IfOk result (Does records_of follows (λ k. k.faults) service call old new) → old.up ≡ true → IfOk result (IsDone call (here_of records_of service old) (here_of records_of service new))
+    done_if call (Ok step) does up = is_done service call old new step runner.keeping.sure up does
+    done_if call (Err refusal) does up = tt
+
+    -- what a call comes to that is the model's call of these numbers
+    pub node_acts_then : (call : (nodes seed number : ℕ) → CallHere → CallHere) (due late : Option Refusal) (result : Result Step Refusal) → RefusesThen (if_up old.up due) late result → Leaves result (here_of records_of service old) (here_of records_of service new) → Excused (call old.nodes old.seed old.id (begin (here_of records_of service old))) old.id (here_of records_of service old) due → (due ≡ None → Excused (call old.nodes old.seed old.id (begin (here_of records_of service old))) old.id (here_of records_of service old) late) → IfOk result (Does records_of follows (λ k. k.faults) service (call old.nodes old.seed old.id) old new) → Acts (call nodes seed number) number (here_of records_of service old) (here_of records_of service new) result
+    node_acts_then call due late result is left says later does =
+        named (λ n s m. Acts (call n s m) m (here_of records_of service old) (here_of records_of service new) result)
+        (acts_then (call old.nodes old.seed old.id) old.id (here_of records_of service old) (here_of records_of service new) due late result is left says later (done_if (call old.nodes old.seed old.id) result does))
+
+    pub node_acts : (call : (nodes seed number : ℕ) → CallHere → CallHere) (due : Option Refusal) (result : Result Step Refusal) → Refuses (if_up old.up due) result → Leaves result (here_of records_of service old) (here_of records_of service new) → Excused (call old.nodes old.seed old.id (begin (here_of records_of service old))) old.id (here_of records_of service old) due → IfOk result (Does records_of follows (λ k. k.faults) service (call old.nodes old.seed old.id) old new) → Acts (call nodes seed number) number (here_of records_of service old) (here_of records_of service new) result
+    node_acts call due result is left says does =
+        named (λ n s m. Acts (call n s m) m (here_of records_of service old) (here_of records_of service new) result)
+        (acts (call old.nodes old.seed old.id) old.id (here_of records_of service old) (here_of records_of service new) due result is left says (done_if (call old.nodes old.seed old.id) result does))
+
+pub spared_if : {A B : Type 0} (result : Result A Refusal) (before after : B) → OnErr result (after ≡ before) → IsSpared result before after
+spared_if (Ok x) before after same = tt
+spared_if (Err why.OutOfMemory) before after same = tt
+spared_if (Err why.Down) before after same = same
+spared_if (Err (why.NotActive role)) before after same = same
+spared_if (Err (why.Open i)) before after same = same
+spared_if (Err why.Ended) before after same = same
+spared_if (Err why.Nothing) before after same = same
+spared_if (Err (why.Live many)) before after same = same
+spared_if (Err why.UpToDate) before after same = same
+spared_if (Err why.Spent) before after same = same
+
+-- ---- calls of a seat
+
+module _ (service : Declarations) (seed nodes number : ℕ) (old new : NodeValue KeeperValue) (runner : IsRunner service seed nodes number old) (result : Result Step Refusal) where
+  pub elects : Refuses (refusal_of_elect old.id (here_of records_of service old)) result → IfOk result (Does records_of follows (λ k. k.faults) service (elect old.nodes (service_of service old.seed) old.id) old new) → Leaves result (here_of records_of service old) (here_of records_of service new) → Acts (elect nodes (service_of service seed) number) number (here_of records_of service old) (here_of records_of service new) result
+  elects refuses does left =
+      node_acts service seed nodes number old runner new (λ n s m. elect n (service_of service s) m)
+      (if nat_lt 4294967296 (round_of (ballot_above old.id (promise (here_of records_of service old).log))) then Some why.Spent else None)
+      result refuses left (elect_excused old.id (here_of records_of service old) old.nodes (service_of service old.seed)) does
+
+  pub receives : (from : ℕ) (content : Content Value) → Refuses (refusal_up (here_of records_of service old)) result → IfOk result (Does records_of follows (λ k. k.faults) service (receive old.nodes (service_of service old.seed) old.id from content) old new) → Leaves result (here_of records_of service old) (here_of records_of service new) → Acts (receive nodes (service_of service seed) number from content) number (here_of records_of service old) (here_of records_of service new) result
+  receives from content refuses does left =
+      node_acts service seed nodes number old runner new (λ n s m. receive n (service_of service s) m from content) None result refuses left tt does
+
+  -- of a cut, where the second refusal is what the model says of a leader without an open proposal, where an instance is left
+  pub cuts : (counts : List ℕ) (late : Option Refusal) → old.up ≡ true → RefusesThen (refusal_of_cut (here_of records_of service old) (length old.known)) late result → ((l : Lead Value) → nat_le 65535 (length (known (here_of records_of service old).log)) ≡ false → Excused (cut_lead service old.seed old.nodes old.id counts l None (begin (here_of records_of service old))) old.id (here_of records_of service old) late) → IfOk result (Does records_of follows (λ k. k.faults) service (cut service old.seed old.nodes old.id counts) old new) → Leaves result (here_of records_of service old) (here_of records_of service new) → Acts (cut service seed nodes number counts) number (here_of records_of service old) (here_of records_of service new) result
+  cuts counts late up refuses at_none does left =
+      let many : length old.known ≡ length (known (here_of records_of service old).log) = ap length (runner.node.up up).known in
+      node_acts_then service seed nodes number old runner new (λ n s m. cut service s n m counts)
+      (if_active (here_of records_of service old).role (refusal_of_lead (here_of records_of service old).role (length (known (here_of records_of service old).log))))
+      late result
+      (subst (λ (k : ℕ). RefusesThen (refusal_of_cut (here_of records_of service old) k) late result) many refuses)
+      left
+      (cut_excused service old.seed old.nodes old.id counts (here_of records_of service old))
+      (cut_late service old.seed old.nodes old.id counts (here_of records_of service old) late at_none)
+      does
+
+-- ---- a node that came up
+
+keeping_in : (service : Declarations) (seed nodes number : ℕ) (seat : Seat) → IsSeat service seed nodes number seat → IsKeeping service (keeper_in seat)
+keeping_in service seed nodes number (Running node) runner = runner.keeping
+keeping_in service seed nodes number (Stopped keeper) keeping = keeping
+
+-- a node that came up with a seat's keeper is kept in the seat
+pub comes_up : (service : Declarations) (seed nodes number : ℕ) (seat : Seat) (node : NodeValue KeeperValue) → IsSeat service seed nodes number seat → CameUp records_of service number nodes seed (keeper_in seat) node → IsNode records_of service node → IsRunner service seed nodes number node
+comes_up service seed nodes number seat node is up kept = record {
+  id = up.id_is;
+  nodes_are = up.nodes_are;
+  seed_is = up.seed_is;
+  node = kept;
+  keeping = subst (IsKeeping service) (sym up.keeper_is) (keeping_in service seed nodes number seat is);
+}

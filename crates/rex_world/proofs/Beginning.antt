@@ -1,0 +1,81 @@
+-- A world before the first line.
+use Rattle.std.proofs.Common.{◌≡◌, ⊎_elim, ℕ, suc, ◌+◌, ◌≤◌, Bool, true, false, List, [], ◌∷◌, ◌++◌, length, take, replicate, refl, sym, ◌∙◌, ap, subst, arith, add-zero, length-append}
+use Rattle.std.specs.Prelude.{◌==◌, ◌||◌}
+use Rattle.std.proofs.lemmas.Bool.{or_cases, eqb-true}
+use Rattle.std.proofs.lemmas.Grind.{replicate_next}
+use Rattle.std.specs.List.{All, list_all}
+use Rattle.std.proofs.lemmas.List.Elements.{All-nil}
+use Rattle.rex_syntax.specs.declared.service.Declarations.{Declarations}
+use Rattle.rex_syntax.specs.Service.{IsService}
+use Rattle.rex_syntax.specs.Check.{IsChecked}
+use Rattle.rex_scenario.specs.Headings.{is_node_count}
+use Rattle.rex_scenario.specs.Fits.{RequestFits}
+use Rattle.rex_safety.specs.Node.{Message, new_node}
+use Rattle.rex_safety.specs.Values.{Value}
+use Rattle.rex_safety.specs.Lanes.{Here}
+use Rattle.rex_safety.specs.World.{World as ModelWorld, beginning}
+use Rattle.rex_safety.specs.Kept.{IsKept}
+use Rattle.rex_safety.proofs.Keeps.{beginning_kept}
+use Rattle.rex_world.specs.declared.seats.Seat.{Seat}
+use Rattle.rex_world.specs.declared.world.World.{World}
+use Rattle.rex_world.specs.Seats.{IsSeat, AreSeats, here_in, heres}
+use Rattle.rex_world.specs.World.{IsSpelled, messages_of, world_of}
+use Rattle.rex_world.specs.Kept.{IsRunning}
+use Rattle.rex_world.proofs.Endings.{heres_both}
+
+-- the nodes so far, before the first line
+pub record AreNew (service : Declarations) (seed nodes number : ℕ) (seats : List Seat) : Type 0 where
+  pub here : heres service seats ≡ replicate number new_node
+  pub are : AreSeats service seed nodes 1 seats
+  pub many : length seats ≡ number
+
+seats_more : (service : Declarations) (seed nodes k : ℕ) (seats : List Seat) (seat : Seat) → AreSeats service seed nodes k seats → IsSeat service seed nodes (k + length seats) seat → AreSeats service seed nodes k (seats ++ seat ∷ [])
+seats_more service seed nodes k [] seat all one = (subst (λ (m : ℕ). IsSeat service seed nodes m seat) (add-zero k) one, tt)
+seats_more service seed nodes k (s ∷ ss) seat all one =
+    let e : k + suc (length ss) ≡ suc k + length ss = omega arith in
+    (all.0, seats_more service seed nodes (suc k) ss seat all.1 (subst (λ (m : ℕ). IsSeat service seed nodes m seat) e one))
+
+pub new_next : (service : Declarations) (seed nodes number : ℕ) (seats : List Seat) (seat : Seat) → AreNew service seed nodes number seats → here_in service seat ≡ new_node → IsSeat service seed nodes (number + 1) seat
+    → AreNew service seed nodes (number + 1) (seats ++ seat ∷ [])
+new_next service seed nodes number seats seat h e one =
+    let n : number + 1 ≡ 1 + length seats = omega (arith, h.many) in
+    record {
+      here = heres_both service seats (seat ∷ []) ∙ ap (λ (xs : List Here). xs ++ here_in service seat ∷ []) h.here ∙ ap (λ (y : Here). replicate number new_node ++ y ∷ []) e ∙ sym (replicate_next number new_node);
+      are = seats_more service seed nodes 1 seats seat h.are (subst (λ (m : ℕ). IsSeat service seed nodes m seat) n one);
+      many = length-append seats (seat ∷ []) ∙ ap (λ (k : ℕ). k + 1) h.many;
+    }
+
+-- there are at most nine
+pub few_nodes : (n : ℕ) → is_node_count n ≡ true → n ≤ 9
+few_nodes n h =
+    ⊎_elim (λ (a : (n == 1) ≡ true). let e : n ≡ 1 = eqb-true n 1 a in omega arith)
+    (λ (b : (n == 3 || n == 5) ≡ true). ⊎_elim (λ (c : (n == 3) ≡ true). let e : n ≡ 3 = eqb-true n 3 c in omega arith) (λ (d : (n == 5) ≡ true). let e : n ≡ 5 = eqb-true n 5 d in omega arith) (or_cases (n == 3) (n == 5) b))
+    (or_cases (n == 1) (n == 3 || n == 5) h)
+
+abbrev model_of : ℕ → List Here → List (Message Value) → List Bool → ModelWorld
+model_of done nodes messages handed = record { done = done; nodes = nodes; messages = messages; handed = handed }
+
+-- the world of the model before the first line
+pub begins : (service : Declarations) (seed n : ℕ) (w : World) → AreNew service seed n n w.seats.items → w.net ≡ [] → w.handed.items ≡ [] → w.done ≡ 0 → world_of service w ≡ beginning n
+begins service seed n w h net handed done =
+    ap (λ (d : ℕ). model_of d (heres service w.seats.items) (messages_of w.net) w.handed.items) done
+    ∙ ap (λ (xs : List Here). model_of 0 xs (messages_of w.net) w.handed.items) h.here
+    ∙ ap (λ (ms : List (List ℕ)). model_of 0 (replicate n new_node) (messages_of ms) w.handed.items) net
+    ∙ ap (λ (hs : List Bool). model_of 0 (replicate n new_node) [] hs) handed
+
+pub new_running : (service : Declarations) (n : ℕ) (w : World) → n ≤ 9 → IsService service → IsChecked service → All (RequestFits service) w.requests → AreNew service w.seed n n w.seats.items
+    → w.net ≡ [] → w.handed.items ≡ [] → w.done ≡ 0 → w.flushed ≡ 0 → w.broken ≡ false → IsRunning service w
+new_running service n w few good checked fit h net handed done flushed whole =
+    record {
+      service_is = good;
+      checked = checked;
+      whole = whole;
+      few = omega (arith, h.many);
+      kept = subst (λ (k : ℕ). IsKept service w.seed k (world_of service w)) (sym h.many)
+          (subst (λ (x : ModelWorld). IsKept service w.seed n x) (sym (begins service w.seed n w h net handed done)) (beginning_kept service good checked w.requests fit w.seed n few));
+      seats = subst (λ (k : ℕ). AreSeats service w.seed k 1 w.seats.items) (sym h.many) h.are;
+      spelled = subst (λ (ms : List (List ℕ)). All IsSpelled ms) (sym net) (All-nil IsSpelled);
+      requests = fit;
+      flushed = omega (arith, flushed);
+      handed = subst (λ (k : ℕ). list_all (λ (b : Bool). b) (take k w.handed.items) ≡ true) (sym flushed) refl;
+    }

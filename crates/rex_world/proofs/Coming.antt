@@ -1,0 +1,273 @@
+-- What a call of a node does to a world.
+use Rattle.std.proofs.Common.{◌≡◌, ℕ, suc, ◌-◌, ◌≤◌, Bool, true, false, cond, List, [], ◌∷◌, ◌++◌, length, map, take, Result, Ok, Err, IfOk, eqb, refl, sym, ◌∙◌, ap, subst, arith, length-append}
+use Rattle.std.specs.Prelude.{replicate}
+use Rattle.std.specs.Global.{Vec}
+use Rattle.std.specs.List.{All, list_all}
+use Rattle.std.proofs.Math.Seq.{drop-append_seam, drop-length}
+use Rattle.std.proofs.lemmas.List.{append-nil, length-map, take-append-le}
+use Rattle.std.proofs.lemmas.List.Elements.{All-nil, All-cons, All-append, All-head, All-tail}
+use Rattle.rex_syntax.specs.declared.service.Declarations.{Declarations}
+use Rattle.rex_report.specs.declared.effect.Effect.{Effect}
+use Rattle.rex_report.specs.declared.effect.Effect.TheVariants.{IsDown, IsUp}
+use Rattle.rex_msg.specs.declared.message.Message.{Message as Said}
+use Rattle.rex_msg.specs.Spelling.{HasSpelling, spelling_of, IsMessage}
+use Rattle.rex_msg.proofs.MessageAgain.{message_read}
+use Rattle.rex_safety.specs.Node.{Message}
+use Rattle.rex_safety.specs.Calls.{begin, say, start}
+use Rattle.rex_safety.specs.Values.{Value}
+use Rattle.rex_safety.specs.Lanes.{Here, CallHere}
+use Rattle.rex_safety.specs.World.{World as ModelWorld, Row, node_at, put, after, only, if_up, at_node, start_if, sent_from}
+use Rattle.rex_safety.specs.Kept.{IsKept}
+use Rattle.rex_node.specs.declared.refusal.Refusal.{Refusal}
+use Rattle.rex_node.specs.declared.refusal.Refusal.TheVariants as why
+use Rattle.rex_node.specs.declared.step.Step.{Step}
+use Rattle.rex_node.specs.Messages.{message_in}
+use Rattle.rex_world.specs.declared.seats.Seat.{Seat}
+use Rattle.rex_world.specs.declared.told.Told.{Told}
+use Rattle.rex_world.specs.declared.world.World.{World}
+use Rattle.rex_world.specs.Seats.{AreSeats, heres}
+use Rattle.rex_world.specs.World.{read_message, message_of, messages_of, IsSpelled, world_of, nodes_of}
+use Rattle.rex_world.specs.Kept.{IsRunning, IsSame}
+use Rattle.rex_world.specs.Calls.{IsDone, IsRefused, WasDown, Acts, IsWhole, Did, TellsStep, TellsRefusal, Tells, IsTold, effect_of, ComesTo, StartsIf, IsStarted}
+
+-- ---- messages as bytes
+
+pub messages_both : (xs ys : List (List ℕ)) → messages_of (xs ++ ys) ≡ messages_of xs ++ messages_of ys
+messages_both [] ys = refl
+messages_both (x ∷ xs) ys = ap (λ (ms : List (Message Value)). message_of x ∷ ms) (messages_both xs ys)
+
+pub messages_many : (xs : List (List ℕ)) → length (messages_of xs) ≡ length xs
+messages_many [] = refl
+messages_many (x ∷ xs) = ap suc (messages_many xs)
+
+-- what is spelled is read again
+read_again : (ms : List Said) → All HasSpelling ms → messages_of (map spelling_of ms) ≡ map message_in ms
+read_again [] h = refl
+read_again (m ∷ ms) h =
+    ap (λ (x : Message Value). x ∷ messages_of (map spelling_of ms)) (ap read_message (message_read m (All-head HasSpelling m ms h)))
+    ∙ ap (λ (xs : List (Message Value)). message_in m ∷ xs) (read_again ms (All-tail HasSpelling m ms h))
+
+all_spelled : (ms : List Said) → All HasSpelling ms → All IsSpelled (map spelling_of ms)
+all_spelled [] h = All-nil IsSpelled
+all_spelled (m ∷ ms) h =
+    All-cons IsSpelled (spelling_of m) (map spelling_of ms) (record { message = m; spelling = All-head HasSpelling m ms h; is = refl }) (all_spelled ms (All-tail HasSpelling m ms h))
+
+-- ---- worlds
+
+same_world : (d e : ℕ) (xs ys : List Here) (ms ns : List (Message Value)) (hs gs : List Bool) → d ≡ e → xs ≡ ys → ms ≡ ns → hs ≡ gs
+    → let a : ModelWorld = record { done = d; nodes = xs; messages = ms; handed = hs } in let b : ModelWorld = record { done = e; nodes = ys; messages = ns; handed = gs } in a ≡ b
+same_world d e xs ys ms ns hs gs p q r s = cc
+
+put_same : (xs : List Here) (m : ℕ) → put xs m (node_at xs m) ≡ xs
+put_same [] m = refl
+put_same (x ∷ xs) m = go (eqb m 1) (put_same xs (m - 1))
+  where
+    go : (t : Bool) → put xs (m - 1) (node_at xs (m - 1)) ≡ xs → cond t (cond t x (node_at xs (m - 1)) ∷ xs) (x ∷ put xs (m - 1) (cond t x (node_at xs (m - 1)))) ≡ x ∷ xs
+    go true h = refl
+    go false h = ap (λ (ys : List Here). x ∷ ys) h
+
+-- a call that only says something changes nothing
+said_only : (w : ModelWorld) (m : ℕ) (call : CallHere → CallHere) (e : Effect) → (node_at w.nodes m).up ≡ true → call (begin (node_at w.nodes m)) ≡ say e (begin (node_at w.nodes m)) → at_node w m call ≡ only w e
+said_only w m call e up says =
+    ap (λ (t : Bool). if_up t w m (call (begin (node_at w.nodes m)))) up
+    ∙ ap (λ (d : CallHere). after w m d) says
+    ∙ ap (λ (v : ModelWorld). let r : Row = record { world = v; effects = e ∷ [] } in r)
+    (same_world w.done w.done (put w.nodes m (node_at w.nodes m)) w.nodes (w.messages ++ []) w.messages (w.handed ++ []) w.handed refl (put_same w.nodes m) (append-nil w.messages) (append-nil w.handed))
+
+down_only : (w : ModelWorld) (m : ℕ) (call : CallHere → CallHere) → (node_at w.nodes m).up ≡ false → at_node w m call ≡ only w (IsDown m)
+down_only w m call down = ap (λ (t : Bool). if_up t w m (call (begin (node_at w.nodes m)))) down
+
+-- ---- a step that was told
+
+module _ (service : Declarations) (w w2 : World) (seats : Vec Seat) (told told2 : Told) where
+  abbrev seated : World
+  seated = record w { seats = seats }
+
+  -- a world that sent these messages
+  abbrev sent_world : World
+  sent_world = record w { seats = seats; net = w2.net; handed = w2.handed }
+
+  module _ (step : Step) (tells : TellsStep seated w2 told told2 step) where
+    messages_after : messages_of w2.net ≡ messages_of w.net ++ map message_in step.sends
+    messages_after = ap messages_of tells.sends.net ∙ messages_both w.net (map spelling_of step.sends) ∙ ap (λ (ms : List (Message Value)). messages_of w.net ++ ms) (read_again step.sends tells.sends.spelled)
+
+    -- the world is the one of the model after the call
+    pub world_after : (m : ℕ) (d : CallHere) → heres service seats.items ≡ put (heres service w.seats.items) m d.node → map message_in step.sends ≡ d.sends
+        → world_of service w2 ≡ (after (world_of service w) m d).world
+    world_after m d nodes sends =
+        ap (world_of service) tells.rest
+        ∙ same_world w.done w.done (heres service seats.items) (put (heres service w.seats.items) m d.node) (messages_of w2.net) (messages_of w.net ++ d.sends) w2.handed.items (w.handed.items ++ replicate (length d.sends) false)
+        refl nodes
+        (messages_after ∙ ap (λ (ms : List (Message Value)). messages_of w.net ++ ms) sends)
+        (tells.sends.handed ∙ ap (λ (k : ℕ). w.handed.items ++ replicate k false) (sym (length-map step.sends message_in) ∙ ap length sends))
+
+    pub did_after : (m : ℕ) (d : CallHere) → heres service seats.items ≡ put (heres service w.seats.items) m d.node → map message_in step.sends ≡ d.sends → step.effects ≡ d.effects
+        → Did (world_of service w) (world_of service w2) told told2 (after (world_of service w) m d)
+    did_after m d nodes sends effects = record {
+      world = world_after m d nodes sends;
+      effects = tells.effects ∙ ap (λ (es : List Effect). told.effects.items ++ es) effects;
+      sent = tells.sends.sent ∙ ap (λ (es : List Effect). told.sent.items ++ es)
+          (ap (λ (k : ℕ). sent_from (suc k) (map message_in step.sends)) (sym (messages_many w.net))
+          ∙ ap (λ (ms : List (Message Value)). sent_from (suc (length (messages_of w.net))) ms) (sends ∙ sym (drop-append_seam (messages_of w.net) d.sends)));
+    }
+
+    front_after : w.flushed ≤ length w.handed.items → take w.flushed w2.handed.items ≡ take w.flushed w.handed.items
+    front_after l = ap (take w.flushed) tells.sends.handed ∙ take-append-le w.flushed w.handed.items (replicate (length step.sends) false) l
+
+    pub running_after : IsRunning service w → length seats.items ≡ nodes_of w → AreSeats service w.seed (nodes_of w) 1 seats.items → IsKept service w.seed (nodes_of w) (world_of service w2) → IsRunning service w2
+    running_after h many all kept =
+        subst (IsRunning service) (sym tells.rest)
+        (record {
+          service_is = h.service_is;
+          checked = h.checked;
+          whole = h.whole;
+          few = subst (λ (k : ℕ). k ≤ 9) (sym many) h.few;
+          kept = subst (λ (k : ℕ). IsKept service w.seed k (world_of service sent_world)) (sym many) (subst (λ (v : World). IsKept service w.seed (nodes_of w) (world_of service v)) tells.rest kept);
+          seats = subst (λ (k : ℕ). AreSeats service w.seed k 1 seats.items) (sym many) all;
+          spelled = subst (All IsSpelled) (sym tells.sends.net) (All-append IsSpelled w.net (map spelling_of step.sends) h.spelled (all_spelled step.sends tells.sends.spelled));
+          requests = h.requests;
+          flushed = omega (arith, ap length tells.sends.handed, length-append w.handed.items (replicate (length step.sends) false), h.flushed);
+          handed = subst (λ (hs : List Bool). list_all (λ (b : Bool). b) hs ≡ true) (sym (front_after h.flushed)) h.handed;
+        })
+
+    pub same_after : length seats.items ≡ nodes_of w → IsSame w w2
+    same_after many = record { nodes = ap nodes_of tells.rest ∙ many; requests = ap (λ (v : World). v.requests) tells.rest; seed = ap (λ (v : World). v.seed) tells.rest }
+
+    pub done_after : w2.done ≡ w.done
+    done_after = ap (λ (v : World). v.done) tells.rest
+
+    pub flushed_after : w2.flushed ≡ w.flushed
+    flushed_after = ap (λ (v : World). v.flushed) tells.rest
+
+  -- ---- a refusal that was told
+
+  module _ (same : w2 ≡ seated) (nodes : heres service seats.items ≡ heres service w.seats.items) where
+    world_same : world_of service w2 ≡ world_of service w
+    world_same =
+        ap (world_of service) same
+        ∙ same_world w.done w.done (heres service seats.items) (heres service w.seats.items) (messages_of w.net) (messages_of w.net) w.handed.items w.handed.items refl nodes refl refl
+
+    did_only : (e : Effect) → told2.effects.items ≡ told.effects.items ++ e ∷ [] → told2.sent.items ≡ told.sent.items → Did (world_of service w) (world_of service w2) told told2 (only (world_of service w) e)
+    did_only e effects sent = record {
+      world = world_same;
+      effects = effects;
+      sent = sent ∙ sym (append-nil told.sent.items) ∙ ap (λ (ms : List (Message Value)). told.sent.items ++ sent_from (suc (length (messages_of w.net))) ms) (sym (drop-length (messages_of w.net)));
+    }
+
+    comes_only : (e : Effect) → told2.effects.items ≡ told.effects.items ++ e ∷ [] → told2.sent.items ≡ told.sent.items → IsRunning service w → length seats.items ≡ nodes_of w
+        → AreSeats service w.seed (nodes_of w) 1 seats.items → ComesTo service w w2 told told2 (only (world_of service w) e)
+    comes_only e effects sent h many all = record {
+      did = did_only e effects sent;
+      running = subst (IsRunning service) (sym same)
+          (record {
+            service_is = h.service_is;
+            checked = h.checked;
+            whole = h.whole;
+            few = subst (λ (k : ℕ). k ≤ 9) (sym many) h.few;
+            kept = subst (λ (k : ℕ). IsKept service w.seed k (world_of service seated)) (sym many)
+                (subst (IsKept service w.seed (nodes_of w)) (sym world_same ∙ ap (world_of service) same) h.kept);
+            seats = subst (λ (k : ℕ). AreSeats service w.seed k 1 seats.items) (sym many) all;
+            spelled = h.spelled;
+            requests = h.requests;
+            flushed = h.flushed;
+            handed = h.handed;
+          });
+      same = record { nodes = ap nodes_of same ∙ many; requests = ap (λ (v : World). v.requests) same; seed = ap (λ (v : World). v.seed) same };
+      done = ap (λ (v : World). v.done) same;
+      flushed = ap (λ (v : World). v.flushed) same;
+    }
+
+  -- ---- a call
+
+  module _ (h : IsRunning service w) (m : ℕ) where
+    abbrev here : Here
+    here = node_at (heres service w.seats.items) m
+
+    abbrev there : Here
+    there = node_at (heres service seats.items) m
+
+    -- the row of a step that was done
+    comes_after : (d : CallHere) (step : Step) → TellsStep seated w2 told told2 step → there ≡ d.node → map message_in step.sends ≡ d.sends → step.effects ≡ d.effects
+        → heres service seats.items ≡ put (heres service w.seats.items) m there → length seats.items ≡ nodes_of w → AreSeats service w.seed (nodes_of w) 1 seats.items
+        → IsKept service w.seed (nodes_of w) (after (world_of service w) m d).world → ComesTo service w w2 told told2 (after (world_of service w) m d)
+    comes_after d step tells node sends effects others many all kept =
+        let nodes : heres service seats.items ≡ put (heres service w.seats.items) m d.node = others ∙ ap (put (heres service w.seats.items) m) node in
+        record {
+          did = did_after step tells m d nodes sends effects;
+          running = running_after step tells h many all (subst (IsKept service w.seed (nodes_of w)) (sym (world_after step tells m d nodes sends)) kept);
+          same = same_after step tells many;
+          done = done_after step tells;
+          flushed = flushed_after step tells;
+        }
+
+    -- a node that is as it was
+    nodes_same : heres service seats.items ≡ put (heres service w.seats.items) m there → there ≡ here → heres service seats.items ≡ heres service w.seats.items
+    nodes_same others same = others ∙ ap (put (heres service w.seats.items) m) same ∙ put_same (heres service w.seats.items) m
+
+    module _ (call : CallHere → CallHere) (kept : IsKept service w.seed (nodes_of w) (at_node (world_of service w) m call).world)
+        (others : heres service seats.items ≡ put (heres service w.seats.items) m there) (many : length seats.items ≡ nodes_of w) where
+      abbrev Row-comes : Type 0
+      Row-comes = ComesTo service w w2 told told2 (at_node (world_of service w) m call)
+
+      comes_done : (step : Step) → IsDone call here there step → TellsStep seated w2 told told2 step → AreSeats service w.seed (nodes_of w) 1 seats.items → Row-comes
+      comes_done step is tells all =
+          subst (λ (t : Bool). ComesTo service w w2 told told2 (if_up t (world_of service w) m (call (begin here)))) (sym is.up)
+          (comes_after (call (begin here)) step tells is.node is.sends is.effects others many all
+          (subst (λ (t : Bool). IsKept service w.seed (nodes_of w) (if_up t (world_of service w) m (call (begin here))).world) is.up kept))
+
+      comes_refused : (refusal : Refusal) → IsRefused call m here there refusal → TellsRefusal m seated w2 told told2 refusal → AreSeats service w.seed (nodes_of w) 1 seats.items → Row-comes
+      comes_refused refusal is tells all =
+          subst (ComesTo service w w2 told told2) (sym (said_only (world_of service w) m call (effect_of m refusal) is.up is.says))
+          (comes_only tells.same (nodes_same others is.same) (effect_of m refusal) tells.effects tells.sent h many all)
+
+      comes_down : WasDown here there → TellsRefusal m seated w2 told told2 why.Down → AreSeats service w.seed (nodes_of w) 1 seats.items → Row-comes
+      comes_down is tells all =
+          subst (ComesTo service w w2 told told2) (sym (down_only (world_of service w) m call is.down))
+          (comes_only tells.same (nodes_same others is.same) (IsDown m) tells.effects tells.sent h many all)
+
+      pub comes : (outcome : Result Step Refusal) → Acts call m here there outcome → (IsWhole outcome → AreSeats service w.seed (nodes_of w) 1 seats.items) → IsTold m seated w2 told told2 outcome → Row-comes
+      comes (Ok step) acts all t = comes_done step acts t.tells (all tt)
+      comes (Err why.OutOfMemory) acts all t = absurd t.tells
+      comes (Err why.Down) acts all t = comes_down acts t.tells (all tt)
+      comes (Err (why.NotActive role)) acts all t = comes_refused (why.NotActive role) acts t.tells (all tt)
+      comes (Err (why.Open i)) acts all t = comes_refused (why.Open i) acts t.tells (all tt)
+      comes (Err why.Ended) acts all t = comes_refused why.Ended acts t.tells (all tt)
+      comes (Err why.Nothing) acts all t = comes_refused why.Nothing acts t.tells (all tt)
+      comes (Err (why.Live events)) acts all t = comes_refused (why.Live events) acts t.tells (all tt)
+      comes (Err why.UpToDate) acts all t = comes_refused why.UpToDate acts t.tells (all tt)
+      comes (Err why.Spent) acts all t = comes_refused why.Spent acts t.tells (all tt)
+
+    -- a node that was started, or was up
+    module _ (others : heres service seats.items ≡ put (heres service w.seats.items) m there) (many : length seats.items ≡ nodes_of w) (all : AreSeats service w.seed (nodes_of w) 1 seats.items) where
+      still : CallHere
+      still = record { node = here; sends = []; effects = IsUp m ∷ [] }
+
+      still_only : after (world_of service w) m still ≡ only (world_of service w) (IsUp m)
+      unfolding still
+      still_only =
+          ap (λ (v : ModelWorld). let r : Row = record { world = v; effects = IsUp m ∷ [] } in r)
+          (same_world w.done w.done (put (heres service w.seats.items) m here) (heres service w.seats.items) (messages_of w.net ++ []) (messages_of w.net) (w.handed.items ++ []) w.handed.items refl
+          (put_same (heres service w.seats.items) m) (append-nil (messages_of w.net)) (append-nil w.handed.items))
+
+      started_step : (t : Bool) (step : Step) → StartsIf t m here there step → IsKept service w.seed (nodes_of w) (start_if t (world_of service w) m).world → TellsStep seated w2 told told2 step
+          → ComesTo service w w2 told told2 (start_if t (world_of service w) m)
+      unfolding still
+      started_step true step is kept tells =
+          subst (ComesTo service w w2 told told2) still_only
+          (comes_after still step tells is.same (ap (map message_in) is.sends) is.effects others many all (subst (λ (r : Row). IsKept service w.seed (nodes_of w) r.world) (sym still_only) kept))
+      started_step false step is kept tells = comes_after (start m (begin here)) step tells is.node (ap (map message_in) is.sends) is.effects others many all kept
+
+    pub comes_started : (outcome : Result Step Refusal) → IsStarted m here there outcome → heres service seats.items ≡ put (heres service w.seats.items) m there → length seats.items ≡ nodes_of w
+        → (IsWhole outcome → AreSeats service w.seed (nodes_of w) 1 seats.items) → IsKept service w.seed (nodes_of w) (start_if here.up (world_of service w) m).world
+        → IsTold m seated w2 told told2 outcome → ComesTo service w w2 told told2 (start_if here.up (world_of service w) m)
+    comes_started (Ok step) is others many all kept t = started_step others many (all tt) here.up step is kept t.tells
+    comes_started (Err refusal) is others many all kept t = absurd (subst (λ (why : Refusal). Tells m seated w2 told told2 (Err why)) is t.tells)
+
+-- what was started sends nothing
+pub starts_fit : (m : ℕ) (x y : Here) (outcome : Result Step Refusal) → IsStarted m x y outcome → IfOk outcome (λ (step : Step). All IsMessage step.sends)
+starts_fit m x y (Err refusal) is = tt
+starts_fit m x y (Ok step) is = go x.up is
+  where
+    go : (t : Bool) → StartsIf t m x y step → All IsMessage step.sends
+    go true h = subst (All IsMessage) (sym h.sends) (All-nil IsMessage)
+    go false h = subst (All IsMessage) (sym h.sends) (All-nil IsMessage)

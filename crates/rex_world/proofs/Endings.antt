@@ -1,0 +1,126 @@
+-- The end lines of nodes.
+use Rattle.std.proofs.Common.{◌≡◌, ℕ, suc, ◌+◌, ◌-◌, ◌<◌, ◌≤◌, Bool, true, List, [], ◌∷◌, ◌++◌, length, take, Option, Some, None, is_some, refl, sym, ◌∙◌, ap, subst, arith, append_assoc, add-zero, add-one, length-take}
+use Rattle.std.specs.Prelude.{slice_index_or, unwrap_or, if◌then◌else◌, ℤ, Result, OnOk}
+use Rattle.std.proofs.lemmas.Result.{on_ok_weaker}
+use Rattle.rex_syntax.specs.declared.service.Variable.{Variable}
+use Rattle.std.proofs.Math.Seq.{take-suc}
+use Rattle.rex_syntax.specs.declared.service.Declarations.{Declarations}
+use Rattle.rex_state.specs.Value.{StateValue}
+use Rattle.rex_state.specs.Start.{start_of}
+use Rattle.rex_state.specs.Machine.{run}
+use Rattle.rex_state.proofs.Run.{run-then}
+use Rattle.rex_event.specs.declared.event.Event.{Event}
+use Rattle.rex_report.specs.declared.ends.End.{End}
+use Rattle.rex_report.specs.declared.ends.End.TheVariants.{Up, Down}
+use Rattle.rex_report.specs.declared.ends.UpEnd.{UpEnd}
+use Rattle.rex_report.specs.Ends.{end_text}
+use Rattle.rex_safety.specs.Records.{promise, known}
+use Rattle.rex_safety.specs.Node.{role_name, is_active}
+use Rattle.rex_safety.specs.Values.{Value, trace_of, state_after}
+use Rattle.rex_safety.specs.Lanes.{Here}
+use Rattle.rex_traits.specs.Keeping.{KeeperValue}
+use Rattle.rex_node.specs.Parts.{NodeValue, ActingValue, IsNode, IsActing, here_of, log_of, role_of, work_of, state_of, variables_of, variables_with}
+use Rattle.rex_world.specs.declared.seats.Seat.{Seat}
+use Rattle.rex_world.specs.declared.seats.Seat.TheVariants.{Running, Stopped}
+use Rattle.rex_world.specs.Seats.{IsSeat, AreSeats, heres, here_in, records_of}
+use Rattle.rex_world.proofs.Seated.{many_here, seat_is}
+use Rattle.std.proofs.lemmas.List.{append-nil}
+use Rattle.rex_world.specs.Report.{IsNumbered, count_of, end_of, ends_text, up_end_of, values_of}
+
+-- the state that events run to
+run_to : (service : Declarations) (es : List Event) (s : StateValue) → run service (start_of service) es ≡ Some s → state_after service es ≡ s
+run_to service es s h = ap (λ (o : Option StateValue). unwrap_or o (start_of service)) h
+
+-- an end line that was told, in other terms
+pub told_as : {E : Type 0} {end other : End} {variables others : List Variable} {values shown : List ℤ} (r : Result (Unit {0}) E) (before after : List ℕ) → other ≡ end → others ≡ variables → shown ≡ values
+    → OnOk r (after ≡ before ++ end_text other others shown) → OnOk r (after ≡ before ++ end_text end variables values)
+told_as {E} {end} {other} {variables} {others} {values} {shown} r before after a b d h =
+    on_ok_weaker r
+    (λ (t : after ≡ before ++ end_text other others shown).
+    t ∙ ap (λ (x : End). before ++ end_text x others shown) a
+    ∙ ap (λ (x : List Variable). before ++ end_text end x shown) b
+    ∙ ap (λ (x : List ℤ). before ++ end_text end variables x) d)
+    h
+
+-- the values of the variables, where it is active and where it isn't
+values_at : (service : Declarations) (values : List Value) (replayed : ℕ) (a : _) (proposer : Option _) (acting : Option ActingValue) (s : StateValue)
+    → (acting ≡ None → run service (start_of service) (trace_of (take replayed values)) ≡ Some s) → IsActing service values a proposer acting
+    → (if is_active (role_of a proposer (is_some acting)) then (state_after service (trace_of values ++ (work_of acting).live)).variables else (state_after service (trace_of (take replayed values))).variables) ≡ variables_with acting s
+values_at service values replayed a None None s ahead acts = ap (λ (t : StateValue). t.variables) (run_to service (trace_of (take replayed values)) s (ahead refl))
+values_at service values replayed a (Some p) None s ahead acts = ap (λ (t : StateValue). t.variables) (run_to service (trace_of (take replayed values)) s (ahead refl))
+values_at service values replayed a None (Some e) s ahead acts = absurd acts
+values_at service values replayed a (Some p) (Some e) s ahead acts =
+    ap (λ (t : StateValue). t.variables)
+    (run_to service (trace_of values ++ e.recorder.live) e.recorder.state (run-then service (start_of service) e.recorder.start (trace_of values) e.recorder.live acts.executes.known ∙ acts.executes.recorder.runs))
+
+few_live : (service : Declarations) (values : List Value) (a : _) (proposer : Option _) (acting : Option ActingValue) → IsActing service values a proposer acting → length (work_of acting).live ≤ 4096
+few_live service values a p None acts = omega arith
+few_live service values a None (Some e) acts = absurd acts
+few_live service values a (Some p) (Some e) acts = acts.executes.recorder.few
+
+-- what the node came to, with a promise and so many known values
+abbrev end_at : NodeValue KeeperValue → ℕ → ℕ → UpEnd
+end_at x promised many = record { node = x.id; role = role_name (role_of x.acceptor x.proposer (is_some x.acting)); promised = promised; known = many; count = count_of x }
+
+module _ (service : Declarations) (x : NodeValue KeeperValue) (node : IsNode records_of service x) where
+  -- the values that its parts have are those of the model's node
+  pub values_are : x.up ≡ true → values_of service (here_of records_of service x) ≡ variables_of x
+  values_are e =
+      let up = node.up e in
+      ap (λ (vs : List Value). if is_active (role_of x.acceptor x.proposer (is_some x.acting)) then (state_after service (trace_of vs ++ (work_of x.acting).live)).variables else (state_after service (trace_of (take x.replayed vs))).variables) (sym up.known)
+      ∙ values_at service x.known x.replayed x.acceptor x.proposer x.acting (state_of x) up.ahead up.acting
+
+  pub end_is : x.up ≡ true → end_of x.id (here_of records_of service x) ≡ Up (up_end_of x)
+  end_is e =
+      let up = node.up e in
+      ap (λ (u : Bool). if u then Up (end_at x (promise (log_of service x.keeper.records)) (length (known (log_of service x.keeper.records)))) else Down x.id) e
+      ∙ ap (λ (p : ℕ). Up (end_at x p (length (known (log_of service x.keeper.records))))) (sym up.promised)
+      ∙ ap (λ (vs : List Value). Up (end_at x x.acceptor.promised (length vs))) (sym up.known)
+
+  pub is_few : x.up ≡ true → (length (work_of x.acting).live ≤ 4096) × (length x.known ≤ 65535)
+  is_few e =
+      let up = node.up e in
+      (few_live service x.known x.acceptor x.proposer x.acting up.acting, subst (λ (vs : List Value). length vs ≤ 65535) (sym up.known) up.numbers.log.few)
+
+-- ---- one line after the other
+
+pub heres_both : (service : Declarations) (xs ys : List Seat) → heres service (xs ++ ys) ≡ heres service xs ++ heres service ys
+heres_both service [] ys = refl
+heres_both service (x ∷ xs) ys = ap (λ (zs : List Here). here_in service x ∷ zs) (heres_both service xs ys)
+
+-- the line of one more node
+ends_more : (service : Declarations) (number : ℕ) (xs : List Here) (y : Here) → ends_text service number (xs ++ y ∷ []) ≡ ends_text service number xs ++ end_text (end_of (number + length xs) y) service.variables (values_of service y)
+ends_more service number [] y =
+    append-nil (end_text (end_of number y) service.variables (values_of service y)) ∙ ap (λ (k : ℕ). end_text (end_of k y) service.variables (values_of service y)) (sym (add-zero number))
+ends_more service number (x ∷ xs) y =
+    let e : suc number + length xs ≡ number + suc (length xs) = omega arith in
+    ap (λ (t : List ℕ). end_text (end_of number x) service.variables (values_of service x) ++ t)
+    (ends_more service (suc number) xs y ∙ ap (λ (k : ℕ). ends_text service (suc number) xs ++ end_text (end_of k y) service.variables (values_of service y)) e)
+    ∙ sym (append_assoc (end_text (end_of number x) service.variables (values_of service x)) (ends_text service (suc number) xs) (end_text (end_of (number + suc (length xs)) y) service.variables (values_of service y)))
+
+-- the lines so far, and one more
+pub ends_next : (service : Declarations) (seats : List Seat) (i number : ℕ) (seat d : Seat) (initial before after : List ℕ) → i < length seats → seat ≡ slice_index_or seats i d → number ≡ i + 1
+    → before ≡ initial ++ ends_text service 1 (heres service (take i seats)) → after ≡ before ++ end_text (end_of number (here_in service seat)) service.variables (values_of service (here_in service seat))
+    → after ≡ initial ++ ends_text service 1 (heres service (take (i + 1) seats))
+ends_next service seats i number seat d initial before after l is e b h =
+    let t : take (i + 1) seats ≡ take i seats ++ seat ∷ [] = ap (λ (k : ℕ). take k seats) (add-one i) ∙ take-suc seats i d l ∙ ap (λ (y : Seat). take i seats ++ y ∷ []) (sym is) in
+    let n : 1 + length (heres service (take i seats)) ≡ number = omega (arith, many_here service (take i seats), length-take i seats, l, e) in
+    let m : ends_text service 1 (heres service (take (i + 1) seats)) ≡ ends_text service 1 (heres service (take i seats)) ++ end_text (end_of number (here_in service seat)) service.variables (values_of service (here_in service seat)) =
+    ap (λ (ss : List Seat). ends_text service 1 (heres service ss)) t
+    ∙ ap (λ (xs : List Here). ends_text service 1 xs) (heres_both service (take i seats) (seat ∷ []))
+    ∙ ends_more service 1 (heres service (take i seats)) (here_in service seat)
+    ∙ ap (λ (k : ℕ). ends_text service 1 (heres service (take i seats)) ++ end_text (end_of k (here_in service seat)) service.variables (values_of service (here_in service seat))) n in
+    h ∙ ap (λ (t : List ℕ). t ++ end_text (end_of number (here_in service seat)) service.variables (values_of service (here_in service seat))) b
+    ∙ append_assoc initial (ends_text service 1 (heres service (take i seats))) (end_text (end_of number (here_in service seat)) service.variables (values_of service (here_in service seat)))
+    ∙ ap (λ (t : List ℕ). initial ++ t) (sym m)
+
+-- a kept node has its number
+pub numbered : (service : Declarations) (seed nodes number : ℕ) (seat : Seat) → IsSeat service seed nodes number seat → IsNumbered service number seat
+numbered service seed nodes number (Running x) h = (h.id, h.node)
+numbered service seed nodes number (Stopped k) h = tt
+
+pub numbered_at : (service : Declarations) (seed nodes : ℕ) (seats : List Seat) (i number : ℕ) (seat d : Seat) → AreSeats service seed nodes 1 seats → i < length seats → seat ≡ slice_index_or seats i d → number ≡ i + 1 → IsNumbered service number seat
+numbered_at service seed nodes seats i number seat d all l is e =
+    let n : number - 1 ≡ i = omega (arith, e) in
+    numbered service seed nodes number seat
+    (subst (λ (s : Seat). IsSeat service seed nodes number s) (ap (λ (k : ℕ). slice_index_or seats k d) n ∙ sym is) (seat_is service seats number (omega (arith, e), omega (arith, l, e)) d seed nodes all))

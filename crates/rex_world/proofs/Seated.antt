@@ -1,0 +1,113 @@
+-- The node at a place of a world.
+use Rattle.std.proofs.Common.{◌≡◌, ℕ, zero, suc, ◌+◌, ◌-◌, ◌<◌, ◌≢◌, List, [], ◌∷◌, length, get_or, refl, sym, ◌∙◌, ap, subst, arith, length-set}
+use Rattle.std.specs.Prelude.{Result, slice_index_or, slice_set}
+use Rattle.std.proofs.lemmas.Bool.{ne_eqb}
+use Rattle.rex_syntax.specs.declared.service.Declarations.{Declarations}
+use Rattle.rex_scenario.specs.Fits.{IsNode}
+use Rattle.rex_safety.specs.Lanes.{Here, CallHere}
+use Rattle.rex_safety.specs.World.{node_at, put}
+use Rattle.rex_node.specs.declared.refusal.Refusal.{Refusal}
+use Rattle.rex_node.specs.declared.step.Step.{Step}
+use Rattle.rex_world.specs.declared.seats.Seat.{Seat}
+use Rattle.rex_world.specs.Seats.{IsSeat, AreSeats, here_in, heres}
+use Rattle.rex_world.specs.Calls.{Acts, IsWhole, IsStarted}
+use Rattle.rex_world.specs.Places.{IsChangedAt, ActsAt, StartsAt}
+
+past_one : (i : ℕ) → suc (suc i) ≢ 1
+past_one i e = absurd (omega arith)
+
+-- a node that isn't the first one is among the others
+later_at : (x : Here) (xs : List Here) (i : ℕ) → node_at (x ∷ xs) (suc (suc i)) ≡ node_at xs (suc i)
+later_at x xs i = let e : suc (suc i) - 1 ≡ suc i = omega arith in rw (ne_eqb (suc (suc i)) 1 (past_one i), e) refl
+
+later_put : (x : Here) (xs : List Here) (i : ℕ) (y : Here) → put (x ∷ xs) (suc (suc i)) y ≡ x ∷ put xs (suc i) y
+later_put x xs i y = let e : suc (suc i) - 1 ≡ suc i = omega arith in rw (ne_eqb (suc (suc i)) 1 (past_one i), e) refl
+
+module _ (service : Declarations) where
+  pub many_here : (seats : List Seat) → length (heres service seats) ≡ length seats
+  many_here [] = refl
+  many_here (s ∷ ss) = ap suc (many_here ss)
+
+  pub here_index : (seats : List Seat) (i : ℕ) (d : Seat) → i < length seats → node_at (heres service seats) (suc i) ≡ here_in service (get_or seats i d)
+  here_index [] i d l = absurd (omega arith)
+  here_index (s ∷ ss) zero d l = refl
+  here_index (s ∷ ss) (suc i) d l = later_at (here_in service s) (heres service ss) i ∙ here_index ss i d (omega arith)
+
+  put_index : (seats : List Seat) (i : ℕ) (seat : Seat) → i < length seats → heres service (slice_set seats i seat) ≡ put (heres service seats) (suc i) (here_in service seat)
+  put_index [] i seat l = absurd (omega arith)
+  put_index (s ∷ ss) zero seat l = refl
+  put_index (s ∷ ss) (suc i) seat l = ap (λ (xs : List Here). here_in service s ∷ xs) (put_index ss i seat (omega arith)) ∙ sym (later_put (here_in service s) (heres service ss) i (here_in service seat))
+
+  new_index : (seats : List Seat) (i : ℕ) (seat : Seat) → i < length seats → node_at (heres service (slice_set seats i seat)) (suc i) ≡ here_in service seat
+  new_index [] i seat l = absurd (omega arith)
+  new_index (s ∷ ss) zero seat l = refl
+  new_index (s ∷ ss) (suc i) seat l = later_at (here_in service s) (heres service (slice_set ss i seat)) i ∙ new_index ss i seat (omega arith)
+
+  module _ (seed nodes : ℕ) where
+    seat_from : (k : ℕ) (seats : List Seat) (i : ℕ) (d : Seat) → AreSeats service seed nodes k seats → i < length seats → IsSeat service seed nodes (k + i) (get_or seats i d)
+    seat_from k [] i d all l = absurd (omega arith)
+    seat_from k (s ∷ ss) zero d all l = let e : k + 0 ≡ k = omega arith in subst (λ (m : ℕ). IsSeat service seed nodes m s) (sym e) all.0
+    seat_from k (s ∷ ss) (suc i) d all l =
+        let e : suc k + i ≡ k + suc i = omega arith in
+        subst (λ (m : ℕ). IsSeat service seed nodes m (get_or ss i d)) e (seat_from (suc k) ss i d all.1 (omega arith))
+
+    seats_from : (k : ℕ) (seats : List Seat) (i : ℕ) (seat : Seat) → AreSeats service seed nodes k seats → IsSeat service seed nodes (k + i) seat → AreSeats service seed nodes k (slice_set seats i seat)
+    seats_from k [] i seat all one = tt
+    seats_from k (s ∷ ss) zero seat all one = let e : k + 0 ≡ k = omega arith in (subst (λ (m : ℕ). IsSeat service seed nodes m seat) e one, all.1)
+    seats_from k (s ∷ ss) (suc i) seat all one =
+        let e : k + suc i ≡ suc k + i = omega arith in
+        (all.0, seats_from (suc k) ss i seat all.1 (subst (λ (m : ℕ). IsSeat service seed nodes m seat) e one))
+
+  module _ (seats : List Seat) (number : ℕ) (here : IsNode (length seats) number) (d : Seat) where
+    is_next : number ≡ suc (number - 1)
+    is_next = omega (arith, here.0)
+
+    inside : number - 1 < length seats
+    inside = omega (arith, here.0, here.1)
+
+    pub here_is : node_at (heres service seats) number ≡ here_in service (slice_index_or seats (number - 1) d)
+    here_is = subst (λ (m : ℕ). node_at (heres service seats) m ≡ here_in service (slice_index_or seats (number - 1) d)) (sym is_next) (here_index seats (number - 1) d inside)
+
+    pub seat_is : (seed nodes : ℕ) → AreSeats service seed nodes 1 seats → IsSeat service seed nodes number (slice_index_or seats (number - 1) d)
+    seat_is seed nodes all =
+        let e : 1 + (number - 1) ≡ number = omega (arith, here.0) in
+        subst (λ (m : ℕ). IsSeat service seed nodes m (slice_index_or seats (number - 1) d)) e (seat_from seed nodes 1 seats (number - 1) d all inside)
+
+    new_is : (seat : Seat) → node_at (heres service (slice_set seats (number - 1) seat)) number ≡ here_in service seat
+    new_is seat = subst (λ (m : ℕ). node_at (heres service (slice_set seats (number - 1) seat)) m ≡ here_in service seat) (sym is_next) (new_index seats (number - 1) seat inside)
+
+    put_is : (seat : Seat) → heres service (slice_set seats (number - 1) seat) ≡ put (heres service seats) number (here_in service seat)
+    put_is seat = subst (λ (m : ℕ). heres service (slice_set seats (number - 1) seat) ≡ put (heres service seats) m (here_in service seat)) (sym is_next) (put_index seats (number - 1) seat inside)
+
+    set_seats : (seed nodes : ℕ) (seat : Seat) → AreSeats service seed nodes 1 seats → IsSeat service seed nodes number seat → AreSeats service seed nodes 1 (slice_set seats (number - 1) seat)
+    set_seats seed nodes seat all one =
+        let e : number ≡ 1 + (number - 1) = omega (arith, here.0) in
+        seats_from seed nodes 1 seats (number - 1) seat all (subst (λ (m : ℕ). IsSeat service seed nodes m seat) e one)
+
+    -- only this node is another one
+    changed_at : (seed : ℕ) (seat : Seat) (outcome : Result Step Refusal) → AreSeats service seed (length seats) 1 seats
+        → (IsWhole outcome → IsSeat service seed (length seats) number seat) → IsChangedAt service seed number seats (slice_set seats (number - 1) seat) outcome
+    changed_at seed seat outcome all kept = record {
+      others = put_is seat ∙ ap (λ (y : Here). put (heres service seats) number y) (sym (new_is seat));
+      many = length-set seats (number - 1) seat;
+      seats = λ whole. set_seats seed (length seats) seat all (kept whole);
+    }
+
+    -- what a seat's call did, the world's node did
+    pub acts_at : (seed : ℕ) (call : CallHere → CallHere) (seat : Seat) (outcome : Result Step Refusal) → AreSeats service seed (length seats) 1 seats
+        → Acts call number (here_in service (slice_index_or seats (number - 1) d)) (here_in service seat) outcome → (IsWhole outcome → IsSeat service seed (length seats) number seat)
+        → ActsAt service seed call number seats (slice_set seats (number - 1) seat) outcome
+    acts_at seed call seat outcome all acts kept = record {
+      acts = subst (λ (x : Here). Acts call number x (node_at (heres service (slice_set seats (number - 1) seat)) number) outcome) (sym here_is)
+          (subst (λ (y : Here). Acts call number (here_in service (slice_index_or seats (number - 1) d)) y outcome) (sym (new_is seat)) acts);
+      changed = changed_at seed seat outcome all kept;
+    }
+
+    pub starts_at : (seed : ℕ) (seat : Seat) (outcome : Result Step Refusal) → AreSeats service seed (length seats) 1 seats
+        → IsStarted number (here_in service (slice_index_or seats (number - 1) d)) (here_in service seat) outcome → (IsWhole outcome → IsSeat service seed (length seats) number seat)
+        → StartsAt service seed number seats (slice_set seats (number - 1) seat) outcome
+    starts_at seed seat outcome all starts kept = record {
+      starts = subst (λ (x : Here). IsStarted number x (node_at (heres service (slice_set seats (number - 1) seat)) number) outcome) (sym here_is)
+          (subst (λ (y : Here). IsStarted number (here_in service (slice_index_or seats (number - 1) d)) y outcome) (sym (new_is seat)) starts);
+      changed = changed_at seed seat outcome all kept;
+    }

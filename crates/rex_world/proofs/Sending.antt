@@ -1,0 +1,47 @@
+-- Messages that are sent one after the other.
+use Rattle.std.proofs.Common.{◌≡◌, ℕ, suc, ◌+◌, ◌<◌, Bool, false, List, [], ◌∷◌, ◌++◌, length, map, take, sym, ◌∙◌, ap, subst, arith, append_assoc, length-append, add-zero, add-one}
+use Rattle.std.specs.Prelude.{replicate, slice_index_or}
+use Rattle.std.proofs.Math.Seq.{take-suc}
+use Rattle.std.proofs.lemmas.List.{append-nil, map-append, length-map, replicate-append-replicate}
+use Rattle.std.proofs.lemmas.List.Elements.{All-nil, All-append}
+use Rattle.rex_report.specs.declared.effect.Effect.{Effect}
+use Rattle.rex_report.specs.declared.effect.Effect.TheVariants.{Sent}
+use Rattle.rex_msg.specs.declared.message.Message.{Message as Said}
+use Rattle.rex_msg.specs.Spelling.{HasSpelling, spelling_of}
+use Rattle.rex_safety.specs.Node.{Message, kind_of}
+use Rattle.rex_safety.specs.Values.{Value}
+use Rattle.rex_safety.specs.World.{sent_from}
+use Rattle.rex_node.specs.Messages.{message_in}
+use Rattle.rex_world.specs.Calls.{Sends}
+
+-- what was sent after other messages is told under the numbers after theirs
+pub sent_both : (number : ℕ) (xs ys : List (Message Value)) → sent_from number (xs ++ ys) ≡ sent_from number xs ++ sent_from (number + length xs) ys
+sent_both number [] ys = ap (λ (k : ℕ). sent_from k ys) (sym (add-zero number))
+sent_both number (x ∷ xs) ys =
+    let e : suc number + length xs ≡ number + suc (length xs) = omega arith in
+    ap (λ (es : List Effect). Sent number (kind_of x.content) x.from x.to ∷ es) (sent_both (suc number) xs ys ∙ ap (λ (k : ℕ). sent_from (suc number) xs ++ sent_from k ys) e)
+
+pub sends_none : (net : List (List ℕ)) (handed : List Bool) (sent : List Effect) → Sends [] net net handed handed sent sent
+sends_none net handed sent = record { spelled = All-nil HasSpelling; net = sym (append-nil net); handed = sym (append-nil handed); sent = sym (append-nil sent) }
+
+pub sends_more : (xs ys : List Said) (net net1 net2 : List (List ℕ)) (handed handed1 handed2 : List Bool) (sent sent1 sent2 : List Effect)
+    → Sends xs net net1 handed handed1 sent sent1 → Sends ys net1 net2 handed1 handed2 sent1 sent2 → Sends (xs ++ ys) net net2 handed handed2 sent sent2
+sends_more xs ys net net1 net2 handed handed1 handed2 sent sent1 sent2 a b = record {
+  spelled = All-append HasSpelling xs ys a.spelled b.spelled;
+  net = b.net ∙ ap (λ (ns : List (List ℕ)). ns ++ map spelling_of ys) a.net ∙ append_assoc net (map spelling_of xs) (map spelling_of ys) ∙ ap (λ (ns : List (List ℕ)). net ++ ns) (sym (map-append spelling_of xs ys));
+  handed = b.handed ∙ ap (λ (hs : List Bool). hs ++ replicate (length ys) false) a.handed ∙ append_assoc handed (replicate (length xs) false) (replicate (length ys) false)
+      ∙ ap (λ (hs : List Bool). handed ++ hs) (replicate-append-replicate (length xs) (length ys) false ∙ ap (λ (k : ℕ). replicate k false) (sym (length-append xs ys)));
+  sent = b.sent ∙ ap (λ (es : List Effect). es ++ sent_from (suc (length net1)) (map message_in ys)) a.sent ∙ append_assoc sent (sent_from (suc (length net)) (map message_in xs)) (sent_from (suc (length net1)) (map message_in ys))
+      ∙ ap (λ (es : List Effect). sent ++ es)
+      (ap (λ (k : ℕ). sent_from (suc (length net)) (map message_in xs) ++ sent_from k (map message_in ys)) next ∙ sym (sent_both (suc (length net)) (map message_in xs) (map message_in ys)) ∙ ap (λ (ms : List (Message Value)). sent_from (suc (length net)) ms) (sym (map-append message_in xs ys)));
+}
+  where
+    next : suc (length net1) ≡ suc (length net) + length (map message_in xs)
+    next = omega (arith, ap length a.net, length-append net (map spelling_of xs), length-map xs spelling_of, length-map xs message_in)
+
+-- the messages so far, and one more
+pub sends_next : (xs : List Said) (i : ℕ) (x d : Said) (net net1 net2 : List (List ℕ)) (handed handed1 handed2 : List Bool) (sent sent1 sent2 : List Effect) → i < length xs → x ≡ slice_index_or xs i d
+    → Sends (take i xs) net net1 handed handed1 sent sent1 → Sends (x ∷ []) net1 net2 handed1 handed2 sent1 sent2 → Sends (take (i + 1) xs) net net2 handed handed2 sent sent2
+sends_next xs i x d net net1 net2 handed handed1 handed2 sent sent1 sent2 l e a b =
+    let t : take (i + 1) xs ≡ take i xs ++ x ∷ [] = ap (λ (k : ℕ). take k xs) (add-one i) ∙ take-suc xs i d l ∙ ap (λ (y : Said). take i xs ++ y ∷ []) (sym e) in
+    subst (λ (ys : List Said). Sends ys net net2 handed handed2 sent sent2) (sym t) (sends_more (take i xs) (x ∷ []) net net1 net2 handed handed1 handed2 sent sent1 sent2 a b)

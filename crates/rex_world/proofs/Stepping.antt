@@ -1,0 +1,194 @@
+-- What a step of the model comes to, from a world that runs.
+use Rattle.std.proofs.Common.{◌≡◌, ℕ, ◌+◌, ◌^◌, ◌<◌, Option, Some, None, Bool, true, cond, List, length, map, Result, Ok, Err, IfOk, OnOk, eq-eqb, refl, sym, ◌∙◌, ap, subst}
+use Rattle.std.specs.Prelude.{slice_get, slice_index_or}
+use Rattle.std.proofs.lemmas.Option.{slice_get-get_or}
+use Rattle.std.specs.List.{All}
+use Rattle.std.specs.Vec.{with_items}
+use Rattle.std.proofs.lemmas.List.{with_items_is}
+use Rattle.std.specs.declared.alloc.AllocError.{AllocError}
+use Rattle.rex_syntax.specs.declared.request.Request.{Request}
+use Rattle.rex_syntax.specs.declared.service.Declarations.{Declarations}
+use Rattle.rex_msg.specs.Spelling.{IsMessage}
+use Rattle.rex_scenario.specs.declared.scenario.ScheduleLine.{ScheduleLine}
+use Rattle.rex_scenario.specs.declared.scenario.ScheduleLine.TheVariants as line
+use Rattle.rex_scenario.specs.Fits.{IsNode, LineFits}
+use Rattle.rex_state.specs.Value.{StateValue}
+use Rattle.rex_safety.specs.Records.{known}
+use Rattle.rex_safety.specs.Node.{Service, Message, is_active}
+use Rattle.rex_safety.specs.Calls as calls
+use Rattle.rex_safety.specs.Calls.{begin}
+use Rattle.rex_safety.specs.Values.{Value, values_fit, service_of}
+use Rattle.rex_safety.specs.Lanes as lanes
+use Rattle.rex_safety.specs.Lanes.{Here, CallHere}
+use Rattle.rex_state.specs.Machine.{lane_of}
+use Rattle.rex_safety.specs.World.{World as ModelWorld, Row, node_at, logs, put, after, if_up, at_node}
+use Rattle.rex_safety.specs.Invariant.{IsIn, KeepsAll}
+use Rattle.rex_safety.specs.Kept.{roles, IsWorld, IsKept}
+use Rattle.rex_safety.proofs.Nodes.{node_put}
+use Rattle.rex_safety.proofs.Calls.{elect_good}
+use Rattle.rex_safety.proofs.Worlds.{called}
+use Rattle.rex_safety.proofs.Steps.{cut_good}
+use Rattle.rex_safety.proofs.Nexts.{next_fits}
+use Rattle.rex_safety.proofs.Keeps.{step_kept, kept_right}
+use Rattle.rex_node.specs.declared.refusal.Refusal.{Refusal}
+use Rattle.rex_node.specs.declared.step.Step.{Step}
+use Rattle.rex_node.specs.Calls.{AreLimits, CanBeCut, counts_for}
+use Rattle.rex_node.specs.Going.{RunsOn}
+use Rattle.rex_node.specs.Messages.{message_in}
+use Rattle.rex_world.specs.declared.seats.Seat.{Seat}
+use Rattle.rex_world.specs.declared.told.Told.{Told}
+use Rattle.rex_world.specs.declared.world.World.{World}
+use Rattle.rex_world.specs.Seats.{heres}
+use Rattle.rex_world.specs.World.{world_of, nodes_of}
+use Rattle.rex_world.specs.Kept.{IsRunning}
+use Rattle.rex_world.specs.Calls.{Acts, IsTold, ComesTo, step_in, Starts, cut_line}
+use Rattle.rex_world.specs.Places.{ActsAt, StartsAt}
+use Rattle.rex_world.proofs.Seated.{many_here}
+use Rattle.rex_world.proofs.Ranges.{all_fit, is_behind}
+use Rattle.rex_world.proofs.Coming.{comes, comes_started}
+use Rattle.rex_world.proofs.Working.{room, can_be_cut, fit}
+
+pub on_ok : {A B : Type 0} (r : Result (Unit {0}) AllocError) → (A → B) → OnOk r A → OnOk r B
+on_ok (Ok x) f h = f h
+on_ok (Err e) f h = tt
+
+module _ (service : Declarations) (w : World) (h : IsRunning service w) where
+  abbrev model : ModelWorld
+  model = world_of service w
+
+  abbrev sv : Service Value StateValue
+  sv = service_of service w.seed
+
+  -- each step is kept
+  pub kept_next : (line : ScheduleLine) → LineFits (nodes_of w) (length w.requests) service.lanes line → IsKept service w.seed (nodes_of w) (step_in service w line).world
+  kept_next line fits = step_kept service h.service_is h.checked w.requests h.requests w.seed (nodes_of w) h.few model line fits h.kept
+
+  -- what a node knows after a call that keeps the model runs from the start
+  pub runs_after : (m : ℕ) → IsNode (nodes_of w) m → (call : CallHere → CallHere)
+      → ((d : CallHere) → KeepsAll (nodes_of w) sv (logs model) (roles model) model.messages m d → KeepsAll (nodes_of w) sv (logs model) (roles model) model.messages m (call d))
+      → RunsOn service call (begin (node_at model.nodes m))
+  runs_after m there call keeps = subst (λ (x : Here). values_fit service (known x.log) ≡ true) new ((next_fits service w.seed (nodes_of w) next ok).known m there)
+    where
+      d : CallHere
+      d = call (begin (node_at model.nodes m))
+
+      next : ModelWorld
+      next = (after model m d).world
+
+      ok : IsWorld (nodes_of w) sv next
+      ok = (called (nodes_of w) sv model h.kept.world m there call keeps).0
+
+      inside : IsNode (length model.nodes) m
+      inside = subst (λ (k : ℕ). IsNode k m) (sym (many_here service w.seats.items)) there
+
+      new : node_at (put model.nodes m d.node) m ≡ d.node
+      new = node_put model.nodes m d.node m inside ∙ ap (λ (t : Bool). cond t d.node (node_at model.nodes m)) (eq-eqb m m refl)
+
+  -- the messages of a step have their numbers in their ranges
+  pub sends_fit : (m : ℕ) (call : CallHere → CallHere) (there : Here) (outcome : Result Step Refusal) → Acts call m (node_at model.nodes m) there outcome → IsKept service w.seed (nodes_of w) (at_node model m call).world
+      → IfOk outcome (λ (step : Step). All IsMessage step.sends)
+  sends_fit m call there (Err refusal) acts kept = tt
+  sends_fit m call there (Ok step) acts kept = all_fit service (nodes_of w) h.few next next_kept.numbers (kept_right service w.seed (nodes_of w) next h.service_is h.checked next_kept).short step.sends inside
+    where
+      d : CallHere
+      d = call (begin (node_at model.nodes m))
+
+      next : ModelWorld
+      next = (after model m d).world
+
+      next_kept : IsKept service w.seed (nodes_of w) next
+      next_kept = subst (λ (t : Bool). IsKept service w.seed (nodes_of w) (if_up t model m d).world) acts.up kept
+
+      inside : (x : Message Value) → IsIn x (map message_in step.sends) → IsIn x next.messages
+      inside x i = is_behind model.messages d.sends x (subst (IsIn x) acts.sends i)
+
+  -- as many seats as there were are the world's
+  seats_are : (ws : List Seat) → length ws ≡ nodes_of w → (with_items w.seats ws).items ≡ ws
+  seats_are ws many = with_items_is w.seats ws (many ∙ sym w.seats.ok.0)
+
+  -- a call of the nodes came to a row of the model
+  pub came : (m : ℕ) (xs : List Seat) (e : xs ≡ w.seats.items) (call : List Seat → CallHere → CallHere) (ws : List Seat) (outcome : Result Step Refusal) (w2 : World) (told told2 : Told) (r : Result (Unit {0}) AllocError)
+      → ActsAt service w.seed (call xs) m xs ws outcome → IsKept service w.seed (nodes_of w) (at_node model m (call w.seats.items)).world
+      → OnOk r (IsTold m (record w { seats = with_items w.seats ws }) w2 told told2 outcome) → OnOk r (ComesTo service w w2 told told2 (at_node model m (call w.seats.items)))
+  came m xs e call ws outcome w2 told told2 r acts kept told-is =
+      let many : length ws ≡ nodes_of w = acts.changed.many ∙ ap length e in
+      let b : ActsAt service w.seed (call w.seats.items) m w.seats.items ws outcome = subst (λ (ys : List Seat). ActsAt service w.seed (call ys) m ys ws outcome) e acts in
+      let a : ActsAt service w.seed (call w.seats.items) m w.seats.items (with_items w.seats ws).items outcome =
+      subst (λ (ys : List Seat). ActsAt service w.seed (call w.seats.items) m w.seats.items ys outcome) (sym (seats_are ws many)) b in
+      on_ok r (λ t. comes service w w2 (with_items w.seats ws) told told2 h m (call w.seats.items) kept a.changed.others a.changed.many outcome a.acts a.changed.seats t) told-is
+
+  -- the messages of a call have their numbers in their ranges
+  pub call_fits : (m : ℕ) (xs : List Seat) (e : xs ≡ w.seats.items) (call : List Seat → CallHere → CallHere) (ws : List Seat) (outcome : Result Step Refusal)
+      → ActsAt service w.seed (call xs) m xs ws outcome → IsKept service w.seed (nodes_of w) (at_node model m (call w.seats.items)).world → IfOk outcome (λ (step : Step). All IsMessage step.sends)
+  call_fits m xs e call ws outcome acts kept =
+      let a : ActsAt service w.seed (call w.seats.items) m w.seats.items ws outcome = subst (λ (ys : List Seat). ActsAt service w.seed (call ys) m ys ws outcome) e acts in
+      sends_fit m (call w.seats.items) (node_at (heres service ws) m) outcome a.acts kept
+
+  -- ---- what each kind of call needs
+
+  module _ (xs : List Seat) (e : xs ≡ w.seats.items) (m : ℕ) (there : IsNode (nodes_of w) m) where
+    -- a fact of the world's nodes
+    among : (P : List Seat → Type 0) → P w.seats.items → P xs
+    among P h = subst P (sym e) h
+
+    pub elect_runs : RunsOn service (calls.elect (length xs) sv m) (begin (node_at (heres service xs) m))
+    elect_runs =
+        among (λ (ys : List Seat). RunsOn service (calls.elect (length ys) sv m) (begin (node_at (heres service ys) m)))
+        (runs_after m there (calls.elect (nodes_of w) sv m) (elect_good (nodes_of w) sv (logs model) (roles model) model.messages m there h.few))
+
+    pub cut_runs : (limits : Option (List ℕ)) → RunsOn service (lanes.cut service w.seed (length xs) m (counts_for service (node_at (heres service xs) m) limits)) (begin (node_at (heres service xs) m))
+    cut_runs limits =
+        among (λ (ys : List Seat). RunsOn service (lanes.cut service w.seed (length ys) m (counts_for service (node_at (heres service ys) m) limits)) (begin (node_at (heres service ys) m)))
+        (runs_after m there (lanes.cut service w.seed (nodes_of w) m (counts_for service (node_at model.nodes m) limits))
+        (λ d good. cut_good service w.seed (nodes_of w) (logs model) (roles model) model.messages m there (counts_for service (node_at model.nodes m) limits) d good))
+
+    pub can_cut : (limits : Option (List ℕ)) → AreLimits service limits → (node_at (heres service xs) m).up ≡ true → CanBeCut (node_at (heres service xs) m) (counts_for service (node_at (heres service xs) m) limits)
+    can_cut limits l = among (λ (ys : List Seat). (node_at (heres service ys) m).up ≡ true → CanBeCut (node_at (heres service ys) m) (counts_for service (node_at (heres service ys) m) limits)) (can_be_cut service w h m there limits l)
+
+    pub has_room : (lane : ℕ) → (node_at (heres service xs) m).up ≡ true → (lane_of (lanes.live_state service (node_at (heres service xs) m)) lane).done + 1 < 2 ^ 32
+    has_room lane = among (λ (ys : List Seat). (node_at (heres service ys) m).up ≡ true → (lane_of (lanes.live_state service (node_at (heres service ys) m)) lane).done + 1 < 2 ^ 32) (room service w h m there lane)
+
+    pub starts_from : Starts service (node_at (heres service xs) m)
+    starts_from = among (λ (ys : List Seat). Starts service (node_at (heres service ys) m)) (fit service w h m there)
+
+  -- the row of a cut
+  pub cut_row : (m : ℕ) (limits : Option (List ℕ)) → step_in service w (cut_line m limits) ≡ at_node model m (lanes.cut service w.seed (nodes_of w) m (counts_for service (node_at model.nodes m) limits))
+  cut_row m None = refl
+  cut_row m (Some limits) = refl
+
+  pub cut_fits : (m : ℕ) (limits : Option (List ℕ)) → IsNode (nodes_of w) m → AreLimits service limits → LineFits (nodes_of w) (length w.requests) service.lanes (cut_line m limits)
+  cut_fits m None there l = there
+  cut_fits m (Some limits) there l = (there, l)
+
+  pub cut_kept : (m : ℕ) (limits : Option (List ℕ)) → IsNode (nodes_of w) m → AreLimits service limits
+      → IsKept service w.seed (nodes_of w) (at_node model m (lanes.cut service w.seed (nodes_of w) m (counts_for service (node_at model.nodes m) limits))).world
+  cut_kept m limits there l = subst (λ (r : Row). IsKept service w.seed (nodes_of w) r.world) (cut_row m limits) (kept_next (cut_line m limits) (cut_fits m limits there l))
+
+  pub cut_came : (m : ℕ) (limits : Option (List ℕ)) (w2 : World) (told told2 : Told) (r : Result (Unit {0}) AllocError)
+      → OnOk r (ComesTo service w w2 told told2 (at_node model m (lanes.cut service w.seed (nodes_of w) m (counts_for service (node_at model.nodes m) limits))))
+      → OnOk r (ComesTo service w w2 told told2 (step_in service w (cut_line m limits)))
+  cut_came m limits w2 told told2 r c = subst (λ (x : Row). OnOk r (ComesTo service w w2 told told2 x)) (sym (cut_row m limits)) c
+
+  -- ---- requests
+
+  abbrev submits : Option Request → CallHere → CallHere
+  submits request d = lanes.active_only (is_active d.node.role) d (lanes.submit_request service request d)
+
+  pub submit_acts : (m k : ℕ) (requests : List Request) (x : Request) (xs ws : List Seat) (outcome : Result Step Refusal) → requests ≡ w.requests → x ≡ slice_index_or requests k x → k < length w.requests
+      → ActsAt service w.seed (λ (d : CallHere). lanes.active_only (is_active d.node.role) d (lanes.submit_request service (Some x) d)) m xs ws outcome
+      → ActsAt service w.seed (λ (d : CallHere). lanes.active_only (is_active d.node.role) d (lanes.submit_request service (slice_get w.requests k) d)) m xs ws outcome
+  submit_acts m k requests x xs ws outcome e is l acts =
+      let there : x ≡ slice_index_or w.requests k x = subst (λ (rs : List Request). x ≡ slice_index_or rs k x) e is in
+      let found : slice_get w.requests k ≡ Some x = slice_get-get_or w.requests k x l ∙ ap (λ (y : Request). let o : Option Request = Some y in o) (sym there) in
+      subst (λ (o : Option Request). ActsAt service w.seed (submits o) m xs ws outcome) (sym found) acts
+
+  -- ---- starts
+
+  pub start_came : (m : ℕ) (xs : List Seat) (e : xs ≡ w.seats.items) (ws : List Seat) (outcome : Result Step Refusal) (w2 : World) (told told2 : Told) (r : Result (Unit {0}) AllocError)
+      → IsNode (nodes_of w) m → StartsAt service w.seed m xs ws outcome
+      → OnOk r (IsTold m (record w { seats = with_items w.seats ws }) w2 told told2 outcome) → OnOk r (ComesTo service w w2 told told2 (step_in service w (line.Start m)))
+  start_came m xs e ws outcome w2 told told2 r there starts told-is =
+      let many : length ws ≡ nodes_of w = starts.changed.many ∙ ap length e in
+      let b : StartsAt service w.seed m w.seats.items ws outcome = subst (λ (ys : List Seat). StartsAt service w.seed m ys ws outcome) e starts in
+      let a : StartsAt service w.seed m w.seats.items (with_items w.seats ws).items outcome = subst (λ (ys : List Seat). StartsAt service w.seed m w.seats.items ys outcome) (sym (seats_are ws many)) b in
+      on_ok r (λ t. comes_started service w w2 (with_items w.seats ws) told told2 h m outcome a.starts a.changed.others a.changed.many a.changed.seats (kept_next (line.Start m) there) t) told-is

@@ -1,0 +1,110 @@
+-- A node of a running world is active, or has no live events.
+use Rattle.std.proofs.Common.{◌≡◌, ◌⊎◌, inl, inr, ℕ, ◌+◌, ◌-◌, ◌^◌, ◌<◌, ◌≤◌, true, List, [], ◌∷◌, ◌++◌, length, Option, Some, None, is_some, refl, sym, ◌∙◌, ap, subst, arith}
+use Rattle.std.specs.Prelude.{unwrap_or, slice_index_or}
+use Rattle.std.specs.List.{list_all}
+use Rattle.std.proofs.lemmas.Bool.{and_parts}
+use Rattle.std.proofs.lemmas.List.{append-nil}
+use Rattle.rex_syntax.specs.declared.service.Declarations.{Declarations}
+use Rattle.rex_event.specs.declared.event.Event.{Event}
+use Rattle.rex_event.specs.Cuts.{below}
+use Rattle.rex_cut.specs.Greatest.{greatest_cut}
+use Rattle.rex_scenario.specs.Fits.{IsNode}
+use Rattle.rex_paxos.specs.Acceptor.{AcceptorValue}
+use Rattle.rex_paxos.specs.Proposer.{ProposerValue}
+use Rattle.rex_state.specs.Value.{StateValue}
+use Rattle.rex_state.specs.Start.{start_of}
+use Rattle.rex_state.specs.Machine.{lane_of}
+use Rattle.rex_safety.specs.Records.{known}
+use Rattle.rex_safety.specs.Node.{Lead, Role, Work}
+use Rattle.rex_safety.specs.Node.Role.{Leads}
+use Rattle.rex_safety.specs.Values.{Value, spells, runs, trace_of, state_after, values_fit}
+use Rattle.rex_safety.specs.Lanes.{Here, live_state, node_trace}
+use Rattle.rex_safety.specs.World.{node_at}
+use Rattle.rex_safety.specs.Keeping.{AreCounts}
+use Rattle.rex_safety.proofs.Few.{counts_are_few}
+use Rattle.rex_safety.proofs.Nexts.{next_fits}
+use Rattle.rex_safety.proofs.Spelled.{kept_room, kept_cut}
+use Rattle.rex_node.specs.Parts.{ActingValue, IsActing, role_of, work_of}
+use Rattle.rex_node.specs.Calls.{AreLimits, CanBeCut, counts_for}
+use Rattle.rex_world.specs.declared.seats.Seat.{Seat}
+use Rattle.rex_world.specs.declared.seats.Seat.TheVariants.{Running, Stopped}
+use Rattle.rex_world.specs.declared.world.World.{World}
+use Rattle.rex_world.specs.Seats.{IsSeat, here_in, heres}
+use Rattle.rex_world.specs.World.{world_of, nodes_of}
+use Rattle.rex_world.specs.Kept.{IsRunning}
+use Rattle.rex_world.proofs.Headlines.{fit_run}
+use Rattle.rex_world.proofs.Seated.{here_is, seat_is}
+
+-- it is active, or has no live events
+abbrev Works : Role Value → Work → Type 0
+Works role work = ((l : Lead Value) × (role ≡ Leads l) × (l.active ≡ true)) ⊎ (work.live ≡ [])
+
+parts_work : (service : Declarations) (values : List Value) (a : AcceptorValue) (p : Option ProposerValue) (x : Option ActingValue) → IsActing service values a p x → Works (role_of a p (is_some x)) (work_of x)
+parts_work service values a p None h = inr refl
+parts_work service values a None (Some x) h = absurd h
+parts_work service values a (Some p) (Some x) h = inl (_, refl, refl)
+
+seat_works : (service : Declarations) (seed nodes number : ℕ) (seat : Seat) → IsSeat service seed nodes number seat → (here_in service seat).up ≡ true → Works (here_in service seat).role (here_in service seat).work
+seat_works service seed nodes number (Running node) h up = parts_work service node.known node.acceptor node.proposer node.acting ((h.node.up up).acting)
+seat_works service seed nodes number (Stopped keeper) h up = absurd (cc)
+
+-- a seat of a world that has some
+spare : (xs : List Seat) → 0 < length xs → Seat
+spare [] l = absurd (omega arith)
+spare (x ∷ xs) l = x
+
+module _ (service : Declarations) (w : World) (h : IsRunning service w) (m : ℕ) (there : IsNode (nodes_of w) m) where
+  abbrev here : Here
+  here = node_at (heres service w.seats.items) m
+
+  works : here.up ≡ true → Works here.role here.work
+  works up =
+      let d = spare w.seats.items (omega (arith, there.0, there.1)) in
+      let e : here ≡ here_in service (slice_index_or w.seats.items (m - 1) d) = here_is service w.seats.items m there d in
+      subst (λ (x : Here). Works x.role x.work) (sym e)
+      (seat_works service w.seed (nodes_of w) m (slice_index_or w.seats.items (m - 1) d) (seat_is service w.seats.items m there d w.seed (nodes_of w) h.seats) (subst (λ (x : Here). x.up ≡ true) e up))
+
+  pub fit : values_fit service (known here.log) ≡ true
+  fit = (next_fits service w.seed (nodes_of w) (world_of service w) h.kept.world).known m there
+
+  few : length (known here.log) ≤ 65535
+  few = (h.kept.numbers.nodes m there).log.few
+
+  -- the count of a lane has room
+  abbrev HasRoom : ℕ → Here → Type 0
+  HasRoom lane x = (lane_of (live_state service x) lane).done + 1 < 2 ^ 32
+
+  known_room : (lane : ℕ) → here.work.live ≡ [] → HasRoom lane here
+  known_room lane none =
+      let r = fit_run service (known here.log) fit in
+      let e : node_trace here ≡ trace_of (known here.log) = ap (λ (es : List Event). trace_of (known here.log) ++ es) none ∙ append-nil (trace_of (known here.log)) in
+      let s : live_state service here ≡ r.0 = ap (state_after service) e ∙ ap (λ (o : Option StateValue). unwrap_or o (start_of service)) r.1 in
+      let most = counts_are_few service (known here.log) r.0 lane (and_parts (list_all (spells service) (known here.log)) (runs service (trace_of (known here.log))) fit).0 r.1 in
+      subst (λ (t : StateValue). (lane_of t lane).done + 1 < 2 ^ 32) (sym s) (omega (arith, most, few))
+
+  room_by : (lane : ℕ) → Works here.role here.work → HasRoom lane here
+  room_by lane (inl a) = (kept_room service h.service_is h.checked w.seed (nodes_of w) (world_of service w) h.kept m a.0 a.1 a.2 lane).room
+  room_by lane (inr none) = known_room lane none
+
+  pub room : (lane : ℕ) → here.up ≡ true → HasRoom lane here
+  room lane up = room_by lane (works up)
+
+  -- a cut can be made
+  cut_with : (counts : List ℕ) → AreCounts service here counts → Works here.role here.work → CanBeCut here counts
+  cut_with counts are (inl a) =
+      let c = kept_cut service h.service_is h.checked w.seed (nodes_of w) (world_of service w) h.kept m a.0 a.1 a.2 counts are in
+      λ some. record { delta = c.delta some; short = c.short some }
+  cut_with counts are (inr none) = λ some. absurd (nothing some)
+    where
+      empty : below (greatest_cut counts here.work.live) here.work.live ≡ []
+      empty = ap (below (greatest_cut counts here.work.live)) none
+
+      nothing : 0 < length (below (greatest_cut counts here.work.live) here.work.live) → ⊥
+      nothing some = absurd (omega (arith, some, ap length empty))
+
+  counts_are : (limits : Option (List ℕ)) → AreLimits service limits → AreCounts service here (counts_for service here limits)
+  counts_are None l = inl refl
+  counts_are (Some limits) l = inr (limits, l, refl)
+
+  pub can_be_cut : (limits : Option (List ℕ)) → AreLimits service limits → here.up ≡ true → CanBeCut here (counts_for service here limits)
+  can_be_cut limits l up = cut_with (counts_for service here limits) (counts_are limits l) (works up)

@@ -1,0 +1,10 @@
+use Rattle.std.proofs.Common.{length}
+use Rattle.rex_world.proofs.Seated.{seat_is, acts_at}
+use Rattle.rex_world.proofs.places.replay_at.Goals as goal
+
+pub replay-requires-clause-seat : goal.replay-requires-clause-seat
+replay-requires-clause-seat g c = seat_is c.args.svc.now c.args.seats.now c.args.number c.requires.there c.index-seats-number.result c.args.seed (length c.args.seats.now) c.requires.seats
+
+pub returns-clause-acts : goal.returns-clause-acts
+returns-clause-acts g c =
+    acts_at c.args.svc.now c.args.seats.now c.args.number c.requires.there c.index-seats-number.result c.args.seed _ c.replay.new.self c.replay.result c.requires.seats c.replay.ensures.acts c.replay.ensures.seat

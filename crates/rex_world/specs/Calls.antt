@@ -1,0 +1,165 @@
+-- What a call of a node comes to in a world.
+use Rattle.std.specs.Prelude.{◌≡◌, ℕ, suc, drop, Bool, true, false, List, [], ◌∷◌, ◌++◌, length, map, replicate, Option, Some, None, Result, Ok, Err}
+use Rattle.std.specs.List.{All}
+use Rattle.rex_syntax.specs.declared.service.Declarations.{Declarations}
+use Rattle.rex_report.specs.declared.effect.Effect.{Effect}
+use Rattle.rex_report.specs.declared.effect.Effect.TheVariants as effect
+use Rattle.rex_safety.specs.Records.{known}
+use Rattle.rex_safety.specs.Calls.{begin, say, start}
+use Rattle.rex_safety.specs.Values.{values_fit}
+use Rattle.rex_safety.specs.Lanes.{Here, CallHere}
+use Rattle.rex_syntax.specs.declared.request.Request.{Request}
+use Rattle.rex_scenario.specs.declared.scenario.ScheduleLine.{ScheduleLine}
+use Rattle.rex_scenario.specs.declared.scenario.ScheduleLine.TheVariants.{Cut, CutBelow, Deliver, Flush}
+use Rattle.rex_safety.specs.World.{World as ModelWorld, Row, step, steps, sent_from}
+use Rattle.rex_msg.specs.declared.message.Message.{Message as Sent}
+use Rattle.rex_msg.specs.Spelling.{HasSpelling, spelling_of}
+use Rattle.rex_node.specs.declared.refusal.Refusal.{Refusal}
+use Rattle.rex_node.specs.declared.refusal.Refusal.TheVariants as why
+use Rattle.rex_node.specs.declared.step.Step.{Step}
+use Rattle.rex_node.specs.Messages.{message_in}
+use Rattle.rex_world.specs.declared.told.Told.{Told}
+use Rattle.rex_world.specs.declared.world.World.{World}
+use Rattle.rex_world.specs.World.{nodes_of, world_of}
+use Rattle.rex_world.specs.Kept.{IsRunning, IsSame}
+
+-- what is reported of a refusal; want of memory ends the run
+abbrev pub effect_of : ℕ → Refusal → Effect
+effect_of node why.Down = effect.IsDown node
+effect_of node (why.NotActive role) = effect.NotActive role
+effect_of node (why.Open instance) = effect.Open instance
+effect_of node why.Ended = effect.Ended
+effect_of node why.Nothing = effect.Nothing
+effect_of node (why.Live events) = effect.Live events
+effect_of node why.UpToDate = effect.UpToDate node
+effect_of node why.Spent = effect.Spent node
+effect_of node why.OutOfMemory = effect.Nothing
+
+-- a node that is up did this call of the model, with its messages and its effects
+pub record IsDone (call : CallHere → CallHere) (before after : Here) (step : Step) : Type 0 where
+  pub up : before.up ≡ true
+  pub node : after ≡ (call (begin before)).node
+  pub sends : map message_in step.sends ≡ (call (begin before)).sends
+  pub effects : step.effects ≡ (call (begin before)).effects
+
+-- it refused: it is as it was, and the model's call says so too
+pub record IsRefused (call : CallHere → CallHere) (number : ℕ) (before after : Here) (refusal : Refusal) : Type 0 where
+  pub up : before.up ≡ true
+  pub same : after ≡ before
+  pub says : call (begin before) ≡ say (effect_of number refusal) (begin before)
+
+-- it is down, and as it was
+pub record WasDown (before after : Here) : Type 0 where
+  pub down : before.up ≡ false
+  pub same : after ≡ before
+
+-- what a call of a node came to
+abbrev pub Acts : (CallHere → CallHere) → ℕ → Here → Here → Result Step Refusal → Type 0
+Acts call number before after (Ok step) = IsDone call before after step
+Acts call number before after (Err why.OutOfMemory) = Unit {0}
+Acts call number before after (Err why.Down) = WasDown before after
+Acts call number before after (Err refusal) = IsRefused call number before after refusal
+
+-- the step of a call that reports one effect of what it gave, and sends nothing
+pub record IsTelling (e : Effect) (step : Step) : Type 0 where
+  pub effects : step.effects ≡ e ∷ []
+  pub sends : step.sends ≡ []
+
+abbrev pub TellsOf : {A : Type 0} → (A → Effect) → Result A Refusal → Result Step Refusal → Type 0
+TellsOf f (Ok x) (Ok step) = IsTelling (f x) step
+TellsOf f (Ok x) (Err refusal) = refusal ≡ why.OutOfMemory
+TellsOf f (Err refusal) result = result ≡ Err refusal
+
+-- what the node knows are deltas that run from the start
+abbrev pub Starts : Declarations → Here → Type 0
+Starts service x = values_fit service (known x.log) ≡ true
+
+-- only a node that is down starts: the step is that of the model's call, or it says that the node is up
+pub record IsUpAgain (number : ℕ) (before after : Here) (step : Step) : Type 0 where
+  pub same : after ≡ before
+  pub sends : step.sends ≡ []
+  pub effects : step.effects ≡ effect.IsUp number ∷ []
+
+pub record HasStarted (number : ℕ) (before after : Here) (step : Step) : Type 0 where
+  pub node : after ≡ (start number (begin before)).node
+  pub sends : step.sends ≡ []
+  pub effects : step.effects ≡ (start number (begin before)).effects
+
+abbrev pub StartsIf : Bool → ℕ → Here → Here → Step → Type 0
+StartsIf true number before after step = IsUpAgain number before after step
+StartsIf false number before after step = HasStarted number before after step
+
+abbrev pub IsStarted : ℕ → Here → Here → Result Step Refusal → Type 0
+IsStarted number before after (Ok step) = StartsIf before.up number before after step
+IsStarted number before after (Err refusal) = refusal ≡ why.OutOfMemory
+
+-- memory was not short
+abbrev pub IsWhole : {A : Type 0} → Result A Refusal → Type 0
+IsWhole (Ok x) = Unit {0}
+IsWhole (Err why.OutOfMemory) = ⊥
+IsWhole (Err refusal) = Unit {0}
+
+-- the world came to a row of the model: its effects were told behind those before, and what it sent beside them
+pub record Did (before after : ModelWorld) (old new : Told) (r : Row) : Type 0 where
+  pub world : after ≡ r.world
+  pub effects : new.effects.items ≡ old.effects.items ++ r.effects
+  pub sent : new.sent.items ≡ old.sent.items ++ sent_from (suc (length before.messages)) (drop (length before.messages) r.world.messages)
+
+-- these messages were sent, under the next numbers: they have spellings, their bytes are kept, no line handed them over, and it is told of each
+pub record Sends (sends : List Sent) (before after : List (List ℕ)) (old_handed new_handed : List Bool) (old_sent new_sent : List Effect) : Type 0 where
+  pub spelled : All HasSpelling sends
+  pub net : after ≡ before ++ map spelling_of sends
+  pub handed : new_handed ≡ old_handed ++ replicate (length sends) false
+  pub sent : new_sent ≡ old_sent ++ sent_from (suc (length before)) (map message_in sends)
+
+-- a node's step was told, and its messages were sent; nothing else of the world changed
+pub record TellsStep (before after : World) (old new : Told) (step : Step) : Type 0 where
+  pub sends : Sends step.sends before.net after.net before.handed.items after.handed.items old.sent.items new.sent.items
+  pub effects : new.effects.items ≡ old.effects.items ++ step.effects
+  pub rest : after ≡ record before { net = after.net; handed = after.handed }
+
+-- a refusal of a node was told; the world is as it was
+pub record TellsRefusal (number : ℕ) (before after : World) (old new : Told) (refusal : Refusal) : Type 0 where
+  pub same : after ≡ before
+  pub effects : new.effects.items ≡ old.effects.items ++ effect_of number refusal ∷ []
+  pub sent : new.sent.items ≡ old.sent.items
+
+-- what a call of a node came to was told
+abbrev pub Tells : ℕ → (before after : World) → (old new : Told) → Result Step Refusal → Type 0
+Tells number before after old new (Ok step) = TellsStep before after old new step
+Tells number before after old new (Err why.OutOfMemory) = ⊥
+Tells number before after old new (Err refusal) = TellsRefusal number before after old new refusal
+
+-- the same, so that its parts can be read off
+pub record IsTold (number : ℕ) (before after : World) (old new : Told) (outcome : Result Step Refusal) : Type 0 where
+  pub tells : Tells number before after old new outcome
+
+-- so it did, with the world running before and after, over the same nodes, requests and seed, and with the same counts of lines and of flushed messages
+pub record ComesTo (service : Declarations) (before after : World) (old new : Told) (r : Row) : Type 0 where
+  pub did : Did (world_of service before) (world_of service after) old new r
+  pub running : IsRunning service after
+  pub same : IsSame before after
+  pub done : after.done ≡ before.done
+  pub flushed : after.flushed ≡ before.flushed
+
+-- a step of the model of the world
+abbrev pub step_in : Declarations → World → ScheduleLine → Row
+step_in service w line = step service w.requests w.seed (nodes_of w) (world_of service w) line
+
+abbrev pub Comes : Declarations → (before after : World) → (old new : Told) → ScheduleLine → Type 0
+Comes service before after old new line = ComesTo service before after old new (step_in service before line)
+
+-- the same of steps one after the other
+abbrev pub DidSteps : Declarations → List Request → (seed n : ℕ) → (before after : ModelWorld) → (old new : Told) → List ScheduleLine → Type 0
+DidSteps service requests seed n before after old new lines = Did before after old new (steps service requests seed n before lines)
+
+-- the line of a cut of all live events, or of at most so many of each lane
+abbrev pub cut_line : ℕ → Option (List ℕ) → ScheduleLine
+cut_line number None = Cut number
+cut_line number (Some limits) = CutBelow number limits
+
+-- a line that is a call of one node
+abbrev pub IsCall : ScheduleLine → Type 0
+IsCall (Deliver number) = ⊥
+IsCall Flush = ⊥
+IsCall _ = Unit {0}

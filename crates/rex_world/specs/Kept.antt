@@ -1,0 +1,37 @@
+-- What is kept of a world from line to line.
+use Rattle.std.specs.Prelude.{◌≡◌, ◌≤◌, Bool, true, false, length, take}
+use Rattle.std.specs.List.{All, list_all}
+use Rattle.rex_syntax.specs.declared.service.Declarations.{Declarations}
+use Rattle.rex_syntax.specs.Service.{IsService}
+use Rattle.rex_syntax.specs.Check.{IsChecked}
+use Rattle.rex_scenario.specs.Fits.{RequestFits}
+use Rattle.rex_scenario.specs.declared.scenario.Scenario.{Scenario}
+use Rattle.rex_safety.specs.Kept.{IsKept}
+use Rattle.rex_world.specs.declared.world.World.{World}
+use Rattle.rex_world.specs.Seats.{AreSeats}
+use Rattle.rex_world.specs.World.{IsSpelled, nodes_of, world_of}
+
+-- the service is a checked one; memory was never short; the world of the model is one that lines lead to; each node is kept, and its keeper doesn't fail; each message is spelled; requests fit; and each message below the flushed ones was handed over
+pub record IsRunning (service : Declarations) (w : World) : Type 0 where
+  pub service_is : IsService service
+  pub checked : IsChecked service
+  pub whole : w.broken ≡ false
+  pub few : nodes_of w ≤ 9
+  pub kept : IsKept service w.seed (nodes_of w) (world_of service w)
+  pub seats : AreSeats service w.seed (nodes_of w) 1 w.seats.items
+  pub spelled : All IsSpelled w.net
+  pub requests : All (RequestFits service) w.requests
+  pub flushed : w.flushed ≤ length w.handed.items
+  pub handed : list_all (λ (b : Bool). b) (take w.flushed w.handed.items) ≡ true
+
+-- the same nodes, requests and seed
+pub record IsSame (before after : World) : Type 0 where
+  pub nodes : nodes_of after ≡ nodes_of before
+  pub requests : after.requests ≡ before.requests
+  pub seed : after.seed ≡ before.seed
+
+-- the world is one of the scenario's
+pub record IsOf (s : Scenario) (w : World) : Type 0 where
+  pub nodes : nodes_of w ≡ s.nodes
+  pub requests : w.requests ≡ s.requests
+  pub seed : w.seed ≡ s.seed

@@ -1,0 +1,26 @@
+-- What a call of one node does to the nodes of a world.
+use Rattle.std.specs.Prelude.{◌≡◌, ℕ, List, length, Result}
+use Rattle.rex_syntax.specs.declared.service.Declarations.{Declarations}
+use Rattle.rex_safety.specs.Lanes.{CallHere}
+use Rattle.rex_safety.specs.World.{node_at, put}
+use Rattle.rex_node.specs.declared.refusal.Refusal.{Refusal}
+use Rattle.rex_node.specs.declared.step.Step.{Step}
+use Rattle.rex_world.specs.declared.seats.Seat.{Seat}
+use Rattle.rex_world.specs.Seats.{AreSeats, heres}
+use Rattle.rex_world.specs.Calls.{Acts, IsWhole, IsStarted}
+
+-- only the node of this number is another one, and where memory wasn't short each node is kept
+pub record IsChangedAt (service : Declarations) (seed number : ℕ) (before after : List Seat) (outcome : Result Step Refusal) : Type 0 where
+  pub others : heres service after ≡ put (heres service before) number (node_at (heres service after) number)
+  pub many : length after ≡ length before
+  pub seats : IsWhole outcome → AreSeats service seed (length before) 1 after
+
+-- the node of this number did this call of the model, or refused it
+pub record ActsAt (service : Declarations) (seed : ℕ) (call : CallHere → CallHere) (number : ℕ) (before after : List Seat) (outcome : Result Step Refusal) : Type 0 where
+  pub acts : Acts call number (node_at (heres service before) number) (node_at (heres service after) number) outcome
+  pub changed : IsChangedAt service seed number before after outcome
+
+-- the node of this number was started, or was up
+pub record StartsAt (service : Declarations) (seed number : ℕ) (before after : List Seat) (outcome : Result Step Refusal) : Type 0 where
+  pub starts : IsStarted number (node_at (heres service before) number) (node_at (heres service after) number) outcome
+  pub changed : IsChangedAt service seed number before after outcome

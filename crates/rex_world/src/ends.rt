@@ -1,0 +1,83 @@
+//! The end lines of a report.
+
+ghost use Rattle.std.specs.Prelude.{◌≡◌, ◌++◌, ◌≤◌, length, OnOk};
+ghost use Rattle.rex_node.specs.Parts.{IsNode, here_of, work_of};
+ghost use Rattle.rex_report.specs.Ends.{end_text};
+ghost use Rattle.rex_world.specs.Kept.{IsRunning};
+ghost use Rattle.rex_world.specs.Report as specs;
+ghost use Rattle.rex_world.specs.Report.{IsNumbered, end_of, ends_text, values_of};
+ghost use Rattle.rex_world.specs.Seats.{here_in, records_of};
+ghost use Rattle.rex_world.specs.World.{world_of};
+
+use crate::seats::Seat;
+use crate::world::World;
+use rex_node::Node;
+use rex_report::{End, Role, UpEnd, push_end};
+use rex_syntax::checked::Checked;
+use rex_traits::MemKeeper;
+use std::alloc::AllocError;
+
+// How many events are live at an active node; how many deltas another one has replayed.
+fn count_of(node: &Node<MemKeeper>) -> u32
+    requires { length (work_of node.now.acting).live ≤ 4096 }
+    ensures { result ≡ specs.count_of node.now }
+{
+    match node.role() {
+        Role::Active => node.live(),
+        _ => node.replayed(),
+    }
+}
+
+// What a node that is up came to.
+fn up_end_of(node: &Node<MemKeeper>) -> UpEnd
+    requires live { length (work_of node.now.acting).live ≤ 4096 }
+    requires known { length node.now.known ≤ 65535 }
+    ensures { result ≡ specs.up_end_of node.now }
+{
+    UpEnd {
+        node: node.id(),
+        role: node.role(),
+        promised: node.promised(),
+        known: node.known().len() as u32,
+        count: count_of(node),
+    }
+}
+
+// Appends the line of a node that was started.
+fn push_running(out: &mut Vec<u8>, svc: &Checked, node: &Node<MemKeeper>) -> Result<(), AllocError>
+    requires { IsNode records_of svc.now node.now }
+    ensures { OnOk result (out.new.items ≡ out.old.items ++ end_text (end_of node.now.id (here_of records_of svc.now node.now)) svc.now.variables (values_of svc.now (here_of records_of svc.now node.now))) }
+{
+    let variables = svc.declarations().variables.as_slice();
+    if !node.is_up() {
+        return push_end(out, &End::Down { node: node.id() }, variables, &[]);
+    }
+    push_end(out, &End::Up(up_end_of(node)), variables, node.variables())
+}
+
+// Appends the line of the node of this number.
+fn push_seat(out: &mut Vec<u8>, svc: &Checked, number: u8, seat: &Seat) -> Result<(), AllocError>
+    requires { IsNumbered svc.now number seat.now }
+    ensures { OnOk result (out.new.items ≡ out.old.items ++ end_text (end_of number (here_in svc.now seat.now)) svc.now.variables (values_of svc.now (here_in svc.now seat.now))) }
+{
+    match seat {
+        Seat::Running(node) => push_running(out, svc, node),
+        Seat::Stopped(_) => {
+            let variables = svc.declarations().variables.as_slice();
+            push_end(out, &End::Down { node: number }, variables, &[])
+        }
+    }
+}
+
+/// Appends the line of each node.
+pub(crate) fn push_ends(out: &mut Vec<u8>, svc: &Checked, world: &World) -> Result<(), AllocError>
+    requires { IsRunning svc.now world.now }
+    ensures { OnOk result (out.new.items ≡ out.old.items ++ ends_text svc.now 1 (world_of svc.now world.now).nodes) }
+{
+    let mut number = 1;
+    for seat in &world.seats {
+        push_seat(out, svc, number, seat)?;
+        number += 1;
+    }
+    Ok(())
+}

@@ -1,0 +1,99 @@
+//! How one message is found, and handed over.
+
+ghost use Rattle.std.specs.Prelude.{◌≡◌, ◌<◌, ◌≤◌, ◌-◌, true, length, slice_set, IfOk, OnOk};
+ghost use Rattle.rex_msg.specs.Spelling.{HasSpelling, spelling_of};
+ghost use Rattle.rex_scenario.specs.declared.scenario.ScheduleLine.TheVariants as line;
+ghost use Rattle.rex_world.specs.Kept.{IsRunning};
+ghost use Rattle.rex_world.specs.Calls.{Comes};
+ghost use Rattle.rex_world.specs.Finding.{IsSent, IsFound, IsMarked};
+
+use crate::calls::kind_of;
+use crate::places::on_message_at;
+use crate::told::Told;
+use crate::world::World;
+use rex_event::{Event, Kind};
+use rex_msg::{Message, decode};
+use rex_replay::Replayer;
+use rex_report::Effect;
+use rex_syntax::checked::Checked;
+use std::alloc::{AllocError, Global};
+
+// The message that bytes spell. Bytes that were sent do spell one.
+fn read(alloc: Global, bytes: &[u8]) -> Result<Message, AllocError>
+    ensures spelling { IfOk result (λ message. HasSpelling message) }
+    ensures spelled { IfOk result (λ message. bytes.now ≡ spelling_of message) }
+{
+    match decode(alloc, bytes) {
+        Ok(message) => Ok(message),
+        Err(_) => Err(AllocError),
+    }
+}
+
+impl World {
+    /// The message of a number, if there is one.
+    pub(crate) fn find(&self, number: u64) -> Result<Option<Message>, AllocError>
+        ensures { IfOk result (λ found. IsFound self.now.net number found) }
+    {
+        match self.net.get(number) {
+            None => Ok(None),
+            Some(bytes) => Ok(Some(read(self.alloc, bytes)?)),
+        }
+    }
+
+    // The message of a number was handed over.
+    fn mark(&mut self, number: u64)
+        requires some { 0 < number }
+        requires there { number ≤ length self.old.handed.items }
+        ensures { IsMarked number self.old self.new }
+    {
+        self.handed[number as usize - 1] = true;
+    }
+
+    /// Hands a message over to the node that it goes to.
+    pub(crate) fn hand_to_node<R: Replayer>(
+        &mut self,
+        svc: &Checked,
+        replayer: &mut R,
+        told: &mut Told,
+        number: u64,
+        message: &Message,
+    ) -> Result<(), AllocError>
+        requires running { IsRunning svc.now self.old }
+        requires ready { R.ready replayer.old }
+        requires sent { IsSent self.old.net number message.now }
+        ensures comes { OnOk result (Comes svc.now self.old self.new told.old told.new (line.Deliver number)) }
+        ensures ready { R.ready replayer.new }
+    {
+        told.effects.push(Effect::Delivered {
+            number,
+            kind: kind_of(&message.content),
+            from: message.from,
+            to: message.to,
+        })?;
+        self.mark(number);
+        let outcome = on_message_at(&mut self.seats, svc, replayer, self.seed, message);
+        self.tell(told, message.to, outcome)
+    }
+
+    /// Hands over the message of a number, if there is one.
+    pub(crate) fn deliver_one<R: Replayer>(
+        &mut self,
+        svc: &Checked,
+        replayer: &mut R,
+        told: &mut Told,
+        number: u64,
+    ) -> Result<(), AllocError>
+        requires running { IsRunning svc.now self.old }
+        requires ready { R.ready replayer.old }
+        ensures comes { OnOk result (Comes svc.now self.old self.new told.old told.new (line.Deliver number)) }
+        ensures ready { R.ready replayer.new }
+    {
+        match self.find(number)? {
+            Some(message) => self.hand_to_node(svc, replayer, told, number, &message),
+            None => {
+                told.effects.push(Effect::NoMessage { number })?;
+                Ok(())
+            }
+        }
+    }
+}

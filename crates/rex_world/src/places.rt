@@ -1,0 +1,201 @@
+//! Calls of the node of a number, among the nodes of a world.
+
+ghost use Rattle.std.specs.Prelude.{◌≡◌, ◌<◌, ◌≤◌, ◌+◌, ◌^◌, true, length, Some};
+ghost use Rattle.std.specs.Option.{option_copied};
+ghost use Rattle.rex_msg.specs.Spelling.{HasSpelling};
+ghost use Rattle.rex_scenario.specs.Fits.{IsNode, RequestFits};
+ghost use Rattle.rex_state.specs.Machine.{lane_of};
+ghost use Rattle.rex_safety.specs.Node.{is_active};
+ghost use Rattle.rex_safety.specs.Calls as calls;
+ghost use Rattle.rex_safety.specs.Calls.{begin};
+ghost use Rattle.rex_safety.specs.Lanes as lanes;
+ghost use Rattle.rex_safety.specs.Ranges.{MessageFits};
+ghost use Rattle.rex_safety.specs.Values.{service_of};
+ghost use Rattle.rex_safety.specs.World.{node_at};
+ghost use Rattle.rex_node.specs.Calls.{AreLimits, CanBeCut, counts_for};
+ghost use Rattle.rex_node.specs.Going.{RunsOn};
+ghost use Rattle.rex_node.specs.Messages.{content_in, message_in};
+ghost use Rattle.rex_world.specs.Seats.{AreSeats, heres};
+ghost use Rattle.rex_world.specs.Calls.{Starts};
+ghost use Rattle.rex_world.specs.Places.{ActsAt, StartsAt};
+
+use crate::seats::Seat;
+use rex_msg::Message;
+use rex_node::{Refusal, Step};
+use rex_replay::Replayer;
+use rex_syntax::checked::Checked;
+use rex_syntax::request::Request;
+use std::alloc::Global;
+
+/// The node asks to lead.
+pub(crate) fn elect_at<R: Replayer>(
+    seats: &mut [Seat],
+    svc: &Checked,
+    replayer: &mut R,
+    seed: u32,
+    number: u8,
+) -> Result<Step, Refusal>
+    requires there { IsNode (length seats.old) number }
+    requires few { length seats.old ≤ 9 }
+    requires seats { AreSeats svc.now seed (length seats.old) 1 seats.old }
+    requires ready { R.ready replayer.old }
+    requires runs { RunsOn svc.now (calls.elect (length seats.old) (service_of svc.now seed) number) (begin (node_at (heres svc.now seats.old) number)) }
+    ensures acts { ActsAt svc.now seed (calls.elect (length seats.old) (service_of svc.now seed) number) number seats.old seats.new result }
+    ensures ready { R.ready replayer.new }
+{
+    let nodes = seats.len() as u8;
+    seats[number as usize - 1].elect(svc, replayer, seed, nodes, number)
+}
+
+/// The node to which a message goes gets it.
+pub(crate) fn on_message_at<R: Replayer>(
+    seats: &mut [Seat],
+    svc: &Checked,
+    replayer: &mut R,
+    seed: u32,
+    message: &Message,
+) -> Result<Step, Refusal>
+    requires there { IsNode (length seats.old) message.now.to }
+    requires few { length seats.old ≤ 9 }
+    requires seats { AreSeats svc.now seed (length seats.old) 1 seats.old }
+    requires ready { R.ready replayer.old }
+    requires message { MessageFits (length seats.old) (message_in message.now) }
+    requires spelling { HasSpelling message.now }
+    requires runs { RunsOn svc.now (calls.receive (length seats.old) (service_of svc.now seed) message.now.to message.now.from (content_in message.now.content)) (begin (node_at (heres svc.now seats.old) message.now.to)) }
+    ensures acts { ActsAt svc.now seed (calls.receive (length seats.old) (service_of svc.now seed) message.now.to message.now.from (content_in message.now.content)) message.now.to seats.old seats.new result }
+    ensures ready { R.ready replayer.new }
+{
+    let nodes = seats.len() as u8;
+    seats[message.to as usize - 1].on_message(svc, replayer, seed, nodes, message)
+}
+
+/// A client hands a request to the node.
+pub(crate) fn submit_at(
+    seats: &mut [Seat],
+    alloc: Global,
+    svc: &Checked,
+    seed: u32,
+    number: u8,
+    request: &Request,
+) -> Result<Step, Refusal>
+    requires there { IsNode (length seats.old) number }
+    requires few { length seats.old ≤ 9 }
+    requires seats { AreSeats svc.now seed (length seats.old) 1 seats.old }
+    requires request { RequestFits svc.now request.now }
+    ensures acts { ActsAt svc.now seed (λ d. lanes.active_only (is_active d.node.role) d (lanes.submit_request svc.now (Some request.now) d)) number seats.old seats.new result }
+{
+    let nodes = seats.len() as u8;
+    seats[number as usize - 1].submit(alloc, svc, seed, nodes, number, request)
+}
+
+/// A lane of the node has its turn, after so many schedule lines.
+pub(crate) fn lane_at(
+    seats: &mut [Seat],
+    alloc: Global,
+    svc: &Checked,
+    seed: u32,
+    number: u8,
+    lane: u8,
+    done: u32,
+) -> Result<Step, Refusal>
+    requires there { IsNode (length seats.old) number }
+    requires few { length seats.old ≤ 9 }
+    requires seats { AreSeats svc.now seed (length seats.old) 1 seats.old }
+    requires lane { lane < svc.now.lanes }
+    requires count { (node_at (heres svc.now seats.old) number).up ≡ true → (lane_of (lanes.live_state svc.now (node_at (heres svc.now seats.old) number)) lane).done + 1 < 2 ^ 32 }
+    ensures acts { ActsAt svc.now seed (λ d. lanes.active_only (is_active d.node.role) d (lanes.lane_turn svc.now done lane d)) number seats.old seats.new result }
+{
+    let nodes = seats.len() as u8;
+    seats[number as usize - 1].lane(alloc, svc, seed, nodes, number, lane, done)
+}
+
+/// The node proposes live events: all of them, or at most so many of each lane.
+pub(crate) fn cut_at(
+    seats: &mut [Seat],
+    svc: &Checked,
+    seed: u32,
+    number: u8,
+    limits: Option<&[u32]>,
+) -> Result<Step, Refusal>
+    requires there { IsNode (length seats.old) number }
+    requires few { length seats.old ≤ 9 }
+    requires seats { AreSeats svc.now seed (length seats.old) 1 seats.old }
+    requires limits { AreLimits svc.now (option_copied limits) }
+    requires spelling { (node_at (heres svc.now seats.old) number).up ≡ true → CanBeCut (node_at (heres svc.now seats.old) number) (counts_for svc.now (node_at (heres svc.now seats.old) number) (option_copied limits)) }
+    requires runs { RunsOn svc.now (lanes.cut svc.now seed (length seats.old) number (counts_for svc.now (node_at (heres svc.now seats.old) number) (option_copied limits))) (begin (node_at (heres svc.now seats.old) number)) }
+    ensures acts { ActsAt svc.now seed (lanes.cut svc.now seed (length seats.old) number (counts_for svc.now (node_at (heres svc.now seats.old) number) (option_copied limits.entry))) number seats.old seats.new result }
+{
+    let nodes = seats.len() as u8;
+    seats[number as usize - 1].cut(svc, seed, nodes, number, limits)
+}
+
+/// The node replays what it knows.
+pub(crate) fn replay_at<R: Replayer>(
+    seats: &mut [Seat],
+    svc: &Checked,
+    replayer: &mut R,
+    seed: u32,
+    number: u8,
+) -> Result<Step, Refusal>
+    requires there { IsNode (length seats.old) number }
+    requires few { length seats.old ≤ 9 }
+    requires seats { AreSeats svc.now seed (length seats.old) 1 seats.old }
+    requires ready { R.ready replayer.old }
+    ensures acts { ActsAt svc.now seed (calls.replay number) number seats.old seats.new result }
+    ensures ready { R.ready replayer.new }
+{
+    let nodes = seats.len() as u8;
+    seats[number as usize - 1].replay(svc, replayer, seed, nodes, number)
+}
+
+/// The node asks another one for what it doesn't know.
+pub(crate) fn ask_at(
+    seats: &mut [Seat],
+    svc: &Checked,
+    seed: u32,
+    number: u8,
+    other: u8,
+) -> Result<Step, Refusal>
+    requires there { IsNode (length seats.old) number }
+    requires few { length seats.old ≤ 9 }
+    requires seats { AreSeats svc.now seed (length seats.old) 1 seats.old }
+    ensures acts { ActsAt svc.now seed (calls.ask number other) number seats.old seats.new result }
+{
+    let nodes = seats.len() as u8;
+    seats[number as usize - 1].ask(svc, seed, nodes, number, other)
+}
+
+/// The node is stopped.
+pub(crate) fn stop_at(
+    seats: &mut [Seat],
+    alloc: Global,
+    svc: &Checked,
+    seed: u32,
+    number: u8,
+) -> Result<Step, Refusal>
+    requires there { IsNode (length seats.old) number }
+    requires few { length seats.old ≤ 9 }
+    requires seats { AreSeats svc.now seed (length seats.old) 1 seats.old }
+    ensures acts { ActsAt svc.now seed (calls.stop number) number seats.old seats.new result }
+{
+    let nodes = seats.len() as u8;
+    seats[number as usize - 1].stop(alloc, svc, seed, nodes, number)
+}
+
+/// The node is started.
+pub(crate) fn start_at(
+    seats: &mut [Seat],
+    alloc: Global,
+    svc: &Checked,
+    seed: u32,
+    number: u8,
+) -> Result<Step, Refusal>
+    requires there { IsNode (length seats.old) number }
+    requires few { length seats.old ≤ 9 }
+    requires seats { AreSeats svc.now seed (length seats.old) 1 seats.old }
+    requires runs { Starts svc.now (node_at (heres svc.now seats.old) number) }
+    ensures starts { StartsAt svc.now seed number seats.old seats.new result }
+{
+    let nodes = seats.len() as u8;
+    seats[number as usize - 1].start(alloc, svc, seed, nodes, number)
+}

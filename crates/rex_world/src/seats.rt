@@ -1,0 +1,365 @@
+//! The places of nodes: a node that was started, or the keeper of one that was stopped.
+
+ghost use Rattle.std.specs.Prelude.{◌≡◌, ◌<◌, ◌≤◌, ◌+◌, ◌^◌, ◌∷◌, [], length, true, Some, IfOk, IfErr};
+ghost use Rattle.std.specs.Option.{option_copied};
+ghost use Rattle.rex_msg.specs.Spelling.{HasSpelling};
+ghost use Rattle.rex_scenario.specs.Fits.{RequestFits};
+ghost use Rattle.rex_state.specs.Machine.{lane_of};
+ghost use Rattle.rex_safety.specs.Node.{is_active};
+ghost use Rattle.rex_safety.specs.Calls as calls;
+ghost use Rattle.rex_safety.specs.Calls.{begin};
+ghost use Rattle.rex_safety.specs.Lanes as lanes;
+ghost use Rattle.rex_safety.specs.Ranges.{MessageFits};
+ghost use Rattle.rex_safety.specs.Values.{service_of};
+ghost use Rattle.rex_node.specs.Calls.{AreLimits, CanBeCut, counts_for};
+ghost use Rattle.rex_node.specs.Going.{RunsOn};
+ghost use Rattle.rex_node.specs.Messages.{content_in, message_in};
+ghost use Rattle.rex_node.specs.Submitting.{effect_of};
+ghost use Rattle.rex_report.specs.declared.effect.Effect.TheVariants as effect;
+ghost use Rattle.rex_world.specs.Seats.{IsSeat, here_in, is_up_in, keeper_in};
+ghost use Rattle.rex_world.specs.Calls.{Acts, IsWhole, Starts, IsStarted, TellsOf};
+
+use rex_event::{Event, Kind};
+use rex_list::List;
+use rex_msg::Message;
+use rex_node::{Answer, Node, Refusal, RestartFault, Step};
+use rex_record::Turn;
+use rex_replay::Replayer;
+use rex_report::Effect;
+use rex_syntax::checked::Checked;
+use rex_syntax::request::Request;
+use rex_traits::MemKeeper;
+use std::alloc::{AllocError, Global};
+use std::mem;
+
+/// A node that was started, or the keeper of one that was stopped.
+#[derive(Drop)]
+pub enum Seat {
+    Running(Node<MemKeeper>),
+    Stopped(MemKeeper),
+}
+
+// A step that reports this, and sends nothing.
+fn step_of(alloc: Global, effect: Effect) -> Result<Step, Refusal>
+    ensures effects { IfOk result (λ step. step.effects ≡ effect ∷ []) }
+    ensures sends { IfOk result (λ step. step.sends ≡ []) }
+    ensures memory { IfErr result (λ e. e ≡ Refusal.OutOfMemory) }
+{
+    let _event: Option<(Event, Kind)> = None;
+    let mut effects = List::new(alloc);
+    effects.push(effect)?;
+    Ok(Step {
+        effects,
+        sends: List::new(alloc),
+    })
+}
+
+// What is reported of an answer to a request.
+fn answer_effect(request: &Request, answer: Answer) -> Effect
+    ensures { result ≡ effect_of request.now answer }
+{
+    match answer {
+        Answer::Queued => Effect::Queued,
+        Answer::Waiting => Effect::Waiting,
+        Answer::Released { value } => Effect::Released {
+            client: request.client,
+            sequence: request.sequence,
+            value,
+        },
+        Answer::Old { last } => Effect::Old { last },
+        Answer::Gap { expected } => Effect::Gap { expected },
+    }
+}
+
+// What is reported of a lane's turn.
+fn turn_effect(lane: u8, turn: Turn) -> Effect
+    ensures { result ≡ lanes.turn_effect lane turn }
+{
+    match turn {
+        Turn::Done(event) => Effect::Recorded { event },
+        Turn::Full => Effect::Full { lane },
+        Turn::Idle => Effect::Idle { lane },
+        Turn::Held { by } => Effect::Held { lane, by },
+        Turn::Unsignalled => Effect::Unsignalled { lane },
+    }
+}
+
+// The step of an answer.
+fn answered(
+    alloc: Global,
+    request: &Request,
+    outcome: Result<Answer, Refusal>,
+) -> Result<Step, Refusal>
+    ensures { TellsOf (effect_of request.now) outcome result }
+{
+    match outcome {
+        Ok(answer) => step_of(alloc, answer_effect(request, answer)),
+        Err(refusal) => Err(refusal),
+    }
+}
+
+// The step of a turn.
+fn turned(alloc: Global, lane: u8, outcome: Result<Turn, Refusal>) -> Result<Step, Refusal>
+    ensures { TellsOf (lanes.turn_effect lane) outcome result }
+{
+    match outcome {
+        Ok(turn) => step_of(alloc, turn_effect(lane, turn)),
+        Err(refusal) => Err(refusal),
+    }
+}
+
+// The step of a node that has come up.
+fn started(alloc: Global, node: &Node<MemKeeper>) -> Result<Step, Refusal>
+    requires few { length node.now.known < 2 ^ 32 }
+    ensures effects { IfOk result (λ step. step.effects ≡ effect.Started node.now.id node.now.acceptor.promised (length node.now.known) node.now.replayed ∷ []) }
+    ensures sends { IfOk result (λ step. step.sends ≡ []) }
+    ensures memory { IfErr result (λ e. e ≡ Refusal.OutOfMemory) }
+{
+    step_of(
+        alloc,
+        Effect::Started {
+            node: node.id(),
+            promised: node.promised(),
+            known: node.known().len() as u32,
+            replayed: node.replayed(),
+        },
+    )
+}
+
+impl Seat {
+    // Whether the node is up.
+    fn is_up(&self) -> bool
+        ensures { result ≡ is_up_in self.now }
+    {
+        match self {
+            Seat::Running(node) => node.is_up(),
+            Seat::Stopped(_) => false,
+        }
+    }
+
+    // The keeper of the node; one without records is left in its place.
+    fn take_keeper(&mut self, alloc: Global) -> MemKeeper
+        ensures { result ≡ keeper_in self.old }
+    {
+        match mem::replace(self, Seat::Stopped(MemKeeper::new(alloc))) {
+            Seat::Running(node) => node.stop(),
+            Seat::Stopped(keeper) => keeper,
+        }
+    }
+
+    /// The node asks to lead.
+    pub(crate) fn elect<R: Replayer>(
+        &mut self,
+        svc: &Checked,
+        replayer: &mut R,
+        seed: u32,
+        nodes: u8,
+        number: u8,
+    ) -> Result<Step, Refusal>
+        requires seat { IsSeat svc.now seed nodes number self.old }
+        requires ready { R.ready replayer.old }
+        requires runs { RunsOn svc.now (calls.elect nodes (service_of svc.now seed) number) (begin (here_in svc.now self.old)) }
+        ensures acts { Acts (calls.elect nodes (service_of svc.now seed) number) number (here_in svc.now self.old) (here_in svc.now self.new) result }
+        ensures seat { IsWhole result → IsSeat svc.now seed nodes number self.new }
+        ensures ready { R.ready replayer.new }
+    {
+        match self {
+            Seat::Running(node) => node.elect(svc, replayer),
+            Seat::Stopped(_) => Err(Refusal::Down),
+        }
+    }
+
+    /// The node gets a message.
+    pub(crate) fn on_message<R: Replayer>(
+        &mut self,
+        svc: &Checked,
+        replayer: &mut R,
+        seed: u32,
+        nodes: u8,
+        message: &Message,
+    ) -> Result<Step, Refusal>
+        requires seat { IsSeat svc.now seed nodes message.now.to self.old }
+        requires ready { R.ready replayer.old }
+        requires message { MessageFits nodes (message_in message.now) }
+        requires spelling { HasSpelling message.now }
+        requires runs { RunsOn svc.now (calls.receive nodes (service_of svc.now seed) message.now.to message.now.from (content_in message.now.content)) (begin (here_in svc.now self.old)) }
+        ensures acts { Acts (calls.receive nodes (service_of svc.now seed) message.now.to message.now.from (content_in message.now.content)) message.now.to (here_in svc.now self.old) (here_in svc.now self.new) result }
+        ensures seat { IsWhole result → IsSeat svc.now seed nodes message.now.to self.new }
+        ensures ready { R.ready replayer.new }
+    {
+        match self {
+            Seat::Running(node) => node.on_message(svc, replayer, message),
+            Seat::Stopped(_) => Err(Refusal::Down),
+        }
+    }
+
+    /// A client hands a request to the node.
+    pub(crate) fn submit(
+        &mut self,
+        alloc: Global,
+        svc: &Checked,
+        seed: u32,
+        nodes: u8,
+        number: u8,
+        request: &Request,
+    ) -> Result<Step, Refusal>
+        requires seat { IsSeat svc.now seed nodes number self.old }
+        requires request { RequestFits svc.now request.now }
+        ensures acts { Acts (λ d. lanes.active_only (is_active d.node.role) d (lanes.submit_request svc.now (Some request.now) d)) number (here_in svc.now self.old) (here_in svc.now self.new) result }
+        ensures seat { IsWhole result → IsSeat svc.now seed nodes number self.new }
+    {
+        match self {
+            Seat::Running(node) => answered(alloc, request, node.submit(svc, request)),
+            Seat::Stopped(_) => Err(Refusal::Down),
+        }
+    }
+
+    /// A lane has its turn, after so many schedule lines.
+    pub(crate) fn lane(
+        &mut self,
+        alloc: Global,
+        svc: &Checked,
+        seed: u32,
+        nodes: u8,
+        number: u8,
+        lane: u8,
+        done: u32,
+    ) -> Result<Step, Refusal>
+        requires seat { IsSeat svc.now seed nodes number self.old }
+        requires there { lane < svc.now.lanes }
+        requires count { (here_in svc.now self.old).up ≡ true → (lane_of (lanes.live_state svc.now (here_in svc.now self.old)) lane).done + 1 < 2 ^ 32 }
+        ensures acts { Acts (λ d. lanes.active_only (is_active d.node.role) d (lanes.lane_turn svc.now done lane d)) number (here_in svc.now self.old) (here_in svc.now self.new) result }
+        ensures seat { IsWhole result → IsSeat svc.now seed nodes number self.new }
+    {
+        if !self.is_up() {
+            return Err(Refusal::Down);
+        }
+        match self {
+            Seat::Running(node) => turned(alloc, lane, node.lane(svc, lane, done as i64)),
+            Seat::Stopped(_) => Err(Refusal::Down),
+        }
+    }
+
+    /// The node proposes live events: all of them, or at most so many of each lane.
+    pub(crate) fn cut(
+        &mut self,
+        svc: &Checked,
+        seed: u32,
+        nodes: u8,
+        number: u8,
+        limits: Option<&[u32]>,
+    ) -> Result<Step, Refusal>
+        requires seat { IsSeat svc.now seed nodes number self.old }
+        requires limits { AreLimits svc.now (option_copied limits) }
+        requires spelling { (here_in svc.now self.old).up ≡ true → CanBeCut (here_in svc.now self.old) (counts_for svc.now (here_in svc.now self.old) (option_copied limits)) }
+        requires runs { RunsOn svc.now (lanes.cut svc.now seed nodes number (counts_for svc.now (here_in svc.now self.old) (option_copied limits))) (begin (here_in svc.now self.old)) }
+        ensures acts { Acts (lanes.cut svc.now seed nodes number (counts_for svc.now (here_in svc.now self.old) (option_copied limits.entry))) number (here_in svc.now self.old) (here_in svc.now self.new) result }
+        ensures seat { IsWhole result → IsSeat svc.now seed nodes number self.new }
+    {
+        if !self.is_up() {
+            return Err(Refusal::Down);
+        }
+        match self {
+            Seat::Running(node) => node.cut(svc, limits),
+            Seat::Stopped(_) => Err(Refusal::Down),
+        }
+    }
+
+    /// The node replays what it knows.
+    pub(crate) fn replay<R: Replayer>(
+        &mut self,
+        svc: &Checked,
+        replayer: &mut R,
+        seed: u32,
+        nodes: u8,
+        number: u8,
+    ) -> Result<Step, Refusal>
+        requires seat { IsSeat svc.now seed nodes number self.old }
+        requires ready { R.ready replayer.old }
+        ensures acts { Acts (calls.replay number) number (here_in svc.now self.old) (here_in svc.now self.new) result }
+        ensures seat { IsWhole result → IsSeat svc.now seed nodes number self.new }
+        ensures ready { R.ready replayer.new }
+    {
+        match self {
+            Seat::Running(node) => node.replay(svc, replayer),
+            Seat::Stopped(_) => Err(Refusal::Down),
+        }
+    }
+
+    /// The node asks another one for what it doesn't know.
+    pub(crate) fn ask(
+        &mut self,
+        svc: &Checked,
+        seed: u32,
+        nodes: u8,
+        number: u8,
+        other: u8,
+    ) -> Result<Step, Refusal>
+        requires seat { IsSeat svc.now seed nodes number self.old }
+        ensures acts { Acts (calls.ask number other) number (here_in svc.now self.old) (here_in svc.now self.new) result }
+        ensures seat { IsWhole result → IsSeat svc.now seed nodes number self.new }
+    {
+        match self {
+            Seat::Running(node) => node.ask(svc, other),
+            Seat::Stopped(_) => Err(Refusal::Down),
+        }
+    }
+
+    /// The node is stopped: its keeper is left.
+    pub(crate) fn stop(
+        &mut self,
+        alloc: Global,
+        svc: &Checked,
+        seed: u32,
+        nodes: u8,
+        number: u8,
+    ) -> Result<Step, Refusal>
+        requires seat { IsSeat svc.now seed nodes number self.old }
+        ensures acts { Acts (calls.stop number) number (here_in svc.now self.old) (here_in svc.now self.new) result }
+        ensures seat { IsWhole result → IsSeat svc.now seed nodes number self.new }
+    {
+        if !self.is_up() {
+            return Err(Refusal::Down);
+        }
+        let step = step_of(alloc, Effect::Stopped { node: number })?;
+        *self = Seat::Stopped(self.take_keeper(alloc));
+        Ok(step)
+    }
+
+    /// The node is started from what its keeper has. These are its own records, so none is bad, and a start that doesn't
+    /// come up is short of memory.
+    pub(crate) fn start(
+        &mut self,
+        alloc: Global,
+        svc: &Checked,
+        seed: u32,
+        nodes: u8,
+        number: u8,
+    ) -> Result<Step, Refusal>
+        requires there { (0 < number) × (number ≤ nodes) }
+        requires few { nodes ≤ 9 }
+        requires seat { IsSeat svc.now seed nodes number self.old }
+        requires runs { Starts svc.now (here_in svc.now self.old) }
+        ensures starts { IsStarted number (here_in svc.now self.old) (here_in svc.now self.new) result }
+        ensures seat { IsWhole result → IsSeat svc.now seed nodes number self.new }
+    {
+        if self.is_up() {
+            return step_of(alloc, Effect::IsUp { node: number });
+        }
+        let keeper = self.take_keeper(alloc);
+        match Node::restart(alloc, number, nodes, seed, svc, keeper) {
+            Ok(node) => {
+                let step = started(alloc, &node)?;
+                *self = Seat::Running(node);
+                Ok(step)
+            }
+            Err(not_started) => match not_started.fault {
+                RestartFault::OutOfMemory => {
+                    *self = Seat::Stopped(not_started.keeper);
+                    Err(Refusal::OutOfMemory)
+                }
+                RestartFault::BadRecord { .. } => unreachable!(),
+            },
+        }
+    }
+}
