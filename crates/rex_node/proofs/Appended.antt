@@ -1,6 +1,6 @@
 -- What stays of a node in memory, and what changes, where one record more is kept.
 use Rattle.std.proofs.Common.{◌≡◌, ℕ, suc, ◌≤◌, Bool, true, false, List, [], ◌∷◌, ◌++◌, length, take, Option, Some, None, refl, sym, ap, subst, ◌∙◌, arith, le_trans}
-use Rattle.std.specs.Prelude.{map, max, if◌then◌else◌}
+use Rattle.std.specs.Prelude.{map, max, is_some, if◌then◌else◌}
 use Rattle.std.proofs.Math.Nat.{max_comm}
 use Rattle.std.proofs.lemmas.List.{take-append-le}
 use Rattle.std.proofs.lemmas.List.Elements.{All-append, All-cons, All-filter}
@@ -31,7 +31,7 @@ use Rattle.rex_node.specs.declared.going.Going.TheVariants.{On, Down}
 use Rattle.rex_node.specs.Messages.{message_in}
 use Rattle.rex_node.specs.Calls.{armed_with}
 use Rattle.rex_node.specs.Going.{Leads, Fell, Appends, so_far}
-use Rattle.rex_node.specs.Parts.{failed_records, fallen, NodeValue, IsActing, IsProposer, IsUp, AreShort, here_of, log_of, rec_of, proposal_in, state_of}
+use Rattle.rex_node.specs.Parts.{failed_records, fallen, NodeValue, IsActing, IsProposer, IsUp, AreShort, here_of, log_of, rec_of, proposal_in, state_of, says_something}
 use Rattle.rex_node.proofs.GoingLemmas.{leads_append, fell_append}
 use Rattle.rex_node.proofs.Logs.{log_more}
 use Rattle.rex_node.proofs.Instances.{rising_zero, placed_kept}
@@ -80,6 +80,7 @@ module _ {K : Type 0} (records : K → List (List ℕ)) (service : Declarations)
     pub based : x.base ≤ x.replayed
     pub replayed : x.replayed ≤ length x.known
     pub ahead : x.acting ≡ None → run service (start_of service) (trace_of (take x.replayed x.known)) ≡ Some (state_of x)
+    pub caught_up : is_some x.acting ≡ true → x.replayed ≡ length x.known
     pub proposer : IsProposer x.nodes x.id x.acceptor x.proposer
     pub acting : IsActing service x.known x.acceptor x.proposer x.acting
     pub role : RoleFits (length x.known) (here_of records service x).role
@@ -96,6 +97,7 @@ module _ {K : Type 0} (records : K → List (List ℕ)) (service : Declarations)
       replayed = subst (λ (vs : List Value). x.replayed ≤ length vs) l.known b.replayed;
     };
     ahead = b.ahead;
+    caught_up = b.caught_up;
     short = l.short;
     proposer = b.proposer;
     acting = b.acting;
@@ -108,6 +110,7 @@ module _ {K : Type 0} (records : K → List (List ℕ)) (service : Declarations)
     based = subst (λ (n : ℕ). n ≤ x.replayed) (sym u.base) u.replayed.based;
     replayed = subst (λ (vs : List Value). x.replayed ≤ length vs) (sym u.known) u.replayed.replayed;
     ahead = u.ahead;
+    caught_up = u.caught_up;
     proposer = u.proposer;
     acting = u.acting;
     role = subst (λ (vs : List Value). RoleFits (length vs) (here_of records service x).role) (sym u.known) u.numbers.role;
@@ -170,18 +173,18 @@ module _ {K : Type 0} (service : Declarations) (x : NodeValue K) (log : List (Re
 abbrev pub call_at : Here → List (Message Value) → List Effect → CallHere
 call_at here sends effects = record { node = here; sends = sends; effects = effects }
 
-module _ {K : Type 0} (records : K → List (List ℕ)) (gives : K → List ℕ → Answer → K → Type 0) (faults : K → ℕ) (service : Declarations) (x y : NodeValue K) (before after : Draft) (r : KeptRec) (spelling : HasSpelling r) (due : IsDue (length (known (log_of service (records x.keeper)))) r) where
+module _ {K : Type 0} (records : K → List (List ℕ)) (gives : K → List ℕ → Answer → K → Type 0) (faults : K → ℕ) (service : Declarations) (x y : NodeValue K) (before after : Draft) (r : KeptRec) (spelling : HasSpelling r) (due : IsDue (length (known (log_of service (records x.keeper)))) r) (says : says_something service r ≡ true) where
   -- the records before
   abbrev pub old_log : List (Rec Value StateValue)
   old_log = log_of service (records x.keeper)
 
   -- what the record says
   abbrev pub said : Rec Value StateValue
-  said = rec_of service old_log r
+  said = rec_of service r
 
   -- the node is as it was, but for one record more
   pub appended_log : Appends records faults gives x y before after (record_bytes r) On → log_of service (records y.keeper) ≡ said ∷ old_log
-  appended_log h = ap (log_of service) h.0.records ∙ log_more service (records x.keeper) r spelling due
+  appended_log h = ap (log_of service) h.0.records ∙ log_more service (records x.keeper) r spelling due says
 
   pub appended_here : Appends records faults gives x y before after (record_bytes r) On → so_far records service y after ≡ logged said None (so_far records service x before)
   appended_here h = at y.keeper after.effects.items after.sends.items (appended_log h) h.0.parts h.1 h.2
@@ -209,7 +212,7 @@ module _ {K : Type 0} (records : K → List (List ℕ)) (gives : K → List ℕ 
         (at h.0.kept y.keeper after.effects.items after.sends.items h.0.records h.0.parts h.1 h.2)
       where
         log_in : (kept : Bool) → log_of service (failed_records kept (records x.keeper) (record_bytes r)) ≡ (if kept then said ∷ old_log else old_log)
-        log_in true = log_more service (records x.keeper) r spelling due
+        log_in true = log_more service (records x.keeper) r spelling due says
         log_in false = refl
 
         base_in : (kept : Bool) → x.base ≡ base (if kept then said ∷ old_log else old_log)

@@ -111,17 +111,17 @@ module _ {K : Type 0} (records : K → List (List ℕ)) (gives : K → List ℕ 
 
     module _ (y : NodeValue K) (mid : Draft) where
       pub stand_down : Appends records faults gives x y before mid (record_bytes (kept.Promised b)) Down → Ends records gives faults service whole x y before mid Down
-      stand_down h = recorded_down records gives faults service x y before mid node up (kept.Promised b) spelled tt refl whole then_on appends_is h
+      stand_down h = recorded_down records gives faults service x y before mid node up (kept.Promised b) spelled tt refl refl whole then_on appends_is h
 
       module _ (h : Appends records faults gives x y before mid (record_bytes (kept.Promised b)) On) where
         pub stand_stuck : (z : NodeValue K) → z.keeper ≡ y.keeper → z.base ≡ y.base → IsStuck records service x z
-        stand_stuck z keeper based = recorded_stuck records gives faults service x y before mid node up (kept.Promised b) spelled tt refl h z keeper based
+        stand_stuck z keeper based = recorded_stuck records gives faults service x y before mid node up (kept.Promised b) spelled tt refl refl h z keeper based
 
         abbrev z_at : NodeValue K
         z_at = record (standing x b) { keeper = y.keeper }
 
         log_is : log_of service (records y.keeper) ≡ Promised b ∷ log
-        log_is = appended_log records gives faults service x y before mid (kept.Promised b) spelled tt h
+        log_is = appended_log records gives faults service x y before mid (kept.Promised b) spelled tt refl h
 
         promised_here : IsLogged service (record x { acceptor = promising x.acceptor b }) (Promised b ∷ log)
         promised_here = logged_promised service x log (logged_of records service x u) b (ballot_fits b least.is)
@@ -172,6 +172,7 @@ module _ {K : Type 0} (records : K → List (List ℕ)) (gives : K → List ℕ 
               based = replayed_from x.acting x.base x.replayed o.based;
               replayed = replayed_to x.acting x.base x.replayed (length x.known) o.based o.replayed;
               ahead = λ _. state_left (λ n s. run service (start_of service) (trace_of (take n x.known)) ≡ Some s) x.acting x.ahead x.start x.base x.replayed u.start u.ahead;
+              caught_up = λ t. absurd (false≢true t);
               proposer = proposes;
               acting = tt;
               role = subst (LeadFits (length x.known)) (sym lead_is) lead_fits;
@@ -234,12 +235,12 @@ module _ {K : Type 0} (records : K → List (List ℕ)) (gives : K → List ℕ 
               stand_leads : Leads records gives faults whole rest x.keeper z_at.keeper begun (so_far records service z_at after)
               stand_leads =
                   leads_then records gives faults whole then_on rest x.keeper y.keeper y.keeper begun (so_far records service y mid) (so_far records service z_at after)
-                  (appended_leads records gives faults service x y before mid (kept.Promised b) spelled tt whole then_on appends_is h)
+                  (appended_leads records gives faults service x y before mid (kept.Promised b) spelled tt refl whole then_on appends_is h)
                   (leads_same records gives faults then_on rest y.keeper (so_far records service y mid) (so_far records service z_at after) refl comes)
                 where
                   comes : (f : Option Failure) → then_on (armed_with f (so_far records service y mid)) ≡ rest (armed_with f (so_far records service z_at after))
                   comes f =
-                      ap (λ (d : CallHere). then_on (armed_with f d)) (appended_here records gives faults service x y before mid (kept.Promised b) spelled tt h)
+                      ap (λ (d : CallHere). then_on (armed_with f d)) (appended_here records gives faults service x y before mid (kept.Promised b) spelled tt refl h)
                       ∙ ap (λ (n : ℕ). settle n x.nodes (service_of service x.seed) x.id (armed_with f (send (say (effect.Candidate x.id b) (with_role (Leading (candidacy x.id b log)) (logged (Promised b) None begun))) (others x.nodes x.id (Prepare b (suc (length (known log)))))))) enough_is
                       ∙ ap (λ (d : CallHere). rest (armed_with f d)) (sym stands_as)
 

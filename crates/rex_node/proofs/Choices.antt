@@ -55,20 +55,20 @@ module _ {K : Type 0} (records : K → List (List ℕ)) (gives : K → List ℕ 
 
   pub chosen_down : Appends records faults gives x y before mid (record_bytes (kept.Known i v)) Down
       → (Fell records gives faults chooses x.id x.keeper y.keeper (so_far records service x before) (so_far records service y mid) × (y.up ≡ false)) × IsNode records service y
-  chosen_down h = recorded_down records gives faults service x y before mid node up (kept.Known i v) spelled due refl chooses _ chosen_is h
+  chosen_down h = recorded_down records gives faults service x y before mid node up (kept.Known i v) spelled due refl refl chooses _ chosen_is h
 
   pub chosen_stuck : Appends records faults gives x y before mid (record_bytes (kept.Known i v)) On → (z : NodeValue K) → z.keeper ≡ y.keeper → z.base ≡ y.base → IsStuck records service x z
-  chosen_stuck h z keeper based = recorded_stuck records gives faults service x y before mid node up (kept.Known i v) spelled due refl h z keeper based
+  chosen_stuck h z keeper based = recorded_stuck records gives faults service x y before mid node up (kept.Known i v) spelled due refl refl h z keeper based
 
   pub chosen_on : RunsOn service (on_chosen x.id i v) (so_far records service x before) → Appends records faults gives x y before mid (record_bytes (kept.Known i v)) On → (z : NodeValue K) (after : Draft) → z ≡ record (leaving y) { known = y.known ++ v ∷ [] }
       → Tells mid after (effect.Known y.id i ∷ followed y.id (role_of y.acceptor y.proposer (is_some y.acting))) → EndsWell records gives faults service x z before after chooses
   chosen_on runs h z after z_is t =
-      recorded_on records gives faults service x y before mid node up (kept.Known i v) spelled due refl chooses (λ e. follow x.id (effect.Known x.id i ∷ []) e) chosen_is h z after
-      (follows_keeper records gives faults service x y before mid node up (kept.Known i v) spelled due refl h x.acceptor (x.known ++ v ∷ []) logged_here longer front z z_here)
-      (follows_node records gives faults service x y before mid node up (kept.Known i v) spelled due refl h x.acceptor (x.known ++ v ∷ []) logged_here longer front z z_here)
-      (follows_up records gives faults service x y before mid node up (kept.Known i v) spelled due refl h x.acceptor (x.known ++ v ∷ []) logged_here longer front z z_here)
+      recorded_on records gives faults service x y before mid node up (kept.Known i v) spelled due refl refl chooses (λ e. follow x.id (effect.Known x.id i ∷ []) e) chosen_is h z after
+      (follows_keeper records gives faults service x y before mid node up (kept.Known i v) spelled due refl refl h x.acceptor (x.known ++ v ∷ []) logged_here longer front z z_here)
+      (follows_node records gives faults service x y before mid node up (kept.Known i v) spelled due refl refl h x.acceptor (x.known ++ v ∷ []) logged_here longer front z z_here)
+      (follows_up records gives faults service x y before mid node up (kept.Known i v) spelled due refl refl h x.acceptor (x.known ++ v ∷ []) logged_here longer front z z_here)
       (λ f. refl)
-      (follows_to records gives faults service x y before mid node up (kept.Known i v) spelled due refl h x.acceptor (x.known ++ v ∷ []) logged_here longer front z z_here after (effect.Known x.id i)
+      (follows_to records gives faults service x y before mid node up (kept.Known i v) spelled due refl refl h x.acceptor (x.known ++ v ∷ []) logged_here longer front z z_here after (effect.Known x.id i)
       (subst (λ (j : ℕ). Tells mid after (effect.Known j i ∷ followed y.id (role_of y.acceptor y.proposer (is_some y.acting)))) (ap (λ (n : NodeValue K). n.id) h.0.parts) t))
     where
       longer : length x.known ≤ length (x.known ++ v ∷ [])

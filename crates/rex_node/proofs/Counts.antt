@@ -307,6 +307,7 @@ module _ {K : Type 0} (records : K → List (List ℕ)) (gives : K → List ℕ 
             based = o.based;
             replayed = o.replayed;
             ahead = o.ahead;
+            caught_up = o.caught_up;
             proposer = z_proposes;
             acting = z_acting x.acting (subst (λ (q : Option ProposerValue). IsActing service x.known x.acceptor q x.acting) e o.acting);
             role = z_role (subst (λ (q : Option ProposerValue). RoleFits (length x.known) (role_of x.acceptor q (is_some x.acting))) e o.role);

@@ -1,6 +1,6 @@
 -- How a call that came to its end answers, and what it leaves.
-use Rattle.std.proofs.Common.{◌≡◌, ℕ, ◌<◌, ◌≤◌, true, ◌⊎◌, inl, inr, List, [], ◌∷◌, ◌++◌, length, Result, Ok, Err, Option, Some, None, refl, sym, ap, subst, ◌∙◌, arith, append-nil, append_assoc, length-append}
-use Rattle.std.specs.Prelude.{map, IfOk, OnErr}
+use Rattle.std.proofs.Common.{◌≡◌, ℕ, ◌<◌, ◌≤◌, Bool, true, false, ◌⊎◌, inl, inr, List, [], ◌∷◌, ◌++◌, length, Result, Ok, Err, Option, Some, None, refl, sym, ap, subst, ◌∙◌, arith, append-nil, append_assoc, length-append}
+use Rattle.std.specs.Prelude.{map, IfOk, OnErr, if◌then◌else◌}
 use Rattle.std.proofs.lemmas.Bool.{false≢true}
 use Rattle.std.proofs.lemmas.Option.{same_Some}
 use Rattle.std.proofs.lemmas.List.Sums.{fold-append}
@@ -27,7 +27,7 @@ use Rattle.rex_node.specs.declared.refusal.Refusal.{Refusal}
 use Rattle.rex_node.specs.declared.step.Draft.{Draft}
 use Rattle.rex_node.specs.declared.step.Step.{Step}
 use Rattle.rex_node.specs.Messages.{message_in}
-use Rattle.rex_node.specs.Parts.{NodeValue, IsUp, IsNode, IsSame, StaysNode, fallen, here_of, log_of, log_with, rec_of}
+use Rattle.rex_node.specs.Parts.{NodeValue, IsUp, IsNode, IsSame, StaysNode, fallen, here_of, log_of, log_with, rec_of, says_something}
 use Rattle.rex_node.specs.Calls.{Does, EndsDown, IsGivenUp, Leaves, Refuses, armed_with, call_of, last_of}
 use Rattle.rex_node.specs.Going.{Ends, Finishes, IsStuck, Leads, so_far}
 use Rattle.rex_node.proofs.Appended.{IsLogged, call_at, Beside, logged_of, beside_of, up_of}
@@ -62,12 +62,20 @@ log_grows service (bytes ∷ more) kept = by (log_grows service more (kept ++ by
 
     by : (extra : List (Rec Value StateValue)) × (log_of service ((kept ++ bytes ∷ []) ++ more) ≡ extra ++ log_of service (kept ++ bytes ∷ [])) → (r : Result KeptRec ℕ) → record_in (length (known (log_of service kept))) bytes ≡ r
         → (extra : List (Rec Value StateValue)) × (log_of service (kept ++ bytes ∷ more) ≡ extra ++ log_of service kept)
-    by h (Ok r) e = (
-      h.0 ++ rec_of service (log_of service kept) r ∷ [],
-      ap (log_of service) (sym (append_assoc kept (bytes ∷ []) more)) ∙ h.1
-          ∙ ap (λ (l : List (Rec Value StateValue)). h.0 ++ l) (one ∙ ap (log_with service (log_of service kept)) e)
-          ∙ sym (append_assoc h.0 (rec_of service (log_of service kept) r ∷ []) (log_of service kept)),
-    )
+    by h (Ok r) e = said (says_something service r) refl
+      where
+        said : (b : Bool) → says_something service r ≡ b → (extra : List (Rec Value StateValue)) × (log_of service (kept ++ bytes ∷ more) ≡ extra ++ log_of service kept)
+        said true s = (
+          h.0 ++ rec_of service r ∷ [],
+          ap (log_of service) (sym (append_assoc kept (bytes ∷ []) more)) ∙ h.1
+              ∙ ap (λ (l : List (Rec Value StateValue)). h.0 ++ l) (one ∙ ap (log_with service (log_of service kept)) e ∙ ap (λ (t : Bool). if t then rec_of service r ∷ log_of service kept else log_of service kept) s)
+              ∙ sym (append_assoc h.0 (rec_of service r ∷ []) (log_of service kept)),
+        )
+        said false s = (
+          h.0,
+          ap (log_of service) (sym (append_assoc kept (bytes ∷ []) more)) ∙ h.1
+              ∙ ap (λ (l : List (Rec Value StateValue)). h.0 ++ l) (one ∙ ap (log_with service (log_of service kept)) e ∙ ap (λ (t : Bool). if t then rec_of service r ∷ log_of service kept else log_of service kept) s),
+        )
     by h (Err at) e = (
       h.0,
       ap (log_of service) (sym (append_assoc kept (bytes ∷ []) more)) ∙ h.1
@@ -84,7 +92,7 @@ node_with_keeper records service x k same h = record { id = h.id; few = h.few; u
         let b : Beside records service x = beside_of records service x u in
         up_of records service (record x { keeper = k })
         (record { promised = l.promised; accepted = l.accepted; known = l.known; base = l.base; few = l.few; start = l.start; short = l.short; fits = l.fits; numbers = l.numbers })
-        (record { based = b.based; replayed = b.replayed; ahead = b.ahead; proposer = b.proposer; acting = b.acting; role = b.role })
+        (record { based = b.based; replayed = b.replayed; ahead = b.ahead; caught_up = b.caught_up; proposer = b.proposer; acting = b.acting; role = b.role })
 
 -- ---- the end of a public call
 
@@ -135,7 +143,9 @@ module _ {K : Type 0} (records : K → List (List ℕ)) (gives : K → List ℕ 
         written = f.written;
         bytes = f.bytes;
         kept = f.kept;
-        appends = subst (λ (n : NodeValue K). AppendsInTurn gives x.keeper (f.written ++ f.bytes ∷ []) (Err Failed) n.keeper) (sym h.finishes.0) f.appends;
+        between = f.between;
+        appends = f.appends;
+        fails = subst (λ (n : NodeValue K). gives f.between f.bytes (Err Failed) n.keeper) (sym h.finishes.0) f.fails;
         grown = ap (λ (n : NodeValue K). records n.keeper) h.finishes.0 ∙ f.grown;
         counted = subst (λ (n : NodeValue K). faults x.keeper < faults n.keeper) (sym h.finishes.0) f.counted;
         many = ap (λ (n : NodeValue K). length (log_of service (records n.keeper))) h.finishes.0 ∙ f.many;

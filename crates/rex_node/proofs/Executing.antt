@@ -8,6 +8,7 @@ use Rattle.rand_pcg.specs.Pcg.{pcg32}
 use Rattle.rex_syntax.specs.declared.request.Request.{Request}
 use Rattle.rex_syntax.specs.declared.service.Declarations.{Declarations}
 use Rattle.rex_syntax.specs.Service.{IsService}
+use Rattle.rex_state.specs.declared.lane.Entry.{Entry}
 use Rattle.rex_state.specs.Value.{StateValue}
 use Rattle.rex_state.specs.Start.{start_of}
 use Rattle.rex_state.specs.Machine.{entry_at}
@@ -20,20 +21,23 @@ use Rattle.rex_record.specs.Value.{queued_in, queue_after, is_begin, turned}
 use Rattle.rex_record.specs.Kept.{IsRecorder, CanBegin}
 use Rattle.rex_paxos.specs.Acceptor.{AcceptorValue}
 use Rattle.rex_paxos.specs.Proposer.{ProposerValue}
-use Rattle.rex_report.specs.declared.effect.Effect.{Effect}
-use Rattle.rex_report.specs.declared.effect.Effect.TheVariants.{Queued}
+use Rattle.rex_gate.specs.declared.answer.Answer.{Answer}
+use Rattle.rex_gate.specs.declared.answer.Answer.TheVariants.{Queued}
+use Rattle.rex_gate.specs.Answer.{answer_to}
+use Rattle.rex_gate.specs.Laws.{IsDue}
+use Rattle.rex_gate.proofs.Due.{queued_due}
 use Rattle.rex_scenario.specs.Fits.{RequestFits}
 use Rattle.rex_safety.specs.Records.{Proposal, known}
 use Rattle.rex_safety.specs.Values.{Value, trace_of, state_after}
 use Rattle.rex_safety.specs.Ranges.{RoleFits}
 use Rattle.rex_safety.specs.Calls.{begin}
 use Rattle.rex_safety.specs.Lanes as lanes
-use Rattle.rex_safety.specs.Lanes.{answer_of, queue_with, submit_request, live_state, known_state}
+use Rattle.rex_safety.specs.Lanes.{queue_with, submit_request, live_state, known_state}
 use Rattle.rex_node.specs.declared.refusal.Refusal.{Refusal}
 use Rattle.rex_node.specs.Calls.{LeadsTo, if_up, turn_at}
 use Rattle.rex_node.specs.Parts.{StaysNode}
 use Rattle.rex_safety.proofs.Replies.{state_is}
-use Rattle.rex_safety.proofs.Queues.{IsDue, queued_due, queued_positive, due_begins, queue_after_answer}
+use Rattle.rex_safety.proofs.Queues.{queued_positive, due_begins, queue_after_answer}
 use Rattle.rex_node.specs.Parts.{ActingValue, NodeValue, Executes, ActsFor, OpenIsCut, IsActing, IsUp, IsNode, HasGoneOn, here_of, open_of, role_of, work_of}
 use Rattle.rex_node.proofs.Proposed.{open_turned}
 use Rattle.rex_node.specs.Submitting.{answer_in, taken}
@@ -56,12 +60,12 @@ module _ (service : Declarations) (values : List Value) (a : ActingValue) (h : E
 
   -- the answer to a request is the one in the model
   pub answer_is : (r : Request) (vs : List Value) (w : Option ActingValue) → values ≡ vs → w ≡ Some a
-      → answer_in a r ≡ answer_of r (queued_in (work_of w).queue r.client) (entry_at (state_after service (trace_of vs ++ (work_of w).live)).clients r.client) (entry_at (state_after service (trace_of vs)).clients r.client)
+      → answer_in a r ≡ answer_to r (queued_in (work_of w).queue r.client) (state_after service (trace_of vs ++ (work_of w).live)).clients (state_after service (trace_of vs)).clients
   answer_is r vs w e f =
-      ap (λ (s : StateValue). answer_of r (queued_in a.recorder.queue r.client) (entry_at s.clients r.client) (entry_at a.recorder.start.clients r.client)) (sym live_is)
-      ∙ ap (λ (s : StateValue). answer_of r (queued_in a.recorder.queue r.client) (entry_at (state_after service (trace_of values ++ a.recorder.live)).clients r.client) (entry_at s.clients r.client)) (sym start_is)
-      ∙ ap (λ (us : List Value). answer_of r (queued_in a.recorder.queue r.client) (entry_at (state_after service (trace_of us ++ a.recorder.live)).clients r.client) (entry_at (state_after service (trace_of us)).clients r.client)) e
-      ∙ ap (λ (u : Option ActingValue). answer_of r (queued_in (work_of u).queue r.client) (entry_at (state_after service (trace_of vs ++ (work_of u).live)).clients r.client) (entry_at (state_after service (trace_of vs)).clients r.client)) (sym f)
+      ap (λ (s : StateValue). answer_to r (queued_in a.recorder.queue r.client) s.clients a.answers) (sym live_is)
+      ∙ ap (λ (known : List Entry). answer_to r (queued_in a.recorder.queue r.client) (state_after service (trace_of values ++ a.recorder.live)).clients known) (h.answers ∙ ap (λ (s : StateValue). s.clients) (sym start_is))
+      ∙ ap (λ (us : List Value). answer_to r (queued_in a.recorder.queue r.client) (state_after service (trace_of us ++ a.recorder.live)).clients (state_after service (trace_of us)).clients) e
+      ∙ ap (λ (u : Option ActingValue). answer_to r (queued_in (work_of u).queue r.client) (state_after service (trace_of vs ++ (work_of u).live)).clients (state_after service (trace_of vs)).clients) (sym f)
 
   -- so is the turn of a lane
   pub turn_is : (lane : ℕ) (now : ℤ) (vs : List Value) (w : Option ActingValue) → values ≡ vs → w ≡ Some a
@@ -73,7 +77,7 @@ module _ (service : Declarations) (values : List Value) (a : ActingValue) (h : E
       ∙ ap (λ (u : Option ActingValue). turn_of service (state_after service (trace_of vs ++ (work_of u).live)) (work_of u).queue (length (work_of u).live) lane now (pcg32 (work_of u).dice).0) (sym f)
 
   -- the recorder could still begin each request after an answer
-  requests_kept : (r : Request) (e : Effect) → RequestFits service r → All (RequestFits service) (queue_with a.recorder.queue r e)
+  requests_kept : (r : Request) (e : Answer) → RequestFits service r → All (RequestFits service) (queue_with a.recorder.queue r e)
   requests_kept r Queued fits = All-push (RequestFits service) a.recorder.queue r h.requests fits
   requests_kept r _ fits = h.requests
 
@@ -84,16 +88,17 @@ module _ (service : Declarations) (values : List Value) (a : ActingValue) (h : E
       runs = h.recorder.runs;
       few = h.recorder.few;
       queue =
-          queue_after_answer service a.recorder.state a.recorder.queue r (entry_at a.recorder.start.clients r.client) fits
+          queue_after_answer service a.recorder.state a.recorder.queue r a.answers fits
           (run_keeps service a.recorder.start a.recorder.state a.recorder.live good h.recorder.sound h.recorder.runs).by.complete.clients h.recorder.queue;
     };
     known = h.known;
     requests = requests_kept r (answer_in a r) fits;
+    answers = h.answers;
   }
 
   -- after a turn the recorder still begins where it did, with no more requests
-  pub turned_executes : (t : Turn) (dice : Lcg) (proposed : List ℕ) → IsRecorder service (turned service a.recorder t) → Executes service values (record { recorder = turned service a.recorder t; dice = dice; proposed = proposed })
-  turned_executes t dice proposed k = record { recorder = k; known = h.known; requests = fewer t a.recorder.queue h.requests }
+  pub turned_executes : (t : Turn) (dice : Lcg) (proposed : List ℕ) → IsRecorder service (turned service a.recorder t) → Executes service values (record { recorder = turned service a.recorder t; dice = dice; proposed = proposed; answers = a.answers })
+  turned_executes t dice proposed k = record { recorder = k; known = h.known; requests = fewer t a.recorder.queue h.requests; answers = h.answers }
     where
       dropped : (b : Bool) (queue : List Request) → All (RequestFits service) queue → All (RequestFits service) (cond b (drop 1 queue) queue)
       dropped true [] k = All-nil (RequestFits service)
@@ -109,7 +114,7 @@ module _ (service : Declarations) (values : List Value) (a : ActingValue) (h : E
 module _ (service : Declarations) (a : ActingValue) (h : IsRecorder service a.recorder) (r : Request) (fits : RequestFits service r) (e : answer_in a r ≡ Queued) where
   due : IsDue r.sequence (queued_in a.recorder.queue r.client) (entry_at a.recorder.state.clients r.client)
   due =
-      queued_due r (queued_in a.recorder.queue r.client) (entry_at a.recorder.state.clients r.client) (entry_at a.recorder.start.clients r.client)
+      queued_due r.sequence (queued_in a.recorder.queue r.client) (entry_at a.recorder.state.clients r.client) (entry_at a.answers r.client)
       (λ k z. queued_positive service a.recorder.state a.recorder.queue r.client k h.queue z) e
 
   pub none_queued : queued_in a.recorder.queue r.client ≡ None
@@ -123,7 +128,7 @@ module _ (service : Declarations) (a : ActingValue) (h : IsRecorder service a.re
 -- ---- an active node with other work
 
 -- a queue doesn't matter to an open proposal
-open_answered : (service : Declarations) (values : List Value) (a : ActingValue) (r : Request) (answer : Effect) (o : Option (Proposal Value)) → OpenIsCut service values a o → OpenIsCut service values (taken a r answer) o
+open_answered : (service : Declarations) (values : List Value) (a : ActingValue) (r : Request) (answer : Answer) (o : Option (Proposal Value)) → OpenIsCut service values a o → OpenIsCut service values (taken a r answer) o
 open_answered service values a r answer None c = tt
 open_answered service values a r answer (Some p) c = record { consistent = c.consistent; within = c.within; events = c.events; others = c.others }
 
@@ -156,6 +161,7 @@ module _ {K : Type 0} (records : K → List (List ℕ)) (service : Declarations)
     start = u.start;
     replayed = record { based = u.replayed.based; replayed = u.replayed.replayed };
     ahead = λ n. absurd (none_or_some b n);
+    caught_up = λ _. u.caught_up (ap (λ (w : Option ActingValue). is_some w) e);
     proposer = u.proposer;
     acting = acting_with service x.known x.acceptor x.proposer a b (subst (IsActing service x.known x.acceptor x.proposer) e u.acting) k;
     fits = u.fits;
@@ -179,14 +185,14 @@ module _ {K : Type 0} (records : K → List (List ℕ)) (service : Declarations)
   submitted : (r : Request) → x.acting ≡ Some a → known (here_of records service x).log ≡ x.known → Executes service x.known a
       → here_of records service (record x { acting = Some (taken a r (answer_in a r)) }) ≡ (submit_request service (Some r) (begin (here_of records service x))).node
   submitted r e k h =
-      ap (λ (answer : Effect). here_of records service (record x { acting = Some (taken a r answer) })) (answer_is service x.known a h r (known (here_of records service x).log) x.acting (sym k) e)
-      ∙ ap (λ (w : Option ActingValue). (lanes.answered r (answer_of r (queued_in (work_of x.acting).queue r.client) (entry_at (live_state service (here_of records service x)).clients r.client) (entry_at (known_state service (here_of records service x)).clients r.client)) (begin (here_of records service (record x { acting = w })))).node) (sym e)
+      ap (λ (answer : Answer). here_of records service (record x { acting = Some (taken a r answer) })) (answer_is service x.known a h r (known (here_of records service x).log) x.acting (sym k) e)
+      ∙ ap (λ (w : Option ActingValue). (lanes.answered r (answer_to r (queued_in (work_of x.acting).queue r.client) (live_state service (here_of records service x)).clients (known_state service (here_of records service x)).clients) (begin (here_of records service (record x { acting = w })))).node) (sym e)
 
   turned_to : (lane : ℕ) (t : Turn) → x.acting ≡ Some a → known (here_of records service x).log ≡ x.known → Executes service x.known a
-      → here_of records service (record x { acting = Some (record { recorder = turned service a.recorder t; dice = dice_after (does_draw service a.recorder.state (length a.recorder.live) lane) a.dice; proposed = a.proposed }) })
+      → here_of records service (record x { acting = Some (record { recorder = turned service a.recorder t; dice = dice_after (does_draw service a.recorder.state (length a.recorder.live) lane) a.dice; proposed = a.proposed; answers = a.answers }) })
       ≡ (lanes.turned service lane t (begin (here_of records service x))).node
   turned_to lane t e k h =
-      ap (λ (s : StateValue). here_of records service (record x { acting = Some (record { recorder = turned service a.recorder t; dice = dice_after (does_draw service s (length a.recorder.live) lane) a.dice; proposed = a.proposed }) }))
+      ap (λ (s : StateValue). here_of records service (record x { acting = Some (record { recorder = turned service a.recorder t; dice = dice_after (does_draw service s (length a.recorder.live) lane) a.dice; proposed = a.proposed; answers = a.answers }) }))
       (sym (live_state_is service x.known a h (known (here_of records service x).log) (Some a) (sym k) refl))
       ∙ ap (λ (w : Option ActingValue). (lanes.turned service lane t (begin (here_of records service (record x { acting = w })))).node) (sym e)
 
@@ -210,20 +216,20 @@ module _ {K : Type 0} (records : K → List (List ℕ)) (service : Declarations)
   pub live_state_of : live_state service (here_of records service x) ≡ a.recorder.state
   live_state_of = live_state_is service x.known a has (known (here_of records service x).log) x.acting is_up.known x_has
 
-  pub answer_of_node : (r : Request) → answer_in a r ≡ answer_of r (queued_in (work_of x.acting).queue r.client) (entry_at (live_state service (here_of records service x)).clients r.client) (entry_at (known_state service (here_of records service x)).clients r.client)
+  pub answer_of_node : (r : Request) → answer_in a r ≡ answer_to r (queued_in (work_of x.acting).queue r.client) (live_state service (here_of records service x)).clients (known_state service (here_of records service x)).clients
   answer_of_node r = answer_is service x.known a has r (known (here_of records service x).log) x.acting is_up.known x_has
 
   pub turn_of_node : (lane : ℕ) (now : ℤ) → turn_of service a.recorder.state a.recorder.queue (length a.recorder.live) lane now (pcg32 a.dice).0 ≡ turn_at service (here_of records service x) lane now
   turn_of_node lane now = turn_is service x.known a has lane now (known (here_of records service x).log) x.acting is_up.known x_has
 
-  pub submit_leads : (r : Request) (b : ActingValue) (answer : Effect) → b ≡ taken a r answer → answer ≡ answer_in a r
+  pub submit_leads : (r : Request) (b : ActingValue) (answer : Answer) → b ≡ taken a r answer → answer ≡ answer_in a r
       → here_of records service (record z { acting = Some b }) ≡ (submit_request service (Some r) (begin (here_of records service x))).node
   submit_leads r b answer f g =
       ap (λ (n : NodeValue K). here_of records service (record n { acting = Some b })) z_is
       ∙ ap (λ (c : ActingValue). here_of records service (record x { acting = Some c })) (f ∙ ap (taken a r) g)
       ∙ submitted records service x a b r x_has (sym is_up.known) has
 
-  pub turn_leads : (lane : ℕ) (t : Turn) (b : ActingValue) → b ≡ record { recorder = turned service a.recorder t; dice = dice_after (does_draw service a.recorder.state (length a.recorder.live) lane) a.dice; proposed = a.proposed }
+  pub turn_leads : (lane : ℕ) (t : Turn) (b : ActingValue) → b ≡ record { recorder = turned service a.recorder t; dice = dice_after (does_draw service a.recorder.state (length a.recorder.live) lane) a.dice; proposed = a.proposed; answers = a.answers }
       → LeadsTo (lanes.turned service lane t) (here_of records service x) (here_of records service (record z { acting = Some b }))
   turn_leads lane t b f =
       ap (λ (n : NodeValue K). here_of records service (record n { acting = Some b })) z_is
@@ -235,10 +241,10 @@ module _ {K : Type 0} (records : K → List (List ℕ)) (service : Declarations)
       subst (λ (n : NodeValue K). StaysNode records service x (record n { acting = Some b })) (sym z_is)
       (record { same = record { id = refl; nodes = refl; seed = refl }; kept = node_with records service x a b node x_has k })
 
-  pub submit_stays : (r : Request) (b : ActingValue) (answer : Effect) → b ≡ taken a r answer → answer ≡ answer_in a r → IsService service → RequestFits service r → StaysNode records service x (record z { acting = Some b })
+  pub submit_stays : (r : Request) (b : ActingValue) (answer : Answer) → b ≡ taken a r answer → answer ≡ answer_in a r → IsService service → RequestFits service r → StaysNode records service x (record z { acting = Some b })
   submit_stays r b answer f g good fits = stays b (λ p h. subst (ActsFor service x.known p) (sym (f ∙ ap (taken a r) g)) (record { executes = answered service x.known a h.executes r good fits; open_is_cut = open_answered service x.known a r (answer_in a r) p h.open_is_cut }))
 
-  pub turn_stays : (t : Turn) (dice : Lcg) (b : ActingValue) → b ≡ record { recorder = turned service a.recorder t; dice = dice; proposed = a.proposed } → IsRecorder service b.recorder → IsService service → StaysNode records service x (record z { acting = Some b })
+  pub turn_stays : (t : Turn) (dice : Lcg) (b : ActingValue) → b ≡ record { recorder = turned service a.recorder t; dice = dice; proposed = a.proposed; answers = a.answers } → IsRecorder service b.recorder → IsService service → StaysNode records service x (record z { acting = Some b })
   turn_stays t dice b f k good =
       let kept : IsRecorder service (turned service a.recorder t) = subst (λ (c : ActingValue). IsRecorder service c.recorder) f k in
       stays b (λ p h. subst (ActsFor service x.known p) (sym f) (record { executes = turned_executes service x.known a h.executes t dice a.proposed kept; open_is_cut = open_turned service good x.known a h.executes t dice kept p h.open_is_cut }))

@@ -1,7 +1,7 @@
 -- What a node is that leaves its role, with a record more or none.
 use Rattle.std.proofs.Common.{◌≡◌, ℕ, suc, ◌<◌, ◌≤◌, Bool, true, List, [], ◌∷◌, ◌++◌, length, take, Option, Some, None, refl, sym, ap, subst, ◌∙◌, arith, le_trans}
 use Rattle.std.specs.Prelude.{map, is_some, option_map, if◌then◌else◌}
-use Rattle.std.proofs.lemmas.Bool.{lt-ltb, le-ltb, ne_eqb}
+use Rattle.std.proofs.lemmas.Bool.{lt-ltb, le-ltb, ne_eqb, false≢true}
 use Rattle.std.proofs.lemmas.Option.{same_Some}
 use Rattle.rex_paxos.specs.Acceptor.{AcceptorValue}
 use Rattle.rex_paxos.specs.Proposer.{ProposerValue}
@@ -167,6 +167,7 @@ module _ {K : Type 0} (records : K → List (List ℕ)) (service : Declarations)
             replayed = le_trans to more;
             ahead = λ _. ap (λ (us : List Value). run service (start_of service) (trace_of us)) (front (replayed_left (is_some x.acting) x.base x.replayed) to)
                 ∙ state_left (λ n s. run service (start_of service) (trace_of (take n x.known)) ≡ Some s) x.acting x.ahead x.start x.base x.replayed u.start u.ahead;
+            caught_up = λ t. absurd (false≢true t);
             proposer = tt;
             acting = tt;
             role = tt;

@@ -2,7 +2,7 @@
 use Rattle.std.proofs.Common.{◌≡◌, ℕ, ◌+◌, ◌<◌, Bool, true, false, List, [], ◌∷◌, ◌++◌, length, Ok, Err, Option, Some, None, refl, sym, ap, subst, ◌∙◌, append_assoc, length-append, arith}
 use Rattle.std.proofs.lemmas.List.{append-nil}
 use Rattle.std.specs.Prelude.{if◌then◌else◌}
-use Rattle.rex_traits.specs.Chains.{Answer, AppendsInTurn}
+use Rattle.rex_traits.specs.Chains.{Answer}
 use Rattle.rex_traits.specs.declared.keeper.KeepFault.TheVariants.{Failed}
 use Rattle.rex_traits.proofs.Chained.{chained}
 use Rattle.rex_state.specs.Value.{StateValue}
@@ -61,9 +61,10 @@ module _ {K : Type 0} (records : K → List (List ℕ)) (gives : K → List ℕ 
       written = h.written ++ k.fails.written;
       bytes = k.fails.bytes;
       kept = k.fails.kept;
+      between = k.fails.between;
       grown = k.fails.grown ∙ ap (λ (l : List (List ℕ)). failed_records k.fails.kept l k.fails.bytes) (ap (λ (l : List (List ℕ)). l ++ k.fails.written) h.grown ∙ append_assoc (records a) h.written k.fails.written);
-      appends = subst (λ (l : List (List ℕ)). AppendsInTurn gives a l (Err Failed) c) (sym (append_assoc h.written k.fails.written (k.fails.bytes ∷ [])))
-          ((chained gives).more a b c h.written (k.fails.written ++ k.fails.bytes ∷ []) (Err Failed) h.appends k.fails.appends);
+      appends = (chained gives).more a b k.fails.between h.written k.fails.written (Ok tt) h.appends k.fails.appends;
+      fails = k.fails.fails;
       counted = subst (λ (n : ℕ). n < faults c) h.counted k.fails.counted;
       many = both_failed k.fails.kept h.written k.fails.written (length d.node.log) (length e.node.log) (length f.node.log) h.many k.fails.many;
       is = ap (λ (g : Option Failure). whole (armed_with g d)) (sym (later_count h.written k.fails.written k.fails.kept)) ∙ h.comes (Some (After (length k.fails.written) k.fails.kept)) ∙ k.fails.is;
@@ -94,8 +95,10 @@ module _ {K : Type 0} (records : K → List (List ℕ)) (gives : K → List ℕ 
         written = [];
         bytes = bytes;
         kept = kept;
+        between = old;
         grown = grown ∙ ap (λ (l : List (List ℕ)). failed_records kept l bytes) (sym (append-nil (records old)));
-        appends = (chained gives).one old new bytes (Err Failed) answer;
+        appends = (refl, refl);
+        fails = answer;
         counted = counted;
         many = ap (λ (c : CallHere). length c.node.log) e ∙ one_failed kept;
         is = is (Some (After 0 kept)) ∙ sym e;

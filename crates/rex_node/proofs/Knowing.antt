@@ -1,6 +1,7 @@
 -- A majority accepted the value of the next instance: the node knows it.
 use Rattle.std.proofs.Common.{◌≡◌, ℕ, suc, ◌+◌, ◌<◌, ◌≤◌, Bool, true, not, List, [], ◌∷◌, ◌++◌, length, take, Option, Some, None, filter, refl, sym, ap, subst, ◌∙◌, arith}
 use Rattle.std.specs.Prelude.{map, is_some, option_map, IfSome, IsSome, unwrap_or}
+use Rattle.std.proofs.lemmas.Bool.{false≢true}
 use Rattle.std.proofs.lemmas.List.{take-append-le}
 use Rattle.std.proofs.lemmas.List.Sums.{length-filter, count_by-le-length}
 use Rattle.rex_ballot.specs.Ballot as ballots
@@ -12,7 +13,10 @@ use Rattle.rex_syntax.specs.declared.service.Declarations.{Declarations}
 use Rattle.rex_syntax.specs.Service.{IsService}
 use Rattle.rex_event.specs.declared.event.Event.{Event}
 use Rattle.rex_event.specs.Cuts.{is_below, below, beyond}
+use Rattle.rex_state.specs.declared.lane.Entry.{Entry}
 use Rattle.rex_state.specs.Value.{StateValue}
+use Rattle.rex_gate.specs.Noted.{noted}
+use Rattle.rex_gate.proofs.Traced.{run_noted}
 use Rattle.rex_state.specs.Start.{start_of}
 use Rattle.rex_state.specs.Machine.{run}
 use Rattle.rex_state.specs.Commute.{GoesFirst}
@@ -81,6 +85,10 @@ module _ (service : Declarations) (good : IsService service) (values : List Valu
     recorder = subst (λ (s : StateValue). IsRecorder service (record a.recorder { start = s; live = beyond a.proposed a.recorder.live })) (sym start_settled) recorder_settled;
     known = ap (run service (start_of service)) (trace_push values v) ∙ run-then service (start_of service) a.recorder.start (trace_of values) (events_of v) h.known ∙ first_events ∙ ap (λ (s : StateValue). Some s) (sym start_settled);
     requests = h.requests;
+    answers =
+        ap (λ (clients : List Entry). noted clients (below a.proposed a.recorder.live)) h.answers
+        ∙ run_noted service a.recorder.start first.state (below a.proposed a.recorder.live) first.first
+        ∙ ap (λ (s : StateValue). s.clients) (sym start_settled);
   }
 
   -- its work and its releases are the model's
@@ -98,9 +106,9 @@ module _ (service : Declarations) (good : IsService service) (seed : ℕ) (value
   abbrev IsCut : Option ActingValue → Type 0
   IsCut w = IfSome w (λ (a : ActingValue). IsCutAt service values a v)
 
-  can_settle : (w : Option ActingValue) → IsActing service values acceptor (Some p) w → IsCut w → IfSome w (CanSettle service)
+  can_settle : (w : Option ActingValue) → IsActing service values acceptor (Some p) w → IsCut w → IfSome w (CanSettle service v)
   can_settle None h c = tt
-  can_settle (Some a) h c = record { recorder = h.executes.recorder; consistent = c.consistent }
+  can_settle (Some a) h c = record { recorder = h.executes.recorder; consistent = c.consistent; events = c.events }
 
   acting_known : (w : Option ActingValue) → IsActing service values acceptor (Some p) w → IsCut w → IsActing service (values ++ v ∷ []) acceptor (Some (closed p)) (option_map (settling service) w)
   acting_known None h c = tt
@@ -147,6 +155,11 @@ lead_closed known more a p active now h = record { ballot = h.ballot; reported =
     none : (q : Proposal Value) → None ≡ Some q → ⊥
     none q e = cc
 
+-- an active node has replayed all that it knows
+known_all : (service : Declarations) (w : Option ActingValue) (i replayed known more : ℕ) → i ≡ known + 1 → more ≡ known + 1 → is_some (option_map (settling service) w) ≡ true → replayed_to w i replayed ≡ more
+known_all service None i replayed known more e f t = absurd (false≢true t)
+known_all service (Some a) i replayed known more e f t = e ∙ sym f
+
 -- what was replayed is still what was replayed
 ahead_known : (service : Declarations) (values : List Value) (v : Value) (w : Option ActingValue) (i replayed : ℕ) (ahead : Option StateValue) (start : StateValue) → replayed ≤ length values
     → (w ≡ None → run service (start_of service) (trace_of (take replayed values)) ≡ Some (ahead_of ahead start))
@@ -181,7 +194,7 @@ module _ {K : Type 0} (records : K → List (List ℕ)) (gives : K → List ℕ 
 
   module _ (keeper : K) (grown : records keeper ≡ records x.keeper ++ record_bytes (kept.Known i v) ∷ []) where
     log_is : log_of service (records keeper) ≡ Known i v ∷ log
-    log_is = log_written records gives faults service x u (kept.Known i v) spelled due (records keeper) grown
+    log_is = log_written records gives faults service x u (kept.Known i v) spelled due refl (records keeper) grown
 
     z_logged : IsLogged service (z_at keeper) (log_of service (records keeper))
     z_logged = subst (IsLogged service (z_at keeper)) (sym log_is)
@@ -197,6 +210,7 @@ module _ {K : Type 0} (records : K → List (List ℕ)) (gives : K → List ℕ 
           based = replayed_from x.acting x.base i x.replayed (length x.known) next based replayed;
           replayed = subst (λ (n : ℕ). replayed_to x.acting i x.replayed ≤ n) (let n : length x.known + 1 ≡ length (x.known ++ v ∷ []) = omega (arith, length_push x.known v) in n) (replayed_most x.acting i x.replayed (length x.known) next replayed);
           ahead = ahead_known service x.known v x.acting i x.replayed x.ahead x.start replayed b.ahead;
+          caught_up = known_all service x.acting i x.replayed (length x.known) (length (x.known ++ v ∷ [])) next (omega (arith, length_push x.known v));
           proposer = proposes_closed x.nodes x.id x.acceptor p (subst (IsProposer x.nodes x.id x.acceptor) e b.proposer);
           acting = acting_known service good seed_any x.known x.acceptor p v x.acting acting cut;
           role = lead_closed (length x.known) (length (x.known ++ v ∷ [])) x.acceptor p (is_some x.acting) (is_some (option_map (settling service) x.acting))
@@ -239,7 +253,7 @@ module _ {K : Type 0} (records : K → List (List ℕ)) (gives : K → List ℕ 
       subst (λ (o : Option ProposerValue). IfSome o (λ (q : ProposerValue). (k : CallHere → CallHere) → Comes records gives faults service (λ d. decide x.nodes (service_of service x.seed) x.id d (lead_of x.acceptor q (is_some x.acting)) i v k) k x z before after On)) (sym e)
       (λ k. subst (λ (n : NodeValue K). Comes records gives faults service (whole k) k x n before after On) (sym all) (
         leads_then records gives faults (whole k) (rest k) k x.keeper y.keeper y.keeper (so_far records service x before) (logged (Known i v) None (so_far records service x before)) (so_far records service (z_at y.keeper) after)
-            (written_on records gives faults service x u (kept.Known i v) spelled due y before (whole k) (rest k) (λ f. refl) h)
+            (written_on records gives faults service x u (kept.Known i v) spelled due refl y before (whole k) (rest k) (λ f. refl) h)
             (leads_same records gives faults (rest k) k y.keeper (logged (Known i v) None (so_far records service x before)) (so_far records service (z_at y.keeper) after) (ap length (log_is y.keeper h.records))
             (λ f. ap k (z_comes y.keeper h.records before after f effects_are sends_are))),
         z_kept y.keeper h.records,
@@ -263,17 +277,17 @@ module _ {K : Type 0} (records : K → List (List ℕ)) (gives : K → List ℕ 
       → Learns records gives faults service i v x y before after Down
   learns_down y before after h effects sends =
       subst (λ (o : Option ProposerValue). IfSome o (λ (q : ProposerValue). (k : CallHere → CallHere) → Comes records gives faults service (λ d. decide x.nodes (service_of service x.seed) x.id d (lead_of x.acceptor q (is_some x.acting)) i v k) k x y before after Down)) (sym e)
-      (λ k. written_down records gives faults service x u (kept.Known i v) spelled due y before (whole k) (rest k) (λ f. refl) after refl h effects sends k)
+      (λ k. written_down records gives faults service x u (kept.Known i v) spelled due refl y before (whole k) (rest k) (λ f. refl) after refl h effects sends k)
 
 -- ---- the same of the call
 
 module _ {K : Type 0} (records : K → List (List ℕ)) (gives : K → List ℕ → Answer → K → Type 0) (faults : K → ℕ) (service : Declarations) (good : IsService service) (x : NodeValue K) (kept_so : IsKept records service x) (up : x.up ≡ true) (leads : IsSome x.proposer)
     (i : ℕ) (v : Value) (next : i ≡ length x.known + 1) (there : ballots.IsInstance i) (short : IsValue v) (fits : values_fit service (x.known ++ v ∷ []) ≡ true) (cut : IsOwnCut service x v) where
   -- its recorder can settle
-  pub learn_settles : (y : NodeValue K) → y ≡ record x { keeper = y.keeper } → IfSome y.acting (CanSettle service)
+  pub learn_settles : (y : NodeValue K) → y ≡ record x { keeper = y.keeper } → IfSome y.acting (CanSettle service v)
   learn_settles y y_is =
       let s = some_of x.proposer leads in
-      subst (λ (n : NodeValue K). IfSome n.acting (CanSettle service)) (sym y_is)
+      subst (λ (n : NodeValue K). IfSome n.acting (CanSettle service v)) (sym y_is)
       (can_settle service good x.seed x.known x.acceptor s.0 v x.acting (subst (λ (o : Option ProposerValue). IsActing service x.known x.acceptor o x.acting) s.1 (kept_so.up up).acting) cut)
 
   module _ (w : Value) (w_is : w ≡ v) (y : NodeValue K) (before mid : Draft) (g : Going) (h : Appends records faults gives x y before mid (record_bytes (kept.Known i w)) g) where
@@ -301,4 +315,4 @@ module _ {K : Type 0} (records : K → List (List ℕ)) (gives : K → List ℕ 
         let s = some_of x.proposer leads in
         let k : Appends records faults gives x y before mid (record_bytes (kept.Known i v)) On = appends_as records gives faults x y before mid (kept.Known i w) (kept.Known i v) g On same_rec e h in
         stuck_written records gives faults service x (kept_so.up up) (kept.Known i v) (spelled records gives faults service good x (kept_so.up up) kept_so.id kept_so.few s.0 s.1 i v next there short fits cut)
-        (due records gives faults service good x (kept_so.up up) kept_so.id kept_so.few s.0 s.1 i v next there short fits cut) y z refl k.0 keeper based
+        (due records gives faults service good x (kept_so.up up) kept_so.id kept_so.few s.0 s.1 i v next there short fits cut) refl y z refl k.0 keeper based

@@ -1,6 +1,7 @@
 -- A node that leaves its role.
 use Rattle.std.proofs.Common.{◌≡◌, ℕ, ◌≤◌, Bool, List, Option, Some, None, refl, sym, ap, subst, ◌∙◌, arith}
 use Rattle.std.specs.Prelude.{take, length, is_some}
+use Rattle.std.proofs.lemmas.Bool.{false≢true}
 use Rattle.rex_syntax.specs.declared.service.Declarations.{Declarations}
 use Rattle.rex_state.specs.Value.{StateValue}
 use Rattle.rex_state.specs.Start.{start_of}
@@ -60,6 +61,7 @@ module _ {K : Type 0} (records : K → List (List ℕ)) (service : Declarations)
       replayed = replayed_to x.acting x.base x.replayed (length (known (here_of records service x).log)) based u.replayed.replayed;
     };
     ahead = λ _. state_left (λ n s. run service (start_of service) (trace_of (take n x.known)) ≡ Some s) x.acting x.ahead x.start x.base x.replayed u.start u.ahead;
+    caught_up = λ t. absurd (false≢true t);
     proposer = tt;
     acting = tt;
     fits = u.fits;

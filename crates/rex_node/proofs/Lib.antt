@@ -37,3 +37,5 @@ pub mod Turns
 pub mod Votes
 pub mod Written
 pub mod Reading
+pub mod Held
+pub mod Saved

@@ -171,7 +171,7 @@ module _ {K : Type 0} (records : K → List (List ℕ)) (gives : K → List ℕ 
     z = record x { keeper = keeper; acceptor = accepting x.acceptor (own p i v); proposer = Some (proposed p i) }
 
     log_is : log_of service (records keeper) ≡ r ∷ log
-    log_is = log_written records gives faults service x u (kept.Accepted p.ballot i v) spelled tt (records keeper) grown
+    log_is = log_written records gives faults service x u (kept.Accepted p.ballot i v) spelled tt refl (records keeper) grown
 
     z_logged : IsLogged service z (log_of service (records keeper))
     z_logged = subst (IsLogged service z) (sym log_is)
@@ -183,6 +183,7 @@ module _ {K : Type 0} (records : K → List (List ℕ)) (gives : K → List ℕ 
       based = b.based;
       replayed = b.replayed;
       ahead = b.ahead;
+      caught_up = b.caught_up;
       proposer = proposes_opened x.nodes x.id id.0 id.1 x.acceptor p proposes i v;
       acting = acting_opened service x.known x.acceptor p x.acting i v (subst (λ (o : Option ProposerValue). IsActing service x.known x.acceptor o x.acting) e u.acting) cut;
       role = role_opened (length x.known) x.acceptor p (is_some x.acting) i v (omega (arith, next)) (instance_fits i there) lead_fits;
@@ -210,7 +211,7 @@ module _ {K : Type 0} (records : K → List (List ℕ)) (gives : K → List ℕ 
       (λ k. subst (λ (n : NodeValue K). Comes records gives faults service (λ d. propose x.nodes x.id told d (lead_of x.acceptor p (is_some x.acting)) i v k) (λ d. k (led (leading (lead_of x.acceptor p (is_some x.acting)) (Some (proposal_of p.ballot i v)) (x.id ∷ []) (is_some x.acting)) d)) x n before after On) (sym all) (
         leads_then records gives faults (λ d. propose x.nodes x.id told d (lead_of x.acceptor p (is_some x.acting)) i v k) (λ d. k (send (say told (led (leading (lead_of x.acceptor p (is_some x.acting)) (Some (proposal_of p.ballot i v)) (x.id ∷ []) (is_some x.acting)) d)) (others x.nodes x.id (Accept p.ballot i v)))) (λ d. k (led (leading (lead_of x.acceptor p (is_some x.acting)) (Some (proposal_of p.ballot i v)) (x.id ∷ []) (is_some x.acting)) d))
             x.keeper y.keeper y.keeper (so_far records service x before) (logged r None (so_far records service x before)) (so_far records service (z_at y.keeper) after)
-            (written_on records gives faults service x u (kept.Accepted p.ballot i v) spelled tt y before (λ d. propose x.nodes x.id told d (lead_of x.acceptor p (is_some x.acting)) i v k) (λ d. k (send (say told (led (leading (lead_of x.acceptor p (is_some x.acting)) (Some (proposal_of p.ballot i v)) (x.id ∷ []) (is_some x.acting)) d)) (others x.nodes x.id (Accept p.ballot i v)))) (λ f. refl) h)
+            (written_on records gives faults service x u (kept.Accepted p.ballot i v) spelled tt refl y before (λ d. propose x.nodes x.id told d (lead_of x.acceptor p (is_some x.acting)) i v k) (λ d. k (send (say told (led (leading (lead_of x.acceptor p (is_some x.acting)) (Some (proposal_of p.ballot i v)) (x.id ∷ []) (is_some x.acting)) d)) (others x.nodes x.id (Accept p.ballot i v)))) (λ f. refl) h)
             (leads_same records gives faults (λ d. k (send (say told (led (leading (lead_of x.acceptor p (is_some x.acting)) (Some (proposal_of p.ballot i v)) (x.id ∷ []) (is_some x.acting)) d)) (others x.nodes x.id (Accept p.ballot i v)))) (λ d. k (led (leading (lead_of x.acceptor p (is_some x.acting)) (Some (proposal_of p.ballot i v)) (x.id ∷ []) (is_some x.acting)) d))
             y.keeper (logged r None (so_far records service x before)) (so_far records service (z_at y.keeper) after) (ap length (log_is y.keeper h.records))
             (λ f. z_comes y.keeper h.records told before after k f (more_effects ∙ ap (λ (es : List Effect). es ++ told ∷ []) effects) sends_are)),
@@ -235,7 +236,7 @@ module _ {K : Type 0} (records : K → List (List ℕ)) (gives : K → List ℕ 
   opens_down told y before after h effects sends =
       subst (λ (o : Option ProposerValue). IfSome o (λ (q : ProposerValue). (k : CallHere → CallHere) → Comes records gives faults service (λ d. propose x.nodes x.id told d (lead_of x.acceptor q (is_some x.acting)) i v k) (λ d. k (led (leading (lead_of x.acceptor q (is_some x.acting)) (Some (proposal_of q.ballot i v)) (x.id ∷ []) (is_some x.acting)) d)) x y before after Down))
       (sym e)
-      (λ k. written_down records gives faults service x u (kept.Accepted p.ballot i v) spelled tt y before (λ d. propose x.nodes x.id told d (lead_of x.acceptor p (is_some x.acting)) i v k) (λ d. k (send (say told (led (leading (lead_of x.acceptor p (is_some x.acting)) (Some (proposal_of p.ballot i v)) (x.id ∷ []) (is_some x.acting)) d)) (others x.nodes x.id (Accept p.ballot i v)))) (λ f. refl)
+      (λ k. written_down records gives faults service x u (kept.Accepted p.ballot i v) spelled tt refl y before (λ d. propose x.nodes x.id told d (lead_of x.acceptor p (is_some x.acting)) i v k) (λ d. k (send (say told (led (leading (lead_of x.acceptor p (is_some x.acting)) (Some (proposal_of p.ballot i v)) (x.id ∷ []) (is_some x.acting)) d)) (others x.nodes x.id (Accept p.ballot i v)))) (λ f. refl)
       after refl h effects sends (λ d. k (led (leading (lead_of x.acceptor p (is_some x.acting)) (Some (proposal_of p.ballot i v)) (x.id ∷ []) (is_some x.acting)) d)))
 
 -- ---- the same of the call
@@ -276,4 +277,4 @@ module _ {K : Type 0} (records : K → List (List ℕ)) (gives : K → List ℕ 
     propose_stuck e z keeper based =
         let s = some_of x.proposer leads in
         let k : Appends records faults gives x y before mid (record_bytes (kept.Accepted s.0.ballot i v)) On = appends_as records gives faults x y before mid (kept.Accepted b i w) (kept.Accepted s.0.ballot i v) g On (same_rec s.0 s.1) e h in
-        stuck_written records gives faults service x (kept_so.up up) (kept.Accepted s.0.ballot i v) (spelled records gives faults service x (kept_so.up up) kept_so.id kept_so.few s.0 s.1 i v next there short cut) tt y z refl k.0 keeper based
+        stuck_written records gives faults service x (kept_so.up up) (kept.Accepted s.0.ballot i v) (spelled records gives faults service x (kept_so.up up) kept_so.id kept_so.few s.0 s.1 i v next there short cut) tt refl y z refl k.0 keeper based

@@ -111,23 +111,23 @@ module _ {K : Type 0} (records : K → List (List ℕ)) (gives : K → List ℕ 
 
       pub raise_down : Appends records faults gives x y before mid (record_bytes (kept.Promised b)) Down
           → (Fell records gives faults prepare x.id x.keeper y.keeper (so_far records service x before) (so_far records service y mid) × (y.up ≡ false)) × IsNode records service y
-      raise_down h = recorded_down records gives faults service x y before mid node up (kept.Promised b) spelled tt refl prepare _ raises_is h
+      raise_down h = recorded_down records gives faults service x y before mid node up (kept.Promised b) spelled tt refl refl prepare _ raises_is h
 
       pub raise_stuck : Appends records faults gives x y before mid (record_bytes (kept.Promised b)) On → (z : NodeValue K) → z.keeper ≡ y.keeper → z.base ≡ y.base → IsStuck records service x z
-      raise_stuck h z keeper based = recorded_stuck records gives faults service x y before mid node up (kept.Promised b) spelled tt refl h z keeper based
+      raise_stuck h z keeper based = recorded_stuck records gives faults service x y before mid node up (kept.Promised b) spelled tt refl refl h z keeper based
 
       pub raise_on : Appends records faults gives x y before mid (record_bytes (kept.Promised b)) On → (z : NodeValue K) (told after : Draft) → z ≡ record (leaving y) { acceptor = promising y.acceptor b }
           → Tells mid told (effect.Promised y.id b ∷ followed y.id (role_of y.acceptor y.proposer (is_some y.acting)))
           → Sends told after (answering z.id from (sent.Promise b (from_instance first z.acceptor.accepted))) → EndsWell records gives faults service x z before after prepare
       raise_on h z told after z_is t s =
-          recorded_on records gives faults service x y before mid node up (kept.Promised b) spelled tt refl prepare (λ e. promised x.id from b first (follow x.id (effect.Promised x.id b ∷ []) e)) raises_is h z after
-          (follows_keeper records gives faults service x y before mid node up (kept.Promised b) spelled tt refl h a x.known logged_here (le_refl _) (λ n l. refl) z z_here)
-          (follows_node records gives faults service x y before mid node up (kept.Promised b) spelled tt refl h a x.known logged_here (le_refl _) (λ n l. refl) z z_here)
-          (follows_up records gives faults service x y before mid node up (kept.Promised b) spelled tt refl h a x.known logged_here (le_refl _) (λ n l. refl) z z_here)
+          recorded_on records gives faults service x y before mid node up (kept.Promised b) spelled tt refl refl prepare (λ e. promised x.id from b first (follow x.id (effect.Promised x.id b ∷ []) e)) raises_is h z after
+          (follows_keeper records gives faults service x y before mid node up (kept.Promised b) spelled tt refl refl h a x.known logged_here (le_refl _) (λ n l. refl) z z_here)
+          (follows_node records gives faults service x y before mid node up (kept.Promised b) spelled tt refl refl h a x.known logged_here (le_refl _) (λ n l. refl) z z_here)
+          (follows_up records gives faults service x y before mid node up (kept.Promised b) spelled tt refl refl h a x.known logged_here (le_refl _) (λ n l. refl) z z_here)
           (λ f. refl)
           (sends_to records service z told after from (sent.Promise b (from_instance first z.acceptor.accepted)) s
           ∙ ap (λ (e : CallHere). send e (answer z.id from (Promise b (map proposal_in (from_instance first z.acceptor.accepted)))))
-          (follows_to records gives faults service x y before mid node up (kept.Promised b) spelled tt refl h a x.known logged_here (le_refl _) (λ n l. refl) z z_here told (effect.Promised x.id b)
+          (follows_to records gives faults service x y before mid node up (kept.Promised b) spelled tt refl refl h a x.known logged_here (le_refl _) (λ n l. refl) z z_here told (effect.Promised x.id b)
           (subst (λ (i : ℕ). Tells mid told (effect.Promised i b ∷ followed y.id (role_of y.acceptor y.proposer (is_some y.acting)))) (ap (λ (n : NodeValue K). n.id) h.0.parts) t))
           ∙ ap (λ (n : NodeValue K). send (follow x.id (effect.Promised x.id b ∷ []) (logged (Promised b) None (so_far records service x before))) (answer n.id from (Promise b (map proposal_in (from_instance first n.acceptor.accepted))))) z_here
           ∙ ap (λ (ps : List (Proposal Value)). send (follow x.id (effect.Promised x.id b ∷ []) (logged (Promised b) None (so_far records service x before))) (answer x.id from (Promise b ps))) (from_kept first x.acceptor.accepted ∙ ap (from_on first) u.accepted))
@@ -189,23 +189,23 @@ module _ {K : Type 0} (records : K → List (List ℕ)) (gives : K → List ℕ 
 
       pub accept_down : Appends records faults gives x y before mid (record_bytes (kept.Accepted b i v)) Down
           → (Fell records gives faults accept x.id x.keeper y.keeper (so_far records service x before) (so_far records service y mid) × (y.up ≡ false)) × IsNode records service y
-      accept_down h = recorded_down records gives faults service x y before mid node up (kept.Accepted b i v) valued tt refl accept _ (accept_is true e) h
+      accept_down h = recorded_down records gives faults service x y before mid node up (kept.Accepted b i v) valued tt refl refl accept _ (accept_is true e) h
 
       pub accept_stuck : Appends records faults gives x y before mid (record_bytes (kept.Accepted b i v)) On → (z : NodeValue K) → z.keeper ≡ y.keeper → z.base ≡ y.base → IsStuck records service x z
-      accept_stuck h z keeper based = recorded_stuck records gives faults service x y before mid node up (kept.Accepted b i v) valued tt refl h z keeper based
+      accept_stuck h z keeper based = recorded_stuck records gives faults service x y before mid node up (kept.Accepted b i v) valued tt refl refl h z keeper based
 
       pub accept_on : Appends records faults gives x y before mid (record_bytes (kept.Accepted b i v)) On → (z : NodeValue K) (told after : Draft) → z ≡ record (leaving y) { acceptor = accepting y.acceptor (record { instance = i; ballot = b; value = v }) }
           → Tells mid told (effect.Accepted y.id b i ∷ followed y.id (role_of y.acceptor y.proposer (is_some y.acting)))
           → Sends told after (answering z.id from (sent.Accepted b i)) → EndsWell records gives faults service x z before after accept
       accept_on h z told after z_is t s =
-          recorded_on records gives faults service x y before mid node up (kept.Accepted b i v) valued tt refl accept (λ n. send (follow x.id (effect.Accepted x.id b i ∷ []) n) (answer x.id from (Voted b i))) (accept_is true e) h z after
-          (follows_keeper records gives faults service x y before mid node up (kept.Accepted b i v) valued tt refl h a x.known logged_here (le_refl _) (λ n l. refl) z z_here)
-          (follows_node records gives faults service x y before mid node up (kept.Accepted b i v) valued tt refl h a x.known logged_here (le_refl _) (λ n l. refl) z z_here)
-          (follows_up records gives faults service x y before mid node up (kept.Accepted b i v) valued tt refl h a x.known logged_here (le_refl _) (λ n l. refl) z z_here)
+          recorded_on records gives faults service x y before mid node up (kept.Accepted b i v) valued tt refl refl accept (λ n. send (follow x.id (effect.Accepted x.id b i ∷ []) n) (answer x.id from (Voted b i))) (accept_is true e) h z after
+          (follows_keeper records gives faults service x y before mid node up (kept.Accepted b i v) valued tt refl refl h a x.known logged_here (le_refl _) (λ n l. refl) z z_here)
+          (follows_node records gives faults service x y before mid node up (kept.Accepted b i v) valued tt refl refl h a x.known logged_here (le_refl _) (λ n l. refl) z z_here)
+          (follows_up records gives faults service x y before mid node up (kept.Accepted b i v) valued tt refl refl h a x.known logged_here (le_refl _) (λ n l. refl) z z_here)
           (λ f. refl)
           (sends_to records service z told after from (sent.Accepted b i) s
           ∙ ap (λ (n : CallHere). send n (answer z.id from (Voted b i)))
-          (follows_to records gives faults service x y before mid node up (kept.Accepted b i v) valued tt refl h a x.known logged_here (le_refl _) (λ n l. refl) z z_here told (effect.Accepted x.id b i)
+          (follows_to records gives faults service x y before mid node up (kept.Accepted b i v) valued tt refl refl h a x.known logged_here (le_refl _) (λ n l. refl) z z_here told (effect.Accepted x.id b i)
           (subst (λ (j : ℕ). Tells mid told (effect.Accepted j b i ∷ followed y.id (role_of y.acceptor y.proposer (is_some y.acting)))) (ap (λ (n : NodeValue K). n.id) h.0.parts) t))
           ∙ ap (λ (j : ℕ). send (follow x.id (effect.Accepted x.id b i ∷ []) (logged (Accepted b i v) None (so_far records service x before))) (answer j from (Voted b i))) (ap (λ (n : NodeValue K). n.id) z_here))
         where

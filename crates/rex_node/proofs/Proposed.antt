@@ -100,7 +100,7 @@ module _ (service : Declarations) (good : IsService service) (values : List Valu
 
   -- with one event more
   cut_pushed : (e : Event) (after : StateValue) (queue : List _) (dice : Lcg) → next service a.recorder.state e ≡ Some after
-      → IsCutAt service values (record { recorder = record { start = a.recorder.start; live = a.recorder.live ++ e ∷ []; state = after; queue = queue }; dice = dice; proposed = a.proposed }) value
+      → IsCutAt service values (record { recorder = record { start = a.recorder.start; live = a.recorder.live ++ e ∷ []; state = after; queue = queue }; dice = dice; proposed = a.proposed; answers = a.answers }) value
   cut_pushed e after queue dice k = record {
     consistent = consistent_push a.proposed a.recorder.live e c.consistent out;
     within = λ lane. le_trans (c.within lane) ((runs_rise service a.recorder.state after (e ∷ []) (run-push service a.recorder.state a.recorder.state after [] e refl k)).rise lane);
@@ -115,7 +115,7 @@ module _ (service : Declarations) (good : IsService service) (values : List Valu
       out = not_below a.proposed e after c.within k
 
   -- after a turn
-  cut_turned : (t : Turn) (dice : Lcg) → IsRecorder service (turned service a.recorder t) → IsCutAt service values (record { recorder = turned service a.recorder t; dice = dice; proposed = a.proposed }) value
+  cut_turned : (t : Turn) (dice : Lcg) → IsRecorder service (turned service a.recorder t) → IsCutAt service values (record { recorder = turned service a.recorder t; dice = dice; proposed = a.proposed; answers = a.answers }) value
   cut_turned (turn.Done e) dice k =
       let r = run-first service a.recorder.state (unwrap_or (next service a.recorder.state e) a.recorder.state) e [] (sym (run-then service a.recorder.start a.recorder.state a.recorder.live (e ∷ []) h.recorder.runs) ∙ k.runs) in
       cut_pushed e (unwrap_or (next service a.recorder.state e) a.recorder.state) _ dice (r.1 ∙ r.2)
@@ -126,6 +126,6 @@ module _ (service : Declarations) (good : IsService service) (values : List Valu
 
 -- an open proposal stays the cut that it is
 pub open_turned : (service : Declarations) → IsService service → (values : List Value) (a : ActingValue) → Executes service values a → (t : Turn) (dice : Lcg) → IsRecorder service (turned service a.recorder t)
-    → (o : Option (Proposal Value)) → OpenIsCut service values a o → OpenIsCut service values (record { recorder = turned service a.recorder t; dice = dice; proposed = a.proposed }) o
+    → (o : Option (Proposal Value)) → OpenIsCut service values a o → OpenIsCut service values (record { recorder = turned service a.recorder t; dice = dice; proposed = a.proposed; answers = a.answers }) o
 open_turned service good values a h t dice k None c = tt
 open_turned service good values a h t dice k (Some p) c = cut_turned service good values a h p.value c t dice k

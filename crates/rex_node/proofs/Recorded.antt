@@ -21,7 +21,7 @@ use Rattle.rex_node.specs.declared.going.Going.TheVariants.{On, Down}
 use Rattle.rex_node.specs.Messages.{content_in, message_in}
 use Rattle.rex_node.specs.Calls.{armed_with}
 use Rattle.rex_node.specs.Going.{Appends, Fell, IsStuck, Leads, Sends, Tells, answering, so_far}
-use Rattle.rex_node.specs.Parts.{NodeValue, IsUp, IsNode, here_of, log_of, rec_of, role_of, leaving}
+use Rattle.rex_node.specs.Parts.{NodeValue, IsUp, IsNode, here_of, log_of, rec_of, role_of, leaving, says_something}
 use Rattle.rex_node.proofs.Appended.{IsLogged, call_at, appended_log, appended_here, appended_leads, appended_fell}
 use Rattle.rex_node.proofs.GoingLemmas.{leads_same, leads_then}
 use Rattle.rex_node.proofs.Following.{EndsWell, far, within, follower_here, follower_node}
@@ -36,13 +36,13 @@ module _ {K : Type 0} (records : K → List (List ℕ)) (service : Declarations)
 -- ---- one record
 
 module _ {K : Type 0} (records : K → List (List ℕ)) (gives : K → List ℕ → Answer → K → Type 0) (faults : K → ℕ) (service : Declarations) (x y : NodeValue K) (before mid : Draft) (node : IsNode records service x) (up : x.up ≡ true)
-    (r : KeptRec) (spelling : HasSpelling r) (due : IsDue (length (known (log_of service (records x.keeper)))) r)
-    (plain : base (rec_of service (log_of service (records x.keeper)) r ∷ log_of service (records x.keeper)) ≡ base (log_of service (records x.keeper))) where
+    (r : KeptRec) (spelling : HasSpelling r) (due : IsDue (length (known (log_of service (records x.keeper)))) r) (says : says_something service r ≡ true)
+    (plain : base (rec_of service r ∷ log_of service (records x.keeper)) ≡ base (log_of service (records x.keeper))) where
   abbrev log : List (Rec Value StateValue)
   log = log_of service (records x.keeper)
 
   abbrev one : Rec Value StateValue
-  one = rec_of service (log_of service (records x.keeper)) r
+  one = rec_of service r
 
   u : IsUp service x (here_of records service x)
   u = node.up up
@@ -55,7 +55,7 @@ module _ {K : Type 0} (records : K → List (List ℕ)) (gives : K → List ℕ 
     same = λ e. absurd (some e);
     based =
         based ∙ ap (λ (n : NodeValue K). n.base) h.0.parts ∙ u.base ∙ sym plain
-        ∙ ap base (sym (ap (λ (k : K). log_of service (records k)) keeper ∙ appended_log records gives faults service x y before mid r spelling due h));
+        ∙ ap base (sym (ap (λ (k : K). log_of service (records k)) keeper ∙ appended_log records gives faults service x y before mid r spelling due says h));
   }
     where
       some : record_bytes r ∷ [] ≡ [] → ⊥
@@ -66,7 +66,7 @@ module _ {K : Type 0} (records : K → List (List ℕ)) (gives : K → List ℕ 
     pub recorded_down : Appends records faults gives x y before mid (record_bytes r) Down
         → (Fell records gives faults whole x.id x.keeper y.keeper (so_far records service x before) (so_far records service y mid) × (y.up ≡ false)) × IsNode records service y
     recorded_down h = (
-      (appended_fell records gives faults service x y before mid r spelling due whole k is u.base plain h, ap (λ (n : NodeValue K). n.up) h.0.parts),
+      (appended_fell records gives faults service x y before mid r spelling due says whole k is u.base plain h, ap (λ (n : NodeValue K). n.up) h.0.parts),
       subst (IsNode records service) (sym h.0.parts) (record { id = node.id; few = node.few; up = λ t. absurd (false≢true t); rests = λ t. absurd (false≢true t) }),
     )
 
@@ -77,7 +77,7 @@ module _ {K : Type 0} (records : K → List (List ℕ)) (gives : K → List ℕ 
     recorded_on h z after keeper n t arms e = (
       (
         leads_then records gives faults whole k (λ d. d) x.keeper y.keeper z.keeper (so_far records service x before) (so_far records service y mid) (so_far records service z after)
-            (appended_leads records gives faults service x y before mid r spelling due whole k is h) last,
+            (appended_leads records gives faults service x y before mid r spelling due says whole k is h) last,
         within records service z n,
         t,
       ),
@@ -88,17 +88,17 @@ module _ {K : Type 0} (records : K → List (List ℕ)) (gives : K → List ℕ 
         last =
             subst (λ (j : K). Leads records gives faults k (λ d. d) y.keeper j (so_far records service y mid) (so_far records service z after)) (sym keeper)
             (leads_same records gives faults k (λ d. d) y.keeper (so_far records service y mid) (so_far records service z after) (ap (λ (j : K). length (log_of service (records j))) keeper)
-            (λ f. ap (λ (d : CallHere). k (armed_with f d)) (appended_here records gives faults service x y before mid r spelling due h) ∙ arms f ∙ ap (armed_with f) (sym e)))
+            (λ f. ap (λ (d : CallHere). k (armed_with f d)) (appended_here records gives faults service x y before mid r spelling due says h) ∙ arms f ∙ ap (armed_with f) (sym e)))
 
   -- ---- the node leaves its role then
 
   module _ (h : Appends records faults gives x y before mid (record_bytes r) On) (a : AcceptorValue) (vs : List Value)
-      (logged_here : IsLogged service (record x { keeper = y.keeper; acceptor = a; known = vs }) (rec_of service (log_of service (records x.keeper)) r ∷ log_of service (records x.keeper)))
+      (logged_here : IsLogged service (record x { keeper = y.keeper; acceptor = a; known = vs }) (rec_of service r ∷ log_of service (records x.keeper)))
       (more : length x.known ≤ length vs) (front : (n : ℕ) → n ≤ length x.known → take n vs ≡ take n x.known)
       (z : NodeValue K) (z_is : z ≡ record (leaving x) { keeper = y.keeper; acceptor = a; known = vs }) where
     -- it is kept
     pub follows_node : IsNode records service z
-    follows_node = subst (IsNode records service) (sym z_is) (follower_node records service x node up y.keeper one a vs (appended_log records gives faults service x y before mid r spelling due h) plain logged_here more front)
+    follows_node = subst (IsNode records service) (sym z_is) (follower_node records service x node up y.keeper one a vs (appended_log records gives faults service x y before mid r spelling due says h) plain logged_here more front)
 
     pub follows_up : z.up ≡ true
     follows_up = ap (λ (n : NodeValue K). n.up) z_is ∙ up
@@ -116,4 +116,4 @@ module _ {K : Type 0} (records : K → List (List ℕ)) (gives : K → List ℕ 
         (ap (map message_in) (t.sends_are ∙ h.2))
         ∙ ap (λ (n : Here). call_at n (map message_in before.sends.items) (before.effects.items ++ (cause ∷ followed x.id (role_of x.acceptor x.proposer (is_some x.acting)))))
         (ap (here_of records service) z_is
-        ∙ follower_here records service x node up y.keeper one a vs (appended_log records gives faults service x y before mid r spelling due h) plain logged_here more front (map message_in before.sends.items) before.effects.items)
+        ∙ follower_here records service x node up y.keeper one a vs (appended_log records gives faults service x y before mid r spelling due says h) plain logged_here more front (map message_in before.sends.items) before.effects.items)

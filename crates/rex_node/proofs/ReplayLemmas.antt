@@ -1,8 +1,7 @@
 -- What a node has still to replay leads from the state that it has replayed to the one after all that it knows.
-use Rattle.std.proofs.Common.{◌≡◌, ℕ, zero, suc, ◌-◌, ◌≤◌, ◌||◌, inl, eqb, le_refl, Bool, true, false, List, [], ◌∷◌, length, take, drop, refl, sym, ap, subst, ◌∙◌, arith, append-nil}
+use Rattle.std.proofs.Common.{◌≡◌, ℕ, ◌-◌, ◌≤◌, ◌||◌, inl, eqb, le_refl, Bool, true, false, List, [], ◌∷◌, length, take, drop, refl, sym, ap, subst, ◌∙◌, arith, append-nil}
 use Rattle.std.specs.Prelude.{Option, Some, None, IsSome, is_some, map, ◌==◌, if◌then◌else◌}
-use Rattle.std.specs.List.{list_all}
-use Rattle.std.proofs.lemmas.Bool.{and_parts, false≢true}
+use Rattle.std.proofs.lemmas.Bool.{false≢true}
 use Rattle.std.proofs.lemmas.List.{take_all, take-append-drop, length-drop}
 use Rattle.rex_syntax.specs.declared.service.Declarations.{Declarations}
 use Rattle.rex_syntax.specs.Service.{IsService}
@@ -20,7 +19,7 @@ use Rattle.rex_safety.specs.Records.{known}
 use Rattle.rex_safety.specs.Node.{is_active}
 use Rattle.rex_safety.specs.Calls.{begin, say, replay}
 use Rattle.rex_safety.specs.Lanes.{Here, CallHere}
-use Rattle.rex_safety.specs.Values.{Value, spells, runs, trace_of}
+use Rattle.rex_safety.specs.Values.{Value, runs, trace_of}
 use Rattle.rex_safety.proofs.Replies.{trace_both, fits_run}
 use Rattle.rex_node.specs.declared.step.Step.{Step}
 use Rattle.rex_node.specs.Messages.{message_in}
@@ -28,11 +27,6 @@ use Rattle.rex_node.specs.Calls.{Does}
 use Rattle.rex_node.specs.Parts.{ActingValue, NodeValue, IsKept, IsNode, IsUp, StaysNode, here_of, log_of, state_of}
 use Rattle.rex_node.proofs.Appended.{IsLogged, Beside, logged_of, beside_of, up_of}
 use Rattle.rex_node.proofs.Leaving.{role_active}
-
-all_drop : (p : Value → Bool) (n : ℕ) (xs : List Value) → list_all p xs ≡ true → list_all p (drop n xs) ≡ true
-all_drop p zero xs h = h
-all_drop p (suc n) [] h = refl
-all_drop p (suc n) (x ∷ xs) h = all_drop p n xs (and_parts _ _ h).1
 
 module _ {K : Type 0} (records : K → List (List ℕ)) (service : Declarations) (x : NodeValue K) (node : IsKept records service x) (up : x.up ≡ true) (none : x.acting ≡ None) where
   is_up : IsUp service x (here_of records service x)
@@ -50,11 +44,6 @@ module _ {K : Type 0} (records : K → List (List ℕ)) (service : Declarations)
   rest_is known n known_is n_is =
       take_all (length known - n) (drop n known) (omega (arith, length-drop n known))
       ∙ ap (λ (k : ℕ). drop k known) n_is ∙ ap (drop x.replayed) known_is
-
-  pub rest_spelled : (known : List Value) (n : ℕ) → known ≡ x.known → n ≡ x.replayed → list_all (spells service) (take (length known - n) (drop n known)) ≡ true
-  rest_spelled known n known_is n_is =
-      subst (λ (vs : List Value). list_all (spells service) vs ≡ true) (sym (rest_is known n known_is n_is))
-      (all_drop (spells service) x.replayed x.known (and_parts (list_all (spells service) x.known) (runs service (trace_of x.known)) is_up.fits).0)
 
   pub from_sound : (from : StateValue) → from ≡ state_of x → IsService service → IsChecked service → IsSound service from
   from_sound from from_is good checked =
@@ -133,6 +122,7 @@ module _ {K : Type 0} (records : K → List (List ℕ)) (gives : K → List ℕ 
             based = subst (λ (k : ℕ). x.base ≤ k) (sym n_is) l.few;
             replayed = subst (λ (k : ℕ). k ≤ length x.known) (sym n_is) (le_refl (length x.known));
             ahead = λ _. ap (λ (vs : List Value). run service (start_of service) (trace_of vs)) whole ∙ runs;
+            caught_up = λ _. n_is;
             proposer = b.proposer;
             acting = b.acting;
             role = b.role;

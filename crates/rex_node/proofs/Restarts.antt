@@ -1,7 +1,7 @@
 -- A node comes up with what its records say.
-use Rattle.std.proofs.Common.{◌≡◌, ℕ, zero, suc, ◌<◌, ◌≤◌, Bool, true, List, [], ◌∷◌, ◌++◌, length, take, drop, Option, None, IsSome, refl, sym, ap, subst, ◌∙◌, arith, take-append-drop}
-use Rattle.std.specs.List.{All, list_all}
-use Rattle.std.proofs.lemmas.Bool.{and_parts, and_from}
+use Rattle.std.proofs.Common.{◌≡◌, ℕ, ◌<◌, ◌≤◌, true, List, ◌++◌, length, take, drop, Option, Some, None, refl, sym, ap, subst, ◌∙◌, arith, take-append-drop}
+use Rattle.std.specs.List.{All}
+use Rattle.std.proofs.lemmas.Bool.{false≢true}
 use Rattle.std.proofs.lemmas.List.Elements.{All-weaker}
 use Rattle.rex_syntax.specs.declared.service.Declarations.{Declarations}
 use Rattle.rex_ballot.specs.declared.proposal.Proposal.{Proposal as Kept}
@@ -11,41 +11,51 @@ use Rattle.rex_state.specs.Start.{start_of}
 use Rattle.rex_state.specs.Machine.{run}
 use Rattle.rex_paxos.specs.Acceptor.{AcceptorValue}
 use Rattle.rex_durable.specs.declared.recovery.Recovered.{Recovered}
-use Rattle.rex_durable.specs.Laws.{MayBeAccepted}
-use Rattle.rex_safety.specs.Records.{known}
-use Rattle.rex_safety.specs.Values.{Value, spells, runs, trace_of, values_fit}
-use Rattle.rex_safety.proofs.Replies.{trace_both, fits_run, run_split}
+use Rattle.rex_durable.specs.Laws.{HasSnapshot, MayBeAccepted}
+use Rattle.rex_safety.specs.Records.{base, known}
+use Rattle.rex_safety.specs.Values.{Value, state_after, trace_of, values_fit}
+use Rattle.rex_safety.proofs.Replies.{trace_both, fits_run, run_split, state_is}
 use Rattle.rex_node.specs.Parts.{NodeValue, IsUp, IsNode, here_of, log_of}
-use Rattle.rex_node.specs.Restarting.{CameUp, IsFound, IsRecalled}
+use Rattle.rex_node.specs.Restarting.{CameUp, HasRightBase, IsFound, IsRecalled, IsSaved}
 use Rattle.rex_node.proofs.Recalling.{Says, recovered_says}
 
--- ---- the first values
+-- what was found of a node is what its records say
+pub found_says : (service : Declarations) (lists : List (List ℕ)) (x : Recovered) → IsFound service lists x → Says service x (log_of service lists)
+found_says service lists x h = recovered_says service lists h.rs x h.spelled h.is
 
-spelled_first : (p : Value → Bool) (n : ℕ) (vs : List Value) → list_all p vs ≡ true → list_all p (take n vs) ≡ true
-spelled_first p zero vs h = refl
-spelled_first p (suc n) [] h = refl
-spelled_first p (suc n) (v ∷ vs) h = let q = and_parts (p v) (list_all p vs) h in and_from _ _ q.0 (spelled_first p n vs q.1)
-
-runs_first : (service : Declarations) (n : ℕ) (vs : List Value) → values_fit service vs ≡ true → IsSome (run service (start_of service) (trace_of (take n vs)))
-runs_first service n vs h =
+-- the first values run
+pub front_runs : (service : Declarations) (n : ℕ) (vs : List Value) → values_fit service vs ≡ true → (s : StateValue) × (run service (start_of service) (trace_of (take n vs)) ≡ Some s)
+front_runs service n vs h =
     let r = fits_run service vs h in
     let parts : trace_of vs ≡ trace_of (take n vs) ++ trace_of (drop n vs) = ap trace_of (sym (take-append-drop n vs)) ∙ trace_both (take n vs) (drop n vs) in
     let q = run_split service (start_of service) r.0 (trace_of (take n vs)) (trace_of (drop n vs)) (ap (run service (start_of service)) (sym parts) ∙ r.1) in
-    subst (λ (o : Option StateValue). IsSome o) (sym q.1) refl
+    (q.0, q.1)
 
--- what was found of a node is what its records say
-pub found_says : (service : Declarations) (lists : List (List ℕ)) (x : Recovered) → IsFound lists x → Says x (log_of service lists)
-found_says service lists x h = recovered_says service lists h.rs x h.spelled h.is
+module _ (service : Declarations) (lists : List (List ℕ)) (x : Recovered) (start : StateValue) (h : IsRecalled service lists x start) where
+  says : Says service x (log_of service lists)
+  says = found_says service lists x h.found
 
-module _ (service : Declarations) (lists : List (List ℕ)) (x : Recovered) (found : IsFound lists x) (fit : values_fit service (known (log_of service lists)) ≡ true) (vs : List Value) (vs_are : vs ≡ x.known) where
-  vs_fit : values_fit service vs ≡ true
-  vs_fit = subst (λ (ws : List Value). values_fit service ws ≡ true) (sym (vs_are ∙ (found_says service lists x found).known)) fit
+  -- the base is that of the records
+  pub base_is : x.base ≡ base (log_of service lists)
+  base_is = by x.snapshot refl h.start_is
+    where
+      by : (snapshot : Option (List ℕ)) → x.snapshot ≡ snapshot → IsSaved service snapshot start → x.base ≡ base (log_of service lists)
+      by None e s = (says.none e).0
+      by (Some bytes) e s = (says.some bytes start e s).0
 
-  pub first_spelled : list_all (spells service) (take x.base vs) ≡ true
-  first_spelled = spelled_first (spells service) x.base vs (and_parts (list_all (spells service) vs) (runs service (trace_of vs)) vs_fit).0
-
-  pub first_runs : (first : StateValue) → first ≡ start_of service → IsSome (run service first (trace_of (take x.base vs)))
-  first_runs first e = subst (λ (s : StateValue). IsSome (run service s (trace_of (take x.base vs)))) (sym e) (runs_first service x.base vs vs_fit)
+  -- and the state that of the values up to it, where the records have that state
+  pub start_runs : values_fit service x.known ≡ true → HasRightBase service (log_of service lists) → run service (start_of service) (trace_of (take x.base x.known)) ≡ Some start
+  start_runs fit right = by x.snapshot refl h.start_is h.found.fits.snapshot
+    where
+      by : (snapshot : Option (List ℕ)) → x.snapshot ≡ snapshot → IsSaved service snapshot start → HasSnapshot x.base snapshot → run service (start_of service) (trace_of (take x.base x.known)) ≡ Some start
+      by None e s none = ap (λ (n : ℕ). run service (start_of service) (trace_of (take n x.known))) none ∙ ap Some (sym s)
+      by (Some bytes) e s some =
+          let q = says.some bytes start e s in
+          let r : start ≡ state_after service (trace_of (take (base (log_of service lists)) (known (log_of service lists)))) = (right start q.1).1 in
+          let same : state_after service (trace_of (take (base (log_of service lists)) (known (log_of service lists)))) ≡ state_after service (trace_of (take x.base x.known)) =
+          ap (λ (n : ℕ). state_after service (trace_of (take n (known (log_of service lists))))) (sym q.0) ∙ ap (λ (vs : List Value). state_after service (trace_of (take x.base vs))) (sym says.known) in
+          let f = front_runs service x.base x.known fit in
+          f.1 ∙ ap Some (sym (state_is service (trace_of (take x.base x.known)) f.0 f.1) ∙ sym (r ∙ same))
 
 -- ---- the node
 
@@ -53,8 +63,11 @@ short_values : (promised : ℕ) (ps : List Kept) → All (MayBeAccepted promised
 short_values promised ps h = All-weaker (MayBeAccepted promised) (λ (p : Kept). IsValue p.value) (λ p k. k.proposal.value) ps h
 
 module _ {K : Type 0} (records : K → List (List ℕ)) (service : Declarations) (id nodes seed : ℕ) (keeper : K) (x : Recovered) (start : StateValue) (h : IsRecalled service (records keeper) x start) where
-  says : Says x (log_of service (records keeper))
-  says = found_says service (records keeper) x h.found
+  said : Says service x (log_of service (records keeper))
+  said = found_says service (records keeper) x h.found
+
+  based : x.base ≡ base (log_of service (records keeper))
+  based = base_is service (records keeper) x start h
 
   abbrev node_with : AcceptorValue → List Value → NodeValue K
   node_with acceptor values = record {
@@ -76,27 +89,31 @@ module _ {K : Type 0} (records : K → List (List ℕ)) (service : Declarations)
   abbrev acceptor_is : AcceptorValue
   acceptor_is = record { promised = x.promised; accepted = x.accepted }
 
-  node_up : values_fit service (known (log_of service (records keeper))) ≡ true → IsUp service (node_with acceptor_is x.known) (here_of records service (node_with acceptor_is x.known))
-  node_up fit = record {
-    promised = says.promised;
-    accepted = says.accepted;
-    known = says.known;
-    base = says.base;
-    start = h.start_is;
+  runs_there : values_fit service (known (log_of service (records keeper))) ≡ true → HasRightBase service (log_of service (records keeper)) → run service (start_of service) (trace_of (take x.base x.known)) ≡ Some start
+  runs_there fit = start_runs service (records keeper) x start h (subst (λ (vs : List Value). values_fit service vs ≡ true) (sym said.known) fit)
+
+  node_up : values_fit service (known (log_of service (records keeper))) ≡ true → HasRightBase service (log_of service (records keeper)) → IsUp service (node_with acceptor_is x.known) (here_of records service (node_with acceptor_is x.known))
+  node_up fit right = record {
+    promised = said.promised;
+    accepted = said.accepted;
+    known = said.known;
+    base = based;
+    start = runs_there fit right;
     replayed = record {
-      based = subst (λ (n : ℕ). n ≤ x.base) says.base (omega arith);
-      replayed = subst (λ (vs : List Value). x.base ≤ length vs) says.known h.found.fits.base;
+      based = subst (λ (n : ℕ). n ≤ x.base) based (omega arith);
+      replayed = subst (λ (vs : List Value). x.base ≤ length vs) said.known h.found.fits.base;
     };
-    ahead = λ _. h.start_is;
+    ahead = λ _. runs_there fit right;
+    caught_up = λ t. absurd (false≢true t);
     short = short_values x.promised x.accepted h.found.fits.accepted;
     proposer = tt;
     acting = tt;
-    fits = subst (λ (vs : List Value). values_fit service vs ≡ true) (sym says.known) fit;
+    fits = subst (λ (vs : List Value). values_fit service vs ≡ true) (sym said.known) fit;
     numbers = record {
       log = record {
-        ballots = says.ballots;
-        instances = says.instances;
-        few = subst (λ (vs : List Value). length vs ≤ 65535) says.known h.found.fits.few;
+        ballots = said.ballots;
+        instances = said.instances;
+        few = subst (λ (vs : List Value). length vs ≤ 65535) said.known h.found.fits.few;
       };
       role = tt;
     };
@@ -115,10 +132,11 @@ module _ {K : Type 0} (records : K → List (List ℕ)) (service : Declarations)
       nodes_are = refl;
       seed_is = refl;
       keeper_is = refl;
-      node = ap (λ (n : ℕ). record (here_of records service (node_with acceptor values)) { replayed = n }) says.base;
+      good = record { rs = h.found.rs; spelled = h.found.spelled; first = h.found.good };
+      node = ap (λ (n : ℕ). record (here_of records service (node_with acceptor values)) { replayed = n }) based;
     }
 
-    pub is_node : (0 < id) × (id ≤ nodes) → nodes ≤ 9 → values_fit service (known (log_of service (records keeper))) ≡ true → IsNode records service (node_with acceptor values)
-    is_node there few fit =
+    pub is_node : (0 < id) × (id ≤ nodes) → nodes ≤ 9 → values_fit service (known (log_of service (records keeper))) ≡ true → HasRightBase service (log_of service (records keeper)) → IsNode records service (node_with acceptor values)
+    is_node there few fit right =
         subst (λ (y : NodeValue K). IsNode records service y) parts_are
-        (record { id = there; few = few; up = λ _. node_up fit; rests = λ _. tt })
+        (record { id = there; few = few; up = λ _. node_up fit right; rests = λ _. tt })

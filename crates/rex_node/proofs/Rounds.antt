@@ -11,6 +11,7 @@ use Rattle.rex_paxos.specs.Reports.{best_for}
 use Rattle.rex_syntax.specs.declared.service.Declarations.{Declarations}
 use Rattle.rex_scenario.specs.Fits.{RequestFits}
 use Rattle.rex_record.specs.Value.{RecorderValue, started}
+use Rattle.rex_state.specs.declared.lane.Entry.{Entry}
 use Rattle.rex_state.specs.Value.{StateValue}
 use Rattle.rex_traits.specs.Chains.{Answer}
 use Rattle.rex_report.specs.declared.effect.Effect.TheVariants as effect
@@ -39,15 +40,16 @@ use Rattle.rex_node.proofs.Written.{call_is}
 
 -- ---- a node that is active from here on
 
-module _ {K : Type 0} (x z : NodeValue K) (z_is : z ≡ x) (s : StateValue) (n : ℕ) (r : RecorderValue) (d : Lcg) (counts : List ℕ) (b seed : ℕ) where
-  pub activated_is : n ≡ length x.known → r ≡ started s → b ≡ unwrap_or (option_map (λ (p : ProposerValue). p.ballot) x.proposer) 0 → seed ≡ x.seed → d ≡ dice_of seed b → counts ≡ [] → record z { replayed = n; ahead = None; acting = Some (record { recorder = r; dice = d; proposed = counts }) } ≡ activated x s
-  activated_is n_is r_is b_is seed_is d_is counts_are =
-      ap (λ (y : NodeValue K). record y { replayed = n; ahead = None; acting = Some (record { recorder = r; dice = d; proposed = counts }) }) z_is
-      ∙ ap (λ (m : ℕ). record x { replayed = m; ahead = None; acting = Some (record { recorder = r; dice = d; proposed = counts }) }) n_is
+module _ {K : Type 0} (x z : NodeValue K) (z_is : z ≡ x) (s : StateValue) (n : ℕ) (r : RecorderValue) (d : Lcg) (counts : List ℕ) (b seed : ℕ) (entries : List Entry) where
+  pub activated_is : n ≡ length x.known → r ≡ started s → b ≡ unwrap_or (option_map (λ (p : ProposerValue). p.ballot) x.proposer) 0 → seed ≡ x.seed → d ≡ dice_of seed b → counts ≡ [] → entries ≡ s.clients → record z { replayed = n; ahead = None; acting = Some (record { recorder = r; dice = d; proposed = counts; answers = entries }) } ≡ activated x s
+  activated_is n_is r_is b_is seed_is d_is counts_are entries_are =
+      ap (λ (y : NodeValue K). record y { replayed = n; ahead = None; acting = Some (record { recorder = r; dice = d; proposed = counts; answers = entries }) }) z_is
+      ∙ ap (λ (m : ℕ). record x { replayed = m; ahead = None; acting = Some (record { recorder = r; dice = d; proposed = counts; answers = entries }) }) n_is
       ∙ ap (λ (a : ActingValue). record x { replayed = length x.known; ahead = None; acting = Some a })
-      (ap (λ (q : RecorderValue). record { recorder = q; dice = d; proposed = counts }) r_is
-      ∙ ap (λ (q : Lcg). record { recorder = started s; dice = q; proposed = counts }) (d_is ∙ ap (λ (k : ℕ). dice_of k b) seed_is ∙ ap (dice_of x.seed) b_is)
-      ∙ ap (λ (q : List ℕ). record { recorder = started s; dice = dice_of x.seed (unwrap_or (option_map (λ (p : ProposerValue). p.ballot) x.proposer) 0); proposed = q }) counts_are)
+      (ap (λ (q : RecorderValue). record { recorder = q; dice = d; proposed = counts; answers = entries }) r_is
+      ∙ ap (λ (q : Lcg). record { recorder = started s; dice = q; proposed = counts; answers = entries }) (d_is ∙ ap (λ (k : ℕ). dice_of k b) seed_is ∙ ap (dice_of x.seed) b_is)
+      ∙ ap (λ (q : List ℕ). record { recorder = started s; dice = dice_of x.seed (unwrap_or (option_map (λ (p : ProposerValue). p.ballot) x.proposer) 0); proposed = q; answers = entries }) counts_are
+      ∙ ap (λ (q : List Entry). record { recorder = started s; dice = dice_of x.seed (unwrap_or (option_map (λ (p : ProposerValue). p.ballot) x.proposer) 0); proposed = []; answers = q }) entries_are)
 
 -- ---- a node that goes no further
 
@@ -177,6 +179,7 @@ module _ {K : Type 0} (records : K → List (List ℕ)) (gives : K → List ℕ 
           recorder = record { sound = h.sound; runs = refl; few = omega arith; queue = tt };
           known = h.runs;
           requests = All-nil (RequestFits service);
+          answers = refl;
         };
         open_is_cut = subst (λ (o : Option ℕ). OpenIsCut service x.known (fresh x.seed p.ballot h.state) (open_of x.acceptor o)) (sym none) tt;
       }
@@ -194,6 +197,7 @@ module _ {K : Type 0} (records : K → List (List ℕ)) (gives : K → List ℕ 
             based = g.few;
             replayed = le_refl (length x.known);
             ahead = λ t. absurd (cc);
+            caught_up = λ _. refl;
             proposer = b.proposer;
             acting = subst (λ (o : Option ProposerValue). IsActing service x.known x.acceptor o (Some (fresh x.seed p.ballot h.state))) (sym e) acts;
             role = subst (λ (o : Option ProposerValue). RoleFits (length x.known) (role_of x.acceptor o true)) (sym e)

@@ -19,7 +19,7 @@ use Rattle.rex_node.specs.declared.going.Going.{Going}
 use Rattle.rex_node.specs.declared.going.Going.TheVariants.{Down}
 use Rattle.rex_node.specs.declared.step.Draft.{Draft}
 use Rattle.rex_node.specs.Messages.{message_in}
-use Rattle.rex_node.specs.Parts.{NodeValue, IsUp, Keeps, Falls, Stands, fallen, failed_records, here_of, log_of, rec_of}
+use Rattle.rex_node.specs.Parts.{NodeValue, IsUp, Keeps, Falls, Stands, fallen, failed_records, here_of, log_of, rec_of, says_something}
 use Rattle.rex_node.specs.Calls.{armed_with}
 use Rattle.rex_node.specs.Going.{Appends, IsStuck, Leads, Comes, so_far}
 use Rattle.rex_node.proofs.GoingLemmas.{leads_append, fell_append}
@@ -61,16 +61,16 @@ appends_as records gives faults x y before after r s g h a b k =
     subst (λ (z : Going). Appends records faults gives x y before after (record_bytes s) z) b (subst (λ (z : KeptRec). Appends records faults gives x y before after (record_bytes z) g) a k)
 
 module _ {K : Type 0} (records : K → List (List ℕ)) (gives : K → List ℕ → Answer → K → Type 0) (faults : K → ℕ) (service : Declarations) (x : NodeValue K) (u : IsUp service x (here_of records service x))
-    (r : KeptRec) (spelling : HasSpelling r) (due : IsDue (length (known (log_of service (records x.keeper)))) r) where
+    (r : KeptRec) (spelling : HasSpelling r) (due : IsDue (length (known (log_of service (records x.keeper)))) r) (says : says_something service r ≡ true) where
   abbrev more : List (Rec Value StateValue)
-  more = rec_of service (log_of service (records x.keeper)) r ∷ log_of service (records x.keeper)
+  more = rec_of service r ∷ log_of service (records x.keeper)
 
   -- the log has the record in front
-  pub log_written : (kept : List (List ℕ)) → kept ≡ records x.keeper ++ record_bytes r ∷ [] → log_of service kept ≡ rec_of service (log_of service (records x.keeper)) r ∷ log_of service (records x.keeper)
-  log_written kept e = ap (log_of service) e ∙ log_more service (records x.keeper) r spelling due
+  pub log_written : (kept : List (List ℕ)) → kept ≡ records x.keeper ++ record_bytes r ∷ [] → log_of service kept ≡ rec_of service r ∷ log_of service (records x.keeper)
+  log_written kept e = ap (log_of service) e ∙ log_more service (records x.keeper) r spelling due says
 
   -- memory was short after it
-  pub stuck_written : (y z : NodeValue K) → base (rec_of service (log_of service (records x.keeper)) r ∷ log_of service (records x.keeper)) ≡ base (log_of service (records x.keeper)) → Keeps records faults gives x y (record_bytes r)
+  pub stuck_written : (y z : NodeValue K) → base (rec_of service r ∷ log_of service (records x.keeper)) ≡ base (log_of service (records x.keeper)) → Keeps records faults gives x y (record_bytes r)
       → z.keeper ≡ y.keeper → z.base ≡ y.base → IsStuck records service x z
   stuck_written y z same h keeper based = record {
     more = record_bytes r ∷ [];
@@ -83,17 +83,17 @@ module _ {K : Type 0} (records : K → List (List ℕ)) (gives : K → List ℕ 
       grown = ap records keeper ∙ h.records
 
   module _ (y : NodeValue K) (before : Draft) (whole k : CallHere → CallHere)
-      (is : (f : Option Failure) → whole (armed_with f (so_far records service x before)) ≡ append f x.id (rec_of service (log_of service (records x.keeper)) r) (armed_with f (so_far records service x before)) k) where
+      (is : (f : Option Failure) → whole (armed_with f (so_far records service x before)) ≡ append f x.id (rec_of service r) (armed_with f (so_far records service x before)) k) where
     -- the call goes on from where the record is there
-    pub written_on : Keeps records faults gives x y (record_bytes r) → Leads records gives faults whole k x.keeper y.keeper (so_far records service x before) (logged (rec_of service (log_of service (records x.keeper)) r) None (so_far records service x before))
-    written_on h = leads_append records gives faults whole k x.id (rec_of service (log_of service (records x.keeper)) r) (so_far records service x before) is x.keeper y.keeper (record_bytes r) h.answer h.records h.faults
+    pub written_on : Keeps records faults gives x y (record_bytes r) → Leads records gives faults whole k x.keeper y.keeper (so_far records service x before) (logged (rec_of service r) None (so_far records service x before))
+    written_on h = leads_append records gives faults whole k x.id (rec_of service r) (so_far records service x before) is x.keeper y.keeper (record_bytes r) h.answer h.records h.faults
 
     -- or the node is down
-    pub written_down : (after : Draft) → base (rec_of service (log_of service (records x.keeper)) r ∷ log_of service (records x.keeper)) ≡ base (log_of service (records x.keeper))
+    pub written_down : (after : Draft) → base (rec_of service r ∷ log_of service (records x.keeper)) ≡ base (log_of service (records x.keeper))
         → Falls records faults gives x y (record_bytes r) → after.effects.items ≡ before.effects.items ++ effect.Down x.id ∷ [] → after.sends.items ≡ []
         → (rest : CallHere → CallHere) → Comes records gives faults service whole rest x y before after Down
     written_down after same h effects sends rest =
-        (fell_append records gives faults whole k x.id (rec_of service (log_of service (records x.keeper)) r) (so_far records service x before) is x.keeper y.keeper (record_bytes r) h.kept h.answer h.records h.faults (so_far records service y after) (downs h.kept h.records), ap (λ (n : NodeValue K). n.up) h.parts)
+        (fell_append records gives faults whole k x.id (rec_of service r) (so_far records service x before) is x.keeper y.keeper (record_bytes r) h.kept h.answer h.records h.faults (so_far records service y after) (downs h.kept h.records), ap (λ (n : NodeValue K). n.up) h.parts)
       where
         logs : (kept : Bool) (now : List (List ℕ)) → now ≡ failed_records kept (records x.keeper) (record_bytes r) → log_of service now ≡ cond kept more (log_of service (records x.keeper))
         logs true now e = log_written now e

@@ -57,8 +57,10 @@ pub record FailsAfter {K : Type 0} (records : K → List (List ℕ)) (gives : K 
   pub written : List (List ℕ)
   pub bytes : List ℕ
   pub kept : Bool
+  pub between : K
   pub grown : records new ≡ failed_records kept (records old ++ written) bytes
-  pub appends : AppendsInTurn gives old (written ++ bytes ∷ []) (Err Failed) new
+  pub appends : AppendsInTurn gives old written (Ok tt) between
+  pub fails : gives between bytes (Err Failed) new
   pub counted : faults old < faults new
   pub many : length after.node.log ≡ failed_many kept (length written) + length before.node.log
   pub is : call (armed_with (Some (After (length written) kept)) before) ≡ after

@@ -13,11 +13,12 @@ use Rattle.rex_paxos.specs.Proposer.{ProposerValue, is_candidate, proposed, clos
 use Rattle.rex_event.specs.Cuts.{IsConsistent, below}
 use Rattle.rex_record.specs.Value.{settled, releases, started}
 use Rattle.rex_record.specs.Kept.{IsRecorder}
+use Rattle.rex_gate.specs.Noted.{noted}
 use Rattle.rex_traits.specs.Chains.{Answer}
 use Rattle.rex_safety.specs.Records.{proposal_of}
 use Rattle.rex_safety.specs.Node.{Lead, dice_of}
 use Rattle.rex_safety.specs.Calls.{leading, led, propose, decide, settle}
-use Rattle.rex_safety.specs.Values.{Value, service_of, release_effect, trace_of}
+use Rattle.rex_safety.specs.Values.{Value, events_of, service_of, release_effect, trace_of}
 use Rattle.rex_safety.specs.Lanes.{CallHere}
 use Rattle.rex_node.specs.declared.going.Going.{Going}
 use Rattle.rex_node.specs.declared.going.Going.TheVariants.{On, Down}
@@ -70,14 +71,15 @@ Learns records gives faults service instance value old new before after going =
     FromLead old (λ l. (k : CallHere → CallHere) →
     Comes records gives faults service (λ d. decide old.nodes (service_of service old.seed) old.id d l instance value k) k old new before after going)
 
--- what is executed once the events below the cut are known
+-- what is executed once the events below the cut are known, and what is known of the clients then
 abbrev pub settling : Declarations → ActingValue → ActingValue
-settling service a = record a { recorder = settled service a.recorder a.proposed }
+settling service a = record a { recorder = settled service a.recorder a.proposed; answers = noted a.answers (below a.proposed a.recorder.live) }
 
--- the recorder can settle at the cut that was proposed last
-pub record CanSettle (service : Declarations) (a : ActingValue) : Type 0 where
+-- the recorder can settle at the cut that was proposed last, and the events below it are those of the value
+pub record CanSettle (service : Declarations) (value : Value) (a : ActingValue) : Type 0 where
   pub recorder : IsRecorder service a.recorder
   pub consistent : IsConsistent a.recorder.live a.proposed
+  pub events : events_of value ≡ below a.proposed a.recorder.live
 
 -- the replies among the events below the cut that an active node proposed last
 abbrev pub releases_in : Option ActingValue → List Effect
@@ -120,7 +122,7 @@ reported_value (Some p) instance = option_map (λ (q : Kept). q.value) (best_for
 
 -- what a node executes that is active from here on
 abbrev pub fresh : ℕ → ℕ → StateValue → ActingValue
-fresh seed ballot state = record { recorder = started state; dice = dice_of seed ballot; proposed = [] }
+fresh seed ballot state = record { recorder = started state; dice = dice_of seed ballot; proposed = []; answers = state.clients }
 
 -- the node is active, with the state after all that it knows
 abbrev pub activated : {K : Type 0} → NodeValue K → StateValue → NodeValue K

@@ -1,4 +1,5 @@
 pub mod Calls
+pub mod Checkpointing
 pub mod Cutting
 pub mod Electing
 pub mod Going

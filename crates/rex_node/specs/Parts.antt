@@ -1,11 +1,12 @@
 -- A node's parts, and the node of the cluster's model that they are.
-use Rattle.std.specs.Prelude.{◌≡◌, ℕ, ◌<◌, ◌≤◌, ◌||◌, not, ℤ, Bool, true, false, List, [], ◌∷◌, ◌++◌, length, map, take, fold, is_some, Result, Ok, Err, Option, Some, None, option_map}
+use Rattle.std.specs.Prelude.{◌≡◌, ℕ, ◌<◌, ◌≤◌, ◌||◌, not, ℤ, Bool, true, false, List, [], ◌∷◌, ◌++◌, length, map, take, fold, is_some, Result, Ok, Err, Option, Some, None, option_map, is_ok, if◌then◌else◌}
 use Rattle.std.specs.List.{All}
 use Rattle.rand_pcg.specs.Lcg.{Lcg}
 use Rattle.rex_ballot.specs.declared.proposal.Proposal.{Proposal as Kept}
 use Rattle.rex_ballot.specs.Ballot.{node_of}
 use Rattle.rex_ballot.specs.Proposals.{IsValue, proposal_for}
 use Rattle.rex_syntax.specs.declared.service.Declarations.{Declarations}
+use Rattle.rex_state.specs.declared.lane.Entry.{Entry}
 use Rattle.rex_state.specs.Value.{StateValue}
 use Rattle.rex_state.specs.Counts.{counts_of}
 use Rattle.rex_state.specs.Start.{start_of}
@@ -17,6 +18,7 @@ use Rattle.rex_paxos.specs.Proposer.{ProposerValue, CountsOnce, is_candidate}
 use Rattle.rex_durable.specs.declared.records.Rec.{Rec as KeptRec}
 use Rattle.rex_durable.specs.declared.records.Rec.TheVariants as kept
 use Rattle.rex_durable.specs.Reading.{record_in}
+use Rattle.rex_snapshot.specs.Reading.{state_in}
 use Rattle.rex_scenario.specs.Fits.{RequestFits}
 use Rattle.rex_safety.specs.Records.{Rec, Proposal, proposal_of, promise, accepted, known, base}
 use Rattle.rex_safety.specs.Records.Rec.{Promised, Accepted, Known, Checkpoint}
@@ -24,7 +26,7 @@ use Rattle.rex_safety.specs.Node.{Lead, Role, Work, no_work}
 use Rattle.rex_safety.specs.Node.Role.{Follower, Leads}
 use Rattle.rex_safety.specs.Calls.{replayed_left}
 use Rattle.rex_event.specs.Cuts.{IsConsistent, IsWithin, below, beyond}
-use Rattle.rex_safety.specs.Values.{Value, events_of, trace_of, state_after, values_fit, still_live}
+use Rattle.rex_safety.specs.Values.{Value, events_of, trace_of, values_fit, still_live}
 use Rattle.rex_safety.specs.Ranges.{NodeFits}
 use Rattle.rex_safety.specs.Invariant.{IsReplayed}
 use Rattle.rex_traits.specs.declared.keeper.KeepFault.{KeepFault}
@@ -34,11 +36,12 @@ use Rattle.rex_safety.specs.Lanes.{Here}
 
 -- ---- parts
 
--- what an active node executes: its recorder, its random generator, and the cut of its live events that it proposed last
+-- what an active node executes: its recorder, its random generator, the cut of its live events that it proposed last, and what is known of its clients
 pub record ActingValue : Type 0 where
   pub recorder : RecorderValue
   pub dice : Lcg
   pub proposed : List ℕ
+  pub answers : List Entry
 
 -- the node's number and how many there are; the seed; its keeper; whether it is up; its acceptor; the values that it knows; how many its last checkpoint is after, and the state then; how many it has replayed, and the state then where that is another one and the node isn't active; its proposer where it has asked to lead; and what it executes where it is active
 pub record NodeValue (K : Type 0) : Type 0 where
@@ -58,23 +61,33 @@ pub record NodeValue (K : Type 0) : Type 0 where
 
 -- ---- its records
 
--- what a record that was read says
-abbrev pub rec_of : Declarations → List (Rec Value StateValue) → KeptRec → Rec Value StateValue
-rec_of service log (kept.Promised b) = Promised b
-rec_of service log (kept.Accepted b i v) = Accepted b i v
-rec_of service log (kept.Known i v) = Known i v
-rec_of service log (kept.Checkpoint k bytes) = Checkpoint k (state_after service (trace_of (take k (known log))))
+-- the state that bytes spell, or the start where they spell none
+abbrev pub read_state : Declarations → Result StateValue ℕ → StateValue
+read_state service (Ok s) = s
+read_state service (Err at) = start_of service
 
--- the records with one more; bytes that spell none change nothing
+-- what a record that was read says: a checkpoint, that its bytes spell a state
+abbrev pub rec_of : Declarations → KeptRec → Rec Value StateValue
+rec_of service (kept.Promised b) = Promised b
+rec_of service (kept.Accepted b i v) = Accepted b i v
+rec_of service (kept.Known i v) = Known i v
+rec_of service (kept.Checkpoint k bytes) = Checkpoint k (read_state service (state_in service bytes))
+
+-- a record says something, unless it is a checkpoint whose bytes spell no state
+abbrev pub says_something : Declarations → KeptRec → Bool
+says_something service (kept.Checkpoint k bytes) = is_ok (state_in service bytes)
+says_something service _ = true
+
+-- the records with one more; bytes that spell none, or one that says nothing, change nothing
 abbrev pub log_with : Declarations → List (Rec Value StateValue) → Result KeptRec ℕ → List (Rec Value StateValue)
-log_with service log (Ok r) = rec_of service log r ∷ log
+log_with service log (Ok r) = if says_something service r then rec_of service r ∷ log else log
 log_with service log (Err at) = log
 
 -- the records that lists of bytes spell, the newest first
 abbrev pub log_of : Declarations → List (List ℕ) → List (Rec Value StateValue)
 log_of service kept = fold (λ log bytes. log_with service log (record_in (length (known log)) bytes)) [] kept
 
--- each of the lists of bytes spells a record
+-- each of the lists of bytes spells a record that says something
 abbrev pub AreRead : Declarations → List (List ℕ) → Type 0
 AreRead service kept = length (log_of service kept) ≡ length kept
 
@@ -138,11 +151,12 @@ variables_with (Some a) s = a.recorder.state.variables
 abbrev pub variables_of : {K : Type 0} → NodeValue K → List ℤ
 variables_of x = variables_with x.acting (state_of x)
 
--- the recorder begins at the state after what the node knows, and could begin each of its requests, whose numbers are in their ranges
+-- the recorder begins at the state after what the node knows, could begin each of its requests, whose numbers are in their ranges, and what is known of the clients is what that state says of them
 pub record Executes (service : Declarations) (values : List Value) (a : ActingValue) : Type 0 where
   pub recorder : IsRecorder service a.recorder
   pub known : run service (start_of service) (trace_of values) ≡ Some a.recorder.start
   pub requests : All (RequestFits service) a.recorder.queue
+  pub answers : a.answers ≡ a.recorder.start.clients
 
 -- an open proposal is the delta of the live events below the cut that was proposed last, which counts none but live events
 pub record IsCutAt (service : Declarations) (values : List Value) (a : ActingValue) (value : Value) : Type 0 where
@@ -188,7 +202,7 @@ abbrev pub IsProposer : ℕ → ℕ → AcceptorValue → Option ProposerValue �
 IsProposer nodes id a None = Unit {0}
 IsProposer nodes id a (Some p) = Proposes nodes id a p
 
--- the parts of a node that is up are what its records say, and its states those after the values that it has a checkpoint of and that it has replayed
+-- the parts of a node that is up are what its records say, and its states those after the values that it has a checkpoint of and that it has replayed; where it is active these are all that it knows
 pub record IsUp {K : Type 0} (service : Declarations) (x : NodeValue K) (h : Here) : Type 0 where
   pub promised : x.acceptor.promised ≡ promise h.log
   pub accepted : map proposal_in x.acceptor.accepted ≡ accepted h.log
@@ -197,6 +211,7 @@ pub record IsUp {K : Type 0} (service : Declarations) (x : NodeValue K) (h : Her
   pub start : run service (start_of service) (trace_of (take x.base x.known)) ≡ Some x.start
   pub replayed : IsReplayed h
   pub ahead : x.acting ≡ None → run service (start_of service) (trace_of (take x.replayed x.known)) ≡ Some (state_of x)
+  pub caught_up : is_some x.acting ≡ true → x.replayed ≡ length x.known
   pub short : AreShort x.acceptor.accepted
   pub proposer : IsProposer x.nodes x.id x.acceptor x.proposer
   pub acting : IsActing service x.known x.acceptor x.proposer x.acting

@@ -8,14 +8,16 @@ ghost use Rattle.rex_event.specs.Cuts.{below, IsConsistent};
 ghost use Rattle.rex_record.specs.Value.{turned, releases};
 ghost use Rattle.rex_safety.specs.Values as values;
 ghost use Rattle.rex_record.specs.Kept.{IsRecorder};
+ghost use Rattle.rex_gate.specs.Noted.{noted};
 ghost use Rattle.rex_scenario.specs.Fits.{RequestFits};
 ghost use Rattle.rex_node.specs.Leading.{settling};
-ghost use Rattle.rex_node.specs.Submitting.{answer_in, effect_of, taken};
+ghost use Rattle.rex_node.specs.Submitting.{answer_in, taken};
 
-use crate::answers::{Answer, answer_of};
 use crate::step::Draft;
 use rand_pcg::Lcg64Xsh32;
+use rex_delta::{DecodeError, decode};
 use rex_event::Cut;
+use rex_gate::{Answer, Answers};
 use rex_record::{Recorder, Release, Turn};
 use rex_report::Effect;
 use rex_syntax::checked::Checked;
@@ -23,12 +25,14 @@ use rex_syntax::request::Request;
 use std::alloc::{AllocError, Global};
 use std::marker::Model;
 
-/// The recorder of an active node, its random generator, and the cut of its live events that it proposed last.
+/// The recorder of an active node, its random generator, the cut of its live events that it proposed last, and what is known
+/// of its clients.
 #[derive(Drop)]
 pub struct Acting {
     pub(crate) recorder: Recorder,
     pub(crate) dice: Lcg64Xsh32,
     pub(crate) proposed: Cut,
+    pub(crate) answers: Answers,
 }
 
 impl Model for Acting {
@@ -36,7 +40,7 @@ impl Model for Acting {
 
     ghost Value = { ActingValue };
 
-    ghost view = { λ a. record { recorder = a.recorder.value; dice = a.dice; proposed = a.proposed.counts } };
+    ghost view = { λ a. record { recorder = a.recorder.value; dice = a.dice; proposed = a.proposed.counts; answers = a.answers } };
 }
 
 impl Acting {
@@ -57,20 +61,18 @@ impl Acting {
 
     // The answer to a request.
     fn answer(&self, request: &Request) -> Answer
-        ensures { effect_of request.now result ≡ answer_in self.now request.now }
+        ensures { result ≡ answer_in self.now request.now }
     {
         let queued = self.recorder.queued(request.client);
-        let live = self.recorder.state().entry(request.client);
-        let known = self.recorder.start().entry(request.client);
-        answer_of(request, queued, live, known)
+        self.answers.answer(request, queued, self.recorder.state())
     }
 
     // A request that is answered `Queued` joins the queue.
     fn take(&mut self, svc: &Checked, request: &Request, answer: Answer) -> Result<(), AllocError>
         requires recorder { IsRecorder svc.now self.old.recorder }
         requires request { RequestFits svc.now request.now }
-        requires answer { effect_of request.now answer ≡ answer_in self.old request.now }
-        ensures ok { OnOk result (self.new ≡ taken self.old request.now (effect_of request.now answer)) }
+        requires answer { answer ≡ answer_in self.old request.now }
+        ensures ok { OnOk result (self.new ≡ taken self.old request.now answer) }
         ensures err { OnErr result (self.new ≡ self.old) }
     {
         let _service = svc.declarations();
@@ -84,8 +86,8 @@ impl Acting {
     pub fn submit(&mut self, svc: &Checked, request: &Request) -> Result<Answer, AllocError>
         requires recorder { IsRecorder svc.now self.old.recorder }
         requires request { RequestFits svc.now request.now }
-        ensures answer { IfOk result (λ a. effect_of request.now a ≡ answer_in self.old request.now) }
-        ensures ok { IfOk result (λ a. self.new ≡ taken self.old request.now (effect_of request.now a)) }
+        ensures answer { IfOk result (λ a. a ≡ answer_in self.old request.now) }
+        ensures ok { IfOk result (λ a. self.new ≡ taken self.old request.now a) }
         ensures err { OnErr result (self.new ≡ self.old) }
     {
         let answer = self.answer(request);
@@ -99,29 +101,43 @@ impl Acting {
         requires there { lane < svc.now.lanes }
         requires count { (lane_of self.old.recorder.state lane).done + 1 < 2 ^ 32 }
         ensures turn { IfOk result (λ t. t ≡ turn_of svc.now self.old.recorder.state self.old.recorder.queue (length self.old.recorder.live) lane now (pcg32 self.old.dice).0) }
-        ensures ok { IfOk result (λ t. self.new ≡ record { recorder = turned svc.now self.old.recorder t; dice = dice_after (does_draw svc.now self.old.recorder.state (length self.old.recorder.live) lane) self.old.dice; proposed = self.old.proposed }) }
+        ensures ok { IfOk result (λ t. self.new ≡ record { recorder = turned svc.now self.old.recorder t; dice = dice_after (does_draw svc.now self.old.recorder.state (length self.old.recorder.live) lane) self.old.dice; proposed = self.old.proposed; answers = self.old.answers }) }
         ensures err { OnErr result (self.new ≡ self.old) }
         ensures kept { IsRecorder svc.now self.new.recorder }
     {
         self.recorder.lane_step(svc, lane, now, &mut self.dice)
     }
 
-    /// The live events below the cut that was proposed last are known: they are live no longer, and their replies are
-    /// released.
+    /// The live events below the cut that was proposed last, which are those of this value, are known: they are live no longer,
+    /// and their replies are released.
     pub fn settle(
         &mut self,
         svc: &Checked,
         alloc: Global,
         draft: &mut Draft,
+        value: &[u8],
     ) -> Result<(), AllocError>
         requires recorder { IsRecorder svc.now self.old.recorder }
         requires consistent { IsConsistent self.old.recorder.live self.old.proposed }
+        requires events { values.events_of value.now ≡ below self.old.proposed self.old.recorder.live }
         ensures ok { OnOk result (self.new ≡ settling svc.now self.old) }
         ensures effects { OnOk result (draft.new.effects.items ≡ draft.old.effects.items ++ map values.release_effect (releases self.old.recorder.start.clients (below self.old.proposed self.old.recorder.live))) }
         ensures sends { OnOk result (draft.new.sends.items ≡ draft.old.sends.items) }
     {
+        note(&mut self.answers, alloc, value)?;
         let released = self.recorder.settle(svc, alloc, &self.proposed)?;
         tell_releases(draft, released.as_slice())
+    }
+}
+
+// What a value that became known says of clients is noted.
+fn note(answers: &mut Answers, alloc: Global, value: &[u8]) -> Result<(), AllocError>
+    ensures { OnOk result (answers.new ≡ noted answers.old (values.events_of value.now)) }
+{
+    match decode(alloc, value) {
+        Ok(delta) => answers.note(&delta),
+        Err(DecodeError::OutOfMemory) => Err(AllocError),
+        Err(DecodeError::Bad { .. }) => Ok(()),
     }
 }
 

@@ -15,9 +15,9 @@ ghost use Rattle.rex_node.specs.Electing.{acceptance_vote_on, accepting_from, co
 ghost use Rattle.rex_node.specs.Going.{Ends, IsStuck, RunsOn, so_far};
 
 use crate::going::Going;
-use crate::leading::copied;
 use crate::node::Node;
 use crate::step::Draft;
+use crate::values::copied;
 use rex_ballot::{Proposal, Value};
 use rex_paxos::{Vote, Why};
 use rex_replay::Replayer;

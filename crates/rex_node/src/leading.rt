@@ -21,11 +21,13 @@ use crate::acting::Acting;
 use crate::going::{Going, Round};
 use crate::node::Node;
 use crate::step::Draft;
+use crate::values::copied;
 use rand_pcg::Lcg64Xsh32;
 use rex_ballot::Value;
 use rex_delta::{DecodeError, decode};
 use rex_durable::Rec;
 use rex_event::Cut;
+use rex_gate::Answers;
 use rex_list::List;
 use rex_msg::{Content, Message};
 use rex_paxos::Proposer;
@@ -35,13 +37,6 @@ use rex_report::Effect;
 use rex_syntax::checked::Checked;
 use rex_traits::Keeper;
 use std::alloc::{AllocError, Global};
-
-/// The same value.
-pub(crate) fn copied(alloc: Global, value: &[u8]) -> Result<Value, AllocError>
-    ensures { IfOk result (λ v. v ≡ value.now) }
-{
-    Ok(List::from_vec(value.to_vec(alloc)?))
-}
 
 // How many events the delta has that a value spells; 0 where it spells none.
 fn events_in(alloc: Global, value: &[u8]) -> Result<u32, AllocError>
@@ -185,7 +180,7 @@ impl<K: Keeper> Node<K> {
         instance: u32,
         value: &[u8],
     ) -> Result<(), AllocError>
-        requires recorder { IfSome self.old.acting (CanSettle svc.now) }
+        requires recorder { IfSome self.old.acting (CanSettle svc.now value.now) }
         ensures knows { OnOk result (self.new ≡ knowing svc.now self.old instance value.now) }
         ensures effects { OnOk result (draft.new.effects.items ≡ draft.old.effects.items ++ effect.Known self.old.id instance ∷ releases_in self.old.acting) }
         ensures sends { OnOk result (map message_in draft.new.sends.items ≡ map message_in draft.old.sends.items ++ calls.others self.old.nodes self.old.id (content_in (sent.Chosen instance value.now))) }
@@ -196,7 +191,7 @@ impl<K: Keeper> Node<K> {
         let node = self.id;
         self.known.push(copied(self.alloc, value)?)?;
         draft.tell(Effect::Known { node, instance })?;
-        self.settle(svc, draft, instance)?;
+        self.settle(svc, draft, instance, value)?;
         self.close();
         let value = copied(self.alloc, value)?;
         let content = Content::Chosen { instance, value };
@@ -204,8 +199,14 @@ impl<K: Keeper> Node<K> {
     }
 
     // An active node has the events of the value that became known no longer live, and releases their replies.
-    fn settle(&mut self, svc: &Checked, draft: &mut Draft, instance: u32) -> Result<(), AllocError>
-        requires recorder { IfSome self.old.acting (CanSettle svc.now) }
+    fn settle(
+        &mut self,
+        svc: &Checked,
+        draft: &mut Draft,
+        instance: u32,
+        value: &[u8],
+    ) -> Result<(), AllocError>
+        requires recorder { IfSome self.old.acting (CanSettle svc.now value.now) }
         ensures settled { OnOk result (self.new ≡ record self.old { replayed = spec.replayed_to self.old.acting instance self.old.replayed; acting = option_map (spec.settling svc.now) self.old.acting }) }
         ensures effects { OnOk result (draft.new.effects.items ≡ draft.old.effects.items ++ releases_in self.old.acting) }
         ensures sends { OnOk result (draft.new.sends.items ≡ draft.old.sends.items) }
@@ -214,7 +215,7 @@ impl<K: Keeper> Node<K> {
         ensures same { IsSame self.old self.new }
     {
         if let Some(acting) = &mut self.acting {
-            acting.settle(svc, self.alloc, draft)?;
+            acting.settle(svc, self.alloc, draft, value)?;
             self.replayed = instance;
         }
         Ok(())
@@ -380,6 +381,7 @@ impl<K: Keeper> Node<K> {
         let node = self.id;
         let ballot = self.own_ballot().unwrap_or(0);
         let state = self.replayed_state(svc, replayer)?;
+        let answers = Answers::at(self.alloc, &state)?;
         let recorder = Recorder::new(self.alloc, state)?;
         draft.tell(Effect::Active { node, ballot })?;
         let dice = Lcg64Xsh32::new(self.seed as u64, ballot);
@@ -389,6 +391,7 @@ impl<K: Keeper> Node<K> {
             recorder,
             dice,
             proposed,
+            answers,
         });
         self.replayed = self.known.len() as u32;
         self.ahead = None;

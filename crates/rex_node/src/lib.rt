@@ -3,9 +3,11 @@
 #![tactic(auto)]
 
 mod acting;
-mod answers;
+mod arming;
 mod bounds;
+mod checkpointing;
 mod choosing;
+mod contents;
 mod counting;
 mod cutting;
 mod electing;
@@ -23,7 +25,6 @@ mod telling;
 mod values;
 mod writing;
 
-pub use answers::Answer;
 pub use node::Node;
 pub use refusal::Refusal;
 pub use restart::{NotStarted, RestartFault};

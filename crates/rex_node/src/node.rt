@@ -6,15 +6,14 @@ ghost use Rattle.rex_state.specs.Machine.{lane_of};
 ghost use Rattle.rex_scenario.specs.Fits.{RequestFits};
 ghost use Rattle.rex_safety.specs.Node.{role_name, lead_name};
 ghost use Rattle.rex_safety.specs.Calls.{begin};
-ghost use Rattle.rex_safety.specs.Lanes.{live_state, submit_request, turned};
+ghost use Rattle.rex_safety.specs.Lanes.{effect_of, live_state, submit_request, turned};
 ghost use Rattle.rex_node.specs.Parts.{here_of, role_of, open_of, proposal_in, IsNode, StaysNode};
 ghost use Rattle.rex_node.specs.Calls.{Refuses, LeadsTo, if_up, if_active, refusal_active, turn_at};
-ghost use Rattle.rex_node.specs.Submitting.{effect_of};
 
 use crate::acting::Acting;
-use crate::answers::Answer;
 use crate::refusal::Refusal;
 use rex_ballot::{Proposal, Value};
+use rex_gate::Answer;
 use rex_paxos::{Acceptor, Proposer};
 use rex_record::Turn;
 use rex_report::Role;

@@ -78,8 +78,8 @@ impl<K: Keeper> Node<K> {
     }
 }
 
-// The state that was replayed: that of the checkpoint where there is no other one.
-fn ahead_of<'a>(ahead: &'a Option<State>, start: &'a State) -> &'a State
+/// The state that was replayed: that of the checkpoint where there is no other one.
+pub(crate) fn ahead_of<'a>(ahead: &'a Option<State>, start: &'a State) -> &'a State
     ensures { result.now ≡ parts.ahead_of ahead.now start.now }
 {
     match ahead {

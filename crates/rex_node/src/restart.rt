@@ -1,18 +1,20 @@
 //! How a node comes up.
 
-ghost use Rattle.std.specs.Prelude.{◌≡◌, ◌<◌, ◌≤◌, true, IfOk, IfErr};
+ghost use Rattle.std.specs.Prelude.{◌≡◌, ◌<◌, ◌≤◌, ℕ, List, true, Some, IfOk, IfErr, IsOk};
+ghost use Rattle.std.specs.List.{list_all};
+ghost use Rattle.rex_snapshot.specs.Reading.{state_in};
 ghost use Rattle.rex_safety.specs.Records.{known};
-ghost use Rattle.rex_safety.specs.Values.{values_fit};
+ghost use Rattle.rex_safety.specs.Values.{spells, values_fit};
 ghost use Rattle.rex_node.specs.Parts.{AreRead, IsNode, log_of};
 ghost use Rattle.rex_node.specs.declared.restart.RestartFault.TheVariants.{OutOfMemory};
-ghost use Rattle.rex_node.specs.Restarting.{CameUp, IsFound, IsRecalled, IsRestartFault};
+ghost use Rattle.rex_node.specs.Restarting.{CameUp, HasRightBase, IsFound, IsRecalled, IsRestartFault, IsSaved};
 
+use crate::contents::{Place, first_bad};
 use crate::node::Node;
-use crate::values::replay_values;
 use rex_ballot::Proposals;
 use rex_durable::{RecoverFault, Recovered, recover};
 use rex_paxos::Acceptor;
-use rex_replay::OneThread;
+use rex_snapshot::{DecodeError, decode};
 use rex_state::state::State;
 use rex_syntax::checked::Checked;
 use rex_traits::Keeper;
@@ -51,8 +53,9 @@ struct Recalled {
 
 impl<K: Keeper> Node<K> {
     /// A node comes up with what its keeper has, and with nothing else: as a follower that has replayed what its last
-    /// checkpoint is after. The nodes are numbered from 1. A keeper whose records are all read is refused for want of memory
-    /// only.
+    /// checkpoint is after, whose snapshot alone of all is read. The nodes are numbered from 1. A record is bad whose bytes
+    /// spell none, or that holds a known value which spells no delta, or as the last checkpoint a snapshot which spells no
+    /// state of the service.
     pub fn restart(
         alloc: Global,
         id: u8,
@@ -63,12 +66,11 @@ impl<K: Keeper> Node<K> {
     ) -> Result<Node<K>, NotStarted<K>>
         requires there { (0 < id) × (id ≤ nodes) }
         requires few { nodes ≤ 9 }
-        requires runs { values_fit svc.now (known (log_of svc.now (K.records keeper))) ≡ true }
         ensures up { IfOk result (CameUp K.records svc.now id nodes seed keeper) }
-        ensures kept { IfOk result (IsNode K.records svc.now) }
+        ensures kept { values_fit svc.now (known (log_of svc.now (K.records keeper))) ≡ true → HasRightBase svc.now (log_of svc.now (K.records keeper)) → IfOk result (IsNode K.records svc.now) }
         ensures back { IfErr result (λ e. e.keeper ≡ keeper) }
-        ensures fault { IfErr result (λ e. IsRestartFault (K.records keeper) e.fault) }
-        ensures read { AreRead svc.now (K.records keeper) → IfErr result (λ e. e.fault ≡ OutOfMemory) }
+        ensures fault { IfErr result (λ e. IsRestartFault svc.now (K.records keeper) e.fault) }
+        ensures read { AreRead svc.now (K.records keeper) → list_all (spells svc.now) (known (log_of svc.now (K.records keeper))) ≡ true → IfErr result (λ e. e.fault ≡ OutOfMemory) }
     {
         match recall(alloc, svc, &keeper) {
             Err(fault) => Err(NotStarted { keeper, fault }),
@@ -95,26 +97,43 @@ impl<K: Keeper> Node<K> {
     }
 }
 
-// What a keeper's records say of its node, with the state after the values that its last checkpoint is after.
+// What a keeper's records say of its node, with the state at its last checkpoint.
 fn recall<K: Keeper>(alloc: Global, svc: &Checked, keeper: &K) -> Result<Recalled, RestartFault>
-    requires runs { values_fit svc.now (known (log_of svc.now (K.records keeper.now))) ≡ true }
     ensures recalled { IfOk result (λ r. IsRecalled svc.now (K.records keeper.now) r.recovered r.start) }
-    ensures fault { IfErr result (IsRestartFault (K.records keeper.now)) }
+    ensures fault { IfErr result (IsRestartFault svc.now (K.records keeper.now)) }
 {
-    let recovered = read(alloc, keeper)?;
-    let first = State::start(alloc, svc)?;
-    let values = &recovered.known.as_slice()[..recovered.base as usize];
-    let start = replay_values(alloc, svc, &mut OneThread, &first, values)?;
+    let recovered = read(alloc, svc, keeper)?;
+    let start = saved_state(alloc, svc, &recovered)?;
     Ok(Recalled { recovered, start })
 }
 
-fn read<K: Keeper>(alloc: Global, keeper: &K) -> Result<Recovered, RestartFault>
-    ensures found { IfOk result (IsFound (K.records keeper.now)) }
-    ensures fault { IfErr result (IsRestartFault (K.records keeper.now)) }
+// What a keeper's records say of its node, where none is bad.
+fn read<K: Keeper>(alloc: Global, svc: &Checked, keeper: &K) -> Result<Recovered, RestartFault>
+    ensures found { IfOk result (IsFound svc.now (K.records keeper.now)) }
+    ensures fault { IfErr result (IsRestartFault svc.now (K.records keeper.now)) }
 {
     match recover(alloc, keeper) {
-        Ok(recovered) => Ok(recovered),
+        Ok(recovered) => match first_bad(alloc, svc, keeper)? {
+            None => Ok(recovered),
+            Some(Place { number, at }) => Err(RestartFault::BadRecord { number, at }),
+        },
         Err(RecoverFault::BadRecord { number, at }) => Err(RestartFault::BadRecord { number, at }),
         Err(RecoverFault::OutOfMemory) => Err(RestartFault::OutOfMemory),
+    }
+}
+
+// The state at the last checkpoint; without one, the start.
+fn saved_state(alloc: Global, svc: &Checked, recovered: &Recovered) -> Result<State, RestartFault>
+    requires { (s : List ℕ) → recovered.now.snapshot ≡ Some s → IsOk (state_in svc.now s) }
+    ensures saved { IfOk result (IsSaved svc.now recovered.now.snapshot) }
+    ensures memory { IfErr result (λ e. e ≡ OutOfMemory) }
+{
+    match &recovered.snapshot {
+        None => Ok(State::start(alloc, svc)?),
+        Some(snapshot) => match decode(alloc, svc, snapshot.as_slice()) {
+            Ok(state) => Ok(state),
+            Err(DecodeError::OutOfMemory) => Err(RestartFault::OutOfMemory),
+            Err(DecodeError::Bad { .. }) => unreachable!(),
+        },
     }
 }

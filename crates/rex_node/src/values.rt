@@ -1,20 +1,21 @@
 //! The replay of values.
 
-ghost use Rattle.std.specs.Prelude.{◌≡◌, true, Some, IsSome, IfOk};
-ghost use Rattle.std.specs.List.{list_all};
+ghost use Rattle.std.specs.Prelude.{◌≡◌, ◌++◌, Some, IsSome, IfOk, OnOk};
+ghost use Rattle.rex_state.specs.Counts.{AreCounted};
 ghost use Rattle.rex_state.specs.Machine.{run};
 ghost use Rattle.rex_state.specs.Sound.{IsSound};
-ghost use Rattle.rex_safety.specs.Values.{spells, events_of, trace_of};
+ghost use Rattle.rex_safety.specs.Values.{events_of, trace_of};
 
 use rex_ballot::Value;
 use rex_delta::{DecodeError, decode};
+use rex_event::{Event, Kind};
 use rex_list::List;
 use rex_replay::Replayer;
 use rex_state::state::State;
 use rex_syntax::checked::Checked;
 use std::alloc::{AllocError, Global};
 
-/// The state to which the events of the deltas that values spell lead, one after another. They run from the state.
+/// The state to which the events of the deltas lead that values spell, one delta after another. They run from the state.
 pub(crate) fn replay_values<R: Replayer>(
     alloc: Global,
     svc: &Checked,
@@ -22,41 +23,49 @@ pub(crate) fn replay_values<R: Replayer>(
     from: &State,
     values: &[Value],
 ) -> Result<State, AllocError>
-    requires spelled { list_all (spells svc.now) values.now ≡ true }
     requires sound { IsSound svc.now from.now }
     requires runs { IsSome (run svc.now from.now (trace_of values.now)) }
     requires ready { R.ready replayer.old }
     ensures runs { IfOk result (λ s. run svc.now from.now (trace_of values.now) ≡ Some s) }
     ensures ready { R.ready replayer.new }
 {
-    let mut state = from.copy(alloc)?;
-    for value in values {
-        state = replay_value(alloc, svc, replayer, &state, value.as_slice())?;
-    }
-    Ok(state)
+    let events = joined(alloc, values)?;
+    replayer.replay(alloc, svc, from, &events)
 }
 
-/// The state to which the events of a value's delta lead. They run from the state.
-fn replay_value<R: Replayer>(
-    alloc: Global,
-    svc: &Checked,
-    replayer: &mut R,
-    from: &State,
-    value: &[u8],
-) -> Result<State, AllocError>
-    requires spelled { spells svc.now value.now ≡ true }
-    requires sound { IsSound svc.now from.now }
-    requires runs { IsSome (run svc.now from.now (events_of value.now)) }
-    requires ready { R.ready replayer.old }
-    ensures runs { IfOk result (λ s. run svc.now from.now (events_of value.now) ≡ Some s) }
-    ensures sound { IfOk result (λ s. IsSound svc.now s) }
-    ensures ready { R.ready replayer.new }
+// The events of the deltas that values spell, one delta after another.
+fn joined(alloc: Global, values: &[Value]) -> Result<Vec<Event>, AllocError>
+    ensures events { IfOk result (λ es. es.items ≡ trace_of values.now) }
+    ensures counted { IfOk result (λ es. AreCounted es.items) }
+{
+    let mut events = Vec::new(alloc);
+    for value in values {
+        let more = events_in(alloc, value.as_slice())?;
+        append_events(&mut events, more.as_slice())?;
+    }
+    Ok(events)
+}
+
+// The events of the delta that a value spells; none where it spells none.
+fn events_in(alloc: Global, value: &[u8]) -> Result<List<Event>, AllocError>
+    ensures events { IfOk result (λ es. es ≡ events_of value.now) }
+    ensures counted { IfOk result AreCounted }
 {
     match decode(alloc, value) {
-        Ok(delta) => replayer.replay(alloc, svc, from, delta.events.as_slice()),
+        Ok(delta) => Ok(delta.events),
         Err(DecodeError::OutOfMemory) => Err(AllocError),
-        Err(DecodeError::Bad { .. }) => unreachable!(),
+        Err(DecodeError::Bad { .. }) => Ok(List::new(alloc)),
     }
+}
+
+fn append_events(events: &mut Vec<Event>, more: &[Event]) -> Result<(), AllocError>
+    ensures { OnOk result (events.new.items ≡ events.old.items ++ more.now) }
+{
+    let _kind: Option<Kind> = None;
+    for event in more {
+        events.push(*event)?;
+    }
+    Ok(())
 }
 
 /// The same value.

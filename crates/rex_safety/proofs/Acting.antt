@@ -20,7 +20,7 @@ use Rattle.rex_cut.proofs.Highest.{greatest_is}
 use Rattle.rex_cut.proofs.Numbered.{numbered_above, numbered_below}
 use Rattle.rex_state.specs.Value.{StateValue}
 use Rattle.rex_state.specs.Start.{start_of}
-use Rattle.rex_state.specs.Machine.{run, next, lane_of, entry_at}
+use Rattle.rex_state.specs.Machine.{run, next, lane_of}
 use Rattle.rex_state.specs.Sound.{IsSound}
 use Rattle.rex_state.specs.Commute.{GoesFirst}
 use Rattle.rex_state.specs.Counts.{counts_of, done_of, CountsOn}
@@ -33,8 +33,9 @@ use Rattle.rex_record.specs.declared.turns.Turn.{Turn}
 use Rattle.rex_record.specs.declared.turns.Turn.TheVariants as turn
 use Rattle.rex_record.specs.Turn.{turn_of}
 use Rattle.rex_record.specs.Value.{RecorderValue, is_begin, live_after, queue_after, queued_in}
-use Rattle.rex_report.specs.declared.effect.Effect.{Effect}
-use Rattle.rex_report.specs.declared.effect.Effect.TheVariants.{Queued}
+use Rattle.rex_gate.specs.declared.answer.Answer.{Answer}
+use Rattle.rex_gate.specs.declared.answer.Answer.TheVariants.{Queued}
+use Rattle.rex_gate.specs.Answer.{answer_to}
 use Rattle.rex_record.specs.Kept.{IsRecorder, AreQueued}
 use Rattle.rex_record.specs.Laws.{GoesOn as LaneGoesOn}
 use Rattle.rex_record.proofs.Goes.{turn_goes_on}
@@ -44,7 +45,7 @@ use Rattle.rex_safety.specs.Node.{Work}
 use Rattle.rex_safety.specs.Calls.{work_known}
 use Rattle.rex_safety.specs.Values.{Value, spells, runs, events_of, trace_of, state_after, values_fit, still_live, service_of}
 use Rattle.rex_safety.specs.Same.{same_events}
-use Rattle.rex_safety.specs.Lanes.{queue_with, answer_of, value_at, is_faithful}
+use Rattle.rex_safety.specs.Lanes.{queue_with, value_at, is_faithful}
 use Rattle.rex_safety.specs.Clients.{HasClient}
 use Rattle.rex_safety.specs.Acting.{GoesOn, OpenGoesOn, IsActing}
 use Rattle.rex_safety.proofs.Replies.{trace_push, fits_run, run_split, state_is}
@@ -127,7 +128,7 @@ module _ (service : Declarations) (good : IsService service) (checked : IsChecke
 
   -- ---- queued requests
 
-  fits_with : (queue : List Request) (r : Request) (told : Effect) → RequestFits service r → All (RequestFits service) queue → All (RequestFits service) (queue_with queue r told)
+  fits_with : (queue : List Request) (r : Request) (told : Answer) → RequestFits service r → All (RequestFits service) queue → All (RequestFits service) (queue_with queue r told)
   fits_with queue r Queued f h = All-push (RequestFits service) queue r h f
   fits_with queue r _ f h = h
 
@@ -194,7 +195,7 @@ module _ (service : Declarations) (good : IsService service) (checked : IsChecke
     -- ---- submit
 
     pub acting_answered : (r : Request) (known : StateValue) → RequestFits service r
-        → IsActing service vs o (record w { queue = queue_with w.queue r (answer_of r (queued_in w.queue r.client) (entry_at (state_after service (trace_of vs ++ w.live)).clients r.client) (entry_at known.clients r.client)) })
+        → IsActing service vs o (record w { queue = queue_with w.queue r (answer_to r (queued_in w.queue r.client) (state_after service (trace_of vs ++ w.live)).clients known.clients) })
     acting_answered r known fit = record {
       start = a.start;
       state = a.state;
@@ -207,8 +208,8 @@ module _ (service : Declarations) (good : IsService service) (checked : IsChecke
         sound = a.recorder.sound;
         runs = a.recorder.runs;
         few = a.recorder.few;
-        queue = subst (λ (s : StateValue). AreQueued service a.state (queue_with w.queue r (answer_of r (queued_in w.queue r.client) (entry_at s.clients r.client) (entry_at known.clients r.client)))) (sym live_is)
-            (queue_after_answer service a.state w.queue r (entry_at known.clients r.client) fit live_sound.by.complete.clients a.recorder.queue);
+        queue = subst (λ (s : StateValue). AreQueued service a.state (queue_with w.queue r (answer_to r (queued_in w.queue r.client) s.clients known.clients))) (sym live_is)
+            (queue_after_answer service a.state w.queue r known.clients fit live_sound.by.complete.clients a.recorder.queue);
       };
     }
 

@@ -50,11 +50,13 @@ unused_next service s t e h u n =
     let i : IsNext service s e t = next_is service s e t n in
     subst (λ (x : StateValue). IsUnused x.clients) i.is (subst (λ (n : ℕ). n ≡ 0) (sym (ap (λ x. x.sequence) (client_other e.kind s.clients 0 (not_zero e.kind h.kind)))) u)
 
-unused_run : (service : Declarations) (s t : StateValue) (es : List Event) → All HasClient es → IsUnused s.clients → run service s es ≡ Some t → IsUnused t.clients
-unused_run service s t [] h u n = subst (λ (x : StateValue). IsUnused x.clients) (same_Some s t n) u
-unused_run service s t (e ∷ es) h u n =
+nobody_run : (service : Declarations) (s t : StateValue) (es : List Event) → All HasClient es → entry_at s.clients 0 ≡ no_entry → run service s es ≡ Some t → entry_at t.clients 0 ≡ no_entry
+nobody_run service s t [] h u n = subst (λ (x : StateValue). entry_at x.clients 0 ≡ no_entry) (same_Some s t n) u
+nobody_run service s t (e ∷ es) h u n =
     let r = run-first service s t e es n in
-    unused_run service r.0 t es (All-tail HasClient e es h) (unused_next service s r.0 e (All-head HasClient e es h) u r.1) r.2
+    let i : IsNext service s e r.0 = next_is service s e r.0 r.1 in
+    let own : HasClient e = All-head HasClient e es h in
+    nobody_run service r.0 t es (All-tail HasClient e es h) (subst (λ (x : StateValue). entry_at x.clients 0 ≡ no_entry) i.is (client_other e.kind s.clients 0 (not_zero e.kind own.kind) ∙ u)) r.2
 
 -- ---- the event of a turn
 
@@ -112,7 +114,7 @@ fitting_clients bases counts (e ∷ es) [] h = absurd h
 fitting_clients bases counts (e ∷ es) (causes ∷ lists) h =
     All-cons HasClient e es (record { kind = kind_client (length counts) e.kind h.0.kind }) (fitting_clients bases (counted counts e) es lists h.1)
 
-trace_clients : (service : Declarations) (vs : List Value) → list_all (spells service) vs ≡ true → All HasClient (trace_of vs)
+pub trace_clients : (service : Declarations) (vs : List Value) → list_all (spells service) vs ≡ true → All HasClient (trace_of vs)
 trace_clients service [] h = All-nil HasClient
 trace_clients service (v ∷ vs) h =
     let p = and_parts (spells service v) (list_all (spells service) vs) h in
@@ -120,5 +122,8 @@ trace_clients service (v ∷ vs) h =
     All-append HasClient (events_of v) (trace_of vs) (fitting_clients (delta_of v).bases (delta_of v).bases (delta_of v).events (delta_of v).causes d.events) (trace_clients service vs p.1)
 
 -- after values no client has the number 0
+pub values_nobody : (service : Declarations) (vs : List Value) (t : StateValue) → list_all (spells service) vs ≡ true → run service (start_of service) (trace_of vs) ≡ Some t → entry_at t.clients 0 ≡ no_entry
+values_nobody service vs t h r = nobody_run service (start_of service) t (trace_of vs) (trace_clients service vs h) (same_at 257 no_entry 0) r
+
 pub values_unused : (service : Declarations) (vs : List Value) (t : StateValue) → list_all (spells service) vs ≡ true → run service (start_of service) (trace_of vs) ≡ Some t → IsUnused t.clients
-values_unused service vs t h r = unused_run service (start_of service) t (trace_of vs) (trace_clients service vs h) (ap (λ (x : Entry). x.sequence) (same_at 257 no_entry 0)) r
+values_unused service vs t h r = ap (λ (x : Entry). x.sequence) (values_nobody service vs t h r)

@@ -34,6 +34,7 @@ pub mod Ranged
 pub mod Numbers
 pub mod Few
 pub mod Bytes
+pub mod Limits
 pub mod Caused
 pub mod Kept
 pub mod Keeps

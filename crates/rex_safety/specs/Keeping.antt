@@ -19,7 +19,7 @@ use Rattle.rex_safety.specs.Values.{Value, greatest_value}
 use Rattle.rex_safety.specs.Lanes.{Here, live_state, value_at, is_faithful, no_limits, with_limits}
 use Rattle.rex_safety.specs.Agreed.{known_at}
 use Rattle.rex_safety.specs.World.{World, node_at, beginning, step, row}
-use Rattle.rex_safety.specs.Laws.{NextFits, ValuesAreShort, ValuesAreBytes, NodesAreKept, ActsRightly}
+use Rattle.rex_safety.specs.Laws.{NextFits, ValuesAreShort, ValuesAreBytes, NodesAreKept, ActsRightly, BaseIsRight}
 use Rattle.rex_safety.specs.Kept.{roles, IsKept}
 
 -- it is kept before the first line
@@ -49,6 +49,10 @@ pub record IsRight (service : Declarations) (seed n : ℕ) (w : World) : Type 0 
 -- each kept world is so
 abbrev pub KeptValuesFit : Type 0
 KeptValuesFit = (service : Declarations) (seed n : ℕ) (w : World) → IsService service → IsChecked service → IsKept service seed n w → IsRight service seed n w
+
+-- in each kept world a checkpoint is of the state to which the known deltas up to it run
+abbrev pub KeptBasesAreRight : Type 0
+KeptBasesAreRight = (service : Declarations) (seed n : ℕ) (w : World) → IsService service → IsChecked service → IsKept service seed n w → BaseIsRight service n w
 
 -- ---- cuts
 

@@ -17,4 +17,5 @@ pub mod Ranges
 pub mod Rules
 pub mod Laws
 pub mod Kept
+pub mod Limits
 pub mod Keeping

@@ -2,7 +2,8 @@
 //! come back. Each function is the statement that its contract makes, and does nothing.
 
 ghost use Rattle.rex_safety.specs.Laws.{ChosenValuesAgree, KnownBeginsAgreed, ListsOnlyGrow, KnownListsArePrefixes, AgreedTracesRun, BasesAreRight, RulesAreKept, RepliesStand, RequestsHappenOnce, ActiveTracesRun, CutsAreFaithful, LeadersGoOnToTheEnd, NextValuesFit, NumbersStayInRange, CountsAreFew, AgreedCausesAreRight, AgreedCutsGoFirst, ValuesStayBytes, ValuesStayShort, NodesStayKept};
-ghost use Rattle.rex_safety.specs.Keeping.{BeginningsAreKept, StepsAreKept, LinesAreKept, KeptValuesFit, KeptCutsAreSpelled, KeptCutsAreFaithful, KeptCountsHaveRoom};
+ghost use Rattle.rex_safety.specs.Keeping.{BeginningsAreKept, StepsAreKept, LinesAreKept, KeptValuesFit, KeptBasesAreRight, KeptCutsAreSpelled, KeptCutsAreFaithful, KeptCountsHaveRoom};
+ghost use Rattle.rex_safety.specs.Limits.{ValuesLeadToLimitedStates};
 
 /// Two values that are chosen for one instance are equal (Lamport, 2001).
 pub fn chosen_values_agree()
@@ -124,6 +125,11 @@ pub fn kept_values_fit()
     ensures { KeptValuesFit }
 {}
 
+/// In a kept world a checkpoint is of the state to which the known deltas up to it run.
+pub fn kept_bases_are_right()
+    ensures { KeptBasesAreRight }
+{}
+
 /// The delta below a cut of an active node of a kept world has its numbers in their ranges, and few bytes.
 pub fn kept_cuts_are_spelled()
     ensures { KeptCutsAreSpelled }
@@ -137,4 +143,9 @@ pub fn kept_cuts_are_faithful()
 /// The count of each lane of an active node of a kept world has room for one more event.
 pub fn kept_counts_have_room()
     ensures { KeptCountsHaveRoom }
+{}
+
+/// At most 65,535 values that fit lead to a state whose counts and sequences are in their ranges.
+pub fn values_lead_to_limited_states()
+    ensures { ValuesLeadToLimitedStates }
 {}

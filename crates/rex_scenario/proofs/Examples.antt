@@ -219,7 +219,7 @@ no_form : codes_of 100000 (codes "flush 1" ∷ codes "replay" ∷ codes "ask 4" 
 unfolding codes_of digits
 no_form = refl
 
--- ---- the lines that may not come yet
+-- ---- checkpoints, and keepers that fail
 
 -- the steps that lines spell
 steps_of : List (List ℕ) → List (Option Step)
@@ -230,10 +230,10 @@ spelled : steps_of (codes "checkpoint 2" ∷ codes "keepfail 2 kept" ∷ codes "
 unfolding steps_of digits
 spelled = refl
 
--- they are refused, whatever they name and however many lines came before
-not_ready : codes_of 100000 (codes "checkpoint 1" ∷ codes "checkpoint 4" ∷ codes "keepfail 1 kept" ∷ codes "keepfail 0 lost" ∷ []) ≡ Some code.BadLine ∷ Some code.BadLine ∷ Some code.BadLine ∷ Some code.BadLine ∷ []
+-- the node that they name has to be there
+of_nodes : codes_of 99999 (codes "checkpoint 1" ∷ codes "checkpoint 4" ∷ codes "keepfail 1 kept" ∷ codes "keepfail 0 lost" ∷ []) ≡ None ∷ Some code.NotThere ∷ None ∷ Some code.NotThere ∷ []
 unfolding codes_of digits
-not_ready = refl
+of_nodes = refl
 
 -- ---- the codes of what is too much
 

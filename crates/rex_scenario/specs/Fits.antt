@@ -38,12 +38,6 @@ LineFits nodes requests lanes (Start n) = IsNode nodes n
 LineFits nodes requests lanes (Checkpoint n) = IsNode nodes n
 LineFits nodes requests lanes (KeepFail n kept) = IsNode nodes n
 
--- a line of a kind that may come so far: no checkpoints, and no keepers that fail
-abbrev pub MayCome : ScheduleLine → Type 0
-MayCome (Checkpoint n) = ⊥
-MayCome (KeepFail n kept) = ⊥
-MayCome _ = Unit {0}
-
 -- what a scenario names is there in its service
 pub record ScenarioFits (service : Declarations) (s : Scenario) : Type 0 where
   pub nodes : is_node_count s.nodes ≡ true
@@ -51,4 +45,3 @@ pub record ScenarioFits (service : Declarations) (s : Scenario) : Type 0 where
   pub few_lines : length s.schedule ≤ 100000
   pub requests : All (RequestFits service) s.requests
   pub schedule : All (LineFits s.nodes (length s.requests) service.lanes) s.schedule
-  pub ready : All MayCome s.schedule

@@ -5,7 +5,7 @@ use Rattle.rex_parse.specs.After.{service_of}
 use Rattle.rex_parse.specs.Good.{IsGood}
 use Rattle.rex_parse.specs.Reading.{end_code}
 use Rattle.rex_scenario.specs.Headings.{is_node_count}
-use Rattle.rex_scenario.specs.Fits.{RequestFits, LineFits, MayCome}
+use Rattle.rex_scenario.specs.Fits.{RequestFits, LineFits}
 use Rattle.rex_scenario.specs.declared.scenario.Sections.{Sections}
 use Rattle.rex_scenario.specs.declared.scenario.Stage.{Stage}
 use Rattle.rex_scenario.specs.declared.scenario.Stage.TheVariants as stage
@@ -22,11 +22,10 @@ pub record RequestsFit (s : Sections) : Type 0 where
   pub few : length s.requests ≤ 65536
   pub each : All (RequestFits (service_of s.service)) s.requests
 
--- the schedule lines fit the service and the requests, their kinds may come, and there are none where there may be none
+-- the schedule lines fit the service and the requests, and there are none where there may be none
 pub record ScheduleFits (s : Sections) : Type 0 where
   pub few : length s.schedule ≤ 100000
   pub each : All (LineFits s.nodes (length s.requests) (unwrap_or s.service.lanes 0)) s.schedule
-  pub ready : All MayCome s.schedule
   pub none : s.scheduled ≡ false → s.schedule ≡ []
 
 -- what holds of the sections that were read

@@ -73,16 +73,6 @@ step_of (w ∷ v ∷ []) = option_and_then (short_step w) (u64_at v)
 step_of (w ∷ v ∷ u ∷ []) = if bytes_eq w (codes "cut") then cut_step w v (u ∷ []) else option_and_then (λ n. longer_step w n u) (u64_at v)
 step_of (w ∷ v ∷ u ∷ t ∷ us) = cut_step w v (u ∷ t ∷ us)
 
--- the steps that may come so far: all but checkpoints, and keepers that fail
-abbrev pub is_ready : Step → Bool
-is_ready (step.Checkpoint n) = false
-is_ready (step.KeepFail n kept) = false
-is_ready _ = true
-
--- a schedule may have this step: one that may come so far, where it may have lines at all
-abbrev pub is_open : Bool → Step → Bool
-is_open scheduled s = scheduled && is_ready s
-
 -- the node, the request and the lane that it names, counted from 1, are there; so is any message but 0, and a node asks another one
 abbrev pub is_there : ℕ → ℕ → ℕ → Step → Bool
 is_there nodes requests lanes (step.Elect n) = in_range 1 nodes n
@@ -120,11 +110,11 @@ line_of (step.Start n) = line.Start n
 line_of (step.Checkpoint n) = line.Checkpoint n
 line_of (step.KeepFail n kept) = line.KeepFail n kept
 
--- the code that fits a step, or words that spell none
+-- the code that fits a step, or words that spell none; a schedule that may have no lines has none of a form
 abbrev pub step_code : Bool → ℕ → ℕ → ℕ → ℕ → Option Step → Option ScenarioCode
 step_code scheduled nodes requests lanes earlier None = Some BadLine
 step_code scheduled nodes requests lanes earlier (Some s) =
-    if not (is_open scheduled s) then Some BadLine
+    if not scheduled then Some BadLine
     else if nat_le 100000 earlier then Some TooManyLines
     else if not (is_there nodes requests lanes s) then Some NotThere
     else if has_limits lanes s then None else Some WrongLimits

@@ -169,7 +169,7 @@ pub(crate) fn read_schedule_line(
     let Some(step) = step_of(alloc, words)? else {
         return Err(LineFault::Refused(ScenarioCode::BadLine));
     };
-    if !is_open(scheduled, &step) {
+    if !scheduled {
         return Err(LineFault::Refused(ScenarioCode::BadLine));
     }
     if earlier >= 100_000 {
@@ -183,23 +183,6 @@ pub(crate) fn read_schedule_line(
         return Err(LineFault::Refused(ScenarioCode::WrongLimits));
     }
     Ok(line)
-}
-
-// Whether a schedule may have this step: one that may come so far, where it may have lines at all.
-fn is_open(scheduled: bool, step: &Step) -> bool
-    ensures { result ≡ schedule.is_open scheduled step.now }
-{
-    scheduled && is_ready(step)
-}
-
-// Whether such a step may come so far: any but checkpoints, and keepers that fail.
-fn is_ready(step: &Step) -> bool
-    ensures { result ≡ schedule.is_ready step.now }
-{
-    match step {
-        Step::Checkpoint(_) | Step::KeepFail(_, _) => false,
-        _ => true,
-    }
 }
 
 // Whether the limits of a cut are as many as the lanes.

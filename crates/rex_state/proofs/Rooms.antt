@@ -1,9 +1,9 @@
 -- What an event needs is there in a sound state that allows it.
-use Rattle.std.proofs.Common.{◌≡◌, ◌⊎◌, inl, inr, ℕ, ◌+◌, ◌<◌, ◌≤◌, ◌^◌, Bool, true, false, List, [], ◌∷◌, length, refl, ap, sym, ◌∙◌, subst, arith, get_or, eqb, set, length-set}
+use Rattle.std.proofs.Common.{◌≡◌, ◌⊎◌, inl, inr, ℕ, zero, suc, ◌+◌, ◌<◌, ◌≤◌, ◌^◌, Bool, true, false, List, [], ◌∷◌, length, refl, ap, sym, ◌∙◌, subst, arith, get_or, eqb, set, length-set}
 use Rattle.std.specs.Prelude.{Option, Some, None, IfSome, IsSome, ℤ}
 use Rattle.std.specs.List.{All, AllByRecursion, IsDistinct, list_any}
 use Rattle.std.proofs.lemmas.Bool.{and_parts, eqb-true, ltb-true, true≢false, cases_lt}
-use Rattle.std.proofs.lemmas.List.{get_or_past}
+use Rattle.std.proofs.lemmas.List.{get_or_past, get_or_default}
 use Rattle.std.proofs.lemmas.List.Elements.{All-set, All-push, All-drop}
 use Rattle.std.proofs.lemmas.Map.Keys.{IsDistinct-cons}
 use Rattle.std.proofs.lemmas.Map.Steps.{length-le_from_distinct_below}
@@ -87,12 +87,12 @@ apart_from : (x : ℕ) (xs : List ℕ) → (Has x xs → ⊥) → AllByRecursion
 apart_from x [] n = tt
 apart_from x (y ∷ ys) n = (apart_by x y (eqb x y) refl (λ e. n (inl (sym e))), apart_from x ys (λ h. n (inr h)))
 
-distinct_from : (xs : List ℕ) → IsOnce xs → IsDistinct eqb xs
+pub distinct_from : (xs : List ℕ) → IsOnce xs → IsDistinct eqb xs
 unfolding IsDistinct
 distinct_from [] once = tt
 distinct_from (x ∷ xs) once = IsDistinct-cons eqb x xs (apart_from x xs once.0) (distinct_from xs once.1)
 
-has_any : (q : ℕ) (xs : List ℕ) → list_any (eqb q) xs ≡ true → Has q xs
+pub has_any : (q : ℕ) (xs : List ℕ) → list_any (eqb q) xs ≡ true → Has q xs
 has_any q [] h = absurd (cc)
 has_any q (x ∷ xs) h = by (eqb q x) refl (λ k. has_any q xs k)
   where
@@ -101,7 +101,7 @@ has_any q (x ∷ xs) h = by (eqb q x) refl (λ k. has_any q xs k)
     by false e go = inr (go (rw e at h))
 
 -- different numbers below n are at most n
-once_few : (xs : List ℕ) (n : ℕ) → IsOnce xs → ((x : ℕ) → Has x xs → x < n) → length xs ≤ n
+pub once_few : (xs : List ℕ) (n : ℕ) → IsOnce xs → ((x : ℕ) → Has x xs → x < n) → length xs ≤ n
 once_few xs n once below = length-le_from_distinct_below xs n (distinct_from xs once) (λ q h. below q (has_any q xs h))
 
 -- a queue without one of the lanes has room for it
@@ -156,11 +156,29 @@ queue_small queues condition h = by (cases_lt condition (length queues))
     by (inl l) = h condition no_queue l
     by (inr l) = subst (λ (q : Queue). All (λ lane. lane < 16) q.lanes.items) (sym (get_or_past queues condition no_queue l)) (λ k d z. absurd (omega arith))
 
-queues_small : (kind : Kind) (lane : ℕ) (queues : List Queue) → lane < 16 → All IsQueueSmall queues → All IsQueueSmall (queues_after kind lane queues)
+pub queues_small : (kind : Kind) (lane : ℕ) (queues : List Queue) → lane < 16 → All IsQueueSmall queues → All IsQueueSmall (queues_after kind lane queues)
 queues_small (Wait condition lock) lane queues l h = All-set IsQueueSmall queues condition _ (All-push (λ x. x < 16) (queue_at queues condition) lane (queue_small queues condition h) l) h
 queues_small (Signal condition woken) lane queues l h = All-set IsQueueSmall queues condition _ (All-drop (λ x. x < 16) 1 (queue_at queues condition) (queue_small queues condition h)) h
 queues_small (Broadcast condition woken) lane queues l h = All-set IsQueueSmall queues condition _ (λ k d z. absurd (omega arith)) h
 queues_small _ lane queues l h = h
+
+-- an element is among the list's
+has_at : {X : Type 0} (xs : List X) (i : ℕ) (d : X) → i < length xs → Has (get_or xs i d) xs
+has_at [] i d h = absurd (omega arith)
+has_at (x ∷ xs) zero d h = inl refl
+has_at (x ∷ xs) (suc i) d h = inr (has_at xs i d (omega arith))
+
+-- a sound state has at most 16 lanes, and queues of no others
+pub sound_is_small : (service : Declarations) (s : StateValue) → IsService service → IsSound service s → IsSmall s.lanes s.queues
+sound_is_small service s good sound =
+    let long : length s.lanes ≡ service.lanes = sound.by.complete.lanes in
+    let below : (q : ℕ) (lane : ℕ) → Has lane (queue_at s.queues q) → lane < 16 = λ q lane h. let w : lane < length s.lanes = waiting_there service s q lane sound.by.queued h in omega (arith, good.lanes) in
+    record {
+      few = omega (arith, good.lanes);
+      each = λ q d h.
+          let small : All (λ lane. lane < 16) (queue_at s.queues q) = λ i x k. below q _ (has_at (queue_at s.queues q) i x k) in
+          subst (λ (queue : Queue). All (λ lane. lane < 16) queue.lanes.items) (get_or_default s.queues q no_queue d h) small;
+    }
 
 pub small_set : (lanes : List Lane) (queues : List Queue) (lane : ℕ) (x : Lane) (kind : Kind) → lane < length lanes → IsSmall lanes queues → IsSmall (set lanes lane x) (queues_after kind lane queues)
 small_set lanes queues lane x kind l h = record {

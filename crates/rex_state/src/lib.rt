@@ -8,3 +8,5 @@ pub mod laws;
 mod own;
 mod parts;
 pub mod state;
+
+pub use parts::new_entries;

@@ -2,11 +2,12 @@
 
 ghost use Rattle.std.specs.Prelude.{◌≡◌, ◌<◌, ◌≤◌, ◌+◌, ◌^◌, Some, IsSome, IfOk, IsOk, slice_get};
 ghost use Rattle.std.specs.Option.{option_copied};
+ghost use Rattle.rex_state.specs.Value.{value_of};
 ghost use Rattle.rex_state.specs.Locks as locks;
 ghost use Rattle.rex_state.specs.Machine as spec;
 ghost use Rattle.rex_state.specs.Start.{start_of};
 ghost use Rattle.rex_state.specs.Sound.{IsSound};
-ghost use Rattle.rex_state.specs.Room.{CanApply};
+ghost use Rattle.rex_state.specs.Room.{CanApply, IsSmall};
 ghost use Rattle.rex_state.specs.Spare.{spare_of};
 ghost use Rattle.rex_state.specs.Counts.{counts_of};
 
@@ -60,6 +61,27 @@ impl State {
         })
     }
 
+    /// The state of these parts: the variables' values, the lanes, the lanes that wait at each condition, and the clients'
+    /// entries by client number from 0. It takes no memory.
+    pub fn of_parts(
+        svc: &Checked,
+        variables: Vec<i64>,
+        lanes: Vec<Lane>,
+        queues: Vec<Queue>,
+        clients: Vec<Entry>,
+    ) -> State
+        requires { IsSound svc.now (value_of variables.items lanes.items queues.items clients.items) }
+        ensures { result ≡ value_of variables.items lanes.items queues.items clients.items }
+    {
+        let _service = svc.declarations();
+        State {
+            variables,
+            lanes,
+            queues,
+            clients,
+        }
+    }
+
     /// An equal state.
     pub fn copy(&self, alloc: Global) -> Result<State, AllocError>
         ensures { IfOk result (λ s. s ≡ self.now) }
@@ -77,6 +99,28 @@ impl State {
         ensures { result.now ≡ self.now.variables }
     {
         &self.variables
+    }
+
+    /// The lanes.
+    pub fn lanes(&self) -> &[Lane]
+        ensures { result.now ≡ self.now.lanes }
+    {
+        &self.lanes
+    }
+
+    /// The lanes that wait at each condition.
+    pub fn queues(&self) -> &[Queue]
+        ensures queues { result.now ≡ self.now.queues }
+        ensures small { IsSmall self.now.lanes self.now.queues }
+    {
+        &self.queues
+    }
+
+    /// The clients' entries by client number, from 0.
+    pub fn entries(&self) -> &[Entry]
+        ensures { result.now ≡ self.now.clients }
+    {
+        &self.clients
     }
 
     /// How many events a lane did: 0 where there is no such lane.

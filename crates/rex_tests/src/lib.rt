@@ -13,9 +13,13 @@ mod cut;
 #[cfg(test)]
 mod delta;
 #[cfg(test)]
+mod devices;
+#[cfg(test)]
 mod durable;
 #[cfg(test)]
 mod event;
+#[cfg(test)]
+mod gate;
 #[cfg(test)]
 mod list;
 #[cfg(test)]
@@ -42,6 +46,8 @@ mod runs;
 mod scenario;
 #[cfg(test)]
 mod services;
+#[cfg(test)]
+mod snapshot;
 #[cfg(test)]
 mod state;
 #[cfg(test)]

@@ -1,6 +1,8 @@
 //! A node whose keeper fails.
 
 ghost use Rattle.std.specs.Prelude.{◌≡◌, ◌<◌, ◌-◌, ◌^◌, []};
+ghost use Rattle.rex_node.specs.Parts.{IsNode};
+ghost use Rattle.rex_node.specs.Restarting.{CameUp};
 ghost use Rattle.rex_traits.specs.Keeping.{armed_to, unused_keeper};
 
 use crate::services::checked;
@@ -25,12 +27,20 @@ fn failing(alloc: Global, fate: Fate) -> MemKeeper
     keeper
 }
 
-/// Elects a node of three, whose keeper fails then: it is down, and sends nothing. The keeper comes back.
+/// A node of three over a keeper whose first append fails.
+fn started(rt: &impl Abort, alloc: Global, svc: &Checked, fate: Fate) -> Node<MemKeeper>
+    ensures up { CameUp (λ k. k.records) svc.now 1 3 0 (armed_to fate unused_keeper) result }
+    ensures node { IsNode (λ k. k.records) svc.now result }
+{
+    match Node::restart(alloc, 1, 3, 0, svc, failing(alloc, fate)) {
+        Ok(node) => node,
+        Err(_) => panic!(rt; "no node"),
+    }
+}
+
+/// Elects the node, whose keeper fails then: it is down, and sends nothing. The keeper comes back.
 fn falls(rt: &impl Abort, alloc: Global, svc: &Checked, fate: Fate) -> MemKeeper {
-    let keeper = failing(alloc, fate);
-    let mut node = Node::restart(alloc, 1, 3, 0, svc, keeper)
-        .ok()
-        .expect(rt, "a node");
+    let mut node = started(rt, alloc, svc, fate);
     let step = node.elect(svc, &mut OneThread).ok().expect(rt, "memory");
     assert!(rt; step.sends.is_empty() && step.effects.len() == 1);
     let is_down = step.effects.as_slice()[0] == Effect::Down { node: 1 };

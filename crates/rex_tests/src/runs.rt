@@ -1,5 +1,5 @@
 use rex_cli::rex_main;
-use rex_traits::{MemSink, MemSource, OpenGate};
+use rex_traits::{MemSink, MemSource, OpenGate, Source};
 use std::alloc::AllocGlobal;
 use std::test::*;
 use std::thread::Threads;
@@ -154,6 +154,18 @@ pub struct Outcome {
     pub written: Vec<u8>,
 }
 
+/// Runs the program over these devices, and answers its status.
+pub fn status_over<R: Threads + Sync + AllocGlobal, S: Source>(
+    rt: &R,
+    word: &str,
+    source: &mut S,
+    sink: &mut MemSink,
+) -> Result<u8, Fail> {
+    let alloc = rt.alloc();
+    let words = vec![in alloc; "rex".to_string(alloc)?, word.to_string(alloc)?]?;
+    Ok(rex_main(rt, alloc, &words, source, sink, &OpenGate))
+}
+
 /// Runs the program over memory. The read and the write of these numbers, from 1, fail; 0 is none.
 pub fn run<R: Threads + Sync + AllocGlobal>(
     rt: &R,
@@ -163,11 +175,10 @@ pub fn run<R: Threads + Sync + AllocGlobal>(
     write: u64,
 ) -> Result<Outcome, Fail> {
     let alloc = rt.alloc();
-    let words = vec![in alloc; "rex".to_string(alloc)?, word.to_string(alloc)?]?;
     let bytes = Vec::from_slice(alloc, input)?;
     let mut source = MemSource::new(bytes, vec![in alloc; read]?);
     let mut sink = MemSink::new(alloc, vec![in alloc; write]?, 100);
-    let status = rex_main(rt, alloc, &words, &mut source, &mut sink, &OpenGate);
+    let status = status_over(rt, word, &mut source, &mut sink)?;
     let written = Vec::from_slice(alloc, sink.held())?;
     Ok(Outcome { status, written })
 }

@@ -10,11 +10,11 @@ use std::process::Abort;
 use std::test::*;
 
 /// One lane; `add x` adds x to the variable under the lock, and replies with the sum.
-const COUNTER: &str =
+pub(crate) const COUNTER: &str =
     "lanes 1\nlock L\nvar a on L = 0\nhandler add x\nacquire L\nset a = a + x\nlet r = a\nrelease L\nreply r\n";
 
 /// The events of the request `add 5` at the start: the one of this index.
-fn event_at(index: u32) -> Event {
+pub(crate) fn event_at(index: u32) -> Event {
     let mut arguments = Arguments::new();
     arguments.push(5);
     let kind = match index {
@@ -39,7 +39,7 @@ fn event_at(index: u32) -> Event {
 }
 
 /// Does the next event of the request, which has to be enabled.
-fn step(rt: &impl Abort, state: &mut State, svc: &Checked)
+pub(crate) fn step(rt: &impl Abort, state: &mut State, svc: &Checked)
     requires { IsSound svc.now state.old }
     ensures { IsSound svc.now state.new }
 {
@@ -49,7 +49,7 @@ fn step(rt: &impl Abort, state: &mut State, svc: &Checked)
     state.apply(svc, &event);
 }
 
-fn start(rt: &impl Abort, alloc: Global, svc: &Checked) -> State
+pub(crate) fn start(rt: &impl Abort, alloc: Global, svc: &Checked) -> State
     ensures { IsSound svc.now result }
 {
     State::start(alloc, svc).expect(rt, "memory")

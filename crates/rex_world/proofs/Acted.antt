@@ -1,28 +1,30 @@
--- What a call of a node comes to where its keeper isn't armed.
-use Rattle.std.proofs.Common.{◌≡◌, ℕ, Bool, true, false, List, [], ◌∷◌, length, Result, Ok, Err, Option, Some, None, IfOk, OnErr, nat_lt, nat_le, refl, sym, ap, subst, ◌∙◌, if◌then◌else◌}
+-- What a call of a node comes to.
+use Rattle.std.proofs.Common.{◌≡◌, ℕ, Bool, true, false, List, [], ◌∷◌, length, Result, Ok, Err, Option, Some, None, IfOk, OnErr, nat_lt, nat_le, ◌≤◌, refl, sym, ap, subst, ◌∙◌, le_refl, if◌then◌else◌}
+use Rattle.std.specs.Prelude.{◌==◌}
 use Rattle.rex_syntax.specs.declared.service.Declarations.{Declarations}
 use Rattle.rex_event.specs.declared.event.Event.{Event}
 use Rattle.rex_report.specs.declared.effect.Effect.TheVariants as effect
 use Rattle.rex_traits.specs.Keeping.{KeeperValue}
-use Rattle.rex_safety.specs.Records.{Proposal, promise, known}
+use Rattle.rex_safety.specs.Records.{Rec, Proposal, base, promise, known}
 use Rattle.rex_safety.specs.Quorum.{ballot_above, round_of}
-use Rattle.rex_safety.specs.Node.{Content, Lead, Role, Service, role_name}
+use Rattle.rex_safety.specs.Node.{Content, Failure, Lead, Role, Service, is_active, role_name}
 use Rattle.rex_safety.specs.Node.Role.{Follower, Leads}
-use Rattle.rex_safety.specs.Calls.{begin, say, elect, receive}
-use Rattle.rex_safety.specs.Values.{Value, service_of}
+use Rattle.rex_safety.specs.Calls.{begin, say, checkpoint, elect, receive, replay}
+use Rattle.rex_safety.specs.Values.{Value, service_of, values_fit}
 use Rattle.rex_safety.specs.Lanes.{Here, CallHere, active_only, cut, cut_role, cut_lead, cut_live}
 use Rattle.rex_state.specs.Value.{StateValue}
 use Rattle.rex_node.specs.declared.refusal.Refusal.{Refusal}
 use Rattle.rex_node.specs.declared.refusal.Refusal.TheVariants as why
 use Rattle.rex_node.specs.declared.step.Step.{Step}
-use Rattle.rex_node.specs.Parts.{IsNode, NodeValue, StaysNode, here_of}
-use Rattle.rex_node.specs.Calls.{Does, IsSpared, Leaves, Refuses, RefusesThen, if_active, if_up, refusal_of_cut, refusal_of_elect, refusal_of_lead, refusal_of_none, refusal_of_open, refusal_up}
-use Rattle.rex_node.specs.Restarting.{CameUp}
+use Rattle.rex_node.specs.Parts.{log_of, IsNode, NodeValue, StaysNode}
+use Rattle.rex_node.specs.Calls.{Does, IsSpared, Refuses, RefusesThen, if_active, if_up, refusal_of_checkpoint, refusal_of_cut, refusal_of_elect, refusal_of_lead, refusal_of_none, refusal_of_open, refusal_of_replay, refusal_up}
+use Rattle.rex_node.specs.Restarting.{CameUp, HasRightBase}
 use Rattle.rex_world.specs.declared.seats.Seat.{Seat}
 use Rattle.rex_world.specs.declared.seats.Seat.TheVariants.{Running, Stopped}
-use Rattle.rex_world.specs.Seats.{IsKeeping, IsRunner, IsSeat, keeper_in, records_of}
-use Rattle.rex_world.specs.Calls.{Acts, IsDone, IsWhole, effect_of}
-use Rattle.rex_world.proofs.Sure.{follows, is_done, stays_keeping}
+use Rattle.rex_world.specs.Seats.{IsKeeping, IsRunner, IsSeat, StaysSeat, faults_of, here_at, keeper_in, records_of, here_in}
+use Rattle.rex_world.specs.Calls.{Acts, IsDone, IsWhole, effect_of, Starts}
+use Rattle.rex_world.proofs.Failing.{follows, is_done, stays_keeping, stays_within}
+use Rattle.rex_world.proofs.Unseen.{Goes, checkpoint_either, cut_either, elect_either, receive_either, replay_either}
 
 -- ---- refusals
 
@@ -37,7 +39,7 @@ abbrev err_of : Refusal → Result Step Refusal
 err_of refusal = Err refusal
 
 module _ (call : CallHere → CallHere) (number : ℕ) (before after : Here) where
-  refused : (refusal : Refusal) → before.up ≡ true → Leaves (err_of refusal) before after → Excused (call (begin before)) number before (Some refusal) → Acts call number before after (Err refusal)
+  refused : (refusal : Refusal) → before.up ≡ true → IsSpared (err_of refusal) before after → Excused (call (begin before)) number before (Some refusal) → Acts call number before after (Err refusal)
   refused why.Down up left says = absurd says
   refused why.OutOfMemory up left says = tt
   refused (why.NotActive role) up left says = record { up = up; same = left; says = says }
@@ -48,7 +50,7 @@ module _ (call : CallHere → CallHere) (number : ℕ) (before after : Here) whe
   refused why.UpToDate up left says = record { up = up; same = left; says = says }
   refused why.Spent up left says = record { up = up; same = left; says = says }
 
-  refused_late : (refusal : Refusal) (late : Option Refusal) → before.up ≡ true → Leaves (err_of refusal) before after → RefusesThen None late (err_of refusal) → Excused (call (begin before)) number before late → Acts call number before after (Err refusal)
+  refused_late : (refusal : Refusal) (late : Option Refusal) → before.up ≡ true → IsSpared (err_of refusal) before after → RefusesThen None late (err_of refusal) → Excused (call (begin before)) number before late → Acts call number before after (Err refusal)
   refused_late why.OutOfMemory late up left is says = tt
   refused_late why.Down late up left is says = absurd (subst (Excused (call (begin before)) number before) is says)
   refused_late (why.NotActive role) late up left is says = refused (why.NotActive role) up left (subst (Excused (call (begin before)) number before) is says)
@@ -59,18 +61,18 @@ module _ (call : CallHere → CallHere) (number : ℕ) (before after : Here) whe
   refused_late why.UpToDate late up left is says = refused why.UpToDate up left (subst (Excused (call (begin before)) number before) is says)
   refused_late why.Spent late up left is says = refused why.Spent up left (subst (Excused (call (begin before)) number before) is says)
 
-  was_down : (result : Result Step Refusal) → before.up ≡ false → result ≡ Err why.Down → Leaves result before after → Acts call number before after result
+  was_down : (result : Result Step Refusal) → before.up ≡ false → result ≡ Err why.Down → IsSpared result before after → Acts call number before after result
   was_down result down is left =
-      subst (Acts call number before after) (sym is) (record { down = down; same = subst (λ (r : Result Step Refusal). Leaves r before after) is left })
+      subst (Acts call number before after) (sym is) (record { down = down; same = subst (λ (r : Result Step Refusal). IsSpared r before after) is left })
 
-  acts_up : (due late : Option Refusal) (result : Result Step Refusal) → before.up ≡ true → RefusesThen due late result → Leaves result before after → Excused (call (begin before)) number before due → (due ≡ None → Excused (call (begin before)) number before late) → IfOk result (IsDone call before after) → Acts call number before after result
+  acts_up : (due late : Option Refusal) (result : Result Step Refusal) → before.up ≡ true → RefusesThen due late result → IsSpared result before after → Excused (call (begin before)) number before due → (due ≡ None → Excused (call (begin before)) number before late) → IfOk result (IsDone call before after) → Acts call number before after result
   acts_up (Some refusal) late result up is left says later done =
-      subst (Acts call number before after) (sym is) (refused refusal up (subst (λ (r : Result Step Refusal). Leaves r before after) is left) says)
+      subst (Acts call number before after) (sym is) (refused refusal up (subst (λ (r : Result Step Refusal). IsSpared r before after) is left) says)
   acts_up None late (Ok step) up is left says later done = done
   acts_up None late (Err refusal) up is left says later done = refused_late refusal late up left is (later refl)
 
   -- a call comes to what it is due, or is done
-  pub acts_then : (due late : Option Refusal) (result : Result Step Refusal) → RefusesThen (if_up before.up due) late result → Leaves result before after → Excused (call (begin before)) number before due → (due ≡ None → Excused (call (begin before)) number before late) → (before.up ≡ true → IfOk result (IsDone call before after)) → Acts call number before after result
+  pub acts_then : (due late : Option Refusal) (result : Result Step Refusal) → RefusesThen (if_up before.up due) late result → IsSpared result before after → Excused (call (begin before)) number before due → (due ≡ None → Excused (call (begin before)) number before late) → (before.up ≡ true → IfOk result (IsDone call before after)) → Acts call number before after result
   acts_then due late result is left says later done = by before.up refl is
     where
       by : (up : Bool) → before.up ≡ up → RefusesThen (if_up up due) late result → Acts call number before after result
@@ -82,7 +84,7 @@ module _ (call : CallHere → CallHere) (number : ℕ) (before after : Here) whe
   due_first None (Ok step) is = refl
   due_first None (Err refusal) is = subst (λ (r : Refusal). RefusesThen None None (err_of r)) (sym is) tt
 
-  pub acts : (due : Option Refusal) (result : Result Step Refusal) → Refuses (if_up before.up due) result → Leaves result before after → Excused (call (begin before)) number before due → (before.up ≡ true → IfOk result (IsDone call before after)) → Acts call number before after result
+  pub acts : (due : Option Refusal) (result : Result Step Refusal) → Refuses (if_up before.up due) result → IsSpared result before after → Excused (call (begin before)) number before due → (before.up ≡ true → IfOk result (IsDone call before after)) → Acts call number before after result
   acts due result is left says done = acts_then due None result (due_first (if_up before.up due) result is) left says (λ _. tt) done
 
 -- ---- elections
@@ -155,7 +157,51 @@ module _ (service : Declarations) (seed n number : ℕ) (counts : List ℕ) (h :
   nothing_below cut_at [] l left = rw left refl
   nothing_below cut_at (e ∷ es) l left = tt
 
--- ---- a node that is kept, and its keeper unarmed
+-- ---- replays and checkpoints
+
+module _ (number : ℕ) (h : Here) where
+  pub replay_excused : Excused (replay number (begin h)) number h (if is_active h.role then Some why.UpToDate else if h.replayed == length (known h.log) then Some why.UpToDate else None)
+  replay_excused = by (is_active h.role) refl (h.replayed == length (known h.log)) refl
+    where
+      by : (b : Bool) → is_active h.role ≡ b → (c : Bool) → (h.replayed == length (known h.log)) ≡ c → Excused (replay number (begin h)) number h (if b then Some why.UpToDate else if c then Some why.UpToDate else None)
+      by true e c f = rw e refl
+      by false e true f = rw (e, f) refl
+      by false e false f = tt
+
+  pub checkpoint_excused : (sv : Service Value StateValue) → Excused (checkpoint sv number (begin h)) number h (if h.replayed == base h.log then Some why.Nothing else if nat_lt 0 (length h.work.live) then Some (why.Live (length h.work.live)) else None)
+  checkpoint_excused sv = by (h.replayed == base h.log) refl (nat_lt 0 (length h.work.live)) refl
+    where
+      by : (b : Bool) → (h.replayed == base h.log) ≡ b → (c : Bool) → nat_lt 0 (length h.work.live) ≡ c → Excused (checkpoint sv number (begin h)) number h (if b then Some why.Nothing else if c then Some (why.Live (length h.work.live)) else None)
+      by true e c f = rw e refl
+      by false e true f = rw (e, f) refl
+      by false e false f = tt
+
+-- ---- a node that is kept
+
+pub spared_if : {A B : Type 0} (result : Result A Refusal) (before after : B) → OnErr result (after ≡ before) → IsSpared result before after
+spared_if (Ok x) before after same = tt
+spared_if (Err why.OutOfMemory) before after same = tt
+spared_if (Err why.Down) before after same = same
+spared_if (Err (why.NotActive role)) before after same = same
+spared_if (Err (why.Open i)) before after same = same
+spared_if (Err why.Ended) before after same = same
+spared_if (Err why.Nothing) before after same = same
+spared_if (Err (why.Live many)) before after same = same
+spared_if (Err why.UpToDate) before after same = same
+spared_if (Err why.Spent) before after same = same
+
+-- so is the node of the model
+spared_here : (service : Declarations) (result : Result Step Refusal) (old new : NodeValue KeeperValue) → IsSpared result old new → IsSpared result (here_at service old) (here_at service new)
+spared_here service (Ok step) old new same = tt
+spared_here service (Err why.OutOfMemory) old new same = tt
+spared_here service (Err why.Down) old new same = ap (here_at service) same
+spared_here service (Err (why.NotActive role)) old new same = ap (here_at service) same
+spared_here service (Err (why.Open i)) old new same = ap (here_at service) same
+spared_here service (Err why.Ended) old new same = ap (here_at service) same
+spared_here service (Err why.Nothing) old new same = ap (here_at service) same
+spared_here service (Err (why.Live many)) old new same = ap (here_at service) same
+spared_here service (Err why.UpToDate) old new same = ap (here_at service) same
+spared_here service (Err why.Spent) old new same = ap (here_at service) same
 
 module _ (service : Declarations) (seed nodes number : ℕ) (old : NodeValue KeeperValue) (runner : IsRunner service seed nodes number old) where
   -- the node's numbers are these
@@ -175,70 +221,83 @@ module _ (service : Declarations) (seed nodes number : ℕ) (old : NodeValue Kee
       keeping = keeping;
     }
 
-    -- so it stays after a call, unless memory was short
-    pub stays_seat : (call : CallHere → CallHere) (result : Result Step Refusal) → StaysNode records_of service old new → IfOk result (Does records_of follows (λ k. k.faults) service call old new) → IsSpared result old new → IsWhole result → IsRunner service seed nodes number new
-    stays_seat call (Ok step) stays does spared whole = stays_runner stays (stays_keeping service call old new step runner.keeping does)
-    stays_seat call (Err why.OutOfMemory) stays does spared whole = absurd whole
-    stays_seat call (Err why.Down) stays does spared whole = subst (IsRunner service seed nodes number) (sym spared) runner
-    stays_seat call (Err (why.NotActive role)) stays does spared whole = subst (IsRunner service seed nodes number) (sym spared) runner
-    stays_seat call (Err (why.Open i)) stays does spared whole = subst (IsRunner service seed nodes number) (sym spared) runner
-    stays_seat call (Err why.Ended) stays does spared whole = subst (IsRunner service seed nodes number) (sym spared) runner
-    stays_seat call (Err why.Nothing) stays does spared whole = subst (IsRunner service seed nodes number) (sym spared) runner
-    stays_seat call (Err (why.Live many)) stays does spared whole = subst (IsRunner service seed nodes number) (sym spared) runner
-    stays_seat call (Err why.UpToDate) stays does spared whole = subst (IsRunner service seed nodes number) (sym spared) runner
-    stays_seat call (Err why.Spent) stays does spared whole = subst (IsRunner service seed nodes number) (sym spared) runner
+    still : new ≡ old → StaysSeat service seed nodes number (Running old) (Running new)
+    still same = subst (λ (x : NodeValue KeeperValue). StaysSeat service seed nodes number (Running old) (Running x)) (sym same) (record { seat = runner; within = le_refl (faults_of old.keeper) })
 
-    done_if : (call : CallHere → CallHere) (result : Result Step Refusal) → IfOk result (Does records_of follows (λ k. k.faults) service call old new) → old.up ≡ true → IfOk result (IsDone call (here_of records_of service old) (here_of records_of service new))
-    done_if call (Ok step) does up = is_done service call old new step runner.keeping.sure up does
-    done_if call (Err refusal) does up = tt
+    -- where the keeper is as it was
+    pub stays_same : StaysNode records_of service old new → new.keeper ≡ old.keeper → StaysSeat service seed nodes number (Running old) (Running new)
+    stays_same stays same = record {
+      seat = stays_runner stays (subst (IsKeeping service) (sym same) runner.keeping);
+      within = subst (λ (k : KeeperValue). faults_of k ≤ faults_of old.keeper) (sym same) (le_refl (faults_of old.keeper));
+    }
+
+    -- so it stays after a call, unless memory was short
+    pub stays_seat : (call : CallHere → CallHere) (result : Result Step Refusal) → ((f : Option Failure) → Goes f call) → StaysNode records_of service old new → IfOk result (Does records_of follows (λ k. k.faults) service call old new) → IsSpared result old new → IsWhole result → StaysSeat service seed nodes number (Running old) (Running new)
+    stays_seat call (Ok step) goes stays does spared whole = record {
+      seat = stays_runner stays (stays_keeping service call goes old new step runner.keeping does);
+      within = stays_within service call goes old new step does;
+    }
+    stays_seat call (Err why.OutOfMemory) goes stays does spared whole = absurd whole
+    stays_seat call (Err why.Down) goes stays does spared whole = still spared
+    stays_seat call (Err (why.NotActive role)) goes stays does spared whole = still spared
+    stays_seat call (Err (why.Open i)) goes stays does spared whole = still spared
+    stays_seat call (Err why.Ended) goes stays does spared whole = still spared
+    stays_seat call (Err why.Nothing) goes stays does spared whole = still spared
+    stays_seat call (Err (why.Live many)) goes stays does spared whole = still spared
+    stays_seat call (Err why.UpToDate) goes stays does spared whole = still spared
+    stays_seat call (Err why.Spent) goes stays does spared whole = still spared
+
+    done_if : (call : CallHere → CallHere) (result : Result Step Refusal) → ((f : Option Failure) → Goes f call) → IfOk result (Does records_of follows (λ k. k.faults) service call old new) → old.up ≡ true → IfOk result (IsDone call (here_at service old) (here_at service new))
+    done_if call (Ok step) goes does up = is_done service call goes old new step up does
+    done_if call (Err refusal) goes does up = tt
 
     -- what a call comes to that is the model's call of these numbers
-    pub node_acts_then : (call : (nodes seed number : ℕ) → CallHere → CallHere) (due late : Option Refusal) (result : Result Step Refusal) → RefusesThen (if_up old.up due) late result → Leaves result (here_of records_of service old) (here_of records_of service new) → Excused (call old.nodes old.seed old.id (begin (here_of records_of service old))) old.id (here_of records_of service old) due → (due ≡ None → Excused (call old.nodes old.seed old.id (begin (here_of records_of service old))) old.id (here_of records_of service old) late) → IfOk result (Does records_of follows (λ k. k.faults) service (call old.nodes old.seed old.id) old new) → Acts (call nodes seed number) number (here_of records_of service old) (here_of records_of service new) result
-    node_acts_then call due late result is left says later does =
-        named (λ n s m. Acts (call n s m) m (here_of records_of service old) (here_of records_of service new) result)
-        (acts_then (call old.nodes old.seed old.id) old.id (here_of records_of service old) (here_of records_of service new) due late result is left says later (done_if (call old.nodes old.seed old.id) result does))
+    pub node_acts_then : (call : (nodes seed number : ℕ) → CallHere → CallHere) → ((f : Option Failure) → Goes f (call old.nodes old.seed old.id)) → (due late : Option Refusal) (result : Result Step Refusal) → RefusesThen (if_up old.up due) late result → IsSpared result old new → Excused (call old.nodes old.seed old.id (begin (here_at service old))) old.id (here_at service old) due → (due ≡ None → Excused (call old.nodes old.seed old.id (begin (here_at service old))) old.id (here_at service old) late) → IfOk result (Does records_of follows (λ k. k.faults) service (call old.nodes old.seed old.id) old new) → Acts (call nodes seed number) number (here_at service old) (here_at service new) result
+    node_acts_then call goes due late result is left says later does =
+        named (λ n s m. Acts (call n s m) m (here_at service old) (here_at service new) result)
+        (acts_then (call old.nodes old.seed old.id) old.id (here_at service old) (here_at service new) due late result is (spared_here service result old new left) says later (done_if (call old.nodes old.seed old.id) result goes does))
 
-    pub node_acts : (call : (nodes seed number : ℕ) → CallHere → CallHere) (due : Option Refusal) (result : Result Step Refusal) → Refuses (if_up old.up due) result → Leaves result (here_of records_of service old) (here_of records_of service new) → Excused (call old.nodes old.seed old.id (begin (here_of records_of service old))) old.id (here_of records_of service old) due → IfOk result (Does records_of follows (λ k. k.faults) service (call old.nodes old.seed old.id) old new) → Acts (call nodes seed number) number (here_of records_of service old) (here_of records_of service new) result
-    node_acts call due result is left says does =
-        named (λ n s m. Acts (call n s m) m (here_of records_of service old) (here_of records_of service new) result)
-        (acts (call old.nodes old.seed old.id) old.id (here_of records_of service old) (here_of records_of service new) due result is left says (done_if (call old.nodes old.seed old.id) result does))
-
-pub spared_if : {A B : Type 0} (result : Result A Refusal) (before after : B) → OnErr result (after ≡ before) → IsSpared result before after
-spared_if (Ok x) before after same = tt
-spared_if (Err why.OutOfMemory) before after same = tt
-spared_if (Err why.Down) before after same = same
-spared_if (Err (why.NotActive role)) before after same = same
-spared_if (Err (why.Open i)) before after same = same
-spared_if (Err why.Ended) before after same = same
-spared_if (Err why.Nothing) before after same = same
-spared_if (Err (why.Live many)) before after same = same
-spared_if (Err why.UpToDate) before after same = same
-spared_if (Err why.Spent) before after same = same
+    pub node_acts : (call : (nodes seed number : ℕ) → CallHere → CallHere) → ((f : Option Failure) → Goes f (call old.nodes old.seed old.id)) → (due : Option Refusal) (result : Result Step Refusal) → Refuses (if_up old.up due) result → IsSpared result old new → Excused (call old.nodes old.seed old.id (begin (here_at service old))) old.id (here_at service old) due → IfOk result (Does records_of follows (λ k. k.faults) service (call old.nodes old.seed old.id) old new) → Acts (call nodes seed number) number (here_at service old) (here_at service new) result
+    node_acts call goes due result is left says does =
+        named (λ n s m. Acts (call n s m) m (here_at service old) (here_at service new) result)
+        (acts (call old.nodes old.seed old.id) old.id (here_at service old) (here_at service new) due result is (spared_here service result old new left) says (done_if (call old.nodes old.seed old.id) result goes does))
 
 -- ---- calls of a seat
 
 module _ (service : Declarations) (seed nodes number : ℕ) (old new : NodeValue KeeperValue) (runner : IsRunner service seed nodes number old) (result : Result Step Refusal) where
-  pub elects : Refuses (refusal_of_elect old.id (here_of records_of service old)) result → IfOk result (Does records_of follows (λ k. k.faults) service (elect old.nodes (service_of service old.seed) old.id) old new) → Leaves result (here_of records_of service old) (here_of records_of service new) → Acts (elect nodes (service_of service seed) number) number (here_of records_of service old) (here_of records_of service new) result
+  pub elects : Refuses (refusal_of_elect old.id (here_at service old)) result → IfOk result (Does records_of follows (λ k. k.faults) service (elect old.nodes (service_of service old.seed) old.id) old new) → IsSpared result old new → Acts (elect nodes (service_of service seed) number) number (here_at service old) (here_at service new) result
   elects refuses does left =
-      node_acts service seed nodes number old runner new (λ n s m. elect n (service_of service s) m)
-      (if nat_lt 4294967296 (round_of (ballot_above old.id (promise (here_of records_of service old).log))) then Some why.Spent else None)
-      result refuses left (elect_excused old.id (here_of records_of service old) old.nodes (service_of service old.seed)) does
+      node_acts service seed nodes number old runner new (λ n s m. elect n (service_of service s) m) (λ f. elect_either f old.nodes (service_of service old.seed) old.id)
+      (if nat_lt 4294967296 (round_of (ballot_above old.id (promise (here_at service old).log))) then Some why.Spent else None)
+      result refuses left (elect_excused old.id (here_at service old) old.nodes (service_of service old.seed)) does
 
-  pub receives : (from : ℕ) (content : Content Value) → Refuses (refusal_up (here_of records_of service old)) result → IfOk result (Does records_of follows (λ k. k.faults) service (receive old.nodes (service_of service old.seed) old.id from content) old new) → Leaves result (here_of records_of service old) (here_of records_of service new) → Acts (receive nodes (service_of service seed) number from content) number (here_of records_of service old) (here_of records_of service new) result
+  pub receives : (from : ℕ) (content : Content Value) → Refuses (refusal_up (here_at service old)) result → IfOk result (Does records_of follows (λ k. k.faults) service (receive old.nodes (service_of service old.seed) old.id from content) old new) → IsSpared result old new → Acts (receive nodes (service_of service seed) number from content) number (here_at service old) (here_at service new) result
   receives from content refuses does left =
-      node_acts service seed nodes number old runner new (λ n s m. receive n (service_of service s) m from content) None result refuses left tt does
+      node_acts service seed nodes number old runner new (λ n s m. receive n (service_of service s) m from content) (λ f. receive_either f old.nodes (service_of service old.seed) old.id from content) None result refuses left tt does
+
+  pub replays : Refuses (refusal_of_replay (here_at service old)) result → IfOk result (Does records_of follows (λ k. k.faults) service (replay old.id) old new) → IsSpared result old new → Acts (replay number) number (here_at service old) (here_at service new) result
+  replays refuses does left =
+      node_acts service seed nodes number old runner new (λ n s m. replay m) (λ f. replay_either f old.id)
+      (if is_active (here_at service old).role then Some why.UpToDate else if (here_at service old).replayed == length (known (here_at service old).log) then Some why.UpToDate else None)
+      result refuses left (replay_excused old.id (here_at service old)) does
+
+  pub checkpoints : Refuses (refusal_of_checkpoint (here_at service old)) result → IfOk result (Does records_of follows (λ k. k.faults) service (checkpoint (service_of service old.seed) old.id) old new) → IsSpared result old new → Acts (checkpoint (service_of service seed) number) number (here_at service old) (here_at service new) result
+  checkpoints refuses does left =
+      node_acts service seed nodes number old runner new (λ n s m. checkpoint (service_of service s) m) (λ f. checkpoint_either f (service_of service old.seed) old.id)
+      (if (here_at service old).replayed == base (here_at service old).log then Some why.Nothing else if nat_lt 0 (length (here_at service old).work.live) then Some (why.Live (length (here_at service old).work.live)) else None)
+      result refuses left (checkpoint_excused old.id (here_at service old) (service_of service old.seed)) does
 
   -- of a cut, where the second refusal is what the model says of a leader without an open proposal, where an instance is left
-  pub cuts : (counts : List ℕ) (late : Option Refusal) → old.up ≡ true → RefusesThen (refusal_of_cut (here_of records_of service old) (length old.known)) late result → ((l : Lead Value) → nat_le 65535 (length (known (here_of records_of service old).log)) ≡ false → Excused (cut_lead service old.seed old.nodes old.id counts l None (begin (here_of records_of service old))) old.id (here_of records_of service old) late) → IfOk result (Does records_of follows (λ k. k.faults) service (cut service old.seed old.nodes old.id counts) old new) → Leaves result (here_of records_of service old) (here_of records_of service new) → Acts (cut service seed nodes number counts) number (here_of records_of service old) (here_of records_of service new) result
+  pub cuts : (counts : List ℕ) (late : Option Refusal) → old.up ≡ true → RefusesThen (refusal_of_cut (here_at service old) (length old.known)) late result → ((l : Lead Value) → nat_le 65535 (length (known (here_at service old).log)) ≡ false → Excused (cut_lead service old.seed old.nodes old.id counts l None (begin (here_at service old))) old.id (here_at service old) late) → IfOk result (Does records_of follows (λ k. k.faults) service (cut service old.seed old.nodes old.id counts) old new) → IsSpared result old new → Acts (cut service seed nodes number counts) number (here_at service old) (here_at service new) result
   cuts counts late up refuses at_none does left =
-      let many : length old.known ≡ length (known (here_of records_of service old).log) = ap length (runner.node.up up).known in
-      node_acts_then service seed nodes number old runner new (λ n s m. cut service s n m counts)
-      (if_active (here_of records_of service old).role (refusal_of_lead (here_of records_of service old).role (length (known (here_of records_of service old).log))))
+      let many : length old.known ≡ length (known (here_at service old).log) = ap length (runner.node.up up).known in
+      node_acts_then service seed nodes number old runner new (λ n s m. cut service s n m counts) (λ f. cut_either f service old.seed old.nodes old.id counts)
+      (if_active (here_at service old).role (refusal_of_lead (here_at service old).role (length (known (here_at service old).log))))
       late result
-      (subst (λ (k : ℕ). RefusesThen (refusal_of_cut (here_of records_of service old) k) late result) many refuses)
+      (subst (λ (k : ℕ). RefusesThen (refusal_of_cut (here_at service old) k) late result) many refuses)
       left
-      (cut_excused service old.seed old.nodes old.id counts (here_of records_of service old))
-      (cut_late service old.seed old.nodes old.id counts (here_of records_of service old) late at_none)
+      (cut_excused service old.seed old.nodes old.id counts (here_at service old))
+      (cut_late service old.seed old.nodes old.id counts (here_at service old) late at_none)
       does
 
 -- ---- a node that came up
@@ -248,11 +307,26 @@ keeping_in service seed nodes number (Running node) runner = runner.keeping
 keeping_in service seed nodes number (Stopped keeper) keeping = keeping
 
 -- a node that came up with a seat's keeper is kept in the seat
-pub comes_up : (service : Declarations) (seed nodes number : ℕ) (seat : Seat) (node : NodeValue KeeperValue) → IsSeat service seed nodes number seat → CameUp records_of service number nodes seed (keeper_in seat) node → IsNode records_of service node → IsRunner service seed nodes number node
+pub comes_up : (service : Declarations) (seed nodes number : ℕ) (seat : Seat) (node : NodeValue KeeperValue) → IsSeat service seed nodes number seat → CameUp records_of service number nodes seed (keeper_in seat) node → IsNode records_of service node → StaysSeat service seed nodes number seat (Running node)
 comes_up service seed nodes number seat node is up kept = record {
-  id = up.id_is;
-  nodes_are = up.nodes_are;
-  seed_is = up.seed_is;
-  node = kept;
-  keeping = subst (IsKeeping service) (sym up.keeper_is) (keeping_in service seed nodes number seat is);
+  seat = record {
+    id = up.id_is;
+    nodes_are = up.nodes_are;
+    seed_is = up.seed_is;
+    node = kept;
+    keeping = subst (IsKeeping service) (sym up.keeper_is) (keeping_in service seed nodes number seat is);
+  };
+  within = subst (λ (k : KeeperValue). faults_of k ≤ faults_of (keeper_in seat)) (sym up.keeper_is) (le_refl (faults_of (keeper_in seat)));
 }
+
+-- the records of a seat are its keeper's
+log_in : (service : Declarations) (seat : Seat) → (here_in service seat).log ≡ log_of service (records_of (keeper_in seat))
+log_in service (Running node) = refl
+log_in service (Stopped keeper) = refl
+
+-- what holds where a node starts holds of its keeper
+pub starts_kept : (service : Declarations) (seat : Seat) (keeper : KeeperValue) (P : Type 0) → keeper ≡ keeper_in seat → Starts service (here_in service seat)
+    → (values_fit service (known (log_of service (records_of keeper))) ≡ true → HasRightBase service (log_of service (records_of keeper)) → P) → P
+starts_kept service seat keeper P e h go =
+    let logs : (here_in service seat).log ≡ log_of service (records_of keeper) = log_in service seat ∙ ap (λ (k : KeeperValue). log_of service (records_of k)) (sym e) in
+    go (subst (λ (log : List (Rec Value StateValue)). values_fit service (known log) ≡ true) logs h.fit) (subst (HasRightBase service) logs h.base)

@@ -18,7 +18,7 @@ use Rattle.rex_safety.specs.Kept.{IsKept}
 use Rattle.rex_safety.proofs.Keeps.{beginning_kept}
 use Rattle.rex_world.specs.declared.seats.Seat.{Seat}
 use Rattle.rex_world.specs.declared.world.World.{World}
-use Rattle.rex_world.specs.Seats.{IsSeat, AreSeats, here_in, heres}
+use Rattle.rex_world.specs.Seats.{IsSeat, AreSeats, AreWithin, faults_of, here_in, heres, keeper_in}
 use Rattle.rex_world.specs.World.{IsSpelled, messages_of, world_of}
 use Rattle.rex_world.specs.Kept.{IsRunning}
 use Rattle.rex_world.proofs.Endings.{heres_both}
@@ -27,6 +27,7 @@ use Rattle.rex_world.proofs.Endings.{heres_both}
 pub record AreNew (service : Declarations) (seed nodes number : ℕ) (seats : List Seat) : Type 0 where
   pub here : heres service seats ≡ replicate number new_node
   pub are : AreSeats service seed nodes 1 seats
+  pub within : AreWithin 0 seats
   pub many : length seats ≡ number
 
 seats_more : (service : Declarations) (seed nodes k : ℕ) (seats : List Seat) (seat : Seat) → AreSeats service seed nodes k seats → IsSeat service seed nodes (k + length seats) seat → AreSeats service seed nodes k (seats ++ seat ∷ [])
@@ -35,13 +36,18 @@ seats_more service seed nodes k (s ∷ ss) seat all one =
     let e : k + suc (length ss) ≡ suc k + length ss = omega arith in
     (all.0, seats_more service seed nodes (suc k) ss seat all.1 (subst (λ (m : ℕ). IsSeat service seed nodes m seat) e one))
 
+within_next : (seats : List Seat) (seat : Seat) → AreWithin 0 seats → faults_of (keeper_in seat) ≡ 0 → AreWithin 0 (seats ++ seat ∷ [])
+within_next [] seat all one = (omega (arith, one), tt)
+within_next (s ∷ ss) seat all one = (all.0, within_next ss seat all.1 one)
+
 pub new_next : (service : Declarations) (seed nodes number : ℕ) (seats : List Seat) (seat : Seat) → AreNew service seed nodes number seats → here_in service seat ≡ new_node → IsSeat service seed nodes (number + 1) seat
-    → AreNew service seed nodes (number + 1) (seats ++ seat ∷ [])
-new_next service seed nodes number seats seat h e one =
+    → faults_of (keeper_in seat) ≡ 0 → AreNew service seed nodes (number + 1) (seats ++ seat ∷ [])
+new_next service seed nodes number seats seat h e one none =
     let n : number + 1 ≡ 1 + length seats = omega (arith, h.many) in
     record {
       here = heres_both service seats (seat ∷ []) ∙ ap (λ (xs : List Here). xs ++ here_in service seat ∷ []) h.here ∙ ap (λ (y : Here). replicate number new_node ++ y ∷ []) e ∙ sym (replicate_next number new_node);
       are = seats_more service seed nodes 1 seats seat h.are (subst (λ (m : ℕ). IsSeat service seed nodes m seat) n one);
+      within = within_next seats seat h.within none;
       many = length-append seats (seat ∷ []) ∙ ap (λ (k : ℕ). k + 1) h.many;
     }
 
@@ -74,6 +80,7 @@ new_running service n w few good checked fit h net handed done flushed whole =
       kept = subst (λ (k : ℕ). IsKept service w.seed k (world_of service w)) (sym h.many)
           (subst (λ (x : ModelWorld). IsKept service w.seed n x) (sym (begins service w.seed n w h net handed done)) (beginning_kept service good checked w.requests fit w.seed n few));
       seats = subst (λ (k : ℕ). AreSeats service w.seed k 1 w.seats.items) (sym h.many) h.are;
+      within = subst (λ (k : ℕ). AreWithin k w.seats.items) (sym done) h.within;
       spelled = subst (λ (ms : List (List ℕ)). All IsSpelled ms) (sym net) (All-nil IsSpelled);
       requests = fit;
       flushed = omega (arith, flushed);

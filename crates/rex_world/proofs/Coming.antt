@@ -25,7 +25,7 @@ use Rattle.rex_node.specs.Messages.{message_in}
 use Rattle.rex_world.specs.declared.seats.Seat.{Seat}
 use Rattle.rex_world.specs.declared.told.Told.{Told}
 use Rattle.rex_world.specs.declared.world.World.{World}
-use Rattle.rex_world.specs.Seats.{AreSeats, heres}
+use Rattle.rex_world.specs.Seats.{AreKept, AreSeats, heres}
 use Rattle.rex_world.specs.World.{read_message, message_of, messages_of, IsSpelled, world_of, nodes_of}
 use Rattle.rex_world.specs.Kept.{IsRunning, IsSame}
 use Rattle.rex_world.specs.Calls.{IsDone, IsRefused, WasDown, Acts, IsWhole, Did, TellsStep, TellsRefusal, Tells, IsTold, effect_of, ComesTo, StartsIf, IsStarted}
@@ -54,7 +54,7 @@ all_spelled (m ∷ ms) h =
 
 -- ---- worlds
 
-same_world : (d e : ℕ) (xs ys : List Here) (ms ns : List (Message Value)) (hs gs : List Bool) → d ≡ e → xs ≡ ys → ms ≡ ns → hs ≡ gs
+pub same_world : (d e : ℕ) (xs ys : List Here) (ms ns : List (Message Value)) (hs gs : List Bool) → d ≡ e → xs ≡ ys → ms ≡ ns → hs ≡ gs
     → let a : ModelWorld = record { done = d; nodes = xs; messages = ms; handed = hs } in let b : ModelWorld = record { done = e; nodes = ys; messages = ns; handed = gs } in a ≡ b
 same_world d e xs ys ms ns hs gs p q r s = cc
 
@@ -114,7 +114,7 @@ module _ (service : Declarations) (w w2 : World) (seats : Vec Seat) (told told2 
     front_after : w.flushed ≤ length w.handed.items → take w.flushed w2.handed.items ≡ take w.flushed w.handed.items
     front_after l = ap (take w.flushed) tells.sends.handed ∙ take-append-le w.flushed w.handed.items (replicate (length step.sends) false) l
 
-    pub running_after : IsRunning service w → length seats.items ≡ nodes_of w → AreSeats service w.seed (nodes_of w) 1 seats.items → IsKept service w.seed (nodes_of w) (world_of service w2) → IsRunning service w2
+    pub running_after : IsRunning service w → length seats.items ≡ nodes_of w → AreKept service w.seed (nodes_of w) w.done seats.items → IsKept service w.seed (nodes_of w) (world_of service w2) → IsRunning service w2
     running_after h many all kept =
         subst (IsRunning service) (sym tells.rest)
         (record {
@@ -123,7 +123,8 @@ module _ (service : Declarations) (w w2 : World) (seats : Vec Seat) (told told2 
           whole = h.whole;
           few = subst (λ (k : ℕ). k ≤ 9) (sym many) h.few;
           kept = subst (λ (k : ℕ). IsKept service w.seed k (world_of service sent_world)) (sym many) (subst (λ (v : World). IsKept service w.seed (nodes_of w) (world_of service v)) tells.rest kept);
-          seats = subst (λ (k : ℕ). AreSeats service w.seed k 1 seats.items) (sym many) all;
+          seats = subst (λ (k : ℕ). AreSeats service w.seed k 1 seats.items) (sym many) all.seats_are;
+          within = all.within;
           spelled = subst (All IsSpelled) (sym tells.sends.net) (All-append IsSpelled w.net (map spelling_of step.sends) h.spelled (all_spelled step.sends tells.sends.spelled));
           requests = h.requests;
           flushed = omega (arith, ap length tells.sends.handed, length-append w.handed.items (replicate (length step.sends) false), h.flushed);
@@ -155,7 +156,7 @@ module _ (service : Declarations) (w w2 : World) (seats : Vec Seat) (told told2 
     }
 
     comes_only : (e : Effect) → told2.effects.items ≡ told.effects.items ++ e ∷ [] → told2.sent.items ≡ told.sent.items → IsRunning service w → length seats.items ≡ nodes_of w
-        → AreSeats service w.seed (nodes_of w) 1 seats.items → ComesTo service w w2 told told2 (only (world_of service w) e)
+        → AreKept service w.seed (nodes_of w) w.done seats.items → ComesTo service w w2 told told2 (only (world_of service w) e)
     comes_only e effects sent h many all = record {
       did = did_only e effects sent;
       running = subst (IsRunning service) (sym same)
@@ -166,7 +167,8 @@ module _ (service : Declarations) (w w2 : World) (seats : Vec Seat) (told told2 
             few = subst (λ (k : ℕ). k ≤ 9) (sym many) h.few;
             kept = subst (λ (k : ℕ). IsKept service w.seed k (world_of service seated)) (sym many)
                 (subst (IsKept service w.seed (nodes_of w)) (sym world_same ∙ ap (world_of service) same) h.kept);
-            seats = subst (λ (k : ℕ). AreSeats service w.seed k 1 seats.items) (sym many) all;
+            seats = subst (λ (k : ℕ). AreSeats service w.seed k 1 seats.items) (sym many) all.seats_are;
+            within = all.within;
             spelled = h.spelled;
             requests = h.requests;
             flushed = h.flushed;
@@ -188,7 +190,7 @@ module _ (service : Declarations) (w w2 : World) (seats : Vec Seat) (told told2 
 
     -- the row of a step that was done
     comes_after : (d : CallHere) (step : Step) → TellsStep seated w2 told told2 step → there ≡ d.node → map message_in step.sends ≡ d.sends → step.effects ≡ d.effects
-        → heres service seats.items ≡ put (heres service w.seats.items) m there → length seats.items ≡ nodes_of w → AreSeats service w.seed (nodes_of w) 1 seats.items
+        → heres service seats.items ≡ put (heres service w.seats.items) m there → length seats.items ≡ nodes_of w → AreKept service w.seed (nodes_of w) w.done seats.items
         → IsKept service w.seed (nodes_of w) (after (world_of service w) m d).world → ComesTo service w w2 told told2 (after (world_of service w) m d)
     comes_after d step tells node sends effects others many all kept =
         let nodes : heres service seats.items ≡ put (heres service w.seats.items) m d.node = others ∙ ap (put (heres service w.seats.items) m) node in
@@ -209,23 +211,23 @@ module _ (service : Declarations) (w w2 : World) (seats : Vec Seat) (told told2 
       abbrev Row-comes : Type 0
       Row-comes = ComesTo service w w2 told told2 (at_node (world_of service w) m call)
 
-      comes_done : (step : Step) → IsDone call here there step → TellsStep seated w2 told told2 step → AreSeats service w.seed (nodes_of w) 1 seats.items → Row-comes
+      comes_done : (step : Step) → IsDone call here there step → TellsStep seated w2 told told2 step → AreKept service w.seed (nodes_of w) w.done seats.items → Row-comes
       comes_done step is tells all =
           subst (λ (t : Bool). ComesTo service w w2 told told2 (if_up t (world_of service w) m (call (begin here)))) (sym is.up)
           (comes_after (call (begin here)) step tells is.node is.sends is.effects others many all
           (subst (λ (t : Bool). IsKept service w.seed (nodes_of w) (if_up t (world_of service w) m (call (begin here))).world) is.up kept))
 
-      comes_refused : (refusal : Refusal) → IsRefused call m here there refusal → TellsRefusal m seated w2 told told2 refusal → AreSeats service w.seed (nodes_of w) 1 seats.items → Row-comes
+      comes_refused : (refusal : Refusal) → IsRefused call m here there refusal → TellsRefusal m seated w2 told told2 refusal → AreKept service w.seed (nodes_of w) w.done seats.items → Row-comes
       comes_refused refusal is tells all =
           subst (ComesTo service w w2 told told2) (sym (said_only (world_of service w) m call (effect_of m refusal) is.up is.says))
           (comes_only tells.same (nodes_same others is.same) (effect_of m refusal) tells.effects tells.sent h many all)
 
-      comes_down : WasDown here there → TellsRefusal m seated w2 told told2 why.Down → AreSeats service w.seed (nodes_of w) 1 seats.items → Row-comes
+      comes_down : WasDown here there → TellsRefusal m seated w2 told told2 why.Down → AreKept service w.seed (nodes_of w) w.done seats.items → Row-comes
       comes_down is tells all =
           subst (ComesTo service w w2 told told2) (sym (down_only (world_of service w) m call is.down))
           (comes_only tells.same (nodes_same others is.same) (IsDown m) tells.effects tells.sent h many all)
 
-      pub comes : (outcome : Result Step Refusal) → Acts call m here there outcome → (IsWhole outcome → AreSeats service w.seed (nodes_of w) 1 seats.items) → IsTold m seated w2 told told2 outcome → Row-comes
+      pub comes : (outcome : Result Step Refusal) → Acts call m here there outcome → (IsWhole outcome → AreKept service w.seed (nodes_of w) w.done seats.items) → IsTold m seated w2 told told2 outcome → Row-comes
       comes (Ok step) acts all t = comes_done step acts t.tells (all tt)
       comes (Err why.OutOfMemory) acts all t = absurd t.tells
       comes (Err why.Down) acts all t = comes_down acts t.tells (all tt)
@@ -238,7 +240,7 @@ module _ (service : Declarations) (w w2 : World) (seats : Vec Seat) (told told2 
       comes (Err why.Spent) acts all t = comes_refused why.Spent acts t.tells (all tt)
 
     -- a node that was started, or was up
-    module _ (others : heres service seats.items ≡ put (heres service w.seats.items) m there) (many : length seats.items ≡ nodes_of w) (all : AreSeats service w.seed (nodes_of w) 1 seats.items) where
+    module _ (others : heres service seats.items ≡ put (heres service w.seats.items) m there) (many : length seats.items ≡ nodes_of w) (all : AreKept service w.seed (nodes_of w) w.done seats.items) where
       still : CallHere
       still = record { node = here; sends = []; effects = IsUp m ∷ [] }
 
@@ -258,7 +260,7 @@ module _ (service : Declarations) (w w2 : World) (seats : Vec Seat) (told told2 
       started_step false step is kept tells = comes_after (start m (begin here)) step tells is.node (ap (map message_in) is.sends) is.effects others many all kept
 
     pub comes_started : (outcome : Result Step Refusal) → IsStarted m here there outcome → heres service seats.items ≡ put (heres service w.seats.items) m there → length seats.items ≡ nodes_of w
-        → (IsWhole outcome → AreSeats service w.seed (nodes_of w) 1 seats.items) → IsKept service w.seed (nodes_of w) (start_if here.up (world_of service w) m).world
+        → (IsWhole outcome → AreKept service w.seed (nodes_of w) w.done seats.items) → IsKept service w.seed (nodes_of w) (start_if here.up (world_of service w) m).world
         → IsTold m seated w2 told told2 outcome → ComesTo service w w2 told told2 (start_if here.up (world_of service w) m)
     comes_started (Ok step) is others many all kept t = started_step others many (all tt) here.up step is kept t.tells
     comes_started (Err refusal) is others many all kept t = absurd (subst (λ (why : Refusal). Tells m seated w2 told told2 (Err why)) is t.tells)

@@ -29,7 +29,7 @@ use Rattle.rex_node.specs.Messages.{message_in, content_in}
 use Rattle.rex_world.specs.declared.seats.Seat.{Seat}
 use Rattle.rex_world.specs.declared.told.Told.{Told}
 use Rattle.rex_world.specs.declared.world.World.{World}
-use Rattle.rex_world.specs.Seats.{heres}
+use Rattle.rex_world.specs.Seats.{disarmed, heres}
 use Rattle.rex_world.specs.World.{read_message, message_of, messages_of, world_of, nodes_of}
 use Rattle.rex_world.specs.Kept.{IsRunning}
 use Rattle.rex_world.specs.Calls.{ComesTo, Comes, step_in}
@@ -97,6 +97,7 @@ module _ (service : Declarations) (w w1 : World) (number : ℕ) (marked : IsMark
           handed = ap length marked.handed ∙ length-set w.handed.items (number - 1) true ∙ h.kept.handed;
         };
         seats = h.seats;
+        within = h.within;
         spelled = h.spelled;
         requests = h.requests;
         flushed = omega (arith, ap length marked.handed, length-set w.handed.items (number - 1) true, h.flushed);
@@ -123,9 +124,9 @@ module _ (service : Declarations) (w : World) (h : IsRunning service w) (number 
     pub hand_fits : MessageFits (length xs) (message_in m)
     hand_fits = subst (λ (ys : List Seat). MessageFits (length ys) (message_in m)) (sym e) fits
 
-    pub hand_runs : RunsOn service (receive (length xs) (service_of service w.seed) m.to m.from (content_in m.content)) (begin (node_at (heres service xs) m.to))
+    pub hand_runs : RunsOn service (receive (length xs) (service_of service w.seed) m.to m.from (content_in m.content)) (begin (disarmed (node_at (heres service xs) m.to)))
     hand_runs =
-        subst (λ (ys : List Seat). RunsOn service (receive (length ys) (service_of service w.seed) m.to m.from (content_in m.content)) (begin (node_at (heres service ys) m.to))) (sym e)
+        subst (λ (ys : List Seat). RunsOn service (receive (length ys) (service_of service w.seed) m.to m.from (content_in m.content)) (begin (disarmed (node_at (heres service ys) m.to)))) (sym e)
         (runs_after service w h m.to fits.to (receive (nodes_of w) (service_of service w.seed) m.to m.from (content_in m.content))
         (λ d good. receive_good (nodes_of w) (service_of service w.seed) (logs (world_of service w)) (roles (world_of service w)) (messages_of w.net) m.to fits.to m.from (content_in m.content) d good (good.old (message_in m) is_there)))
 

@@ -1,10 +1,12 @@
 pub mod Acted
+pub mod Arming
 pub mod Headlines
 pub mod Ranges
 pub mod Runs
 pub mod Seated
 pub mod Sending
-pub mod Sure
+pub mod Failing
+pub mod Unseen
 pub mod Written
 pub mod Endings
 pub mod Beginning

@@ -1,5 +1,5 @@
 -- The node at a place of a world.
-use Rattle.std.proofs.Common.{◌≡◌, ℕ, zero, suc, ◌+◌, ◌-◌, ◌<◌, ◌≢◌, List, [], ◌∷◌, length, get_or, refl, sym, ◌∙◌, ap, subst, arith, length-set}
+use Rattle.std.proofs.Common.{◌≡◌, ℕ, zero, suc, ◌+◌, ◌-◌, ◌<◌, ◌≤◌, ◌≢◌, List, [], ◌∷◌, length, get_or, refl, sym, ◌∙◌, ap, subst, arith, length-set}
 use Rattle.std.specs.Prelude.{Result, slice_index_or, slice_set}
 use Rattle.std.proofs.lemmas.Bool.{ne_eqb}
 use Rattle.rex_syntax.specs.declared.service.Declarations.{Declarations}
@@ -9,7 +9,7 @@ use Rattle.rex_safety.specs.World.{node_at, put}
 use Rattle.rex_node.specs.declared.refusal.Refusal.{Refusal}
 use Rattle.rex_node.specs.declared.step.Step.{Step}
 use Rattle.rex_world.specs.declared.seats.Seat.{Seat}
-use Rattle.rex_world.specs.Seats.{IsSeat, AreSeats, here_in, heres}
+use Rattle.rex_world.specs.Seats.{IsSeat, AreSeats, AreWithin, StaysSeat, faults_of, here_in, heres, keeper_in}
 use Rattle.rex_world.specs.Calls.{Acts, IsWhole, IsStarted}
 use Rattle.rex_world.specs.Places.{IsChangedAt, ActsAt, StartsAt}
 
@@ -58,6 +58,22 @@ module _ (service : Declarations) where
         let e : k + suc i ≡ suc k + i = omega arith in
         (all.0, seats_from (suc k) ss i seat all.1 (subst (λ (m : ℕ). IsSeat service seed nodes m seat) e one))
 
+  -- ---- how often keepers fail
+
+  within_from : (most : ℕ) (seats : List Seat) (i : ℕ) (seat : Seat) → AreWithin most seats → faults_of (keeper_in seat) ≤ most → AreWithin most (slice_set seats i seat)
+  within_from most [] i seat all one = tt
+  within_from most (s ∷ ss) zero seat all one = (one, all.1)
+  within_from most (s ∷ ss) (suc i) seat all one = (all.0, within_from most ss i seat all.1 one)
+
+  within_at : (most : ℕ) (seats : List Seat) (i : ℕ) (d : Seat) → AreWithin most seats → i < length seats → faults_of (keeper_in (get_or seats i d)) ≤ most
+  within_at most [] i d all l = absurd (omega arith)
+  within_at most (s ∷ ss) zero d all l = all.0
+  within_at most (s ∷ ss) (suc i) d all l = within_at most ss i d all.1 (omega arith)
+
+  pub within_more : (most more : ℕ) (seats : List Seat) → AreWithin most seats → most ≤ more → AreWithin more seats
+  within_more most more [] all l = tt
+  within_more most more (s ∷ ss) all l = (let h = all.0 in omega arith, within_more most more ss all.1 l)
+
   module _ (seats : List Seat) (number : ℕ) (here : IsNode (length seats) number) (d : Seat) where
     is_next : number ≡ suc (number - 1)
     is_next = omega (arith, here.0)
@@ -73,41 +89,50 @@ module _ (service : Declarations) where
         let e : 1 + (number - 1) ≡ number = omega (arith, here.0) in
         subst (λ (m : ℕ). IsSeat service seed nodes m (slice_index_or seats (number - 1) d)) e (seat_from seed nodes 1 seats (number - 1) d all inside)
 
+    pub within_is : (most : ℕ) → AreWithin most seats → faults_of (keeper_in (slice_index_or seats (number - 1) d)) ≤ most
+    within_is most all = within_at most seats (number - 1) d all inside
+
+    pub set_within : (most : ℕ) (seat : Seat) → AreWithin most seats → faults_of (keeper_in seat) ≤ most → AreWithin most (slice_set seats (number - 1) seat)
+    set_within most seat all one = within_from most seats (number - 1) seat all one
+
     new_is : (seat : Seat) → node_at (heres service (slice_set seats (number - 1) seat)) number ≡ here_in service seat
     new_is seat = subst (λ (m : ℕ). node_at (heres service (slice_set seats (number - 1) seat)) m ≡ here_in service seat) (sym is_next) (new_index seats (number - 1) seat inside)
 
-    put_is : (seat : Seat) → heres service (slice_set seats (number - 1) seat) ≡ put (heres service seats) number (here_in service seat)
+    pub put_is : (seat : Seat) → heres service (slice_set seats (number - 1) seat) ≡ put (heres service seats) number (here_in service seat)
     put_is seat = subst (λ (m : ℕ). heres service (slice_set seats (number - 1) seat) ≡ put (heres service seats) m (here_in service seat)) (sym is_next) (put_index seats (number - 1) seat inside)
 
-    set_seats : (seed nodes : ℕ) (seat : Seat) → AreSeats service seed nodes 1 seats → IsSeat service seed nodes number seat → AreSeats service seed nodes 1 (slice_set seats (number - 1) seat)
+    pub set_seats : (seed nodes : ℕ) (seat : Seat) → AreSeats service seed nodes 1 seats → IsSeat service seed nodes number seat → AreSeats service seed nodes 1 (slice_set seats (number - 1) seat)
     set_seats seed nodes seat all one =
         let e : number ≡ 1 + (number - 1) = omega (arith, here.0) in
         seats_from seed nodes 1 seats (number - 1) seat all (subst (λ (m : ℕ). IsSeat service seed nodes m seat) e one)
 
     -- only this node is another one
-    changed_at : (seed : ℕ) (seat : Seat) (outcome : Result Step Refusal) → AreSeats service seed (length seats) 1 seats
-        → (IsWhole outcome → IsSeat service seed (length seats) number seat) → IsChangedAt service seed number seats (slice_set seats (number - 1) seat) outcome
-    changed_at seed seat outcome all kept = record {
+    changed_at : (seed : ℕ) (seat : Seat) (outcome : Result Step Refusal) → (IsWhole outcome → StaysSeat service seed (length seats) number (slice_index_or seats (number - 1) d) seat)
+        → IsChangedAt service seed number seats (slice_set seats (number - 1) seat) outcome
+    changed_at seed seat outcome kept = record {
       others = put_is seat ∙ ap (λ (y : Here). put (heres service seats) number y) (sym (new_is seat));
       many = length-set seats (number - 1) seat;
-      seats = λ whole. set_seats seed (length seats) seat all (kept whole);
+      seats = λ whole most all. let l = within_is most all.within in let k = (kept whole).within in record {
+        seats_are = set_seats seed (length seats) seat all.seats_are (kept whole).seat;
+        within = set_within most seat all.within (omega arith);
+      };
     }
 
     -- what a seat's call did, the world's node did
-    pub acts_at : (seed : ℕ) (call : CallHere → CallHere) (seat : Seat) (outcome : Result Step Refusal) → AreSeats service seed (length seats) 1 seats
-        → Acts call number (here_in service (slice_index_or seats (number - 1) d)) (here_in service seat) outcome → (IsWhole outcome → IsSeat service seed (length seats) number seat)
+    pub acts_at : (seed : ℕ) (call : CallHere → CallHere) (seat : Seat) (outcome : Result Step Refusal)
+        → Acts call number (here_in service (slice_index_or seats (number - 1) d)) (here_in service seat) outcome → (IsWhole outcome → StaysSeat service seed (length seats) number (slice_index_or seats (number - 1) d) seat)
         → ActsAt service seed call number seats (slice_set seats (number - 1) seat) outcome
-    acts_at seed call seat outcome all acts kept = record {
+    acts_at seed call seat outcome acts kept = record {
       acts = subst (λ (x : Here). Acts call number x (node_at (heres service (slice_set seats (number - 1) seat)) number) outcome) (sym here_is)
           (subst (λ (y : Here). Acts call number (here_in service (slice_index_or seats (number - 1) d)) y outcome) (sym (new_is seat)) acts);
-      changed = changed_at seed seat outcome all kept;
+      changed = changed_at seed seat outcome kept;
     }
 
-    pub starts_at : (seed : ℕ) (seat : Seat) (outcome : Result Step Refusal) → AreSeats service seed (length seats) 1 seats
-        → IsStarted number (here_in service (slice_index_or seats (number - 1) d)) (here_in service seat) outcome → (IsWhole outcome → IsSeat service seed (length seats) number seat)
+    pub starts_at : (seed : ℕ) (seat : Seat) (outcome : Result Step Refusal)
+        → IsStarted number (here_in service (slice_index_or seats (number - 1) d)) (here_in service seat) outcome → (IsWhole outcome → StaysSeat service seed (length seats) number (slice_index_or seats (number - 1) d) seat)
         → StartsAt service seed number seats (slice_set seats (number - 1) seat) outcome
-    starts_at seed seat outcome all starts kept = record {
+    starts_at seed seat outcome starts kept = record {
       starts = subst (λ (x : Here). IsStarted number x (node_at (heres service (slice_set seats (number - 1) seat)) number) outcome) (sym here_is)
           (subst (λ (y : Here). IsStarted number (here_in service (slice_index_or seats (number - 1) d)) y outcome) (sym (new_is seat)) starts);
-      changed = changed_at seed seat outcome all kept;
+      changed = changed_at seed seat outcome kept;
     }

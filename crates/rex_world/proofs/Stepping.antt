@@ -18,6 +18,7 @@ use Rattle.rex_safety.specs.Node.{Service, Message, is_active}
 use Rattle.rex_safety.specs.Calls as calls
 use Rattle.rex_safety.specs.Calls.{begin}
 use Rattle.rex_safety.specs.Values.{Value, values_fit, service_of}
+use Rattle.rex_safety.proofs.Agreeing.{base_is_right}
 use Rattle.rex_safety.specs.Lanes as lanes
 use Rattle.rex_safety.specs.Lanes.{Here, CallHere}
 use Rattle.rex_state.specs.Machine.{lane_of}
@@ -38,7 +39,7 @@ use Rattle.rex_node.specs.Messages.{message_in}
 use Rattle.rex_world.specs.declared.seats.Seat.{Seat}
 use Rattle.rex_world.specs.declared.told.Told.{Told}
 use Rattle.rex_world.specs.declared.world.World.{World}
-use Rattle.rex_world.specs.Seats.{heres}
+use Rattle.rex_world.specs.Seats.{disarmed, heres}
 use Rattle.rex_world.specs.World.{world_of, nodes_of}
 use Rattle.rex_world.specs.Kept.{IsRunning}
 use Rattle.rex_world.specs.Calls.{Acts, IsTold, ComesTo, step_in, Starts, cut_line}
@@ -64,10 +65,10 @@ module _ (service : Declarations) (w : World) (h : IsRunning service w) where
   kept_next line fits = step_kept service h.service_is h.checked w.requests h.requests w.seed (nodes_of w) h.few model line fits h.kept
 
   -- what a node knows after a call that keeps the model runs from the start
-  pub runs_after : (m : ℕ) → IsNode (nodes_of w) m → (call : CallHere → CallHere)
+  calls_run : (m : ℕ) → IsNode (nodes_of w) m → (call : CallHere → CallHere)
       → ((d : CallHere) → KeepsAll (nodes_of w) sv (logs model) (roles model) model.messages m d → KeepsAll (nodes_of w) sv (logs model) (roles model) model.messages m (call d))
       → RunsOn service call (begin (node_at model.nodes m))
-  runs_after m there call keeps = subst (λ (x : Here). values_fit service (known x.log) ≡ true) new ((next_fits service w.seed (nodes_of w) next ok).known m there)
+  calls_run m there call keeps = subst (λ (x : Here). values_fit service (known x.log) ≡ true) new ((next_fits service w.seed (nodes_of w) next ok).known m there)
     where
       d : CallHere
       d = call (begin (node_at model.nodes m))
@@ -83,6 +84,23 @@ module _ (service : Declarations) (w : World) (h : IsRunning service w) where
 
       new : node_at (put model.nodes m d.node) m ≡ d.node
       new = node_put model.nodes m d.node m inside ∙ ap (λ (t : Bool). cond t d.node (node_at model.nodes m)) (eq-eqb m m refl)
+
+  -- so it does where the node's keeper isn't armed
+  pub runs_after : (m : ℕ) → IsNode (nodes_of w) m → (call : CallHere → CallHere)
+      → ((d : CallHere) → KeepsAll (nodes_of w) sv (logs model) (roles model) model.messages m d → KeepsAll (nodes_of w) sv (logs model) (roles model) model.messages m (call d))
+      → RunsOn service call (begin (disarmed (node_at model.nodes m)))
+  runs_after m there call keeps = calls_run m there (λ d. call (record d { node = disarmed d.node })) (λ d good. keeps (record d { node = disarmed d.node }) (still_good d good))
+    where
+      still_good : (d : CallHere) → KeepsAll (nodes_of w) sv (logs model) (roles model) model.messages m d → KeepsAll (nodes_of w) sv (logs model) (roles model) model.messages m (record d { node = disarmed d.node })
+      still_good d good = record {
+        safe = good.safe;
+        role = good.role;
+        here = record { based = good.here.based; replayed = good.here.replayed };
+        others = good.others;
+        old = good.old;
+        grows = good.grows;
+        out = good.out;
+      }
 
   -- the messages of a step have their numbers in their ranges
   pub sends_fit : (m : ℕ) (call : CallHere → CallHere) (there : Here) (outcome : Result Step Refusal) → Acts call m (node_at model.nodes m) there outcome → IsKept service w.seed (nodes_of w) (at_node model m call).world
@@ -115,7 +133,7 @@ module _ (service : Declarations) (w : World) (h : IsRunning service w) where
       let b : ActsAt service w.seed (call w.seats.items) m w.seats.items ws outcome = subst (λ (ys : List Seat). ActsAt service w.seed (call ys) m ys ws outcome) e acts in
       let a : ActsAt service w.seed (call w.seats.items) m w.seats.items (with_items w.seats ws).items outcome =
       subst (λ (ys : List Seat). ActsAt service w.seed (call w.seats.items) m w.seats.items ys outcome) (sym (seats_are ws many)) b in
-      on_ok r (λ t. comes service w w2 (with_items w.seats ws) told told2 h m (call w.seats.items) kept a.changed.others a.changed.many outcome a.acts a.changed.seats t) told-is
+      on_ok r (λ t. comes service w w2 (with_items w.seats ws) told told2 h m (call w.seats.items) kept a.changed.others a.changed.many outcome a.acts (λ whole. a.changed.seats whole w.done (record { seats_are = h.seats; within = h.within })) t) told-is
 
   -- the messages of a call have their numbers in their ranges
   pub call_fits : (m : ℕ) (xs : List Seat) (e : xs ≡ w.seats.items) (call : List Seat → CallHere → CallHere) (ws : List Seat) (outcome : Result Step Refusal)
@@ -131,14 +149,14 @@ module _ (service : Declarations) (w : World) (h : IsRunning service w) where
     among : (P : List Seat → Type 0) → P w.seats.items → P xs
     among P h = subst P (sym e) h
 
-    pub elect_runs : RunsOn service (calls.elect (length xs) sv m) (begin (node_at (heres service xs) m))
+    pub elect_runs : RunsOn service (calls.elect (length xs) sv m) (begin (disarmed (node_at (heres service xs) m)))
     elect_runs =
-        among (λ (ys : List Seat). RunsOn service (calls.elect (length ys) sv m) (begin (node_at (heres service ys) m)))
+        among (λ (ys : List Seat). RunsOn service (calls.elect (length ys) sv m) (begin (disarmed (node_at (heres service ys) m))))
         (runs_after m there (calls.elect (nodes_of w) sv m) (elect_good (nodes_of w) sv (logs model) (roles model) model.messages m there h.few))
 
-    pub cut_runs : (limits : Option (List ℕ)) → RunsOn service (lanes.cut service w.seed (length xs) m (counts_for service (node_at (heres service xs) m) limits)) (begin (node_at (heres service xs) m))
+    pub cut_runs : (limits : Option (List ℕ)) → RunsOn service (lanes.cut service w.seed (length xs) m (counts_for service (node_at (heres service xs) m) limits)) (begin (disarmed (node_at (heres service xs) m)))
     cut_runs limits =
-        among (λ (ys : List Seat). RunsOn service (lanes.cut service w.seed (length ys) m (counts_for service (node_at (heres service ys) m) limits)) (begin (node_at (heres service ys) m)))
+        among (λ (ys : List Seat). RunsOn service (lanes.cut service w.seed (length ys) m (counts_for service (node_at (heres service ys) m) limits)) (begin (disarmed (node_at (heres service ys) m))))
         (runs_after m there (lanes.cut service w.seed (nodes_of w) m (counts_for service (node_at model.nodes m) limits))
         (λ d good. cut_good service w.seed (nodes_of w) (logs model) (roles model) model.messages m there (counts_for service (node_at model.nodes m) limits) d good))
 
@@ -149,7 +167,7 @@ module _ (service : Declarations) (w : World) (h : IsRunning service w) where
     has_room lane = among (λ (ys : List Seat). (node_at (heres service ys) m).up ≡ true → (lane_of (lanes.live_state service (node_at (heres service ys) m)) lane).done + 1 < 2 ^ 32) (room service w h m there lane)
 
     pub starts_from : Starts service (node_at (heres service xs) m)
-    starts_from = among (λ (ys : List Seat). Starts service (node_at (heres service ys) m)) (fit service w h m there)
+    starts_from = among (λ (ys : List Seat). Starts service (node_at (heres service ys) m)) (record { fit = fit service w h m there; base = λ s e. base_is_right service w.seed (nodes_of w) model h.kept.world m s there e })
 
   -- the row of a cut
   pub cut_row : (m : ℕ) (limits : Option (List ℕ)) → step_in service w (cut_line m limits) ≡ at_node model m (lanes.cut service w.seed (nodes_of w) m (counts_for service (node_at model.nodes m) limits))
@@ -191,4 +209,4 @@ module _ (service : Declarations) (w : World) (h : IsRunning service w) where
       let many : length ws ≡ nodes_of w = starts.changed.many ∙ ap length e in
       let b : StartsAt service w.seed m w.seats.items ws outcome = subst (λ (ys : List Seat). StartsAt service w.seed m ys ws outcome) e starts in
       let a : StartsAt service w.seed m w.seats.items (with_items w.seats ws).items outcome = subst (λ (ys : List Seat). StartsAt service w.seed m w.seats.items ys outcome) (sym (seats_are ws many)) b in
-      on_ok r (λ t. comes_started service w w2 (with_items w.seats ws) told told2 h m outcome a.starts a.changed.others a.changed.many a.changed.seats (kept_next (line.Start m) there) t) told-is
+      on_ok r (λ t. comes_started service w w2 (with_items w.seats ws) told told2 h m outcome a.starts a.changed.others a.changed.many (λ whole. a.changed.seats whole w.done (record { seats_are = h.seats; within = h.within })) (kept_next (line.Start m) there) t) told-is

@@ -10,7 +10,7 @@ use Rattle.rex_safety.specs.Values.{values_fit}
 use Rattle.rex_safety.specs.Lanes.{Here, CallHere}
 use Rattle.rex_syntax.specs.declared.request.Request.{Request}
 use Rattle.rex_scenario.specs.declared.scenario.ScheduleLine.{ScheduleLine}
-use Rattle.rex_scenario.specs.declared.scenario.ScheduleLine.TheVariants.{Cut, CutBelow, Deliver, Flush}
+use Rattle.rex_scenario.specs.declared.scenario.ScheduleLine.TheVariants.{Cut, CutBelow, Deliver, Flush, KeepFail}
 use Rattle.rex_safety.specs.World.{World as ModelWorld, Row, step, steps, sent_from}
 use Rattle.rex_msg.specs.declared.message.Message.{Message as Sent}
 use Rattle.rex_msg.specs.Spelling.{HasSpelling, spelling_of}
@@ -18,6 +18,7 @@ use Rattle.rex_node.specs.declared.refusal.Refusal.{Refusal}
 use Rattle.rex_node.specs.declared.refusal.Refusal.TheVariants as why
 use Rattle.rex_node.specs.declared.step.Step.{Step}
 use Rattle.rex_node.specs.Messages.{message_in}
+use Rattle.rex_node.specs.Restarting.{HasRightBase}
 use Rattle.rex_world.specs.declared.told.Told.{Told}
 use Rattle.rex_world.specs.declared.world.World.{World}
 use Rattle.rex_world.specs.World.{nodes_of, world_of}
@@ -70,9 +71,10 @@ TellsOf f (Ok x) (Ok step) = IsTelling (f x) step
 TellsOf f (Ok x) (Err refusal) = refusal ≡ why.OutOfMemory
 TellsOf f (Err refusal) result = result ≡ Err refusal
 
--- what the node knows are deltas that run from the start
-abbrev pub Starts : Declarations → Here → Type 0
-Starts service x = values_fit service (known x.log) ≡ true
+-- what the node knows are deltas that run from the start, and its last checkpoint is of the state to which they run up to it
+pub record Starts (service : Declarations) (x : Here) : Type 0 where
+  pub fit : values_fit service (known x.log) ≡ true
+  pub base : HasRightBase service x.log
 
 -- only a node that is down starts: the step is that of the model's call, or it says that the node is up
 pub record IsUpAgain (number : ℕ) (before after : Here) (step : Step) : Type 0 where
@@ -158,8 +160,14 @@ abbrev pub cut_line : ℕ → Option (List ℕ) → ScheduleLine
 cut_line number None = Cut number
 cut_line number (Some limits) = CutBelow number limits
 
+-- a line but one that arms a keeper
+abbrev pub ArmsNone : ScheduleLine → Type 0
+ArmsNone (KeepFail number kept) = ⊥
+ArmsNone _ = Unit {0}
+
 -- a line that is a call of one node
 abbrev pub IsCall : ScheduleLine → Type 0
 IsCall (Deliver number) = ⊥
 IsCall Flush = ⊥
+IsCall (KeepFail number kept) = ⊥
 IsCall _ = Unit {0}

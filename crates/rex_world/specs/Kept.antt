@@ -8,10 +8,10 @@ use Rattle.rex_scenario.specs.Fits.{RequestFits}
 use Rattle.rex_scenario.specs.declared.scenario.Scenario.{Scenario}
 use Rattle.rex_safety.specs.Kept.{IsKept}
 use Rattle.rex_world.specs.declared.world.World.{World}
-use Rattle.rex_world.specs.Seats.{AreSeats}
+use Rattle.rex_world.specs.Seats.{AreSeats, AreWithin}
 use Rattle.rex_world.specs.World.{IsSpelled, nodes_of, world_of}
 
--- the service is a checked one; memory was never short; the world of the model is one that lines lead to; each node is kept, and its keeper doesn't fail; each message is spelled; requests fit; and each message below the flushed ones was handed over
+-- the service is a checked one; memory was never short; the world of the model is one that lines lead to; each node is kept, and its keeper has failed, and will, in no more appends than lines were done; each message is spelled; requests fit; and each message below the flushed ones was handed over
 pub record IsRunning (service : Declarations) (w : World) : Type 0 where
   pub service_is : IsService service
   pub checked : IsChecked service
@@ -19,6 +19,7 @@ pub record IsRunning (service : Declarations) (w : World) : Type 0 where
   pub few : nodes_of w ≤ 9
   pub kept : IsKept service w.seed (nodes_of w) (world_of service w)
   pub seats : AreSeats service w.seed (nodes_of w) 1 w.seats.items
+  pub within : AreWithin w.done w.seats.items
   pub spelled : All IsSpelled w.net
   pub requests : All (RequestFits service) w.requests
   pub flushed : w.flushed ≤ length w.handed.items

@@ -1,19 +1,20 @@
 -- What a call of one node does to the nodes of a world.
-use Rattle.std.specs.Prelude.{◌≡◌, ℕ, List, length, Result}
+use Rattle.std.specs.Prelude.{◌≡◌, ℕ, ◌-◌, List, length, Result, slice_index_or, slice_set}
 use Rattle.rex_syntax.specs.declared.service.Declarations.{Declarations}
+use Rattle.rex_traits.specs.declared.mem_keeper.Fate.{Fate}
 use Rattle.rex_safety.specs.Lanes.{CallHere}
 use Rattle.rex_safety.specs.World.{node_at, put}
 use Rattle.rex_node.specs.declared.refusal.Refusal.{Refusal}
 use Rattle.rex_node.specs.declared.step.Step.{Step}
 use Rattle.rex_world.specs.declared.seats.Seat.{Seat}
-use Rattle.rex_world.specs.Seats.{AreSeats, heres}
+use Rattle.rex_world.specs.Seats.{AreKept, armed_in, heres}
 use Rattle.rex_world.specs.Calls.{Acts, IsWhole, IsStarted}
 
--- only the node of this number is another one, and where memory wasn't short each node is kept
+-- only the node of this number is another one, and where memory wasn't short each node is kept, and no keeper fails more often
 pub record IsChangedAt (service : Declarations) (seed number : ℕ) (before after : List Seat) (outcome : Result Step Refusal) : Type 0 where
   pub others : heres service after ≡ put (heres service before) number (node_at (heres service after) number)
   pub many : length after ≡ length before
-  pub seats : IsWhole outcome → AreSeats service seed (length before) 1 after
+  pub seats : IsWhole outcome → (most : ℕ) → AreKept service seed (length before) most before → AreKept service seed (length before) most after
 
 -- the node of this number did this call of the model, or refused it
 pub record ActsAt (service : Declarations) (seed : ℕ) (call : CallHere → CallHere) (number : ℕ) (before after : List Seat) (outcome : Result Step Refusal) : Type 0 where
@@ -24,3 +25,9 @@ pub record ActsAt (service : Declarations) (seed : ℕ) (call : CallHere → Cal
 pub record StartsAt (service : Declarations) (seed number : ℕ) (before after : List Seat) (outcome : Result Step Refusal) : Type 0 where
   pub starts : IsStarted number (node_at (heres service before) number) (node_at (heres service after) number) outcome
   pub changed : IsChangedAt service seed number before after outcome
+
+-- only the keeper of the node of this number is armed
+pub record IsArmedAt (fate : Fate) (number : ℕ) (before after : List Seat) : Type 0 where
+  pub seat : Seat
+  pub seat_is : seat ≡ slice_index_or before (number - 1) seat
+  pub others : after ≡ slice_set before (number - 1) (armed_in fate seat)

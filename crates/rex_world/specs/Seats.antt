@@ -1,8 +1,11 @@
 -- The nodes of a world, running or stopped, as the cluster's model has them.
-use Rattle.std.specs.Prelude.{◌≡◌, ℕ, suc, Bool, false, List, [], ◌∷◌, None}
+use Rattle.std.specs.Prelude.{◌≡◌, ◌<◌, ◌≤◌, ◌+◌, ◌-◌, ◌^◌, ℕ, suc, Bool, true, false, List, [], ◌∷◌, Option, Some, None}
 use Rattle.rex_syntax.specs.declared.service.Declarations.{Declarations}
-use Rattle.rex_traits.specs.Keeping.{KeeperValue}
-use Rattle.rex_safety.specs.Node.{down_node}
+use Rattle.rex_traits.specs.Keeping.{KeeperValue, armed_to}
+use Rattle.rex_traits.specs.declared.mem_keeper.Fate.{Fate}
+use Rattle.rex_traits.specs.declared.mem_keeper.Fate.TheVariants.{Kept, Lost}
+use Rattle.rex_safety.specs.Node.{Failure, down_node}
+use Rattle.rex_safety.specs.Node.Failure.{After}
 use Rattle.rex_safety.specs.Lanes.{Here}
 use Rattle.rex_node.specs.Parts.{AreRead, NodeValue, IsNode, here_of, log_of}
 use Rattle.rex_world.specs.declared.seats.Seat.{Seat}
@@ -12,10 +15,24 @@ use Rattle.rex_world.specs.declared.seats.Seat.TheVariants.{Running, Stopped}
 abbrev pub records_of : KeeperValue → List (List ℕ)
 records_of k = k.records
 
+-- the next append of an armed keeper fails, and keeps or loses its record
+abbrev pub armed_of : Option Fate → Option Failure
+armed_of None = None
+armed_of (Some Kept) = Some (After 0 true)
+armed_of (Some Lost) = Some (After 0 false)
+
+-- a node is what its parts are, over a keeper that may be armed
+abbrev pub here_at : Declarations → NodeValue KeeperValue → Here
+here_at service x = record (here_of records_of service x) { armed = armed_of x.keeper.armed }
+
 -- a node that runs is what its parts are; of one that was stopped its keeper has the records
 abbrev pub here_in : Declarations → Seat → Here
-here_in service (Running node) = here_of records_of service node
-here_in service (Stopped keeper) = down_node (log_of service keeper.records) None
+here_in service (Running node) = here_at service node
+here_in service (Stopped keeper) = down_node (log_of service keeper.records) (armed_of keeper.armed)
+
+-- the same node over a keeper that isn't armed
+abbrev pub disarmed : Here → Here
+disarmed x = record x { armed = None }
 
 -- the seat's node runs and is up
 abbrev pub is_up_in : Seat → Bool
@@ -27,19 +44,28 @@ abbrev pub keeper_in : Seat → KeeperValue
 keeper_in (Running node) = node.keeper
 keeper_in (Stopped keeper) = keeper
 
+-- the keeper is armed, and nothing else has changed
+abbrev pub armed_in : Fate → Seat → Seat
+armed_in fate (Running node) = Running (record node { keeper = armed_to fate node.keeper })
+armed_in fate (Stopped keeper) = Stopped (armed_to fate keeper)
+
 abbrev pub heres : Declarations → List Seat → List Here
 heres service [] = []
 heres service (seat ∷ seats) = here_in service seat ∷ heres service seats
 
--- no append of the keeper will fail
-pub record IsSure (k : KeeperValue) : Type 0 where
-  pub unarmed : k.armed ≡ None
-  pub faultless : k.faults ≡ 0
+-- an armed keeper will fail once
+abbrev pub failing : Option Fate → ℕ
+failing None = 0
+failing (Some fate) = 1
 
--- no append of the keeper will fail, and each of its records is read again
+-- how often appends of the keeper have failed, and will
+abbrev pub faults_of : KeeperValue → ℕ
+faults_of k = k.faults + failing k.armed
+
+-- each of the keeper's records is read again, and its failures can be counted
 pub record IsKeeping (service : Declarations) (k : KeeperValue) : Type 0 where
-  pub sure : IsSure k
   pub read : AreRead service (records_of k)
+  pub room : faults_of k < 2 ^ 64 - 1
 
 -- a node of this number, among so many with this seed, is kept, and its keeper keeps its records
 pub record IsRunner (service : Declarations) (seed nodes number : ℕ) (x : NodeValue KeeperValue) : Type 0 where
@@ -58,3 +84,18 @@ IsSeat service seed nodes number (Stopped keeper) = IsKeeping service keeper
 abbrev pub AreSeats : Declarations → (seed nodes number : ℕ) → List Seat → Type 0
 AreSeats service seed nodes number [] = Unit {0}
 AreSeats service seed nodes number (seat ∷ seats) = IsSeat service seed nodes number seat × AreSeats service seed nodes (suc number) seats
+
+-- no keeper of these nodes fails more often
+abbrev pub AreWithin : ℕ → List Seat → Type 0
+AreWithin most [] = Unit {0}
+AreWithin most (seat ∷ seats) = (faults_of (keeper_in seat) ≤ most) × AreWithin most seats
+
+-- the nodes are kept, and no keeper of theirs fails more often
+pub record AreKept (service : Declarations) (seed nodes most : ℕ) (seats : List Seat) : Type 0 where
+  pub seats_are : AreSeats service seed nodes 1 seats
+  pub within : AreWithin most seats
+
+-- the node of this number is kept, and its keeper won't fail more often than it was to
+pub record StaysSeat (service : Declarations) (seed nodes number : ℕ) (before after : Seat) : Type 0 where
+  pub seat : IsSeat service seed nodes number after
+  pub within : faults_of (keeper_in after) ≤ faults_of (keeper_in before)

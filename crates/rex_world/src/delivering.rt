@@ -16,27 +16,6 @@ use rex_syntax::checked::Checked;
 use std::alloc::AllocError;
 
 impl World {
-    /// Hands a message over, if there is one of this number.
-    pub(crate) fn deliver<R: Replayer>(
-        &mut self,
-        svc: &Checked,
-        replayer: &mut R,
-        told: &mut Told,
-        number: u64,
-    ) -> Result<(), AllocError>
-        requires running { IsRunning svc.now self.old }
-        requires ready { R.ready replayer.old }
-        requires there { 0 < number }
-        ensures did { OnOk result (Did (world_of svc.now self.old) (world_of svc.now self.new) told.old told.new (model.step svc.now self.old.requests self.old.seed (nodes_of self.old) (world_of svc.now self.old) (line.Deliver number))) }
-        ensures running { OnOk result (IsRunning svc.now self.new) }
-        ensures same { OnOk result (IsSame self.old self.new) }
-        ensures done { OnOk result (self.new.done ≡ self.old.done) }
-        ensures flushed { OnOk result (self.new.flushed ≡ self.old.flushed) }
-        ensures ready { R.ready replayer.new }
-    {
-        self.deliver_one(svc, replayer, told, number)
-    }
-
     // Hands over the message at a place, from 0 on, where no line did; whether it waited, or one did before.
     fn hand_over<R: Replayer>(
         &mut self,

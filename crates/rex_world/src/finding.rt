@@ -76,7 +76,7 @@ impl World {
     }
 
     /// Hands over the message of a number, if there is one.
-    pub(crate) fn deliver_one<R: Replayer>(
+    pub(crate) fn deliver<R: Replayer>(
         &mut self,
         svc: &Checked,
         replayer: &mut R,

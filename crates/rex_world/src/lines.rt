@@ -4,7 +4,7 @@ ghost use Rattle.std.specs.Prelude.{◌≡◌, ◌≢◌, ◌<◌, length, IfOk,
 ghost use Rattle.std.specs.Option.{option_copied};
 ghost use Rattle.std.specs.List.{All};
 ghost use Rattle.rex_msg.specs.Spelling.{IsMessage};
-ghost use Rattle.rex_scenario.specs.Fits.{IsNode, LineFits, MayCome};
+ghost use Rattle.rex_scenario.specs.Fits.{IsNode, LineFits};
 ghost use Rattle.rex_safety.specs.World as model;
 ghost use Rattle.rex_scenario.specs.declared.scenario.ScheduleLine.TheVariants as line;
 ghost use Rattle.rex_node.specs.Calls.{AreLimits};
@@ -13,7 +13,9 @@ ghost use Rattle.rex_world.specs.Kept.{IsRunning, IsSame};
 ghost use Rattle.rex_world.specs.Calls.{Did, Comes, IsCall, IsTold, cut_line};
 
 use crate::calls::{effect_of, send_all, tell_all};
-use crate::places::{ask_at, cut_at, elect_at, lane_at, replay_at, start_at, stop_at, submit_at};
+use crate::places::{
+    ask_at, checkpoint_at, cut_at, elect_at, lane_at, replay_at, start_at, stop_at, submit_at,
+};
 use crate::told::Told;
 use crate::world::World;
 use rex_event::{Event, Kind};
@@ -143,6 +145,16 @@ impl World {
         self.tell(told, node, outcome)
     }
 
+    // The node writes down the state that it has replayed.
+    fn checkpoint(&mut self, svc: &Checked, told: &mut Told, node: u8) -> Result<(), AllocError>
+        requires running { IsRunning svc.now self.old }
+        requires there { IsNode (nodes_of self.old) node }
+        ensures comes { OnOk result (Comes svc.now self.old self.new told.old told.new (line.Checkpoint node)) }
+    {
+        let outcome = checkpoint_at(&mut self.seats, svc, self.seed, node);
+        self.tell(told, node, outcome)
+    }
+
     // The node asks another one for what it doesn't know.
     fn ask(&mut self, svc: &Checked, told: &mut Told, node: u8, other: u8) -> Result<(), AllocError>
         requires running { IsRunning svc.now self.old }
@@ -174,8 +186,8 @@ impl World {
         self.tell(told, node, outcome)
     }
 
-    // Does a line that is a call of one node.
-    fn call_node<R: Replayer>(
+    /// Does a line that is a call of one node.
+    pub(crate) fn call<R: Replayer>(
         &mut self,
         svc: &Checked,
         replayer: &mut R,
@@ -185,7 +197,6 @@ impl World {
         requires running { IsRunning svc.now self.old }
         requires ready { R.ready replayer.old }
         requires fits { LineFits (nodes_of self.old) (length self.old.requests) svc.now.lanes line.now }
-        requires kind { MayCome line.now }
         requires call { IsCall line.now }
         ensures comes { OnOk result (Comes svc.now self.old self.new told.old told.new line.now) }
         ensures ready { R.ready replayer.new }
@@ -202,30 +213,8 @@ impl World {
             ScheduleLine::Ask { node, other } => self.ask(svc, told, *node, *other),
             ScheduleLine::Stop { node } => self.stop(svc, told, *node),
             ScheduleLine::Start { node } => self.start(svc, told, *node),
+            ScheduleLine::Checkpoint { node } => self.checkpoint(svc, told, *node),
             _ => unreachable!(),
         }
-    }
-
-    /// Does a line that is one step of the model: any but a delivery and a flush.
-    pub(crate) fn call<R: Replayer>(
-        &mut self,
-        svc: &Checked,
-        replayer: &mut R,
-        told: &mut Told,
-        line: &ScheduleLine,
-    ) -> Result<(), AllocError>
-        requires running { IsRunning svc.now self.old }
-        requires ready { R.ready replayer.old }
-        requires fits { LineFits (nodes_of self.old) (length self.old.requests) svc.now.lanes line.now }
-        requires kind { MayCome line.now }
-        requires call { IsCall line.now }
-        ensures did { OnOk result (Did (world_of svc.now self.old) (world_of svc.now self.new) told.old told.new (model.step svc.now self.old.requests self.old.seed (nodes_of self.old) (world_of svc.now self.old) line.now)) }
-        ensures running { OnOk result (IsRunning svc.now self.new) }
-        ensures same { OnOk result (IsSame self.old self.new) }
-        ensures done { OnOk result (self.new.done ≡ self.old.done) }
-        ensures flushed { OnOk result (self.new.flushed ≡ self.old.flushed) }
-        ensures ready { R.ready replayer.new }
-    {
-        self.call_node(svc, replayer, told, line)
     }
 }

@@ -15,9 +15,9 @@ ghost use Rattle.rex_safety.specs.World.{node_at};
 ghost use Rattle.rex_node.specs.Calls.{AreLimits, CanBeCut, counts_for};
 ghost use Rattle.rex_node.specs.Going.{RunsOn};
 ghost use Rattle.rex_node.specs.Messages.{content_in, message_in};
-ghost use Rattle.rex_world.specs.Seats.{AreSeats, heres};
+ghost use Rattle.rex_world.specs.Seats.{AreSeats, disarmed, heres};
 ghost use Rattle.rex_world.specs.Calls.{Starts};
-ghost use Rattle.rex_world.specs.Places.{ActsAt, StartsAt};
+ghost use Rattle.rex_world.specs.Places.{ActsAt, IsArmedAt, StartsAt};
 
 use crate::seats::Seat;
 use rex_msg::Message;
@@ -25,6 +25,7 @@ use rex_node::{Refusal, Step};
 use rex_replay::Replayer;
 use rex_syntax::checked::Checked;
 use rex_syntax::request::Request;
+use rex_traits::Fate;
 use std::alloc::Global;
 
 /// The node asks to lead.
@@ -39,7 +40,7 @@ pub(crate) fn elect_at<R: Replayer>(
     requires few { length seats.old ≤ 9 }
     requires seats { AreSeats svc.now seed (length seats.old) 1 seats.old }
     requires ready { R.ready replayer.old }
-    requires runs { RunsOn svc.now (calls.elect (length seats.old) (service_of svc.now seed) number) (begin (node_at (heres svc.now seats.old) number)) }
+    requires runs { RunsOn svc.now (calls.elect (length seats.old) (service_of svc.now seed) number) (begin (disarmed (node_at (heres svc.now seats.old) number))) }
     ensures acts { ActsAt svc.now seed (calls.elect (length seats.old) (service_of svc.now seed) number) number seats.old seats.new result }
     ensures ready { R.ready replayer.new }
 {
@@ -61,7 +62,7 @@ pub(crate) fn on_message_at<R: Replayer>(
     requires ready { R.ready replayer.old }
     requires message { MessageFits (length seats.old) (message_in message.now) }
     requires spelling { HasSpelling message.now }
-    requires runs { RunsOn svc.now (calls.receive (length seats.old) (service_of svc.now seed) message.now.to message.now.from (content_in message.now.content)) (begin (node_at (heres svc.now seats.old) message.now.to)) }
+    requires runs { RunsOn svc.now (calls.receive (length seats.old) (service_of svc.now seed) message.now.to message.now.from (content_in message.now.content)) (begin (disarmed (node_at (heres svc.now seats.old) message.now.to))) }
     ensures acts { ActsAt svc.now seed (calls.receive (length seats.old) (service_of svc.now seed) message.now.to message.now.from (content_in message.now.content)) message.now.to seats.old seats.new result }
     ensures ready { R.ready replayer.new }
 {
@@ -122,7 +123,7 @@ pub(crate) fn cut_at(
     requires seats { AreSeats svc.now seed (length seats.old) 1 seats.old }
     requires limits { AreLimits svc.now (option_copied limits) }
     requires spelling { (node_at (heres svc.now seats.old) number).up ≡ true → CanBeCut (node_at (heres svc.now seats.old) number) (counts_for svc.now (node_at (heres svc.now seats.old) number) (option_copied limits)) }
-    requires runs { RunsOn svc.now (lanes.cut svc.now seed (length seats.old) number (counts_for svc.now (node_at (heres svc.now seats.old) number) (option_copied limits))) (begin (node_at (heres svc.now seats.old) number)) }
+    requires runs { RunsOn svc.now (lanes.cut svc.now seed (length seats.old) number (counts_for svc.now (node_at (heres svc.now seats.old) number) (option_copied limits))) (begin (disarmed (node_at (heres svc.now seats.old) number))) }
     ensures acts { ActsAt svc.now seed (lanes.cut svc.now seed (length seats.old) number (counts_for svc.now (node_at (heres svc.now seats.old) number) (option_copied limits.entry))) number seats.old seats.new result }
 {
     let nodes = seats.len() as u8;
@@ -146,6 +147,22 @@ pub(crate) fn replay_at<R: Replayer>(
 {
     let nodes = seats.len() as u8;
     seats[number as usize - 1].replay(svc, replayer, seed, nodes, number)
+}
+
+/// The node writes down the state that it has replayed.
+pub(crate) fn checkpoint_at(
+    seats: &mut [Seat],
+    svc: &Checked,
+    seed: u32,
+    number: u8,
+) -> Result<Step, Refusal>
+    requires there { IsNode (length seats.old) number }
+    requires few { length seats.old ≤ 9 }
+    requires seats { AreSeats svc.now seed (length seats.old) 1 seats.old }
+    ensures acts { ActsAt svc.now seed (calls.checkpoint (service_of svc.now seed) number) number seats.old seats.new result }
+{
+    let nodes = seats.len() as u8;
+    seats[number as usize - 1].checkpoint(svc, seed, nodes, number)
 }
 
 /// The node asks another one for what it doesn't know.
@@ -198,4 +215,12 @@ pub(crate) fn start_at(
 {
     let nodes = seats.len() as u8;
     seats[number as usize - 1].start(alloc, svc, seed, nodes, number)
+}
+
+/// The next append of the node's keeper will fail.
+pub(crate) fn arm_at(seats: &mut [Seat], number: u8, fate: Fate)
+    requires { IsNode (length seats.old) number }
+    ensures { IsArmedAt fate number seats.old seats.new }
+{
+    seats[number as usize - 1].arm(fate);
 }

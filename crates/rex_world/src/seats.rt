@@ -9,26 +9,27 @@ ghost use Rattle.rex_safety.specs.Node.{is_active};
 ghost use Rattle.rex_safety.specs.Calls as calls;
 ghost use Rattle.rex_safety.specs.Calls.{begin};
 ghost use Rattle.rex_safety.specs.Lanes as lanes;
+ghost use Rattle.rex_safety.specs.Lanes.{effect_of};
 ghost use Rattle.rex_safety.specs.Ranges.{MessageFits};
 ghost use Rattle.rex_safety.specs.Values.{service_of};
 ghost use Rattle.rex_node.specs.Calls.{AreLimits, CanBeCut, counts_for};
 ghost use Rattle.rex_node.specs.Going.{RunsOn};
 ghost use Rattle.rex_node.specs.Messages.{content_in, message_in};
-ghost use Rattle.rex_node.specs.Submitting.{effect_of};
 ghost use Rattle.rex_report.specs.declared.effect.Effect.TheVariants as effect;
-ghost use Rattle.rex_world.specs.Seats.{IsSeat, here_in, is_up_in, keeper_in};
+ghost use Rattle.rex_world.specs.Seats.{IsSeat, StaysSeat, armed_in, disarmed, here_in, is_up_in, keeper_in};
 ghost use Rattle.rex_world.specs.Calls.{Acts, IsWhole, Starts, IsStarted, TellsOf};
 
 use rex_event::{Event, Kind};
+use rex_gate::Answer;
 use rex_list::List;
 use rex_msg::Message;
-use rex_node::{Answer, Node, Refusal, RestartFault, Step};
+use rex_node::{Node, Refusal, RestartFault, Step};
 use rex_record::Turn;
 use rex_replay::Replayer;
 use rex_report::Effect;
 use rex_syntax::checked::Checked;
 use rex_syntax::request::Request;
-use rex_traits::MemKeeper;
+use rex_traits::{Fate, MemKeeper};
 use std::alloc::{AllocError, Global};
 use std::mem;
 
@@ -61,7 +62,7 @@ fn answer_effect(request: &Request, answer: Answer) -> Effect
     match answer {
         Answer::Queued => Effect::Queued,
         Answer::Waiting => Effect::Waiting,
-        Answer::Released { value } => Effect::Released {
+        Answer::Released(value) => Effect::Released {
             client: request.client,
             sequence: request.sequence,
             value,
@@ -158,9 +159,9 @@ impl Seat {
     ) -> Result<Step, Refusal>
         requires seat { IsSeat svc.now seed nodes number self.old }
         requires ready { R.ready replayer.old }
-        requires runs { RunsOn svc.now (calls.elect nodes (service_of svc.now seed) number) (begin (here_in svc.now self.old)) }
+        requires runs { RunsOn svc.now (calls.elect nodes (service_of svc.now seed) number) (begin (disarmed (here_in svc.now self.old))) }
         ensures acts { Acts (calls.elect nodes (service_of svc.now seed) number) number (here_in svc.now self.old) (here_in svc.now self.new) result }
-        ensures seat { IsWhole result → IsSeat svc.now seed nodes number self.new }
+        ensures seat { IsWhole result → StaysSeat svc.now seed nodes number self.old self.new }
         ensures ready { R.ready replayer.new }
     {
         match self {
@@ -182,9 +183,9 @@ impl Seat {
         requires ready { R.ready replayer.old }
         requires message { MessageFits nodes (message_in message.now) }
         requires spelling { HasSpelling message.now }
-        requires runs { RunsOn svc.now (calls.receive nodes (service_of svc.now seed) message.now.to message.now.from (content_in message.now.content)) (begin (here_in svc.now self.old)) }
+        requires runs { RunsOn svc.now (calls.receive nodes (service_of svc.now seed) message.now.to message.now.from (content_in message.now.content)) (begin (disarmed (here_in svc.now self.old))) }
         ensures acts { Acts (calls.receive nodes (service_of svc.now seed) message.now.to message.now.from (content_in message.now.content)) message.now.to (here_in svc.now self.old) (here_in svc.now self.new) result }
-        ensures seat { IsWhole result → IsSeat svc.now seed nodes message.now.to self.new }
+        ensures seat { IsWhole result → StaysSeat svc.now seed nodes message.now.to self.old self.new }
         ensures ready { R.ready replayer.new }
     {
         match self {
@@ -206,7 +207,7 @@ impl Seat {
         requires seat { IsSeat svc.now seed nodes number self.old }
         requires request { RequestFits svc.now request.now }
         ensures acts { Acts (λ d. lanes.active_only (is_active d.node.role) d (lanes.submit_request svc.now (Some request.now) d)) number (here_in svc.now self.old) (here_in svc.now self.new) result }
-        ensures seat { IsWhole result → IsSeat svc.now seed nodes number self.new }
+        ensures seat { IsWhole result → StaysSeat svc.now seed nodes number self.old self.new }
     {
         match self {
             Seat::Running(node) => answered(alloc, request, node.submit(svc, request)),
@@ -229,7 +230,7 @@ impl Seat {
         requires there { lane < svc.now.lanes }
         requires count { (here_in svc.now self.old).up ≡ true → (lane_of (lanes.live_state svc.now (here_in svc.now self.old)) lane).done + 1 < 2 ^ 32 }
         ensures acts { Acts (λ d. lanes.active_only (is_active d.node.role) d (lanes.lane_turn svc.now done lane d)) number (here_in svc.now self.old) (here_in svc.now self.new) result }
-        ensures seat { IsWhole result → IsSeat svc.now seed nodes number self.new }
+        ensures seat { IsWhole result → StaysSeat svc.now seed nodes number self.old self.new }
     {
         if !self.is_up() {
             return Err(Refusal::Down);
@@ -252,9 +253,9 @@ impl Seat {
         requires seat { IsSeat svc.now seed nodes number self.old }
         requires limits { AreLimits svc.now (option_copied limits) }
         requires spelling { (here_in svc.now self.old).up ≡ true → CanBeCut (here_in svc.now self.old) (counts_for svc.now (here_in svc.now self.old) (option_copied limits)) }
-        requires runs { RunsOn svc.now (lanes.cut svc.now seed nodes number (counts_for svc.now (here_in svc.now self.old) (option_copied limits))) (begin (here_in svc.now self.old)) }
+        requires runs { RunsOn svc.now (lanes.cut svc.now seed nodes number (counts_for svc.now (here_in svc.now self.old) (option_copied limits))) (begin (disarmed (here_in svc.now self.old))) }
         ensures acts { Acts (lanes.cut svc.now seed nodes number (counts_for svc.now (here_in svc.now self.old) (option_copied limits.entry))) number (here_in svc.now self.old) (here_in svc.now self.new) result }
-        ensures seat { IsWhole result → IsSeat svc.now seed nodes number self.new }
+        ensures seat { IsWhole result → StaysSeat svc.now seed nodes number self.old self.new }
     {
         if !self.is_up() {
             return Err(Refusal::Down);
@@ -277,12 +278,40 @@ impl Seat {
         requires seat { IsSeat svc.now seed nodes number self.old }
         requires ready { R.ready replayer.old }
         ensures acts { Acts (calls.replay number) number (here_in svc.now self.old) (here_in svc.now self.new) result }
-        ensures seat { IsWhole result → IsSeat svc.now seed nodes number self.new }
+        ensures seat { IsWhole result → StaysSeat svc.now seed nodes number self.old self.new }
         ensures ready { R.ready replayer.new }
     {
         match self {
             Seat::Running(node) => node.replay(svc, replayer),
             Seat::Stopped(_) => Err(Refusal::Down),
+        }
+    }
+
+    /// The node writes down the state that it has replayed.
+    pub(crate) fn checkpoint(
+        &mut self,
+        svc: &Checked,
+        seed: u32,
+        nodes: u8,
+        number: u8,
+    ) -> Result<Step, Refusal>
+        requires seat { IsSeat svc.now seed nodes number self.old }
+        ensures acts { Acts (calls.checkpoint (service_of svc.now seed) number) number (here_in svc.now self.old) (here_in svc.now self.new) result }
+        ensures seat { IsWhole result → StaysSeat svc.now seed nodes number self.old self.new }
+    {
+        match self {
+            Seat::Running(node) => node.checkpoint(svc),
+            Seat::Stopped(_) => Err(Refusal::Down),
+        }
+    }
+
+    /// The next append of the node's keeper will fail, also where the node is down.
+    pub(crate) fn arm(&mut self, fate: Fate)
+        ensures { self.new ≡ armed_in fate self.old }
+    {
+        match self {
+            Seat::Running(node) => node.arm(fate),
+            Seat::Stopped(keeper) => keeper.arm(fate),
         }
     }
 
@@ -297,7 +326,7 @@ impl Seat {
     ) -> Result<Step, Refusal>
         requires seat { IsSeat svc.now seed nodes number self.old }
         ensures acts { Acts (calls.ask number other) number (here_in svc.now self.old) (here_in svc.now self.new) result }
-        ensures seat { IsWhole result → IsSeat svc.now seed nodes number self.new }
+        ensures seat { IsWhole result → StaysSeat svc.now seed nodes number self.old self.new }
     {
         match self {
             Seat::Running(node) => node.ask(svc, other),
@@ -316,7 +345,7 @@ impl Seat {
     ) -> Result<Step, Refusal>
         requires seat { IsSeat svc.now seed nodes number self.old }
         ensures acts { Acts (calls.stop number) number (here_in svc.now self.old) (here_in svc.now self.new) result }
-        ensures seat { IsWhole result → IsSeat svc.now seed nodes number self.new }
+        ensures seat { IsWhole result → StaysSeat svc.now seed nodes number self.old self.new }
     {
         if !self.is_up() {
             return Err(Refusal::Down);
@@ -341,7 +370,7 @@ impl Seat {
         requires seat { IsSeat svc.now seed nodes number self.old }
         requires runs { Starts svc.now (here_in svc.now self.old) }
         ensures starts { IsStarted number (here_in svc.now self.old) (here_in svc.now self.new) result }
-        ensures seat { IsWhole result → IsSeat svc.now seed nodes number self.new }
+        ensures seat { IsWhole result → StaysSeat svc.now seed nodes number self.old self.new }
     {
         if self.is_up() {
             return step_of(alloc, Effect::IsUp { node: number });

@@ -1,17 +1,21 @@
 //! The world.
 
-ghost use Rattle.std.specs.Prelude.{◌≡◌, ◌<◌, ◌≤◌, ◌+◌, ◌^◌, false, true, length, replicate, IfOk, OnOk, OnErr};
-ghost use Rattle.rex_scenario.specs.Fits.{LineFits, MayCome, ScenarioFits};
+ghost use Rattle.std.specs.Prelude.{◌≡◌, ◌<◌, ◌≤◌, ◌+◌, ◌^◌, false, true, length, replicate, IfOk, OnOk, OnErr, if◌then◌else◌};
+ghost use Rattle.rex_scenario.specs.Fits.{IsNode, LineFits, ScenarioFits};
+ghost use Rattle.rex_traits.specs.declared.mem_keeper.Fate.TheVariants as fate;
 ghost use Rattle.rex_safety.specs.Node.{new_node};
 ghost use Rattle.rex_safety.specs.World.{beginning, row, steps_of};
-ghost use Rattle.rex_world.specs.Calls.{DidSteps};
-ghost use Rattle.rex_world.specs.Seats.{AreSeats, IsSeat, here_in, heres};
+ghost use Rattle.rex_scenario.specs.declared.scenario.ScheduleLine.TheVariants as line;
+ghost use Rattle.rex_world.specs.Calls.{ArmsNone, DidSteps};
+ghost use Rattle.rex_world.specs.Seats.{AreSeats, AreWithin, IsSeat, faults_of, here_in, heres, keeper_in};
 ghost use Rattle.rex_world.specs.World.{nodes_of, world_of};
 ghost use Rattle.rex_world.specs.Kept.{IsRunning, IsSame};
 
 use crate::calls::tell_all;
+use crate::places::arm_at;
 use crate::seats::Seat;
 use crate::told::Told;
+use rex_event::{Event, Kind};
 use rex_list::List;
 use rex_net::Net;
 use rex_node::{Node, RestartFault};
@@ -20,7 +24,7 @@ use rex_report::Effect;
 use rex_scenario::{Scenario, ScheduleLine};
 use rex_syntax::checked::Checked;
 use rex_syntax::request::Request;
-use rex_traits::MemKeeper;
+use rex_traits::{Fate, MemKeeper};
 use std::alloc::{AllocError, Global};
 
 /// The nodes of a cluster, and the messages between them. After an `Err`, which is want of memory, it is broken, and given up.
@@ -52,6 +56,7 @@ fn new_seat(
     requires few { nodes ≤ 9 }
     ensures here { IfOk result (λ seat. here_in svc.now seat ≡ new_node) }
     ensures seat { IfOk result (IsSeat svc.now seed nodes number) }
+    ensures within { IfOk result (λ seat. faults_of (keeper_in seat) ≡ 0) }
 {
     match Node::restart(alloc, number, nodes, seed, svc, MemKeeper::new(alloc)) {
         Ok(node) => Ok(Seat::Running(node)),
@@ -67,6 +72,7 @@ fn new_seats(alloc: Global, svc: &Checked, seed: u32, nodes: u8) -> Result<Vec<S
     requires { nodes ≤ 9 }
     ensures heres { IfOk result (λ seats. heres svc.now seats.items ≡ replicate nodes new_node) }
     ensures seats { IfOk result (λ seats. AreSeats svc.now seed nodes 1 seats.items) }
+    ensures within { IfOk result (λ seats. AreWithin 0 seats.items) }
     ensures many { IfOk result (λ seats. length seats.items ≡ nodes) }
 {
     let mut seats = Vec::new(alloc);
@@ -75,6 +81,13 @@ fn new_seats(alloc: Global, svc: &Checked, seed: u32, nodes: u8) -> Result<Vec<S
         seats.push(seat)?;
     }
     Ok(seats)
+}
+
+// What becomes of the record of an append that fails.
+fn fate_of(kept: bool) -> Fate
+    ensures { result ≡ (if kept then fate.Kept else fate.Lost) }
+{
+    if kept { Fate::Kept } else { Fate::Lost }
 }
 
 impl World {
@@ -117,7 +130,7 @@ impl World {
         self.broken
     }
 
-    // Does the steps of a schedule line.
+    // Does the steps of a schedule line, of any but one that arms a keeper.
     fn act<R: Replayer>(
         &mut self,
         svc: &Checked,
@@ -128,8 +141,7 @@ impl World {
         requires running { IsRunning svc.now self.old }
         requires ready { R.ready replayer.old }
         requires fits { LineFits (nodes_of self.old) (length self.old.requests) svc.now.lanes line.now }
-        requires kind { MayCome line.now }
-        requires count { self.old.done + 1 < 2 ^ 32 }
+        requires kind { ArmsNone line.now }
         ensures did { OnOk result (DidSteps svc.now self.old.requests self.old.seed (nodes_of self.old) (world_of svc.now self.old) (world_of svc.now self.new) told.old told.new (steps_of (world_of svc.now self.old) line.now)) }
         ensures running { OnOk result (IsRunning svc.now self.new) }
         ensures same { OnOk result (IsSame self.old self.new) }
@@ -143,6 +155,24 @@ impl World {
         }
     }
 
+    // Lets the next append of a node's keeper fail, and counts the line: a keeper fails no more often than lines were done.
+    fn keep_fail(&mut self, svc: &Checked, node: u8, kept: bool) -> Result<List<Effect>, AllocError>
+        requires running { IsRunning svc.now self.old }
+        requires there { IsNode (nodes_of self.old) node }
+        requires count { self.old.done + 1 < 2 ^ 32 }
+        ensures effects { IfOk result (λ effects. effects ≡ (row svc.now self.old.requests self.old.seed (nodes_of self.old) (world_of svc.now self.old) (line.KeepFail node kept)).effects) }
+        ensures world { OnOk result (world_of svc.now self.new ≡ (row svc.now self.old.requests self.old.seed (nodes_of self.old) (world_of svc.now self.old) (line.KeepFail node kept)).world) }
+        ensures running { OnOk result (IsRunning svc.now self.new) }
+        ensures same { OnOk result (IsSame self.old self.new) }
+    {
+        let _event: Option<(Event, Kind)> = None;
+        let mut effects = List::new(self.alloc);
+        effects.push(Effect::WillFail { node, kept })?;
+        arm_at(&mut self.seats, node, fate_of(kept));
+        self.done += 1;
+        Ok(effects)
+    }
+
     // Does a schedule line: what it did is reported first, and then the messages that it sent.
     fn do_line<R: Replayer>(
         &mut self,
@@ -153,7 +183,6 @@ impl World {
         requires running { IsRunning svc.now self.old }
         requires ready { R.ready replayer.old }
         requires fits { LineFits (nodes_of self.old) (length self.old.requests) svc.now.lanes line.now }
-        requires kind { MayCome line.now }
         requires count { self.old.done + 1 < 2 ^ 32 }
         ensures effects { IfOk result (λ effects. effects ≡ (row svc.now self.old.requests self.old.seed (nodes_of self.old) (world_of svc.now self.old) line.now).effects) }
         ensures world { OnOk result (world_of svc.now self.new ≡ (row svc.now self.old.requests self.old.seed (nodes_of self.old) (world_of svc.now self.old) line.now).world) }
@@ -161,6 +190,9 @@ impl World {
         ensures same { OnOk result (IsSame self.old self.new) }
         ensures ready { R.ready replayer.new }
     {
+        if let ScheduleLine::KeepFail { node, kept } = line {
+            return self.keep_fail(svc, *node, *kept);
+        }
         let mut told = Told::new(self.alloc);
         self.act(svc, replayer, &mut told, line)?;
         tell_all(&mut told.effects, &told.sent)?;
@@ -178,7 +210,6 @@ impl World {
         requires running { IsRunning svc.now self.old }
         requires ready { R.ready replayer.old }
         requires fits { LineFits (nodes_of self.old) (length self.old.requests) svc.now.lanes line.now }
-        requires kind { MayCome line.now }
         requires count { self.old.done + 1 < 2 ^ 32 }
         ensures effects { IfOk result (λ effects. effects ≡ (row svc.now self.old.requests self.old.seed (nodes_of self.old) (world_of svc.now self.old) line.now).effects) }
         ensures world { OnOk result (world_of svc.now self.new ≡ (row svc.now self.old.requests self.old.seed (nodes_of self.old) (world_of svc.now self.old) line.now).world) }

@@ -1,11 +1,8 @@
-use Rattle.rex_node.proofs.Restarts.{first_spelled, first_runs}
+use Rattle.std.proofs.Common.{ap, sym, ◌∙◌}
+use Rattle.rex_node.proofs.Held.{saved_good}
 use Rattle.rex_node.proofs.restart.recall.Goals as goal
 
-pub replay_values-requires-clause-spelled : goal.replay_values-requires-clause-spelled
-replay_values-requires-clause-spelled g c =
-    first_spelled c.args.svc.now (g.K.Keeper.records c.args.keeper.now) c.in_ok-recovered.recovered c.in_ok-recovered.ensures.found c.requires.runs c.as_slice.result.now c.as_slice.ensures
-
-pub replay_values-requires-clause-runs : goal.replay_values-requires-clause-runs
-replay_values-requires-clause-runs g c =
-    first_runs c.args.svc.now (g.K.Keeper.records c.args.keeper.now) c.in_ok-recovered.recovered c.in_ok-recovered.ensures.found c.requires.runs c.as_slice.result.now c.as_slice.ensures
-    c.in_ok-first.first c.in_ok-first.ensures.start
+pub saved_state-requires : goal.saved_state-requires
+saved_state-requires g c = λ snapshot e.
+    let f = c.in_ok-recovered.ensures.found in
+    saved_good c.args.svc.now f.rs snapshot f.good (ap (λ x. x.snapshot) (sym f.is) ∙ e)

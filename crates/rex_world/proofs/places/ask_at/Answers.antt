@@ -7,5 +7,5 @@ ask-requires c = record { seat = seat_is c.args.svc.now c.args.seats.now c.args.
 
 pub returns : goal.returns
 returns c = record {
-  acts = acts_at c.args.svc.now c.args.seats.now c.args.number c.requires.there c.index-seats-number.result c.args.seed _ c.ask.new.self c.ask.result c.requires.seats c.ask.ensures.acts c.ask.ensures.seat;
+  acts = acts_at c.args.svc.now c.args.seats.now c.args.number c.requires.there c.index-seats-number.result c.args.seed _ c.ask.new.self c.ask.result c.ask.ensures.acts c.ask.ensures.seat;
 }

@@ -3,7 +3,7 @@ use Rattle.rex_safety.specs.Lanes.{Here}
 use Rattle.rex_safety.specs.Calls.{begin}
 use Rattle.rex_node.specs.Going.{RunsOn}
 use Rattle.std.proofs.Common.{◌≡◌, ◌-◌, true, slice_index_or}
-use Rattle.rex_world.specs.Seats.{here_in}
+use Rattle.rex_world.specs.Seats.{disarmed, here_in}
 use Rattle.rex_world.specs.Calls.{Acts}
 use Rattle.std.specs.Option.{option_copied}
 use Rattle.rex_safety.specs.Lanes.{cut}
@@ -21,12 +21,12 @@ cut-requires-clause-spelling c =
 
 pub cut-requires-clause-runs : goal.cut-requires-clause-runs
 cut-requires-clause-runs c =
-    subst (λ (x : Here). RunsOn c.args.svc.now (cut c.args.svc.now c.args.seed (length c.args.seats.now) c.args.number (counts_for c.args.svc.now x (option_copied c.args.limits))) (begin x))
+    subst (λ (x : Here). RunsOn c.args.svc.now (cut c.args.svc.now c.args.seed (length c.args.seats.now) c.args.number (counts_for c.args.svc.now x (option_copied c.args.limits))) (begin (disarmed x)))
     (here_is c.args.svc.now c.args.seats.now c.args.number c.requires.there c.index-seats-number.result) c.requires.runs
 
 pub returns : goal.returns
 returns c = record {
-  acts = acts_at c.args.svc.now c.args.seats.now c.args.number c.requires.there c.index-seats-number.result c.args.seed _ c.cut.new.self c.cut.result c.requires.seats
+  acts = acts_at c.args.svc.now c.args.seats.now c.args.number c.requires.there c.index-seats-number.result c.args.seed _ c.cut.new.self c.cut.result
       (subst (λ (x : Here). Acts (cut c.args.svc.now c.args.seed (length c.args.seats.now) c.args.number (counts_for c.args.svc.now x (option_copied c.args.limits))) c.args.number
       (here_in c.args.svc.now (slice_index_or c.args.seats.now (c.args.number - 1) c.index-seats-number.result)) (here_in c.args.svc.now c.cut.new.self) c.cut.result)
       (sym (here_is c.args.svc.now c.args.seats.now c.args.number c.requires.there c.index-seats-number.result)) c.cut.ensures.acts)

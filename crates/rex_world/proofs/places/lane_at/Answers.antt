@@ -16,5 +16,5 @@ lane-requires-clause-count c =
 
 pub returns : goal.returns
 returns c = record {
-  acts = acts_at c.args.svc.now c.args.seats.now c.args.number c.requires.there c.index-seats-number.result c.args.seed _ c.lane.new.self c.lane.result c.requires.seats c.lane.ensures.acts c.lane.ensures.seat;
+  acts = acts_at c.args.svc.now c.args.seats.now c.args.number c.requires.there c.index-seats-number.result c.args.seed _ c.lane.new.self c.lane.result c.lane.ensures.acts c.lane.ensures.seat;
 }

@@ -5,6 +5,7 @@ use Rattle.rex_node.specs.Going.{RunsOn}
 use Rattle.rex_safety.specs.Calls as calls
 use Rattle.rex_safety.specs.Values.{service_of}
 use Rattle.rex_node.specs.Messages.{content_in}
+use Rattle.rex_world.specs.Seats.{disarmed}
 use Rattle.rex_world.proofs.Seated.{here_is, seat_is, acts_at}
 use Rattle.rex_world.proofs.places.on_message_at.Goals as goal
 
@@ -13,9 +14,9 @@ on_message-requires-clause-seat g c = seat_is c.args.svc.now c.args.seats.now c.
 
 pub on_message-requires-clause-runs : goal.on_message-requires-clause-runs
 on_message-requires-clause-runs g c =
-    subst (λ (x : Here). RunsOn c.args.svc.now (calls.receive (length c.args.seats.now) (service_of c.args.svc.now c.args.seed) c.args.message.now.to c.args.message.now.from (content_in c.args.message.now.content)) (begin x))
+    subst (λ (x : Here). RunsOn c.args.svc.now (calls.receive (length c.args.seats.now) (service_of c.args.svc.now c.args.seed) c.args.message.now.to c.args.message.now.from (content_in c.args.message.now.content)) (begin (disarmed x)))
     (here_is c.args.svc.now c.args.seats.now c.args.message.now.to c.requires.there c.index-seats-message.result) c.requires.runs
 
 pub returns-clause-acts : goal.returns-clause-acts
 returns-clause-acts g c =
-    acts_at c.args.svc.now c.args.seats.now c.args.message.now.to c.requires.there c.index-seats-message.result c.args.seed _ c.on_message.new.self c.on_message.result c.requires.seats c.on_message.ensures.acts c.on_message.ensures.seat
+    acts_at c.args.svc.now c.args.seats.now c.args.message.now.to c.requires.there c.index-seats-message.result c.args.seed _ c.on_message.new.self c.on_message.result c.on_message.ensures.acts c.on_message.ensures.seat

@@ -7,4 +7,4 @@ replay-requires-clause-seat g c = seat_is c.args.svc.now c.args.seats.now c.args
 
 pub returns-clause-acts : goal.returns-clause-acts
 returns-clause-acts g c =
-    acts_at c.args.svc.now c.args.seats.now c.args.number c.requires.there c.index-seats-number.result c.args.seed _ c.replay.new.self c.replay.result c.requires.seats c.replay.ensures.acts c.replay.ensures.seat
+    acts_at c.args.svc.now c.args.seats.now c.args.number c.requires.there c.index-seats-number.result c.args.seed _ c.replay.new.self c.replay.result c.replay.ensures.acts c.replay.ensures.seat

@@ -14,5 +14,5 @@ start-requires-clause-runs c =
 
 pub returns : goal.returns
 returns c = record {
-  starts = starts_at c.args.svc.now c.args.seats.now c.args.number c.requires.there c.index-seats-number.result c.args.seed c.start.new.self c.start.result c.requires.seats c.start.ensures.starts c.start.ensures.seat;
+  starts = starts_at c.args.svc.now c.args.seats.now c.args.number c.requires.there c.index-seats-number.result c.args.seed c.start.new.self c.start.result c.start.ensures.starts c.start.ensures.seat;
 }

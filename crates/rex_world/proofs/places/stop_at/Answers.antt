@@ -7,5 +7,5 @@ stop-requires c = record { seat = seat_is c.args.svc.now c.args.seats.now c.args
 
 pub returns : goal.returns
 returns c = record {
-  acts = acts_at c.args.svc.now c.args.seats.now c.args.number c.requires.there c.index-seats-number.result c.args.seed _ c.stop.new.self c.stop.result c.requires.seats c.stop.ensures.acts c.stop.ensures.seat;
+  acts = acts_at c.args.svc.now c.args.seats.now c.args.number c.requires.there c.index-seats-number.result c.args.seed _ c.stop.new.self c.stop.result c.stop.ensures.acts c.stop.ensures.seat;
 }

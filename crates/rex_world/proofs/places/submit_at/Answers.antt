@@ -7,5 +7,5 @@ submit-requires-clause-seat c = seat_is c.args.svc.now c.args.seats.now c.args.n
 
 pub returns : goal.returns
 returns c = record {
-  acts = acts_at c.args.svc.now c.args.seats.now c.args.number c.requires.there c.index-seats-number.result c.args.seed _ c.submit.new.self c.submit.result c.requires.seats c.submit.ensures.acts c.submit.ensures.seat;
+  acts = acts_at c.args.svc.now c.args.seats.now c.args.number c.requires.there c.index-seats-number.result c.args.seed _ c.submit.new.self c.submit.result c.submit.ensures.acts c.submit.ensures.seat;
 }

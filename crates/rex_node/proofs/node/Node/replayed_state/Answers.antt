@@ -2,11 +2,8 @@ use Rattle.std.proofs.Common.{◌≡◌, IfOk, ap, subst, ◌∙◌}
 use Rattle.std.specs.Prelude.{Option, Some}
 use Rattle.rex_state.specs.Value.{StateValue}
 use Rattle.rex_node.specs.Parts.{NodeValue, state_of}
-use Rattle.rex_node.proofs.ReplayLemmas.{rest_spelled, from_sound, rest_runs, rest_runs_to}
+use Rattle.rex_node.proofs.ReplayLemmas.{from_sound, rest_runs, rest_runs_to}
 use Rattle.rex_node.proofs.node.Node.replayed_state.Goals as goal
-
-pub replay_values-requires-clause-spelled : goal.replay_values-requires-clause-spelled
-replay_values-requires-clause-spelled g c = rest_spelled g.K.Keeper.records c.args.svc.now c.args.self.now c.requires.node c.requires.up c.requires.acting c.deref.result.now c.self.inside.replayed (c.deref.ensures.value ∙ ap (λ (n : NodeValue _). n.known) c.self.view_is) (ap (λ (n : NodeValue _). n.replayed) c.self.view_is)
 
 pub replay_values-requires-clause-sound : goal.replay_values-requires-clause-sound
 replay_values-requires-clause-sound g c = from_sound g.K.Keeper.records c.args.svc.now c.args.self.now c.requires.node c.requires.up c.requires.acting c.ahead_of-from.result.now (c.ahead_of-from.ensures ∙ ap (λ (n : NodeValue _). state_of n) c.self.view_is) c.declarations-service.ensures.sound c.declarations-service.ensures.checked

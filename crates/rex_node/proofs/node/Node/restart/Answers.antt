@@ -8,9 +8,9 @@ returns-in-Ok-clause-up g c =
     c.with_accepted.result c.from_list.result c.into_vec.result.items c.with_accepted.ensures c.from_list.ensures c.into_vec.ensures
 
 pub returns-in-Ok-clause-kept : goal.returns-in-Ok-clause-kept
-returns-in-Ok-clause-kept g c =
+returns-in-Ok-clause-kept g c = λ fit right.
     is_node g.K.Keeper.records c.args.svc.now c.args.id c.args.nodes c.args.seed c.args.keeper c.in-Ok.field-0.recovered c.in-Ok.field-0.start c.in-Ok.ensures.recalled
-    c.with_accepted.result c.from_list.result c.into_vec.result.items c.with_accepted.ensures c.from_list.ensures c.into_vec.ensures c.requires.there c.requires.few c.requires.runs
+    c.with_accepted.result c.from_list.result c.into_vec.result.items c.with_accepted.ensures c.from_list.ensures c.into_vec.ensures c.requires.there c.requires.few fit right
 
 pub returns-in-Err-clause-read : goal.returns-in-Err-clause-read
 returns-in-Err-clause-read g c = only_memory c.args.svc.now (g.K.Keeper.records c.args.keeper) c.in-Err.fault c.in-Err.ensures.fault

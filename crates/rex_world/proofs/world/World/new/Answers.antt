@@ -10,5 +10,5 @@ returns-clause-running c =
     let same : c.from_vec-requests.result ≡ c.args.scenario.now.requests = search rules in
     new_running c.args.svc.now c.args.scenario.now.nodes _ (few_nodes c.args.scenario.now.nodes c.requires.nodes) c.declarations-service.ensures.sound c.declarations-service.ensures.checked
     (subst (λ (rs : List Request). All (RequestFits c.args.svc.now) rs) (sym same) c.requires.requests)
-    (record { here = c.in_ok-seats.ensures.heres; are = c.in_ok-seats.ensures.seats; many = c.in_ok-seats.ensures.many })
+    (record { here = c.in_ok-seats.ensures.heres; are = c.in_ok-seats.ensures.seats; within = c.in_ok-seats.ensures.within; many = c.in_ok-seats.ensures.many })
     c.new.ensures c.new-2.ensures.items refl refl refl

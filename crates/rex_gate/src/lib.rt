@@ -1,0 +1,10 @@
+//! The answers that clients get to their requests.
+#![tactic(auto)]
+
+mod answer;
+mod answers;
+mod clients;
+pub mod laws;
+
+pub use answer::Answer;
+pub use answers::Answers;

@@ -1,0 +1,276 @@
+-- A node that writes down a checkpoint does as the model's.
+use Rattle.std.proofs.Common.{◌≡◌, ◌≢◌, ℕ, zero, suc, ◌+◌, ◌<◌, ◌≤◌, inl, inr, Bool, true, false, List, [], ◌∷◌, ◌++◌, length, take, Result, Ok, Option, Some, None, refl, sym, ap, subst, ◌∙◌, arith}
+use Rattle.std.specs.Prelude.{map, is_ok, is_some, nat_lt, ◌==◌, if◌then◌else◌}
+use Rattle.std.specs.List.{list_all}
+use Rattle.std.proofs.lemmas.Bool.{and_from, and_parts, false≢true, eqb-false}
+use Rattle.std.proofs.lemmas.List.{length-take-le, take_all}
+use Rattle.std.proofs.lemmas.List.Elements.{All-weaker}
+use Rattle.rex_syntax.specs.declared.service.Declarations.{Declarations}
+use Rattle.rex_syntax.specs.Service.{IsService}
+use Rattle.rex_syntax.specs.Check.{IsChecked}
+use Rattle.rex_state.specs.Value.{StateValue}
+use Rattle.rex_state.specs.Start.{start_of}
+use Rattle.rex_state.specs.Machine.{run}
+use Rattle.rex_state.specs.Sound.{IsSound}
+use Rattle.rex_state.proofs.Sounds.{run_keeps, start_keeps}
+use Rattle.rex_durable.specs.declared.records.Rec.{Rec as KeptRec}
+use Rattle.rex_durable.specs.Spelling.{HasSpelling, IsDue, record_bytes}
+use Rattle.rex_snapshot.specs.Spelling.{EntryFits, HasFewEvents, IsLimited}
+use Rattle.rex_state.specs.declared.lane.Entry.{Entry}
+use Rattle.rex_state.specs.declared.lane.Lane.{Lane}
+use Rattle.rex_report.specs.declared.effect.Effect.{Effect}
+use Rattle.rex_report.specs.declared.effect.Effect.TheVariants as effect
+use Rattle.rex_traits.specs.Chains.{Answer}
+use Rattle.rex_safety.specs.Records.{Rec, known, base}
+use Rattle.rex_safety.specs.Records.Rec.{Checkpoint}
+use Rattle.rex_safety.specs.Node.{Failure, down_node}
+use Rattle.rex_safety.specs.Calls.{append, begin, checkpoint, logged, say}
+use Rattle.rex_safety.specs.Lanes.{Here, CallHere}
+use Rattle.rex_safety.specs.Values.{Value, runs, service_of, spells, state_after, trace_of, values_fit}
+use Rattle.rex_safety.proofs.Limits.{values_limited}
+use Rattle.rex_safety.proofs.Replies.{state_is}
+use Rattle.rex_node.specs.declared.refusal.Refusal.{Refusal}
+use Rattle.rex_node.specs.declared.refusal.Refusal.TheVariants as why
+use Rattle.rex_node.specs.declared.step.Step.{Step}
+use Rattle.rex_node.specs.Calls.{Does, EndsDown, armed_with, call_of, if_up, last_of, refusal_of_checkpoint}
+use Rattle.rex_node.specs.Checkpointing.{FallsSaving, IsCheckpoint, Saves, fallen_with, rebased, replayed_state, replayed_with}
+use Rattle.rex_node.specs.Messages.{message_in}
+use Rattle.rex_node.specs.Parts.{ActingValue, NodeValue, IsNode, IsUp, StaysNode, failed_records, here_of, log_of, read_state, rec_of, says_something, state_of}
+use Rattle.rex_node.proofs.Appended.{IsLogged, beside_of, call_at, logged_of, up_of}
+use Rattle.rex_node.proofs.GoingLemmas.{fell_append}
+use Rattle.rex_node.proofs.Executing.{executes}
+use Rattle.rex_node.proofs.Logs.{log_more}
+use Rattle.rex_node.proofs.Restarts.{front_runs}
+
+-- ---- the state that was replayed
+
+module _ {K : Type 0} (records : K → List (List ℕ)) (service : Declarations) (x : NodeValue K) (u : IsUp service x (here_of records service x)) where
+  replayed_runs_with : (w : Option ActingValue) → x.acting ≡ w → run service (start_of service) (trace_of (take x.replayed x.known)) ≡ Some (replayed_with w (state_of x))
+  replayed_runs_with None e = u.ahead e
+  replayed_runs_with (Some a) e =
+      ap (λ (n : ℕ). run service (start_of service) (trace_of (take n x.known))) (u.caught_up (ap (λ (w : Option ActingValue). is_some w) e))
+      ∙ ap (λ (vs : List Value). run service (start_of service) (trace_of vs)) (take_all (length x.known) x.known (omega arith))
+      ∙ (executes service x.known x.acceptor x.proposer x.acting a u.acting e).known
+
+  -- the values that were replayed lead to it
+  pub replayed_runs : run service (start_of service) (trace_of (take x.replayed x.known)) ≡ Some (replayed_state x)
+  replayed_runs = replayed_runs_with x.acting refl
+
+-- the first values fit
+spelled_first : (p : Value → Bool) (n : ℕ) (vs : List Value) → list_all p vs ≡ true → list_all p (take n vs) ≡ true
+spelled_first p zero vs h = refl
+spelled_first p (suc n) [] h = refl
+spelled_first p (suc n) (v ∷ vs) h = let q = and_parts (p v) (list_all p vs) h in and_from _ _ q.0 (spelled_first p n vs q.1)
+
+front_fits : (service : Declarations) (n : ℕ) (vs : List Value) → values_fit service vs ≡ true → values_fit service (take n vs) ≡ true
+front_fits service n vs h =
+    let q = and_parts (list_all (spells service) vs) (runs service (trace_of vs)) h in
+    and_from _ _ (spelled_first (spells service) n vs q.0) (ap (λ (o : Option StateValue). is_some o) (front_runs service n vs h).1)
+
+-- ---- refusals
+
+refused_none : (up : Bool) (o : Option Refusal) → if_up up o ≡ None → (up ≡ true) × (o ≡ None)
+refused_none true o e = (refl, e)
+refused_none false o e = absurd (cc)
+
+-- nothing is due
+record IsFree (h : Here) : Type 0 where
+  pub up : h.up ≡ true
+  pub old : (h.replayed == base h.log) ≡ false
+  pub idle : nat_lt 0 (length h.work.live) ≡ false
+
+free : (h : Here) → refusal_of_checkpoint h ≡ None → IsFree h
+free h e = by (h.replayed == base h.log) (nat_lt 0 (length h.work.live)) refl refl (refused_none h.up _ e)
+  where
+    by : (s t : Bool) → (h.replayed == base h.log) ≡ s → nat_lt 0 (length h.work.live) ≡ t
+        → (h.up ≡ true) × (◌≡◌ {A = Option Refusal} (if h.replayed == base h.log then Some why.Nothing else if nat_lt 0 (length h.work.live) then Some (why.Live (length h.work.live)) else None) None) → IsFree h
+    by true t a b r = absurd (let w : Some why.Nothing ≡ None = sym (ap (λ (s : Bool). if s then Some why.Nothing else if nat_lt 0 (length h.work.live) then Some (why.Live (length h.work.live)) else None) a) ∙ r.1 in cc)
+    by false true a b r =
+        absurd
+        (let w : Some (why.Live (length h.work.live)) ≡ None =
+        sym
+        (ap (λ (s : Bool). if s then Some why.Nothing else if nat_lt 0 (length h.work.live) then Some (why.Live (length h.work.live)) else None) a
+        ∙ ap (λ (t : Bool). if t then Some (why.Live (length h.work.live)) else None) b)
+        ∙ r.1 in cc)
+    by false false a b r = record { up = r.0; old = a; idle = b }
+
+-- ---- the state is saved
+
+module _ {K : Type 0} (records : K → List (List ℕ)) (service : Declarations) (x : NodeValue K) (node : IsNode records service x) (due : refusal_of_checkpoint (here_of records service x) ≡ None) (s : StateValue) (s_is : s ≡ replayed_state x)
+    (good : IsService service) (checked : IsChecked service) where
+  up_now : IsUp service x (here_of records service x)
+  up_now = node.up (free (here_of records service x) due).up
+
+  runs_now : run service (start_of service) (trace_of (take x.replayed x.known)) ≡ Some s
+  runs_now = replayed_runs records service x up_now ∙ ap Some (sym s_is)
+
+  pub replayed_sound_now : IsSound service s
+  replayed_sound_now = run_keeps service (start_of service) s (trace_of (take x.replayed x.known)) good (start_keeps service good checked) runs_now
+
+  pub replayed_limited : IsLimited s
+  replayed_limited =
+      let b = beside_of records service x up_now in
+      let l = values_limited service (take x.replayed x.known) s good checked (front_fits service x.replayed x.known up_now.fits) (omega (arith, b.replayed, (logged_of records service x up_now).numbers.few, ap length up_now.known, length-take-le x.replayed x.known b.replayed)) runs_now in
+      record {
+        lanes = All-weaker (λ (lane : Lane). lane.done ≤ 268431360) HasFewEvents (λ lane h. record { few = h }) s.lanes l.lanes;
+        nobody = l.nobody;
+        entries = All-weaker (λ (e : Entry). (e.sequence ≤ 1000000) × (e.sequence ≡ 0 → e.reply ≡ None)) EntryFits (λ e h. record { few = h.0; none = h.1 }) s.clients l.entries;
+      }
+
+-- ---- the call
+
+module _ {K : Type 0} (records : K → List (List ℕ)) (gives : K → List ℕ → Answer → K → Type 0) (faults : K → ℕ) (service : Declarations) (x : NodeValue K) (node : IsNode records service x) (due : refusal_of_checkpoint (here_of records service x) ≡ None)
+    (s : StateValue) (s_is : s ≡ replayed_state x) (r : KeptRec) (rec : IsCheckpoint service x.replayed s r) where
+  abbrev h : Here
+  h = here_of records service x
+
+  abbrev log : List (Rec Value StateValue)
+  log = log_of service (records x.keeper)
+
+  abbrev call : CallHere → CallHere
+  call = checkpoint (service_of service x.seed) x.id
+
+  abbrev said : Rec Value StateValue
+  said = Checkpoint x.replayed s
+
+  f : IsFree h
+  f = free h due
+
+  u : IsUp service x h
+  u = node.up f.up
+
+  few : x.replayed ≤ length x.known
+  few = (beside_of records service x u).replayed
+
+  based : x.base ≤ x.replayed
+  based = (beside_of records service x u).based
+
+  more : x.base < x.replayed
+  more = let old : x.replayed ≢ base log = eqb-false x.replayed (base log) f.old in omega (arith, based, u.base, old)
+
+  pub spelling : HasSpelling r
+  spelling = subst HasSpelling (sym rec.is) (record { in_range = (record { first = omega (arith, more); last = omega (arith, few, (logged_of records service x u).numbers.few, ap length u.known) }, rec.short) })
+
+  is_due : IsDue (length (known log)) r
+  is_due = subst (IsDue (length (known log))) (sym rec.is) (subst (λ (vs : List Value). x.replayed ≤ length vs) u.known few)
+
+  says : says_something service r ≡ true
+  says = ap (says_something service) rec.is ∙ ap (λ (q : Result StateValue ℕ). is_ok q) rec.spells
+
+  rec_is : rec_of service r ≡ said
+  rec_is = ap (rec_of service) rec.is ∙ ap (λ (q : Result StateValue ℕ). Checkpoint x.replayed (read_state service q)) rec.spells
+
+  log_saved : (lists : List (List ℕ)) → lists ≡ records x.keeper ++ record_bytes r ∷ [] → log_of service lists ≡ said ∷ log
+  log_saved lists e = ap (log_of service) e ∙ log_more service (records x.keeper) r spelling is_due says ∙ ap (λ (m : Rec Value StateValue). m ∷ log) rec_is
+
+  state_now : state_after service (trace_of (take x.replayed (known log))) ≡ s
+  state_now =
+      ap (λ (vs : List Value). state_after service (trace_of (take x.replayed vs))) (sym u.known)
+      ∙ state_is service (trace_of (take x.replayed x.known)) (replayed_state x) (replayed_runs records service x u) ∙ sym s_is
+
+  -- the model appends the state
+  appends : (g : Option Failure) → call (armed_with g (begin h)) ≡ append g x.id said (armed_with g (begin h)) (say (effect.Checkpointed x.id x.replayed))
+  appends g =
+      ap (λ (t : Bool). checkpoint_if t (nat_lt 0 (length h.work.live)) (state_after service (trace_of (take x.replayed (known log))))) f.old
+      ∙ ap (λ (t : Bool). checkpoint_if false t (state_after service (trace_of (take x.replayed (known log))))) f.idle
+      ∙ ap (checkpoint_if false false) state_now
+    where
+      checkpoint_if : Bool → Bool → StateValue → CallHere
+      checkpoint_if a b t =
+          if a then say effect.Nothing (armed_with g (begin h))
+          else if b then say (effect.Live (length h.work.live)) (armed_with g (begin h))
+          else append g x.id (Checkpoint x.replayed t) (armed_with g (begin h)) (say (effect.Checkpointed x.id x.replayed))
+
+  module _ (y : NodeValue K) (step : Step) (sends : step.sends ≡ []) where
+    -- it is kept
+    module _ (k : Saves records faults gives x y s (record_bytes r)) (effects : step.effects ≡ effect.Checkpointed x.id x.replayed ∷ []) where
+      log_is : log_of service (records y.keeper) ≡ said ∷ log
+      log_is = log_saved (records y.keeper) k.records_are
+
+      comes : say (effect.Checkpointed x.id x.replayed) (logged said None (begin h)) ≡ call_of records service y step
+      comes =
+          ap (λ (l : List (Rec Value StateValue)). call_at (record h { log = l }) [] (effect.Checkpointed x.id x.replayed ∷ [])) (sym log_is)
+          ∙ ap (λ (n : NodeValue K). call_at (here_of records service n) [] (effect.Checkpointed x.id x.replayed ∷ [])) (sym k.parts)
+          ∙ ap (λ (es : List Effect). call_at (here_of records service y) [] es) (sym effects)
+          ∙ ap (λ (ms : List _). call_at (here_of records service y) (map message_in ms) step.effects) (sym sends)
+
+      pub saved_does : Does records gives faults service call x y step
+      saved_does =
+          inl (record {
+            written = record_bytes r ∷ [];
+            grown = k.records_are;
+            appends = (Ok tt, y.keeper, k.answer, (refl, refl));
+            counted = k.faults_are;
+            many = ap length log_is ∙ (let e : suc (length log) ≡ 1 + length log = omega arith in e);
+            is = appends None ∙ comes;
+          })
+
+      pub saved_down : EndsDown x.id (faults x.keeper) (faults y.keeper) step
+      saved_down = record {
+        down = λ l. absurd (omega (arith, l, k.faults_are));
+        only = λ e. absurd (other (sym (ap last_of effects) ∙ e));
+        quiet = λ l. sends;
+      }
+        where
+          other : ◌≡◌ {A = Option Effect} (Some (effect.Checkpointed x.id x.replayed)) (Some (effect.Down x.id)) → ⊥
+          other e = cc
+
+      z : NodeValue K
+      z = record (rebased x s) { keeper = y.keeper }
+
+      z_up : IsUp service (record (rebased x s) { keeper = y.keeper }) (here_of records service (record (rebased x s) { keeper = y.keeper }))
+      z_up =
+          let l = logged_of records service x u in
+          let b = beside_of records service x u in
+          let runs : run service (start_of service) (trace_of (take x.replayed x.known)) ≡ Some s = replayed_runs records service x u ∙ ap Some (sym s_is) in
+          up_of records service (record (rebased x s) { keeper = y.keeper })
+          (subst (IsLogged service (record (rebased x s) { keeper = y.keeper })) (sym log_is)
+          (record {
+            promised = l.promised;
+            accepted = l.accepted;
+            known = l.known;
+            base = refl;
+            few = few;
+            start = runs;
+            short = l.short;
+            fits = l.fits;
+            numbers = record { ballots = l.numbers.ballots; instances = l.numbers.instances; few = l.numbers.few };
+          }))
+          (record { based = omega arith; replayed = b.replayed; ahead = λ _. runs; caught_up = b.caught_up; proposer = b.proposer; acting = b.acting; role = b.role })
+
+      pub saved_stays : StaysNode records service x y
+      saved_stays = subst (StaysNode records service x) (sym k.parts) (record {
+        same = record { id = refl; nodes = refl; seed = refl };
+        kept = record { id = node.id; few = node.few; up = λ _. z_up; rests = node.rests };
+      })
+
+    -- its append failed
+    module _ (k : FallsSaving records faults gives x y (record_bytes r)) (effects : step.effects ≡ effect.Down x.id ∷ []) where
+      log_in : (b : Bool) (lists : List (List ℕ)) → lists ≡ failed_records b (records x.keeper) (record_bytes r) → log_of service lists ≡ (if b then said ∷ log else log)
+      log_in true lists e = log_saved lists e
+      log_in false lists e = ap (log_of service) e
+
+      base_in : (b : Bool) → (if b then x.replayed else x.base) ≡ base (if b then said ∷ log else log)
+      base_in true = refl
+      base_in false = u.base
+
+      downs : call_of records service y step ≡ record { node = down_node (if k.kept then said ∷ log else log) None; sends = []; effects = effect.Down x.id ∷ [] }
+      downs =
+          ap (λ (ms : List _). call_at (here_of records service y) (map message_in ms) step.effects) sends
+          ∙ ap (λ (es : List Effect). call_at (here_of records service y) [] es) effects
+          ∙ ap (λ (n : NodeValue K). call_at (here_of records service n) [] (effect.Down x.id ∷ [])) k.parts
+          ∙ ap (λ (l : List (Rec Value StateValue)). call_at (record (here_of records service (fallen_with k.kept x)) { log = l }) [] (effect.Down x.id ∷ [])) (log_in k.kept (records y.keeper) k.records_are)
+          ∙ ap (λ (b : ℕ). call_at (record (here_of records service (fallen_with k.kept x)) { log = if k.kept then said ∷ log else log; replayed = b }) [] (effect.Down x.id ∷ [])) (base_in k.kept)
+
+      pub fell_does : Does records gives faults service call x y step
+      fell_does =
+          inr (fell_append records gives faults call (say (effect.Checkpointed x.id x.replayed)) x.id said (begin h) appends x.keeper y.keeper (record_bytes r) k.kept k.answer k.records_are k.faults_are (call_of records service y step) downs).fails
+
+      pub fell_down : EndsDown x.id (faults x.keeper) (faults y.keeper) step
+      fell_down = record { down = λ l. ap last_of effects; only = λ e. k.faults_are; quiet = λ l. sends }
+
+      pub fell_stays : StaysNode records service x y
+      fell_stays = subst (StaysNode records service x) (sym k.parts) (record {
+        same = record { id = refl; nodes = refl; seed = refl };
+        kept = record { id = node.id; few = node.few; up = λ t. absurd (false≢true t); rests = λ t. absurd (false≢true t) };
+      })

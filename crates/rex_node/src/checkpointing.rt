@@ -1,0 +1,151 @@
+//! How a node writes down the state that it has replayed.
+
+ghost use Rattle.std.specs.Prelude.{◌≡◌, ◌<◌, ◌-◌, ◌^◌, ◌==◌, ◌∷◌, [], nat_lt, Some, None, IfOk, if◌then◌else◌};
+ghost use Rattle.rex_durable.specs.Spelling.{HasSpelling, record_bytes};
+ghost use Rattle.rex_state.specs.Sound.{IsSound};
+ghost use Rattle.rex_snapshot.specs.Reading.{state_in};
+ghost use Rattle.rex_snapshot.specs.Spelling.{IsLimited};
+ghost use Rattle.rex_safety.specs.Calls as calls;
+ghost use Rattle.rex_safety.specs.Values.{service_of};
+ghost use Rattle.rex_node.specs.declared.refusal.Refusal.TheVariants as why;
+ghost use Rattle.rex_node.specs.Calls.{Does, EndsDown, IsSpared, Leaves, Refuses, refusal_of_checkpoint};
+ghost use Rattle.rex_node.specs.Checkpointing.{IsCheckpoint, SavesOr, rebased, replayed_state};
+ghost use Rattle.rex_node.specs.Parts.{IsNode, StaysNode, here_of};
+
+use crate::node::Node;
+use crate::refusal::Refusal;
+use crate::replaying::ahead_of;
+use crate::step::Step;
+use rex_durable::Rec;
+use rex_event::{Event, Kind};
+use rex_list::List;
+use rex_report::Effect;
+use rex_snapshot::encode;
+use rex_state::state::State;
+use rex_syntax::checked::Checked;
+use rex_traits::{KeepFault, Keeper};
+use std::alloc::{AllocError, Global};
+
+// One effect.
+fn only(alloc: Global, effect: Effect) -> Result<List<Effect>, AllocError>
+    ensures { IfOk result (λ effects. effects ≡ effect ∷ []) }
+{
+    let _event: Option<(Event, Kind)> = None;
+    let mut effects = List::new(alloc);
+    effects.push(effect)?;
+    Ok(effects)
+}
+
+// The record of a state after so many values.
+fn record_of(alloc: Global, svc: &Checked, deltas: u32, state: &State) -> Result<Rec, AllocError>
+    requires sound { IsSound svc.now state.now }
+    requires limited { IsLimited state.now }
+    ensures { IfOk result (IsCheckpoint svc.now deltas state.now) }
+{
+    let snapshot = List::from_vec(encode(alloc, svc, state)?);
+    Ok(Rec::Checkpoint { deltas, snapshot })
+}
+
+// Why a node that is up, of these counts of values and events, writes down nothing.
+fn due(replayed: u32, base: u32, live: u32) -> Option<Refusal>
+    ensures { result ≡ (if replayed == base then Some why.Nothing else if nat_lt 0 live then Some (why.Live live) else None) }
+{
+    if replayed == base {
+        return Some(Refusal::Nothing);
+    }
+    if 0 < live {
+        return Some(Refusal::Live { events: live });
+    }
+    None
+}
+
+impl<K: Keeper> Node<K> {
+    // Why the node writes down nothing.
+    fn checkpoint_refusal(&self, svc: &Checked) -> Option<Refusal>
+        requires { IsNode K.records svc.now self.now }
+        ensures { result ≡ refusal_of_checkpoint (here_of K.records svc.now self.now) }
+    {
+        let _service = svc.declarations();
+        if !self.up {
+            return Some(Refusal::Down);
+        }
+        due(self.replayed, self.base, self.live())
+    }
+
+    // The state that the node has replayed.
+    fn state_to_save(&self) -> &State
+        ensures { result.now ≡ replayed_state self.now }
+    {
+        match &self.acting {
+            None => ahead_of(&self.ahead, &self.start),
+            Some(acting) => acting.recorder.start(),
+        }
+    }
+
+    // The last checkpoint is of what the node has replayed, which is this state.
+    fn rebase(&mut self, state: State)
+        ensures { self.new ≡ rebased self.old state }
+    {
+        self.base = self.replayed;
+        self.start = state;
+        self.ahead = None;
+    }
+
+    // Appends the record of the state that the node has replayed. Where the keeper fails the node is down, and its base is
+    // that of the records that the keeper has then.
+    fn save(&mut self, rec: &Rec, state: State) -> Result<(), KeepFault>
+        requires count { K.faults self.old.keeper < 2 ^ 64 - 1 }
+        requires spelling { HasSpelling rec.now }
+        ensures { SavesOr K.records K.faults K.append_gives self.old self.new state (record_bytes rec.now) result }
+    {
+        let before = self.keeper.len();
+        let written = rex_durable::append(self.alloc, &mut self.keeper, rec);
+        match written {
+            Ok(()) => self.rebase(state),
+            Err(KeepFault::Failed) => {
+                if self.keeper.len() > before {
+                    self.base = self.replayed;
+                }
+                self.fall();
+            }
+            Err(KeepFault::OutOfMemory) => {}
+        }
+        written
+    }
+
+    /// Writes down the state that the node has replayed: with it the node starts again, and goes back to it where it doesn't lead
+    /// any more. No event may be live.
+    pub fn checkpoint(&mut self, svc: &Checked) -> Result<Step, Refusal>
+        requires node { IsNode K.records svc.now self.old }
+        requires count { K.faults self.old.keeper < 2 ^ 64 - 1 }
+        ensures refused { Refuses (refusal_of_checkpoint (here_of K.records svc.now self.old)) result }
+        ensures told { IfOk result (Does K.records K.append_gives K.faults svc.now (calls.checkpoint (service_of svc.now self.old.seed) self.old.id) self.old self.new) }
+        ensures down { IfOk result (EndsDown self.old.id (K.faults self.old.keeper) (K.faults self.new.keeper)) }
+        ensures left { Leaves result (here_of K.records svc.now self.old) (here_of K.records svc.now self.new) }
+        ensures same { IsSpared result self.old self.new }
+        ensures kept { StaysNode K.records svc.now self.old self.new }
+    {
+        let _service = svc.declarations();
+        if let Some(refusal) = self.checkpoint_refusal(svc) {
+            return Err(refusal);
+        }
+        let node = self.id;
+        let deltas = self.replayed;
+        let state = self.state_to_save().copy(self.alloc)?;
+        let rec = record_of(self.alloc, svc, deltas, &state)?;
+        let saved = only(self.alloc, Effect::Checkpointed { node, deltas })?;
+        let down = only(self.alloc, Effect::Down { node })?;
+        let sends = List::new(self.alloc);
+        match self.save(&rec, state) {
+            Ok(()) => Ok(Step {
+                effects: saved,
+                sends,
+            }),
+            Err(KeepFault::Failed) => Ok(Step {
+                effects: down,
+                sends,
+            }),
+            Err(KeepFault::OutOfMemory) => Err(Refusal::OutOfMemory),
+        }
+    }
+}

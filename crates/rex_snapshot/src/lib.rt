@@ -1,0 +1,19 @@
+//! The bytes of a state, both ways.
+#![tactic(auto)]
+
+mod allowed;
+pub mod laws;
+mod limits;
+mod locksets;
+mod loops;
+mod parts;
+mod read_clients;
+mod read_lanes;
+mod read_queues;
+mod read_state;
+mod write_lanes;
+mod write_state;
+
+pub use read_state::decode;
+pub use rex_wire::DecodeError;
+pub use write_state::encode;

@@ -1,0 +1,145 @@
+//! Writing a state.
+
+ghost use Rattle.std.specs.Prelude.{◌≡◌, ◌<◌, ◌++◌, ◌≤◌, length, OnOk, IfOk, Ok};
+ghost use Rattle.std.specs.List.{All, count_by, flat_map};
+ghost use Rattle.rex_state.specs.Sound.{IsSound};
+ghost use Rattle.rex_snapshot.specs.Parts.{known_of, known_if, known_from, parts_of};
+ghost use Rattle.rex_snapshot.specs.Spelling.{waiter_bytes, queue_bytes, reply_bytes, known_bytes, state_bytes, EntryFits, EntryIsTyped, IsLimited, IsTyped};
+ghost use Rattle.rex_state.specs.Room.{IsQueueSmall};
+ghost use Rattle.rex_snapshot.specs.Writing.{has_sent, LaneCanBeWritten};
+ghost use Rattle.rex_snapshot.specs.Reading.{state_in};
+
+use crate::limits::VERSION;
+use crate::write_lanes::{lanes, values};
+use rex_state::lane::{Entry, Queue};
+use rex_state::state::State;
+use rex_syntax::checked::Checked;
+use rex_wire::Writer;
+use std::alloc::{AllocError, Global};
+
+/// Lanes that wait.
+fn waiting(writer: &mut Writer, lanes: &[u8]) -> Result<(), AllocError>
+    requires { All (λ lane. lane < 16) lanes.now }
+    ensures { OnOk result (writer.new ≡ writer.old ++ flat_map waiter_bytes lanes.now) }
+{
+    for lane in lanes {
+        writer.u8(*lane + 1)?;
+    }
+    Ok(())
+}
+
+/// The lanes that wait at a condition.
+fn queue(writer: &mut Writer, queue: &Queue) -> Result<(), AllocError>
+    requires { IsQueueSmall queue.now }
+    ensures { OnOk result (writer.new ≡ writer.old ++ queue_bytes queue.now) }
+{
+    let lanes = queue.lanes.as_slice();
+    writer.u8(lanes.len() as u8)?;
+    waiting(writer, lanes)
+}
+
+/// The lanes that wait at each condition.
+fn queues(writer: &mut Writer, queues: &[Queue]) -> Result<(), AllocError>
+    requires { All IsQueueSmall queues.now }
+    ensures { OnOk result (writer.new ≡ writer.old ++ flat_map queue_bytes queues.now) }
+{
+    for one in queues {
+        queue(writer, one)?;
+    }
+    Ok(())
+}
+
+/// Whether there is a reply, and the reply.
+fn reply(writer: &mut Writer, entry: Entry) -> Result<(), AllocError>
+    ensures spelled { OnOk result (writer.new ≡ writer.old ++ reply_bytes entry.reply) }
+    ensures typed { OnOk result (EntryIsTyped entry) }
+{
+    match entry.reply {
+        None => writer.u8(0),
+        Some(value) => {
+            writer.u8(1)?;
+            writer.i64(value)
+        }
+    }
+}
+
+/// A client with what is known of it.
+fn known(writer: &mut Writer, client: u16, entry: Entry) -> Result<(), AllocError>
+    ensures spelled { OnOk result (writer.new ≡ writer.old ++ known_bytes (known_of client entry)) }
+    ensures typed { OnOk result (EntryIsTyped entry) }
+{
+    writer.u16(client)?;
+    writer.u32(entry.sequence)?;
+    reply(writer, entry)
+}
+
+fn has_sent(entry: Entry) -> bool
+    ensures { result ≡ has_sent entry }
+{
+    entry.sequence != 0
+}
+
+/// A client, if it has sent something.
+fn known_if(writer: &mut Writer, client: u16, entry: Entry) -> Result<(), AllocError>
+    requires { EntryFits entry }
+    ensures spelled { OnOk result (writer.new ≡ writer.old ++ flat_map known_bytes (known_if client entry)) }
+    ensures typed { OnOk result (EntryIsTyped entry) }
+{
+    if entry.sequence == 0 {
+        return Ok(());
+    }
+    known(writer, client, entry)
+}
+
+/// The clients that have sent something.
+fn clients(writer: &mut Writer, entries: &[Entry]) -> Result<(), AllocError>
+    requires few { length entries.now ≤ 257 }
+    requires fit { All EntryFits entries.now }
+    ensures spelled { OnOk result (writer.new ≡ writer.old ++ flat_map known_bytes (known_from 0 entries.now)) }
+    ensures typed { OnOk result (All EntryIsTyped entries.now) }
+{
+    for client in 0..entries.len() as u16 {
+        known_if(writer, client, entries[client as usize])?;
+    }
+    Ok(())
+}
+
+/// How many clients have sent something.
+fn client_count(entries: &[Entry]) -> usize
+    ensures count { result ≡ count_by has_sent entries.now }
+    ensures known { result ≡ length (known_from 0 entries.now) }
+{
+    entries.iter().filter(|entry| has_sent(**entry)).count()
+}
+
+fn write(writer: &mut Writer, state: &State) -> Result<(), AllocError>
+    requires lanes { All LaneCanBeWritten state.now.lanes }
+    requires clients { length state.now.clients ≤ 257 }
+    requires entries { All EntryFits state.now.clients }
+    ensures spelled { OnOk result (writer.new ≡ writer.old ++ state_bytes state.now) }
+    ensures typed { OnOk result (IsTyped state.now) }
+{
+    let own = state.queues();
+    writer.u8(VERSION)?;
+    writer.u8(state.lanes().len() as u8)?;
+    lanes(writer, own, state.lanes())?;
+    values(writer, state.variables())?;
+    queues(writer, own)?;
+    writer.u16(client_count(state.entries()) as u16)?;
+    clients(writer, state.entries())
+}
+
+/// The snapshot of a state, its one spelling of version 1. The state is sound, its clients are 1 to 256 with sequences of
+/// at most 1,000,000, and each lane did at most 268,431,360 events.
+pub fn encode(alloc: Global, svc: &Checked, state: &State) -> Result<Vec<u8>, AllocError>
+    requires sound { IsSound svc.now state.now }
+    requires limited { IsLimited state.now }
+    ensures spelled { IfOk result (λ v. v.items ≡ state_bytes state.now) }
+    ensures short { IfOk result (λ v. length v.items ≤ 65536) }
+    ensures again { IfOk result (λ v. state_in svc.now v.items ≡ Ok state.now) }
+{
+    let _service = svc.declarations();
+    let mut writer = Writer::new(alloc);
+    write(&mut writer, state)?;
+    Ok(writer.into_vec())
+}

@@ -1,0 +1,155 @@
+-- A line that arms the keeper of a node.
+use Rattle.std.proofs.Common.{◌≡◌, ℕ, suc, ◌+◌, ◌-◌, ◌≤◌, ◌<◌, ◌^◌, Bool, true, false, List, [], ◌∷◌, ◌++◌, length, Some, refl, sym, ◌∙◌, ap, subst, arith, length-set}
+use Rattle.std.specs.Prelude.{if◌then◌else◌}
+use Rattle.std.specs.Global.{Vec}
+use Rattle.std.specs.Vec.{with_items}
+use Rattle.std.proofs.lemmas.List.{with_items_is}
+use Rattle.std.proofs.Math.Seq.{drop-append_seam}
+use Rattle.std.proofs.lemmas.List.{append-nil}
+use Rattle.rex_syntax.specs.declared.service.Declarations.{Declarations}
+use Rattle.rex_syntax.specs.declared.request.Request.{Request}
+use Rattle.rex_traits.specs.declared.mem_keeper.Fate.{Fate}
+use Rattle.rex_traits.specs.declared.mem_keeper.Fate.TheVariants as fate
+use Rattle.rex_traits.specs.Keeping.{KeeperValue, armed_to}
+use Rattle.rex_report.specs.declared.effect.Effect.TheVariants.{WillFail}
+use Rattle.rex_scenario.specs.declared.scenario.ScheduleLine.TheVariants.{KeepFail}
+use Rattle.rex_scenario.specs.Fits.{IsNode}
+use Rattle.rex_safety.specs.Node.{Message}
+use Rattle.rex_safety.specs.Node.Failure.{After}
+use Rattle.rex_safety.specs.Values.{Value}
+use Rattle.rex_safety.specs.Lanes.{Here}
+use Rattle.rex_safety.specs.World.{World as ModelWorld, node_at, put, row, sent_from}
+use Rattle.rex_safety.specs.Kept.{IsKept}
+use Rattle.rex_safety.proofs.Keeps.{row_kept}
+use Rattle.rex_node.proofs.Ending.{node_with_keeper}
+use Rattle.rex_world.specs.declared.seats.Seat.{Seat}
+use Rattle.rex_world.specs.declared.seats.Seat.TheVariants.{Running, Stopped}
+use Rattle.rex_world.specs.declared.world.World.{World}
+use Rattle.rex_world.specs.Seats.{AreSeats, AreWithin, IsKeeping, IsSeat, armed_in, faults_of, here_in, heres, keeper_in, records_of}
+use Rattle.rex_world.specs.World.{nodes_of, world_of}
+use Rattle.rex_world.specs.Kept.{IsRunning, IsSame}
+use Rattle.rex_world.specs.Places.{IsArmedAt}
+use Rattle.rex_world.proofs.Coming.{same_world}
+use Rattle.rex_world.proofs.Seated.{here_is, put_is, seat_is, set_seats, set_within, within_is, within_more}
+
+-- ---- the seat
+
+-- what becomes of the record
+abbrev pub fate_if : Bool → Fate
+fate_if kept = if kept then fate.Kept else fate.Lost
+
+here_armed : (service : Declarations) (kept : Bool) (seat : Seat) → here_in service (armed_in (fate_if kept) seat) ≡ record (here_in service seat) { armed = Some (After 0 kept) }
+here_armed service true (Running node) = refl
+here_armed service false (Running node) = refl
+here_armed service true (Stopped keeper) = refl
+here_armed service false (Stopped keeper) = refl
+
+faults_armed : (f : Fate) (seat : Seat) → faults_of (keeper_in (armed_in f seat)) ≤ faults_of (keeper_in seat) + 1
+faults_armed f (Running node) = omega arith
+faults_armed f (Stopped keeper) = omega arith
+
+keeping_armed : (service : Declarations) (f : Fate) (k : KeeperValue) → IsKeeping service k → faults_of k + 1 < 2 ^ 64 - 1 → IsKeeping service (armed_to f k)
+keeping_armed service f k h l = record { read = h.read; room = omega arith }
+
+seat_armed : (service : Declarations) (seed nodes number : ℕ) (f : Fate) (seat : Seat) → IsSeat service seed nodes number seat → faults_of (keeper_in seat) + 1 < 2 ^ 64 - 1 → IsSeat service seed nodes number (armed_in f seat)
+seat_armed service seed nodes number f (Running node) h l = record {
+  id = h.id;
+  nodes_are = h.nodes_are;
+  seed_is = h.seed_is;
+  node = node_with_keeper records_of service node (armed_to f node.keeper) refl h.node;
+  keeping = keeping_armed service f node.keeper h.keeping l;
+}
+seat_armed service seed nodes number f (Stopped keeper) h l = keeping_armed service f keeper h l
+
+-- ---- the row
+
+module _ (service : Declarations) (requests : List Request) (seed n : ℕ) (w : ModelWorld) (m : ℕ) (kept : Bool) where
+  pub arming_told : WillFail m kept ∷ [] ≡ (row service requests seed n w (KeepFail m kept)).effects
+  arming_told = ap (λ (ms : List (Message Value)). WillFail m kept ∷ sent_from (suc (length w.messages)) ms) (sym (drop-append_seam w.messages []))
+
+  arming_row : (nodes : List Here) → nodes ≡ put w.nodes m (record (node_at w.nodes m) { armed = Some (After 0 kept) })
+      → (let v : ModelWorld = record { done = w.done + 1; nodes = nodes; messages = w.messages; handed = w.handed } in v) ≡ (row service requests seed n w (KeepFail m kept)).world
+  arming_row nodes e =
+      same_world (w.done + 1) (w.done + 1) nodes (put w.nodes m (record (node_at w.nodes m) { armed = Some (After 0 kept) })) w.messages (w.messages ++ []) w.handed (w.handed ++ []) refl e (sym (append-nil w.messages)) (sym (append-nil w.handed))
+
+-- ---- the world
+
+-- what a slice of the seats came to, the seats came to
+pub armed_there : (w : World) (m : ℕ) (kept : Bool) (f : Fate) (xs ws : List Seat) → xs ≡ w.seats.items → f ≡ fate_if kept → IsArmedAt f m xs ws → IsArmedAt (fate_if kept) m w.seats.items (with_items w.seats ws).items
+armed_there w m kept f xs ws e same armed =
+    let many : length ws ≡ nodes_of w = ap length armed.others ∙ length-set xs (m - 1) (armed_in f armed.seat) ∙ ap length e in
+    subst (IsArmedAt (fate_if kept) m w.seats.items) (sym (with_items_is w.seats ws (many ∙ sym w.seats.ok.0)))
+    (subst (λ (ys : List Seat). IsArmedAt (fate_if kept) m ys ws) e (subst (λ (g : Fate). IsArmedAt g m xs ws) same armed))
+
+module _ (service : Declarations) (w : World) (h : IsRunning service w) (m : ℕ) (there : IsNode (nodes_of w) m) (kept : Bool) (seats : Vec Seat) (armed : IsArmedAt (fate_if kept) m w.seats.items seats.items) (room : w.done + 1 < 2 ^ 32) where
+  abbrev after : World
+  after = record w { seats = seats; done = w.done + 1 }
+
+  seat : Seat
+  seat = armed.seat
+
+  heres_after : heres service seats.items ≡ put (heres service w.seats.items) m (record (node_at (heres service w.seats.items) m) { armed = Some (After 0 kept) })
+  unfolding seat
+  heres_after =
+      let here : node_at (heres service w.seats.items) m ≡ here_in service armed.seat = here_is service w.seats.items m there armed.seat ∙ ap (here_in service) (sym armed.seat_is) in
+      ap (heres service) armed.others
+      ∙ put_is service w.seats.items m there armed.seat (armed_in (fate_if kept) armed.seat)
+      ∙ ap (put (heres service w.seats.items) m) (here_armed service kept armed.seat ∙ ap (λ (x : Here). let y : Here = record x { armed = Some (After 0 kept) } in y) (sym here))
+
+  pub arming_world : world_of service after ≡ (row service w.requests w.seed (nodes_of w) (world_of service w) (KeepFail m kept)).world
+  arming_world = arming_row service w.requests w.seed (nodes_of w) (world_of service w) m kept (heres service seats.items) heres_after
+
+  many : length seats.items ≡ nodes_of w
+  many = ap length armed.others ∙ length-set w.seats.items (m - 1) (armed_in (fate_if kept) armed.seat)
+
+  few : faults_of (keeper_in armed.seat) ≤ w.done
+  few = subst (λ (s : Seat). faults_of (keeper_in s) ≤ w.done) (sym armed.seat_is) (within_is service w.seats.items m there armed.seat w.done h.within)
+
+  pub arming_same : IsSame w after
+  arming_same = record { nodes = many; requests = refl; seed = refl }
+
+  pub arming_running : IsRunning service after
+  arming_running =
+      let k = few in
+      let f = faults_armed (fate_if kept) armed.seat in
+      let seat_was : IsSeat service w.seed (nodes_of w) m armed.seat =
+      subst (IsSeat service w.seed (nodes_of w) m) (sym armed.seat_is) (seat_is service w.seats.items m there armed.seat w.seed (nodes_of w) h.seats) in
+      let all : AreSeats service w.seed (nodes_of w) 1 seats.items =
+      subst (AreSeats service w.seed (nodes_of w) 1) (sym armed.others)
+      (set_seats service w.seats.items m there armed.seat w.seed (nodes_of w) (armed_in (fate_if kept) armed.seat) h.seats (seat_armed service w.seed (nodes_of w) m (fate_if kept) armed.seat seat_was (omega arith))) in
+      record {
+        service_is = h.service_is;
+        checked = h.checked;
+        whole = h.whole;
+        few = subst (λ (n : ℕ). n ≤ 9) (sym many) h.few;
+        kept = subst (λ (n : ℕ). IsKept service w.seed n (world_of service after)) (sym many)
+            (subst (IsKept service w.seed (nodes_of w)) (sym arming_world) (row_kept service h.service_is h.checked w.requests h.requests w.seed (nodes_of w) h.few (world_of service w) (KeepFail m kept) there h.kept));
+        seats = subst (λ (n : ℕ). AreSeats service w.seed n 1 seats.items) (sym many) all;
+        within = subst (AreWithin (w.done + 1)) (sym armed.others)
+            (set_within service w.seats.items m there armed.seat (w.done + 1) (armed_in (fate_if kept) armed.seat) (within_more service w.done (w.done + 1) w.seats.items h.within (omega arith)) (omega arith));
+        spelled = h.spelled;
+        requests = h.requests;
+        flushed = h.flushed;
+        handed = h.handed;
+      }
+
+-- one more line is done
+pub counted_running : (service : Declarations) (w : World) → IsRunning service w → IsRunning service (record w { done = w.done + 1 })
+counted_running service w h = record {
+  service_is = h.service_is;
+  checked = h.checked;
+  whole = h.whole;
+  few = h.few;
+  kept = record {
+    world = record { many = h.kept.world.many; cluster = h.kept.world.cluster; nodes = h.kept.world.nodes };
+    acting = h.kept.acting;
+    numbers = record { nodes = h.kept.numbers.nodes; messages = h.kept.numbers.messages };
+    handed = h.kept.handed;
+  };
+  seats = h.seats;
+  within = within_more service w.done (w.done + 1) w.seats.items h.within (omega arith);
+  spelled = h.spelled;
+  requests = h.requests;
+  flushed = h.flushed;
+  handed = h.handed;
+}

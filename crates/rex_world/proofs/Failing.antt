@@ -1,0 +1,151 @@
+-- What a call of a node comes to, whether its keeper is armed or not; and the keeper's records are still read.
+use Rattle.std.proofs.Common.{◌≡◌, ◌≤◌, ◌+◌, ℕ, Bool, true, false, List, [], ◌∷◌, ◌++◌, length, Ok, Err, Option, Some, None, inl, inr, refl, sym, ap, ◌∙◌, subst, arith, append-nil, length-append}
+use Rattle.std.specs.Prelude.{MatchResult, IsNone, IsSome}
+use Rattle.rex_syntax.specs.declared.service.Declarations.{Declarations}
+use Rattle.rex_traits.specs.declared.keeper.KeepFault.{KeepFault}
+use Rattle.rex_traits.specs.Chains.{Answer, AppendsInTurn}
+use Rattle.rex_traits.specs.Keeping.{KeeperValue, FollowsArming, appended_as, with_record}
+use Rattle.rex_traits.specs.declared.mem_keeper.Fate.{Fate}
+use Rattle.rex_traits.specs.declared.mem_keeper.Fate.TheVariants.{Kept, Lost}
+use Rattle.rex_safety.specs.Node.{Failure}
+use Rattle.rex_safety.specs.Node.Failure.{After}
+use Rattle.rex_safety.specs.Calls.{begin}
+use Rattle.rex_safety.specs.Lanes.{Here, CallHere}
+use Rattle.rex_node.specs.declared.step.Step.{Step}
+use Rattle.rex_node.specs.Parts.{NodeValue, failed_records, here_of}
+use Rattle.rex_node.specs.Calls.{Does, FailsAfter, GoesWell, call_of}
+use Rattle.rex_node.proofs.Reading.{does_read}
+use Rattle.rex_world.specs.Seats.{IsKeeping, armed_of, failing, faults_of, here_at, records_of}
+use Rattle.rex_world.specs.Calls.{IsDone}
+use Rattle.rex_world.proofs.Unseen.{Goes, armed_as, unseen}
+
+abbrev pub follows : KeeperValue → List ℕ → Answer → KeeperValue → Type 0
+follows old bytes result new = FollowsArming old new bytes result
+
+abbrev done : Answer
+done = Ok tt
+
+abbrev fault_of : KeepFault → Answer
+fault_of fault = Err fault
+
+-- ---- a keeper that isn't armed
+
+unarmed_append : (armed : Option Fate) (old new : KeeperValue) (bytes : List ℕ) → armed ≡ None → new ≡ appended_as armed bytes old → new ≡ with_record bytes old
+unarmed_append None old new bytes e h = h
+unarmed_append (Some fate) old new bytes e h = absurd (cc)
+
+appended : (old new : KeeperValue) (bytes : List ℕ) → old.armed ≡ None → follows old bytes done new → new.armed ≡ None
+appended old new bytes unarmed h = ap (λ (k : KeeperValue). k.armed) (unarmed_append old.armed old new bytes unarmed h.1) ∙ unarmed
+
+stays : (old new : KeeperValue) (written : List (List ℕ)) → old.armed ≡ None → AppendsInTurn follows old written done new → new.armed ≡ None
+stays old new [] unarmed h = ap (λ (k : KeeperValue). k.armed) h.1 ∙ unarmed
+stays old new (bytes ∷ later) unarmed h = by h.0 h.1 h.2 (λ k ok chain. stays k new later ok chain) h.3
+  where
+    by : (answer : Answer) (k : KeeperValue) → follows old bytes answer k → ((j : KeeperValue) → j.armed ≡ None → AppendsInTurn follows j later done new → new.armed ≡ None) → MatchResult answer (λ _. AppendsInTurn follows k later done new) (λ e. (done ≡ Err e) × (new ≡ k)) → new.armed ≡ None
+    by (Ok x) k g next chain = next k (appended old k bytes unarmed g) chain
+    by (Err e) k g next end = absurd (let no : done ≡ fault_of e = end.0 in cc)
+
+armed_not : (armed : Option Fate) → armed ≡ None → IsSome armed → ⊥
+armed_not None e h = let untrue : false ≡ true = h in cc
+armed_not (Some fate) e h = absurd (cc)
+
+-- ---- a keeper that is armed
+
+some_not : (armed : Option Fate) (fate : Fate) → armed ≡ Some fate → IsNone armed → ⊥
+some_not None fate e h = absurd (cc)
+some_not (Some other) fate e h = let untrue : true ≡ false = h in cc
+
+-- none of its appends goes well
+pub none_written : (fate : Fate) (old new : KeeperValue) (written : List (List ℕ)) → old.armed ≡ Some fate → AppendsInTurn follows old written done new → (written ≡ []) × (new ≡ old)
+none_written fate old new [] armed h = (refl, h.1)
+none_written fate old new (bytes ∷ later) armed h = by h.0 h.1 h.2 h.3
+  where
+    by : (answer : Answer) (k : KeeperValue) → follows old bytes answer k → MatchResult answer (λ _. AppendsInTurn follows k later done new) (λ e. (done ≡ Err e) × (new ≡ k)) → (bytes ∷ later ≡ []) × (new ≡ old)
+    by (Ok x) k g chain = absurd (some_not old.armed fate armed g.0)
+    by (Err e) k g end = absurd (let no : done ≡ fault_of e = end.0 in cc)
+
+-- its failure is the one that it was armed to
+kept_as : (fate : Fate) (kept : Bool) (old new : KeeperValue) (bytes : List ℕ) → new ≡ appended_as (Some fate) bytes old → new.records ≡ failed_records kept old.records bytes → let f : Option Failure = Some (After 0 kept) in f ≡ armed_of (Some fate)
+kept_as Kept true old new bytes is grown = refl
+kept_as Lost false old new bytes is grown = refl
+kept_as Kept false old new bytes is grown = absurd (let n = length-append old.records (bytes ∷ []) in let e = ap (λ (k : KeeperValue). length k.records) is in let g = ap length grown in omega arith)
+kept_as Lost true old new bytes is grown = absurd (let n = length-append old.records (bytes ∷ []) in let e = ap (λ (k : KeeperValue). length k.records) is in let g = ap length grown in omega arith)
+
+unarmed_then : (fate : Fate) (old new : KeeperValue) (bytes : List ℕ) → new ≡ appended_as (Some fate) bytes old → (new.armed ≡ None) × (faults_of new ≡ old.faults + 1)
+unarmed_then Kept old new bytes is = (ap (λ (k : KeeperValue). k.armed) is, ap faults_of is ∙ let e : old.faults + 1 + 0 ≡ old.faults + 1 = omega arith in e)
+unarmed_then Lost old new bytes is = (ap (λ (k : KeeperValue). k.armed) is, ap faults_of is ∙ let e : old.faults + 1 + 0 ≡ old.faults + 1 = omega arith in e)
+
+-- ---- a node's step is the model's call
+
+module _ (service : Declarations) (call : CallHere → CallHere) (goes : (f : Option Failure) → Goes f call) (old new : NodeValue KeeperValue) (step : Step) where
+  abbrev before : Here
+  before = here_of records_of service old
+
+  abbrev came : CallHere
+  came = call_of records_of service new step
+
+  abbrev Same : Type 0
+  Same = call (begin (here_at service old)) ≡ armed_as (armed_of new.keeper.armed) came
+
+  -- this failure is that of the node's keeper
+  at_failure : (f : Option Failure) → f ≡ armed_of old.keeper.armed → call (armed_as f (begin before)) ≡ call (begin (here_at service old))
+  at_failure f e = ap (λ (g : Option Failure). call (armed_as g (begin before))) e
+
+  -- and the keeper isn't armed then
+  disarmed_then : new.keeper.armed ≡ None → came ≡ armed_as (armed_of new.keeper.armed) came
+  disarmed_then e = ap (λ (a : Option Fate). armed_as (armed_of a) came) (sym e)
+
+  well : (armed : Option Fate) → old.keeper.armed ≡ armed → GoesWell records_of follows (λ k. k.faults) call old.keeper new.keeper (begin before) came → Same × (faults_of new.keeper ≤ faults_of old.keeper)
+  well None e h =
+      let unarmed : new.keeper.armed ≡ None = stays old.keeper new.keeper h.written e h.appends in
+      let a = ap failing unarmed in
+      let b = h.counted in (
+        sym (at_failure None (sym (ap armed_of e))) ∙ h.is ∙ disarmed_then unarmed,
+        omega arith,
+      )
+  well (Some fate) e h =
+      let none = none_written fate old.keeper new.keeper h.written e h.appends in
+      let many : length (call (begin before)).node.log ≡ length before.log = omega (arith, ap (λ (d : CallHere). length d.node.log) h.is, h.many, ap length none.0) in
+      let a = ap faults_of none.1 in (
+        unseen (armed_of old.keeper.armed) call before (goes (armed_of old.keeper.armed)) refl many
+            ∙ ap (armed_as (armed_of old.keeper.armed)) h.is
+            ∙ ap (λ (k : KeeperValue). armed_as (armed_of k.armed) came) (sym none.1),
+        omega arith,
+      )
+
+  fails : (armed : Option Fate) → old.keeper.armed ≡ armed → FailsAfter records_of follows (λ k. k.faults) call old.keeper new.keeper (begin before) came → Same × (faults_of new.keeper ≤ faults_of old.keeper)
+  fails None e h = absurd (armed_not h.between.armed (stays old.keeper h.between h.written e h.appends) h.fails.0)
+  fails (Some fate) e h =
+      let none = none_written fate old.keeper h.between h.written e h.appends in
+      let is : new.keeper ≡ appended_as (Some fate) h.bytes old.keeper =
+      subst (λ (k : KeeperValue). new.keeper ≡ appended_as k.armed h.bytes k) none.1 h.fails.1 ∙ ap (λ (a : Option Fate). appended_as a h.bytes old.keeper) e in
+      let grown : new.keeper.records ≡ failed_records h.kept old.keeper.records h.bytes =
+      h.grown ∙ ap (λ (ws : List (List ℕ)). failed_records h.kept (old.keeper.records ++ ws) h.bytes) none.0 ∙ ap (λ (rs : List (List ℕ)). failed_records h.kept rs h.bytes) (append-nil old.keeper.records) in
+      let failure : let f : Option Failure = Some (After (length h.written) h.kept) in f ≡ armed_of old.keeper.armed =
+      ap (λ (ws : List (List ℕ)). let f : Option Failure = Some (After (length ws) h.kept) in f) none.0 ∙ kept_as fate h.kept old.keeper new.keeper h.bytes is grown ∙ sym (ap armed_of e) in
+      let then = unarmed_then fate old.keeper new.keeper h.bytes is in
+      let a = then.1 in
+      let b = ap failing e in (
+        sym (at_failure (Some (After (length h.written) h.kept)) failure) ∙ h.is ∙ disarmed_then then.0,
+        omega arith,
+      )
+
+  comes : Does records_of follows (λ k. k.faults) service call old new step → Same × (faults_of new.keeper ≤ faults_of old.keeper)
+  comes (inl h) = well old.keeper.armed refl h
+  comes (inr h) = fails old.keeper.armed refl h
+
+  pub is_done : old.up ≡ true → Does records_of follows (λ k. k.faults) service call old new step → IsDone call (here_at service old) (here_at service new) step
+  is_done up does =
+      let same = (comes does).0 in
+      record { up = up; node = ap (λ (d : CallHere). d.node) (sym same); sends = ap (λ (d : CallHere). d.sends) (sym same); effects = ap (λ (d : CallHere). d.effects) (sym same) }
+
+  -- the keeper fails no more often than it was to
+  pub stays_within : Does records_of follows (λ k. k.faults) service call old new step → faults_of new.keeper ≤ faults_of old.keeper
+  stays_within does = (comes does).1
+
+  -- and keeps its records
+  pub stays_keeping : IsKeeping service old.keeper → Does records_of follows (λ k. k.faults) service call old new step → IsKeeping service new.keeper
+  stays_keeping keeping does = record {
+    read = does_read records_of follows (λ k. k.faults) service call old new step does keeping.read;
+    room = let l = stays_within does in let r = keeping.room in omega arith;
+  }

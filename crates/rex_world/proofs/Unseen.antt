@@ -1,0 +1,187 @@
+-- A call of the model that appends nothing is the same where its next append will fail, and leaves that so.
+use Rattle.std.proofs.Common.{◌≡◌, ◌≤◌, ◌⊎◌, ℕ, zero, suc, Bool, true, false, cond, List, [], ◌∷◌, length, Option, Some, None, refl, ap, ◌∙◌, inl, inr, arith, le_refl}
+use Rattle.std.specs.Prelude.{◌==◌, ◌||◌, nat_lt, nat_le}
+use Rattle.rex_event.specs.declared.event.Event.{Event}
+use Rattle.rex_event.specs.Cuts.{below}
+use Rattle.rex_cut.specs.Greatest.{greatest_cut}
+use Rattle.rex_report.specs.declared.effect.Effect.{Effect}
+use Rattle.rex_report.specs.declared.effect.Effect.TheVariants as effect
+use Rattle.rex_syntax.specs.declared.service.Declarations.{Declarations}
+use Rattle.rex_safety.specs.Records.{Rec, Proposal, promise, accepted, known, base}
+use Rattle.rex_safety.specs.Records.Rec.{Promised, Accepted, Known, Checkpoint}
+use Rattle.rex_safety.specs.Quorum.{round_of, ballot_above, is_in, is_majority}
+use Rattle.rex_safety.specs.Node.{Service, Content, Lead, Role, Failure, Node, is_active}
+use Rattle.rex_safety.specs.Node.Content.{Prepare, Promise, Accept, Accepted as Voted, Chosen as Chose, Nack, Ask}
+use Rattle.rex_safety.specs.Node.Role.{Follower, Leads}
+use Rattle.rex_safety.specs.Values.{Value, service_of}
+use Rattle.rex_safety.specs.Lanes.{CallHere, is_faithful, active_only, cut_live, cut_lead, cut_role, cut, value_at}
+use Rattle.rex_safety.specs.Calls.{Call, begin, append, led, logged, propose, decide, best, choose, lead, turn, settle, enough, own_reports, stand, elect, on_prepare, heard, on_own_promise, on_promise, has_last, on_accept, voted, on_own_vote, on_voted, on_chosen, on_nack, receive, replay, checkpoint}
+
+-- the call where this append of its node will fail
+abbrev pub armed_as : {V S : Type 0} → Option Failure → Call V S → Call V S
+armed_as failure d = record d { node = record d.node { armed = failure } }
+
+module _ {V S : Type 0} (failure : Option Failure) where
+  -- from d on the call either adds a record, or comes to the same where an append will fail
+  pub record IsUnseen (d e armed : Call V S) : Type 0 where
+    pub log : e.node.log ≡ d.node.log
+    pub same : armed ≡ armed_as failure e
+
+  abbrev pub Either : (d e armed : Call V S) → Type 0
+  Either d e armed = (suc (length d.node.log) ≤ length e.node.log) ⊎ IsUnseen d e armed
+
+  -- it is so of each call that isn't armed
+  abbrev pub Goes : (Call V S → Call V S) → Type 0
+  Goes k = (e : Call V S) → e.node.armed ≡ None → Either e (k e) (k (armed_as failure e))
+
+  quiet : {d e armed : Call V S} → e.node.log ≡ d.node.log → armed ≡ armed_as failure e → Either d e armed
+  quiet l s = inr (record { log = l; same = s })
+
+  if_either : (t : Bool) {d e f armed other : Call V S} → Either d e armed → Either d f other → Either d (cond t e f) (cond t armed other)
+  if_either true h k = h
+  if_either false h k = k
+
+  -- records are only added
+  grows : (d e armed : Call V S) → Either d e armed → length d.node.log ≤ length e.node.log
+  grows d e armed (inl l) = omega arith
+  grows d e armed (inr u) = let same = u.log in rw same (le_refl (length d.node.log))
+
+  -- the call goes on from where the records are the same
+  on : (k : Call V S → Call V S) (d c : Call V S) → c.node.log ≡ d.node.log → c.node.armed ≡ None → Goes k → Either d (k c) (k (armed_as failure c))
+  on k d c l e g = by (g c e)
+    where
+      by : Either c (k c) (k (armed_as failure c)) → Either d (k c) (k (armed_as failure c))
+      by (inl m) = inl (omega (arith, m, ap length l))
+      by (inr u) = inr (record { log = u.log ∙ l; same = u.same })
+
+  -- an append that goes well adds one
+  append_adds : (a : Option Failure) (me : ℕ) (r : Rec V S) (d : Call V S) (k : Call V S → Call V S) → a ≡ None → length (logged r None d).node.log ≤ length (k (logged r None d)).node.log → suc (length d.node.log) ≤ length (append a me r d k).node.log
+  append_adds a me r d k e h = rw e h
+
+  -- and what comes after it
+  added : (a : Option Failure) (me : ℕ) (r : Rec V S) (d : Call V S) (k : Call V S → Call V S) (armed : Call V S) → a ≡ None → length (logged r None d).node.log ≤ length (k (logged r None d)).node.log → Either d (append a me r d k) armed
+  added a me r d k armed e h = inl (append_adds a me r d k e h)
+
+  module _ (n : ℕ) (sv : Service V S) (me : ℕ) where
+    propose_either : (told : Effect) (d : Call V S) (l : Lead V) (i : ℕ) (v : V) (k : Call V S → Call V S) (armed : Call V S) → d.node.armed ≡ None → Goes k → Either d (propose n me told d l i v k) armed
+    propose_either told d l i v k armed e g = added d.node.armed me (Accepted l.ballot i v) d _ armed e (grows _ _ _ (g _ refl))
+
+    decide_either : (d : Call V S) (l : Lead V) (i : ℕ) (v : V) (k : Call V S → Call V S) (armed : Call V S) → d.node.armed ≡ None → Goes k → Either d (decide n sv me d l i v k) armed
+    decide_either d l i v k armed e g = added d.node.armed me (Known i v) d _ armed e (grows _ _ _ (g _ refl))
+
+    choose_either : (d : Call V S) (l : Lead V) (i : ℕ) (o : Option (Proposal V)) (k : Call V S → Call V S) → d.node.armed ≡ None → Goes k → Either d (choose n sv me d l i o k) (choose n sv me (armed_as failure d) l i o k)
+    choose_either d l i None k e g = quiet refl refl
+    choose_either d l i (Some p) k e g = propose_either (effect.Adopts me i (sv.size p.value)) d l i p.value k _ e g
+
+    lead_either : (d : Call V S) (l : Lead V) (o : Option (Proposal V)) (k : Call V S → Call V S) → d.node.armed ≡ None → Goes k → Either d (lead n sv me d l o k) (lead n sv me (armed_as failure d) l o k)
+    lead_either d l (Some p) k e g = if_either (is_majority n l.accepted_by) (decide_either d l p.instance p.value k _ e g) (quiet refl refl)
+    lead_either d l None k e g =
+        if_either l.active (quiet refl refl)
+        (if_either (is_majority n l.counted) (choose_either d l (suc (length (known d.node.log))) (best (suc (length (known d.node.log))) l.reported) k e g) (quiet refl refl))
+
+    turn_either : (d : Call V S) (r : Role V) (k : Call V S → Call V S) → d.node.armed ≡ None → Goes k → Either d (turn n sv me d r k) (turn n sv me (armed_as failure d) r k)
+    turn_either d Follower k e g = quiet refl refl
+    turn_either d (Leads l) k e g = lead_either d l l.proposal k e g
+
+    pub settle_either : (f : ℕ) → Goes (settle f n sv me)
+    settle_either zero d e = quiet refl refl
+    settle_either (suc f) d e = turn_either d d.node.role (settle f n sv me) e (settle_either f)
+
+    stand_either : (b : ℕ) (d : Call V S) (armed : Call V S) → d.node.armed ≡ None → Either d (stand n sv me b d) armed
+    stand_either b d armed e = added d.node.armed me (Promised b) d _ armed e (grows _ _ _ (settle_either (enough (own_reports d.node.log)) _ refl))
+
+    pub elect_either : Goes (elect n sv me)
+    elect_either d e =
+        if_either (nat_lt 4294967296 (round_of (ballot_above me (promise d.node.log)))) (quiet refl refl) (stand_either (ballot_above me (promise d.node.log)) d _ e)
+
+    prepare_either : (from b first : ℕ) → Goes (on_prepare me from b first)
+    prepare_either from b first d e =
+        if_either (nat_lt b (promise d.node.log)) (quiet refl refl)
+        (if_either (nat_lt (promise d.node.log) b) (added d.node.armed me (Promised b) d _ _ e (le_refl _)) (quiet refl refl))
+
+    promise_either : (from b : ℕ) (ps : List (Proposal V)) (d : Call V S) (r : Role V) → d.node.armed ≡ None → Either d (on_promise n sv me from b ps d r) (on_promise n sv me from b ps (armed_as failure d) r)
+    promise_either from b ps d Follower e = quiet refl refl
+    promise_either from b ps d (Leads l) e = if_either (l.ballot == b) (own l.proposal) (quiet refl refl)
+      where
+        own : (o : Option (Proposal V)) → Either d (on_own_promise n sv me from ps d l o) (on_own_promise n sv me from ps (armed_as failure d) l o)
+        own (Some p) = quiet refl refl
+        own None =
+            if_either l.active (quiet refl refl)
+            (if_either (is_in from l.counted) (quiet refl refl)
+            (if_either (is_majority n (heard l from ps).counted) (on (settle (enough (heard l from ps).reported) n sv me) d (led (Leads (heard l from ps)) d) refl e (settle_either (enough (heard l from ps).reported))) (quiet refl refl)))
+
+    accept_either : (from b i : ℕ) (v : V) → Goes (on_accept me from b i v)
+    accept_either from b i v d e =
+        if_either (nat_lt b (promise d.node.log)) (quiet refl refl)
+        (if_either (has_last b i (accepted d.node.log)) (quiet refl refl) (added d.node.armed me (Accepted b i v) d _ _ e (le_refl _)))
+
+    voted_either : (from b i : ℕ) (d : Call V S) (r : Role V) → d.node.armed ≡ None → Either d (on_voted n sv me from b i d r) (on_voted n sv me from b i (armed_as failure d) r)
+    voted_either from b i d Follower e = quiet refl refl
+    voted_either from b i d (Leads l) e = if_either (l.ballot == b) (own l.proposal) (quiet refl refl)
+      where
+        own : (o : Option (Proposal V)) → Either d (on_own_vote n sv me from i d l o) (on_own_vote n sv me from i (armed_as failure d) l o)
+        own None = quiet refl refl
+        own (Some p) =
+            if_either (p.instance == i)
+            (if_either (is_in from l.accepted_by) (quiet refl refl)
+            (if_either (is_majority n (voted l from p).accepted_by) (on (settle (enough (voted l from p).reported) n sv me) d (led (Leads (voted l from p)) d) refl e (settle_either (enough (voted l from p).reported))) (quiet refl refl)))
+            (quiet refl refl)
+
+    chosen_either : (i : ℕ) (v : V) → Goes (on_chosen me i v)
+    chosen_either i v d e = if_either (i == suc (length (known d.node.log))) (added d.node.armed me (Known i v) d _ _ e (le_refl _)) (quiet refl refl)
+
+    nack_either : (p : ℕ) (d : Call V S) (r : Role V) → Either d (on_nack me p d r) (on_nack me p (armed_as failure d) r)
+    nack_either p d Follower = quiet refl refl
+    nack_either p d (Leads l) = if_either (nat_lt l.ballot p) (quiet refl refl) (quiet refl refl)
+
+    pub receive_either : (from : ℕ) (m : Content V) → Goes (receive n sv me from m)
+    receive_either from (Prepare b first) d e = prepare_either from b first d e
+    receive_either from (Promise b ps) d e = promise_either from b ps d d.node.role e
+    receive_either from (Accept b i v) d e = accept_either from b i v d e
+    receive_either from (Voted b i) d e = voted_either from b i d d.node.role e
+    receive_either from (Chose i v) d e = chosen_either i v d e
+    receive_either from (Nack b p) d e = nack_either p d d.node.role
+    receive_either from (Ask first) d e = if_either (nat_lt (length (known d.node.log)) first) (quiet refl refl) (quiet refl refl)
+
+  pub checkpoint_either : (sv : Service V S) (me : ℕ) → Goes (checkpoint sv me)
+  checkpoint_either sv me d e =
+      if_either (d.node.replayed == base d.node.log) (quiet refl refl)
+      (if_either (nat_lt 0 (length d.node.work.live)) (quiet refl refl) (added d.node.armed me (Checkpoint _ _) d _ _ e (le_refl _)))
+
+  pub replay_either : (me : ℕ) → Goes (replay me)
+  replay_either me d e = if_either (is_active d.node.role || d.node.replayed == length (known d.node.log)) (quiet refl refl) (quiet refl refl)
+
+  -- so a call that leaves as many records does the same where an append will fail
+  pub unseen : (call : Call V S → Call V S) (x : Node V S) → Goes call → x.armed ≡ None → length (call (begin x)).node.log ≡ length x.log → call (armed_as failure (begin x)) ≡ armed_as failure (call (begin x))
+  unseen call x g e same = by (g (begin x) e)
+    where
+      by : Either (begin x) (call (begin x)) (call (armed_as failure (begin x))) → call (armed_as failure (begin x)) ≡ armed_as failure (call (begin x))
+      by (inl l) = absurd (omega arith)
+      by (inr u) = u.same
+
+-- ---- a cut
+
+module _ (failure : Option Failure) (service : Declarations) (seed n me : ℕ) where
+  live_either : (counts : List ℕ) (l : Lead Value) (es : List Event) → Goes failure (cut_live service seed n me counts l es)
+  live_either counts l [] d e = quiet failure refl refl
+  live_either counts l (x ∷ xs) d e =
+      if_either failure (is_faithful service seed (known d.node.log) counts d.node.work.live)
+      (propose_either failure n (service_of service seed) me _ d l (suc (length (known d.node.log))) (value_at counts d.node.work.live) _ _ e (settle_either failure n (service_of service seed) me (enough l.reported)))
+      (quiet failure refl refl)
+
+  lead_cut_either : (counts : List ℕ) (l : Lead Value) (o : Option (Proposal Value)) → Goes failure (cut_lead service seed n me counts l o)
+  lead_cut_either counts l (Some p) d e = quiet failure refl refl
+  lead_cut_either counts l None d e =
+      if_either failure (nat_le 65535 (length (known d.node.log))) (quiet failure refl refl)
+      (live_either (greatest_cut counts d.node.work.live) l (below (greatest_cut counts d.node.work.live) d.node.work.live) d e)
+
+  role_either : (counts : List ℕ) (r : Role Value) (d : CallHere) → d.node.armed ≡ None → Either failure d (cut_role service seed n me counts r d) (cut_role service seed n me counts r (armed_as failure d))
+  role_either counts Follower d e = quiet failure refl refl
+  role_either counts (Leads l) d e = active l.active
+    where
+      active : (t : Bool) → Either failure d (active_only t d (cut_lead service seed n me counts l l.proposal d)) (active_only t (armed_as failure d) (cut_lead service seed n me counts l l.proposal (armed_as failure d)))
+      active true = lead_cut_either counts l l.proposal d e
+      active false = quiet failure refl refl
+
+  pub cut_either : (counts : List ℕ) → Goes failure (cut service seed n me counts)
+  cut_either counts d e = role_either counts d.node.role d e

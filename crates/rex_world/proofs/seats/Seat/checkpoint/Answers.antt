@@ -1,0 +1,22 @@
+use Rattle.std.proofs.Common.{subst, sym}
+use Rattle.rex_safety.specs.Calls.{checkpoint}
+use Rattle.rex_safety.specs.Values.{service_of}
+use Rattle.rex_world.specs.declared.seats.Seat.{Seat}
+use Rattle.rex_world.specs.declared.seats.Seat.TheVariants.{Running}
+use Rattle.rex_world.specs.Seats.{IsSeat, StaysSeat, here_at, here_in}
+use Rattle.rex_world.specs.Calls.{Acts}
+use Rattle.rex_world.proofs.Acted.{checkpoints, stays_seat}
+use Rattle.rex_world.proofs.Unseen.{checkpoint_either}
+use Rattle.rex_world.proofs.seats.Seat.checkpoint.Goals as goal
+
+pub returns-in-Running-clause-acts : goal.returns-in-Running-clause-acts
+returns-in-Running-clause-acts c =
+    let runner = subst (IsSeat c.args.svc.now c.args.seed c.args.nodes c.args.number) c.in-Running.is c.requires.seat in
+    subst (λ (seat : Seat). Acts (checkpoint (service_of c.args.svc.now c.args.seed) c.args.number) c.args.number (here_in c.args.svc.now seat) (here_at c.args.svc.now c.checkpoint.new.self) c.checkpoint.result) (sym c.in-Running.is)
+    (checkpoints c.args.svc.now c.args.seed c.args.nodes c.args.number c.in-Running.node c.checkpoint.new.self runner c.checkpoint.result c.checkpoint.ensures.refused c.checkpoint.ensures.told c.checkpoint.ensures.same)
+
+pub returns-in-Running-clause-seat : goal.returns-in-Running-clause-seat
+returns-in-Running-clause-seat c =
+    let runner = subst (IsSeat c.args.svc.now c.args.seed c.args.nodes c.args.number) c.in-Running.is c.requires.seat in
+    λ whole. subst (λ (seat : Seat). StaysSeat c.args.svc.now c.args.seed c.args.nodes c.args.number seat (Running c.checkpoint.new.self)) (sym c.in-Running.is)
+    (stays_seat c.args.svc.now c.args.seed c.args.nodes c.args.number c.in-Running.node runner c.checkpoint.new.self (checkpoint (service_of c.args.svc.now c.in-Running.node.seed) c.in-Running.node.id) c.checkpoint.result (λ f. checkpoint_either f (service_of c.args.svc.now c.in-Running.node.seed) c.in-Running.node.id) c.checkpoint.ensures.kept c.checkpoint.ensures.told c.checkpoint.ensures.same whole)
