@@ -8,20 +8,22 @@ use Rattle.rex_parse.specs.Reading.{answer_of as service_answer}
 use Rattle.rex_scenario.specs.Reading.{start, answer_from}
 use Rattle.rex_scenario.specs.declared.scenario.ScenarioCode.TheVariants.{TooLong}
 use Rattle.rex_cli.specs.Refusals.{scenario_code}
-use Rattle.rex_cli.specs.Due.{Due, due_refused, due_run, due_check, due_command, due_for}
+use Rattle.rex_cli.specs.Due.{Due, due_refused, due_run, due_trace, due_check, due_command, due_for}
 use Rattle.rex_cli.specs.Causes.{scenario_service, plain_service, service_in, Judges, JudgesFor}
 use Rattle.rex_cli.specs.Headline.{CommittedIn, Committed}
 use Rattle.rex_cli.specs.declared.command.Command.{Command}
-use Rattle.rex_cli.specs.declared.command.Command.TheVariants.{Run, Check}
+use Rattle.rex_cli.specs.declared.command.Command.TheVariants.{Run, Trace, Check}
 
 -- ---- a text that is too long
 
 due_long : (command : Command) (bytes : List ℕ) → 4194304 < length bytes → due_command command bytes ≡ due_refused 0 (scenario_code TooLong)
 due_long Run bytes lt = ap (λ (b : Bool). due_run (if b then Err (0, TooLong) else answer_from (start true) 1 (numbered 1 (lines_of bytes)))) (lt-ltb 4194304 (length bytes) lt)
+due_long Trace bytes lt = ap (λ (b : Bool). due_trace (if b then Err (0, TooLong) else answer_from (start true) 1 (numbered 1 (lines_of bytes)))) (lt-ltb 4194304 (length bytes) lt)
 due_long Check bytes lt = ap (λ (b : Bool). if b then due_refused 0 (scenario_code TooLong) else due_check (service_answer bytes)) (lt-ltb 4194304 (length bytes) lt)
 
 service_long : (command : Command) (bytes : List ℕ) → 4194304 < length bytes → service_in command bytes ≡ None
 service_long Run bytes lt = ap (λ (b : Bool). scenario_service (if b then Err (0, TooLong) else answer_from (start true) 1 (numbered 1 (lines_of bytes)))) (lt-ltb 4194304 (length bytes) lt)
+service_long Trace bytes lt = ap (λ (b : Bool). scenario_service (if b then Err (0, TooLong) else answer_from (start true) 1 (numbered 1 (lines_of bytes)))) (lt-ltb 4194304 (length bytes) lt)
 service_long Check bytes lt = ap (λ (b : Bool). if b then None else plain_service (service_answer bytes)) (lt-ltb 4194304 (length bytes) lt)
 
 committed_long : (bytes : List ℕ) → 4194304 < length bytes → Committed bytes

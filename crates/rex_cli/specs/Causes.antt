@@ -10,7 +10,7 @@ use Rattle.rex_scenario.specs.Reading.{answer_of as scenario_answer}
 use Rattle.rex_scenario.specs.declared.scenario.ScenarioCode.{ScenarioCode}
 use Rattle.rex_scenario.specs.declared.scenario.Sections.{Sections}
 use Rattle.rex_cli.specs.declared.command.Command.{Command}
-use Rattle.rex_cli.specs.declared.command.Command.TheVariants.{Run, Check}
+use Rattle.rex_cli.specs.declared.command.Command.TheVariants.{Run, Trace, Check}
 
 -- the service of a text that is a scenario
 abbrev pub scenario_service : Result Sections (ℕ × ScenarioCode) → Option Declarations
@@ -22,9 +22,10 @@ abbrev pub plain_service : Result Above (ℕ × ServiceCode) → Option Declarat
 plain_service (Ok a) = Some (service_of a)
 plain_service (Err e) = None
 
--- the service that an input declares: `run` asks for a scenario with one, and `check` for one alone
+-- the service that an input declares: `run` and `trace` ask for a scenario with one, and `check` for one alone
 abbrev pub service_in : Command → List ℕ → Option Declarations
 service_in Run input = scenario_service (scenario_answer input)
+service_in Trace input = scenario_service (scenario_answer input)
 service_in Check input = if nat_lt 4194304 (length input) then None else plain_service (service_answer input)
 
 -- 1 where there is no service, 0 where there is one that is checked, 3 where there is one that isn't

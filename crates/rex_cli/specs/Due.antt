@@ -14,10 +14,11 @@ use Rattle.rex_scenario.specs.declared.scenario.Sections.{Sections}
 use Rattle.rex_lockset.specs.Refusal.{refusal_of}
 use Rattle.rex_lockset.specs.declared.refusal.Refused.{Refused}
 use Rattle.rex_world.specs.Report.{report_of}
+use Rattle.rex_world.specs.Tracing.{trace_text}
 use Rattle.rex_cli.specs.Command.{command_of}
 use Rattle.rex_cli.specs.Refusals.{service_code, scenario_code, line_of, text_refusal, check_refusal}
 use Rattle.rex_cli.specs.declared.command.Command.{Command}
-use Rattle.rex_cli.specs.declared.command.Command.TheVariants.{Run, Check}
+use Rattle.rex_cli.specs.declared.command.Command.TheVariants.{Run, Trace, Check}
 
 -- a status and a text
 pub record Due : Type 0 where
@@ -46,6 +47,16 @@ abbrev pub due_run : Result Sections (ℕ × ScenarioCode) → Due
 due_run (Ok s) = due_report (scenario_of s) (service_of s.service) (refusal_of (service_of s.service))
 due_run (Err e) = due_refused e.0 (scenario_code e.1)
 
+-- a scenario asks for the agreed trace after its run, where its service isn't refused
+abbrev pub due_agreed : Scenario → Declarations → Option Refused → Due
+due_agreed s service None = record { status = 0; text = trace_text service s }
+due_agreed s service (Some refused) = due_unchecked service refused
+
+-- what `trace` asks for, given what the input says
+abbrev pub due_trace : Result Sections (ℕ × ScenarioCode) → Due
+due_trace (Ok s) = due_agreed (scenario_of s) (service_of s.service) (refusal_of (service_of s.service))
+due_trace (Err e) = due_refused e.0 (scenario_code e.1)
+
 -- how many handlers, locks, conditions and variables a service declares
 abbrev pub counts_of : Declarations → List (List ℕ)
 counts_of service =
@@ -69,6 +80,7 @@ due_check (Err e) = due_refused e.0 (service_code e.1)
 -- what a command asks for; a service may be as long as a scenario
 abbrev pub due_command : Command → List ℕ → Due
 due_command Run input = due_run (scenario_answer input)
+due_command Trace input = due_trace (scenario_answer input)
 due_command Check input = if nat_lt 4194304 (length input) then due_refused 0 (scenario_code TooLong) else due_check (service_answer input)
 
 -- what a command asks for, if there is one

@@ -16,11 +16,13 @@ use crate::command::Command;
 use crate::refusals::{check_refusal, line, scenario_code, service_code, text_refusal};
 use rex_lockset::{refusal_of, refusals_are_exact};
 use rex_parse::{ReadError, read_service};
+use rex_replay::OneThread;
 use rex_report::Piece;
 use rex_scenario::{SCENARIO_BYTES, Scenario, ScenarioCode, ScenarioError, read_scenario};
 use rex_syntax::checked::Checked;
 use rex_syntax::service::{Declarations, Service};
 use rex_world::laws::headline_holds;
+use rex_world::trace;
 use std::alloc::{AllocError, Global};
 use std::marker::Model;
 
@@ -104,6 +106,34 @@ fn run_scenario(alloc: Global, scenario: Scenario, service: Service) -> Result<R
     Ok(Response::Run(Plan { scenario, service }))
 }
 
+// What a scenario is answered that asks for its agreed trace.
+fn trace_scenario(alloc: Global, scenario: Scenario, service: Service) -> Result<Answer, AllocError>
+    requires { ScenarioFits service scenario }
+    ensures due { IfOk result (λ a. a ≡ due.due_agreed scenario service (refusal service)) }
+    ensures judges { IfOk result (λ a. Judges (Some service) a.status) }
+{
+    if let Some(answer) = unchecked(alloc, service.declarations())? {
+        return Ok(answer);
+    }
+    let service = Checked::of(service);
+    let _service = service.declarations();
+    let text = trace(alloc, &service, &mut OneThread, &scenario)?;
+    Ok(Answer { status: 0, text })
+}
+
+// What `trace` answers.
+fn trace_input(alloc: Global, input: &[u8]) -> Result<Answer, AllocError>
+    requires { length input.now ≤ 4194305 }
+    ensures due { IfOk result (λ a. a ≡ due.due_command commands.Trace input.now) }
+    ensures judges { IfOk result (λ a. Judges (service_in commands.Trace input.now) a.status) }
+{
+    match read_scenario(alloc, input) {
+        Ok((scenario, service)) => trace_scenario(alloc, scenario, service),
+        Err(ScenarioError::Refused { line, code }) => refused(alloc, line, scenario_code(code)),
+        Err(ScenarioError::OutOfMemory) => Err(AllocError),
+    }
+}
+
 // What `run` asks for.
 fn run_input(alloc: Global, input: &[u8]) -> Result<Response, AllocError>
     requires { length input.now ≤ 4194305 }
@@ -185,6 +215,10 @@ pub(crate) fn response_to(
 {
     match command {
         Command::Run => run_input(alloc, input),
+        Command::Trace => {
+            let answer = trace_input(alloc, input)?;
+            Ok(Response::Told(answer))
+        }
         Command::Check => {
             let answer = check_input(alloc, input)?;
             Ok(Response::Told(answer))

@@ -8,6 +8,8 @@ ghost use Rattle.rex_cli.specs.Command as spec;
 pub(crate) enum Command {
     /// To run a scenario.
     Run,
+    /// To run a scenario, and to tell what was agreed.
+    Trace,
     /// To check a service.
     Check,
 }
@@ -28,6 +30,7 @@ fn command_named(word: &str) -> Option<Command>
 {
     match word {
         "run" => Some(Command::Run),
+        "trace" => Some(Command::Trace),
         "check" => Some(Command::Check),
         _ => None,
     }

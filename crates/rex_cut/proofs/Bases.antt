@@ -6,7 +6,7 @@ use Rattle.rex_event.specs.declared.event.Event.{Event}
 use Rattle.rex_event.specs.Cuts.{count_at, counted, counted_all, AreNumbered, is_below, below}
 use Rattle.rex_cut.specs.Greatest.{IsCutOf}
 use Rattle.rex_cut.specs.Delta.{base_of, bases_from}
-use Rattle.rex_cut.proofs.Numbered.{counted_same, counted_other, counted_long}
+use Rattle.rex_clocks.proofs.Numbered.{counted_same, counted_other, counted_long}
 
 pub bases_long : (es : List Event) (lane : ℕ) (counts : List ℕ) → length (bases_from es lane counts) ≡ length counts
 bases_long es lane [] = refl

@@ -2,6 +2,8 @@
 use Rattle.std.proofs.Common.{◌≡◌, ℕ, zero, suc, ◌≤◌, [], ◌∷◌, refl, arith}
 use Rattle.rex_event.specs.declared.delta.Cause.{Cause}
 use Rattle.rex_event.specs.Cuts.{IsWithin}
+use Rattle.rex_reduce.specs.Traces.{in_turn}
+use Rattle.rex_reduce.proofs.Examples.{in_turn_numbered}
 use Rattle.rex_cut.specs.Greatest.{greatest_cut, IsCutOf}
 use Rattle.rex_cut.specs.Delta.{delta_at}
 use Rattle.rex_cut.specs.Traces.{locked, shared, handed}
@@ -50,6 +52,17 @@ handed_cut a b f g h k = record {
   numbered = (omega arith, refl, (omega arith, refl, tt));
   from = within a b 4 7 f g;
   to = within 5 8 a b h k;
+}
+
+-- three lanes in turn may be cut at their end
+pub in_turn_cut : IsCutOf in_turn (4 ∷ 4 ∷ 4 ∷ [])
+in_turn_cut = record {
+  bases = 0 ∷ 0 ∷ 0 ∷ [];
+  few = omega arith;
+  long = refl;
+  numbered = in_turn_numbered;
+  from = within_three 4 4 4 0 0 0 (omega arith) (omega arith) (omega arith);
+  to = λ lane. omega arith;
 }
 
 -- ---- greatest cuts

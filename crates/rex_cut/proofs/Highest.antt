@@ -5,8 +5,8 @@ use Rattle.rex_event.specs.declared.event.Event.{Event}
 use Rattle.rex_event.specs.Order.{Has, Precedes, ConflictsBefore}
 use Rattle.rex_event.specs.Cuts.{AreNumbered, is_below, IsConsistent, IsWithin, IsGreatestCut}
 use Rattle.rex_cut.specs.Greatest.{meets_any, stopped, lowered, greatest_cut, IsCutOf}
-use Rattle.rex_cut.proofs.Leads.{leads_back, has_parts}
-use Rattle.rex_cut.proofs.Numbered.{numbered_above}
+use Rattle.rex_clocks.proofs.Leads.{leads_back, has_parts}
+use Rattle.rex_clocks.proofs.Numbered.{numbered_above}
 use Rattle.rex_cut.proofs.Stopped.{stopped_above}
 use Rattle.rex_cut.proofs.Lowered.{met, lowered_within, lowered_long, lowered_above, lowered_closed}
 

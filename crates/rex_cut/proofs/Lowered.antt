@@ -6,8 +6,8 @@ use Rattle.rex_event.specs.Conflict.{conflict}
 use Rattle.rex_event.specs.Order.{Has, Precedes}
 use Rattle.rex_event.specs.Cuts.{count_at, counted, AreNumbered, is_below, IsWithin}
 use Rattle.rex_cut.specs.Greatest.{meets_any, stopped, lowered}
-use Rattle.rex_cut.proofs.Leads.{has_left, has_right}
-use Rattle.rex_cut.proofs.Numbered.{numbered_later}
+use Rattle.rex_clocks.proofs.Leads.{has_left, has_right}
+use Rattle.rex_clocks.proofs.Numbered.{numbered_later}
 use Rattle.rex_cut.proofs.Stopped.{stopped_at, stopped_within, stopped_above, stopped_long, stopped_keeps}
 
 -- ---- what is left out

@@ -6,7 +6,7 @@ use Rattle.std.proofs.lemmas.List.{get_or-set_same, get_or-set_other, length-set
 use Rattle.rex_event.specs.declared.event.Event.{Event}
 use Rattle.rex_event.specs.Cuts.{count_at, is_below, IsWithin}
 use Rattle.rex_cut.specs.Greatest.{stopped}
-use Rattle.rex_cut.proofs.Numbered.{in_range}
+use Rattle.rex_clocks.proofs.Numbered.{in_range}
 
 -- its count comes down to the event
 pub stopped_at : (cut : List ℕ) (e : Event) → count_at (stopped cut e) e.lane ≤ e.index

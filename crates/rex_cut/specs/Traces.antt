@@ -1,16 +1,8 @@
 -- Small traces that examples and tests read. Each client's first request is to handler 0, with no arguments.
-use Rattle.std.specs.Prelude.{ℕ, List, [], ◌∷◌}
+pub use Rattle.rex_reduce.specs.Traces.{at, begin}
+use Rattle.std.specs.Prelude.{List, [], ◌∷◌}
 use Rattle.rex_event.specs.declared.event.Event.{Event}
-use Rattle.rex_event.specs.declared.event.Kind.{Kind}
-use Rattle.rex_event.specs.declared.event.Kind.TheVariants.{Begin, AcqEx, AcqSh, RelEx, RelSh}
-
--- a lane's event of this index
-abbrev pub at : ℕ → ℕ → Kind → Event
-at lane index kind = record { lane = lane; index = index; kind = kind }
-
--- a client's first request begins
-abbrev pub begin : ℕ → Kind
-begin client = Begin client 1 0 []
+use Rattle.rex_event.specs.declared.event.Kind.TheVariants.{AcqEx, AcqSh, RelEx, RelSh}
 
 -- a lane takes a lock and releases it, and another takes it
 abbrev pub locked : List Event

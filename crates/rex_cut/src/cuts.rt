@@ -1,18 +1,21 @@
-ghost use Rattle.std.specs.Prelude.{◌≡◌, ◌<◌, ◌≤◌, [], ◌&&◌, not, length, IfOk, OnOk};
+ghost use Rattle.std.specs.Prelude.{◌≡◌, ◌<◌, ◌≤◌, true, [], ◌&&◌, not, length, IfOk, OnOk};
 ghost use Rattle.std.specs.List.{All};
 ghost use Rattle.rex_event.specs.Cuts as cuts;
 ghost use Rattle.rex_event.specs.Cuts.{IsGreatestCut};
 ghost use Rattle.rex_cut.specs.Greatest as spec;
 ghost use Rattle.rex_cut.specs.Greatest.{greatest_cut, IsCutOf};
-ghost use Rattle.rex_cut.specs.Lanes.{HasLane};
+ghost use Rattle.rex_clocks.specs.Lanes.{HasLane};
+ghost use Rattle.rex_reduce.specs.Reduced.{HasNext};
 
 use rex_event::{Cut, Event, conflict};
 use rex_list::List;
 use std::alloc::{AllocError, Global};
 
+/// Whether an event is below a cut. If so, its lane's count is above its index, which leaves room for another one.
 pub(crate) fn is_below(counts: &[u32], event: &Event) -> bool
     requires { event.now.lane < length counts.now }
-    ensures { result ≡ cuts.is_below counts.now event.now }
+    ensures is { result ≡ cuts.is_below counts.now event.now }
+    ensures room { result ≡ true → HasNext event.now }
 {
     event.index < counts[event.lane as usize]
 }

@@ -7,12 +7,13 @@ ghost use Rattle.rex_event.specs.Pieces.{AllCausesFit};
 ghost use Rattle.rex_cut.specs.Greatest.{IsCutOf};
 ghost use Rattle.rex_cut.specs.Delta as spec;
 ghost use Rattle.rex_cut.specs.Delta.{delta_at};
-ghost use Rattle.rex_cut.specs.Lanes.{HasLane};
+ghost use Rattle.rex_clocks.specs.Lanes.{HasLane};
+ghost use Rattle.rex_reduce.specs.Reduced.{AreLeast, HasNext};
 
-use crate::causes::causes_of;
 use crate::cuts::is_below;
 use rex_event::{Cut, Delta, Event};
 use rex_list::List;
+use rex_reduce::reduce;
 use std::alloc::{AllocError, Global};
 
 /// Sets the base of each lane that has events to the index of its first one.
@@ -25,24 +26,28 @@ fn lower_to_first(bases: &mut [u32], events: &[Event])
     }
 }
 
+/// The events below a cut.
 fn below(alloc: Global, counts: &[u32], events: &[Event]) -> Result<Vec<Event>, AllocError>
     requires { All (HasLane (length counts.now)) events.now }
-    ensures { IfOk result (λ v. v.items ≡ cuts.below counts.now events.now) }
+    ensures is { IfOk result (λ v. v.items ≡ cuts.below counts.now events.now) }
+    ensures room { IfOk result (λ v. All HasNext v.items) }
 {
-    events
-        .iter()
-        .copied()
-        .filter(|event| is_below(counts, event))
-        .collect(alloc)
+    let mut kept = Vec::new(alloc);
+    for event in events {
+        if is_below(counts, event) {
+            kept.push(*event)?;
+        }
+    }
+    Ok(kept)
 }
 
-/// The events below a cut in recorded order, each with its causes: for each other lane the latest earlier event that
-/// conflicts with it.
+/// The events below a cut in recorded order, each with its causes: the least that are right for these events.
 pub fn delta_of(alloc: Global, cut: &Cut, events: &[Event]) -> Result<Delta, AllocError>
     requires { IsCutOf events.now cut.now.counts }
     ensures is { IfOk result (λ d. d ≡ delta_at cut.now.counts events.now) }
     ensures events { IfOk result (λ d. d.events ≡ cuts.below cut.now.counts events.now) }
     ensures right { IfOk result (λ d. AreRight d.events d.causes) }
+    ensures least { IfOk result (λ d. AreLeast d.events d.causes) }
     ensures numbered { IfOk result (λ d. AreNumbered d.bases d.events) }
     ensures fit { IfOk result (λ d. AllCausesFit d.bases d.bases d.events d.causes) }
 {
@@ -50,10 +55,10 @@ pub fn delta_of(alloc: Global, cut: &Cut, events: &[Event]) -> Result<Delta, All
     let mut bases = counts.to_vec(alloc)?;
     lower_to_first(&mut bases, events);
     let events = below(alloc, counts, events)?;
-    let causes = causes_of(alloc, counts.len(), &events)?;
+    let causes = reduce(alloc, &events)?;
     Ok(Delta {
         bases: List::from_vec(bases),
         events: List::from_vec(events),
-        causes,
+        causes: List::from_vec(causes),
     })
 }

@@ -1,6 +1,6 @@
 //! What greatest cuts and deltas are. Each function is the statement that its contract makes, and does nothing.
 
-ghost use Rattle.rex_cut.specs.Laws.{GreatestCutsAreGreatest, CausesAreRight, DeltasFit};
+ghost use Rattle.rex_cut.specs.Laws.{GreatestCutsAreGreatest, CausesAreRight, CausesAreLeast, DeltasFit};
 
 /// Lowering a trace's limits leaves the greatest consistent cut below them.
 pub fn greatest_cuts_are_greatest()
@@ -11,6 +11,11 @@ pub fn greatest_cuts_are_greatest()
 /// has to come before.
 pub fn causes_are_right()
     ensures { CausesAreRight }
+{}
+
+/// Whatever causes are right for the events of the delta below a cut have the delta's causes among them.
+pub fn causes_are_least()
+    ensures { CausesAreLeast }
 {}
 
 /// The events of the delta below a cut are numbered on from its bases, and their causes are earlier events of other lanes.

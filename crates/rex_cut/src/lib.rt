@@ -1,7 +1,6 @@
 //! Consistent cuts of a trace, and the deltas that they cut off.
 #![tactic(auto)]
 
-mod causes;
 mod cuts;
 mod delta;
 pub mod laws;

@@ -17,7 +17,7 @@ use Rattle.rex_event.specs.Order.{Has}
 use Rattle.rex_event.specs.Cuts.{count_at, is_below, below, beyond, IsWithin}
 use Rattle.rex_cut.specs.Greatest.{greatest_cut, IsCutOf}
 use Rattle.rex_cut.proofs.Highest.{greatest_is}
-use Rattle.rex_cut.proofs.Numbered.{numbered_above, numbered_below}
+use Rattle.rex_clocks.proofs.Numbered.{numbered_above, numbered_below}
 use Rattle.rex_state.specs.Value.{StateValue}
 use Rattle.rex_state.specs.Start.{start_of}
 use Rattle.rex_state.specs.Machine.{run, next, lane_of}

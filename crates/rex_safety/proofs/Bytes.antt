@@ -14,7 +14,7 @@ use Rattle.rex_event.specs.declared.event.Kind.TheVariants.{Begin, AcqEx, AcqSh,
 use Rattle.rex_event.specs.declared.delta.Cause.{Cause}
 use Rattle.rex_event.specs.declared.delta.Delta.{Delta}
 use Rattle.rex_event.specs.Cuts.{counted}
-use Rattle.rex_cut.proofs.Numbered.{counted_long}
+use Rattle.rex_clocks.proofs.Numbered.{counted_long}
 use Rattle.rex_delta.specs.Spelling.{woken_number, code_of, content, cause_bytes, event_bytes, events_bytes, delta_bytes, KindFits, EventFits, EventsFit, IsDelta, HasSpelling}
 use Rattle.rex_delta.proofs.Counting.{others_few}
 use Rattle.rex_delta.proofs.EventLaws.{event_parts, delta_parts, delta_found}

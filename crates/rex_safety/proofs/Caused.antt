@@ -1,4 +1,4 @@
--- The causes of each agreed delta are right, and consistent cuts of the agreed trace go first.
+-- The causes of each agreed delta are the least that are right, and consistent cuts of the agreed trace go first.
 use Rattle.std.proofs.Common.{◌≡◌, ℕ, ◌≤◌, Bool, true, List, [], ◌∷◌, ◌++◌, length, refl, sym, ◌∙◌, ap, subst, inl, inr, Some}
 use Rattle.std.specs.Prelude.{Result, Ok, Err, take}
 use Rattle.std.specs.List.{list_all}
@@ -9,12 +9,13 @@ use Rattle.rex_syntax.specs.declared.service.Declarations.{Declarations}
 use Rattle.rex_syntax.specs.Service.{IsService}
 use Rattle.rex_syntax.specs.Check.{IsChecked}
 use Rattle.rex_event.specs.declared.delta.Delta.{Delta}
-use Rattle.rex_event.specs.Causes.{AreRight}
 use Rattle.rex_event.specs.Cuts.{AreNumbered, IsConsistent}
 use Rattle.rex_state.specs.Commute.{GoesFirst}
 use Rattle.rex_state.proofs.Cuts.{cuts_go_first}
-use Rattle.rex_cut.specs.Delta.{causes_of}
-use Rattle.rex_cut.proofs.Right.{causes_right}
+use Rattle.rex_clocks.specs.declared.clock.TheConstants.{LANES}
+use Rattle.rex_reduce.specs.Reduced.{AreLeast}
+use Rattle.rex_reduce.specs.Reduction.{reduced}
+use Rattle.rex_reduce.proofs.Reduced.{reduced_least}
 use Rattle.rex_delta.specs.Reading.{delta_in}
 use Rattle.rex_state.specs.Value.{StateValue}
 use Rattle.rex_state.specs.Start.{start_of}
@@ -47,35 +48,35 @@ spelled_at p v (w ∷ vs) (inr h) k = spelled_at p v vs h (and_parts _ _ k).1
 
 -- ---- its causes
 
-piece_causes : (service : Declarations) (r : Result Delta ℕ) → is_piece service r ≡ true → (read_delta r).causes ≡ causes_of service.lanes [] (read_delta r).events
-piece_causes service (Ok d) h = lists_are d.causes (causes_of service.lanes [] d.events) (and_parts _ _ h).1
+piece_causes : (service : Declarations) (r : Result Delta ℕ) → is_piece service r ≡ true → (read_delta r).causes ≡ reduced (read_delta r).events
+piece_causes service (Ok d) h = lists_are d.causes (reduced d.events) (and_parts _ _ h).1
 piece_causes service (Err at) h = absurd (false≢true h)
 
 module _ (service : Declarations) (good : IsService service) (checked : IsChecked service) where
   -- the events of a value after others run from a sound state, so they are numbered on from its counts
-  value_right : (front : List Value) (v : Value) (rest : List Value) (t : StateValue) → run service (start_of service) (trace_of (front ++ v ∷ rest)) ≡ Some t → spells service v ≡ true → AreRight (delta_of v).events (delta_of v).causes
-  value_right front v rest t h k =
+  value_least : (front : List Value) (v : Value) (rest : List Value) (t : StateValue) → run service (start_of service) (trace_of (front ++ v ∷ rest)) ≡ Some t → spells service v ≡ true → AreLeast (delta_of v).events (delta_of v).causes
+  value_least front v rest t h k =
       let a = run_split service (start_of service) t (trace_of front) (events_of v ++ trace_of rest) (subst (λ es. run service (start_of service) es ≡ Some t) (trace_both front (v ∷ rest)) h) in
       let b = run_split service a.0 t (events_of v) (trace_of rest) a.2 in
       let sound : IsSound service a.0 = run_keeps service (start_of service) a.0 (trace_of front) good (start_keeps service good checked) a.1 in
       let long : length (counts_of a.0) ≡ service.lanes = length-map a.0.lanes done_of ∙ sound.by.complete.lanes in
       let n : AreNumbered (counts_of a.0) (events_of v) = (runs_count_on service a.0 b.0 (events_of v) b.1).numbered in
-      subst (AreRight (delta_of v).events) (sym (piece_causes service (delta_in v) (and_parts (may_be_value v) (is_piece service (delta_in v)) k).1))
-      (subst (λ (lanes : ℕ). AreRight (events_of v) (causes_of lanes [] (events_of v))) long (causes_right (counts_of a.0) (events_of v) n))
+      subst (AreLeast (delta_of v).events) (sym (piece_causes service (delta_in v) (and_parts (may_be_value v) (is_piece service (delta_in v)) k).1))
+      (reduced_least (events_of v) (record { bases = counts_of a.0; few = subst (λ (lanes : ℕ). lanes ≤ LANES) (sym long) good.lanes; numbered = n }))
 
-  pub values_right : (vs : List Value) → values_fit service vs ≡ true → (v : Value) → IsIn v vs → AreRight (delta_of v).events (delta_of v).causes
-  values_right vs fit v i =
+  pub values_least : (vs : List Value) → values_fit service vs ≡ true → (v : Value) → IsIn v vs → AreLeast (delta_of v).events (delta_of v).causes
+  values_least vs fit v i =
       let p = parts_at v vs i in
       let r = fits_run service vs fit in
-      value_right p.0 v p.1 r.0 (subst (λ xs. run service (start_of service) (trace_of xs) ≡ Some r.0) p.2 r.1) (spelled_at (spells service) v vs i (and_parts (list_all (spells service) vs) (runs service (trace_of vs)) fit).0)
+      value_least p.0 v p.1 r.0 (subst (λ xs. run service (start_of service) (trace_of xs) ≡ Some r.0) p.2 r.1) (spelled_at (spells service) v vs i (and_parts (list_all (spells service) vs) (runs service (trace_of vs)) fit).0)
 
 whole : (vs : List Value) → take (length vs) vs ≡ vs
 whole [] = refl
 whole (v ∷ vs) = ap (λ xs. v ∷ xs) (whole vs)
 
-pub agreed_right : (service : Declarations) (requests : List Request) (seed n : ℕ) (lines : List ScheduleLine) → n ≤ 9 → IsService service → IsChecked service → (v : Value) → IsIn v (agreed (world_after service requests seed n lines)) → AreRight (delta_of v).events (delta_of v).causes
-agreed_right service requests seed n lines few good checked =
-    values_right service good checked (agreed (world_after service requests seed n lines))
+pub agreed_least : (service : Declarations) (requests : List Request) (seed n : ℕ) (lines : List ScheduleLine) → n ≤ 9 → IsService service → IsChecked service → (v : Value) → IsIn v (agreed (world_after service requests seed n lines)) → AreLeast (delta_of v).events (delta_of v).causes
+agreed_least service requests seed n lines few good checked =
+    values_least service good checked (agreed (world_after service requests seed n lines))
     (subst (λ vs. values_fit service vs ≡ true) (whole (agreed (world_after service requests seed n lines)))
     (agreed_fits n (service_of service seed) (world_after service requests seed n lines) (reached_ok service requests seed n few lines) refl (length (agreed (world_after service requests seed n lines)))))
 

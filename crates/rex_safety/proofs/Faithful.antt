@@ -9,7 +9,8 @@ use Rattle.rex_syntax.specs.Check.{IsChecked}
 use Rattle.rex_event.specs.declared.event.Event.{Event}
 use Rattle.rex_event.specs.Cuts.{below}
 use Rattle.rex_cut.specs.Greatest.{greatest_cut, IsCutOf}
-use Rattle.rex_cut.specs.Delta.{delta_at, bases_from, causes_of}
+use Rattle.rex_reduce.specs.Reduction.{reduced}
+use Rattle.rex_cut.specs.Delta.{delta_at, bases_from}
 use Rattle.rex_cut.proofs.Lowered.{lowered_long}
 use Rattle.rex_cut.proofs.Bases.{bases_long}
 use Rattle.rex_cut.proofs.Highest.{greatest_is}
@@ -26,7 +27,7 @@ use Rattle.rex_state.proofs.Cuts.{cuts_go_first}
 use Rattle.rex_safety.specs.Records.{Proposal}
 use Rattle.rex_safety.specs.Node.{Work}
 use Rattle.rex_safety.specs.Values.{Value, read_delta, events_of, trace_of, is_piece, spells, values_fit}
-use Rattle.rex_safety.specs.Same.{same_events, same_lists}
+use Rattle.rex_safety.specs.Same.{same_events}
 use Rattle.rex_safety.specs.Lanes.{value_at, is_faithful}
 use Rattle.rex_safety.specs.Acting.{IsActing}
 use Rattle.rex_safety.proofs.Replies.{trace_push}
@@ -56,7 +57,7 @@ module _ (service : Declarations) (seed : ℕ) (vs : List Value) (start state : 
       spelt : spells service (value_at cut live) ≡ true
       spelt = and_from _ _ (and_from _ _ (le-leb (length (value_at cut live)) 4194304 short) (delta_bytes_are (delta_at cut live) d).each) (ap (is_piece service) read
           ∙ and_from _ _ (eq-eqb (length (bases_from live 0 cut)) service.lanes (bases_long live 0 cut ∙ long))
-          (ap (λ (lanes : ℕ). same_lists (causes_of lanes [] (below cut live)) (causes_of service.lanes [] (below cut live))) long ∙ lists_same (causes_of service.lanes [] (below cut live))))
+          (lists_same (reduced (below cut live))))
 
       go : GoesFirst service start state cut live
       go = cuts_go_first service start state cut live good sound (greatest_is counts live is).consistent live_runs

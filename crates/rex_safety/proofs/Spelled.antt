@@ -18,7 +18,7 @@ use Rattle.rex_event.specs.Pieces.{AllCausesFit}
 use Rattle.rex_cut.specs.Greatest.{greatest_cut, IsCutOf}
 use Rattle.rex_cut.specs.Delta.{bases_from, delta_at}
 use Rattle.rex_cut.proofs.Bases.{bases_are}
-use Rattle.rex_cut.proofs.Numbered.{numbered_above, counted_long}
+use Rattle.rex_clocks.proofs.Numbered.{numbered_above, counted_long}
 use Rattle.rex_cut.proofs.Lowered.{lowered_long, lowered_within, lowered_above}
 use Rattle.rex_cut.proofs.Deltas.{delta_numbered, delta_fits as causes_fit}
 use Rattle.rex_delta.specs.Spelling.{greatest_base, KindFits, EventsFit, IsDelta, HasTypedKind}

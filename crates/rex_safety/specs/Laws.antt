@@ -5,7 +5,6 @@ use Rattle.rex_state.specs.Start.{start_of}
 use Rattle.rex_state.specs.Machine.{lane_of, run}
 use Rattle.rex_syntax.specs.declared.request.Request.{Request}
 use Rattle.rex_syntax.specs.declared.service.Declarations.{Declarations}
-use Rattle.rex_event.specs.Causes.{AreRight}
 use Rattle.rex_event.specs.Cuts.{IsConsistent}
 use Rattle.rex_state.specs.Commute.{GoesFirst}
 use Rattle.rex_syntax.specs.Service.{IsService}
@@ -13,6 +12,7 @@ use Rattle.rex_syntax.specs.Check.{IsChecked}
 use Rattle.rex_state.specs.Value.{StateValue}
 use Rattle.rex_scenario.specs.declared.scenario.ScheduleLine.{ScheduleLine}
 use Rattle.rex_scenario.specs.Fits.{RequestFits, LineFits}
+use Rattle.rex_reduce.specs.Reduced.{AreLeast}
 use Rattle.rex_cut.specs.Greatest.{greatest_cut, IsCutOf}
 use Rattle.rex_cut.specs.Delta.{delta_at}
 use Rattle.rex_delta.specs.Spelling.{HasSpelling}
@@ -94,11 +94,11 @@ AgreedCutsGoFirst =
     → (k : ℕ) (cut : List ℕ) → IsConsistent (trace_at (world_after service requests seed n lines) k) cut
     → (s : StateValue) × (run service (start_of service) (trace_at (world_after service requests seed n lines) k) ≡ Some s) × GoesFirst service (start_of service) s cut (trace_at (world_after service requests seed n lines) k)
 
--- the causes of each agreed delta tell the order of its events
-abbrev pub AgreedCausesAreRight : Type 0
-AgreedCausesAreRight =
+-- the causes of each agreed delta are the least that tell the order of its events
+abbrev pub AgreedCausesAreLeast : Type 0
+AgreedCausesAreLeast =
     (service : Declarations) (requests : List Request) (seed n : ℕ) (lines : List ScheduleLine) → n ≤ 9 → IsService service → IsChecked service
-    → (v : Value) → IsIn v (agreed (world_after service requests seed n lines)) → AreRight (delta_of v).events (delta_of v).causes
+    → (v : Value) → IsIn v (agreed (world_after service requests seed n lines)) → AreLeast (delta_of v).events (delta_of v).causes
 
 -- a checkpoint that a node has is of the state to which the known deltas up to its base run
 abbrev pub BaseIsRight : Declarations → ℕ → World → Type 0

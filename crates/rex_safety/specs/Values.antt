@@ -5,7 +5,7 @@ use Rattle.rex_syntax.specs.declared.service.Declarations.{Declarations}
 use Rattle.rex_event.specs.declared.event.Event.{Event}
 use Rattle.rex_event.specs.declared.delta.Delta.{Delta}
 use Rattle.rex_event.specs.Cuts.{beyond}
-use Rattle.rex_cut.specs.Delta.{causes_of}
+use Rattle.rex_reduce.specs.Reduction.{reduced}
 use Rattle.rex_delta.specs.Reading.{delta_in}
 use Rattle.rex_state.specs.Value.{StateValue}
 use Rattle.rex_state.specs.Start.{start_of}
@@ -46,9 +46,9 @@ abbrev pub trace_of : List Value → List Event
 trace_of [] = []
 trace_of (value ∷ values) = events_of value ++ trace_of values
 
--- a delta of the service's lanes was read, and the causes of its events are the latest conflicting ones
+-- a delta of the service's lanes was read, and its causes are the least that are right for its events
 abbrev pub is_piece : Declarations → Result Delta ℕ → Bool
-is_piece service (Ok d) = length d.bases == service.lanes && same_lists d.causes (causes_of service.lanes [] d.events)
+is_piece service (Ok d) = length d.bases == service.lanes && same_lists d.causes (reduced d.events)
 is_piece service (Err at) = false
 
 -- a value has at most so many bytes

@@ -1,7 +1,7 @@
 //! What holds of every run of a world, whatever its schedule: messages may be lost, repeated and reordered, nodes may stop, fail and
 //! come back. Each function is the statement that its contract makes, and does nothing.
 
-ghost use Rattle.rex_safety.specs.Laws.{ChosenValuesAgree, KnownBeginsAgreed, ListsOnlyGrow, KnownListsArePrefixes, AgreedTracesRun, BasesAreRight, RulesAreKept, RepliesStand, RequestsHappenOnce, ActiveTracesRun, CutsAreFaithful, LeadersGoOnToTheEnd, NextValuesFit, NumbersStayInRange, CountsAreFew, AgreedCausesAreRight, AgreedCutsGoFirst, ValuesStayBytes, ValuesStayShort, NodesStayKept};
+ghost use Rattle.rex_safety.specs.Laws.{ChosenValuesAgree, KnownBeginsAgreed, ListsOnlyGrow, KnownListsArePrefixes, AgreedTracesRun, BasesAreRight, RulesAreKept, RepliesStand, RequestsHappenOnce, ActiveTracesRun, CutsAreFaithful, LeadersGoOnToTheEnd, NextValuesFit, NumbersStayInRange, CountsAreFew, AgreedCausesAreLeast, AgreedCutsGoFirst, ValuesStayBytes, ValuesStayShort, NodesStayKept};
 ghost use Rattle.rex_safety.specs.Keeping.{BeginningsAreKept, StepsAreKept, LinesAreKept, KeptValuesFit, KeptBasesAreRight, KeptCutsAreSpelled, KeptCutsAreFaithful, KeptCountsHaveRoom};
 ghost use Rattle.rex_safety.specs.Limits.{ValuesLeadToLimitedStates};
 
@@ -80,9 +80,9 @@ pub fn counts_are_few()
     ensures { CountsAreFew }
 {}
 
-/// The causes of each agreed delta tell the order of its events.
-pub fn agreed_causes_are_right()
-    ensures { AgreedCausesAreRight }
+/// The causes of each agreed delta are the least that tell the order of its events.
+pub fn agreed_causes_are_least()
+    ensures { AgreedCausesAreLeast }
 {}
 
 /// The events below a consistent cut of the agreed trace may go first.

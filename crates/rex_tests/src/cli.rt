@@ -9,8 +9,9 @@ type Case = (&'static str, &'static str, u8, &'static str);
 
 const USAGE: &str = "usage: rex run|trace|check|gen|soak\n";
 
-static TEXTS: [Case; 7] = [
+static TEXTS: [Case; 8] = [
     ("run", "", 1, "refused line 1 S3\n"),
+    ("trace", "", 1, "refused line 1 S3\n"),
     ("check", "", 1, "refused line 1 P14\n"),
     ("run", "%nodes 4\n", 1, "refused line 1 S4\n"),
     (
@@ -41,7 +42,7 @@ static SERVICES: [Case; 3] = [
 ];
 
 /// Scenarios of such a service, which begins at line 5.
-static SCENARIOS: [Case; 3] = [
+static SCENARIOS: [Case; 6] = [
     (
         "run",
         "r\n%requests\n%schedule\n",
@@ -50,6 +51,19 @@ static SCENARIOS: [Case; 3] = [
     ),
     (
         "run",
+        "a\n%requests\n%schedule\n",
+        3,
+        "refused handler add line 13 C1\n",
+    ),
+    ("trace", "r\n%requests\n%schedule\n", 0, ""),
+    (
+        "trace",
+        "r\n%requests\n1 1 add 5\n%schedule\nelect 1\nsubmit 1 1\nlane 1 2\nlane 1 2\ncut 1\n",
+        0,
+        "delta 1 events 2\n2.0 begin 1 1 add 5\n2.1 acquire L\n",
+    ),
+    (
+        "trace",
         "a\n%requests\n%schedule\n",
         3,
         "refused handler add line 13 C1\n",

@@ -9,13 +9,13 @@ use std::alloc::Global;
 use std::process::Abort;
 use std::test::*;
 
-fn at(lane: u8, index: u32, kind: Kind) -> Event
+pub fn at(lane: u8, index: u32, kind: Kind) -> Event
     ensures { result ≡ traces.at lane index kind }
 {
     Event { lane, index, kind }
 }
 
-fn begin(client: u16) -> Kind
+pub fn begin(client: u16) -> Kind
     ensures { result ≡ traces.begin client }
 {
     Kind::Begin {
@@ -55,7 +55,7 @@ fn shared() -> [Event; 8]
     ]
 }
 
-fn cause(lane: u8, index: u32) -> Cause {
+pub fn cause(lane: u8, index: u32) -> Cause {
     Cause { lane, index }
 }
 

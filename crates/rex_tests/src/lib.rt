@@ -9,6 +9,8 @@ mod ballot;
 #[cfg(test)]
 mod cli;
 #[cfg(test)]
+mod clocks;
+#[cfg(test)]
 mod cut;
 #[cfg(test)]
 mod delta;
@@ -36,6 +38,8 @@ mod parse;
 mod paxos;
 #[cfg(test)]
 mod record;
+#[cfg(test)]
+mod reduce;
 #[cfg(test)]
 mod replay;
 #[cfg(test)]

@@ -1,6 +1,6 @@
 -- What holds of every run of a scenario.
-use Rattle.std.proofs.Common.{◌≡◌, ℕ, ◌≤◌, true, List, Option, Some, None, is_some, refl}
-use Rattle.std.specs.Prelude.{take}
+use Rattle.std.proofs.Common.{◌≡◌, inl, inr, ℕ, zero, suc, ◌≤◌, true, List, [], ◌∷◌, ◌++◌, Option, Some, None, is_some, refl, sym, ap, subst}
+use Rattle.std.specs.Prelude.{take, map}
 use Rattle.std.specs.List.{All, list_all}
 use Rattle.std.proofs.lemmas.Bool.{and_parts}
 use Rattle.rex_syntax.specs.declared.request.Request.{Request}
@@ -16,9 +16,21 @@ use Rattle.rex_safety.specs.Values.{Value, spells, runs, trace_of, values_fit, s
 use Rattle.rex_safety.specs.Agreed.{world_after, agreed}
 use Rattle.rex_safety.proofs.Agreeing.{agreed_fits, is_one_list}
 use Rattle.rex_safety.proofs.Steps.{reached_ok}
-use Rattle.rex_safety.proofs.Caused.{agreed_cuts, agreed_right}
+use Rattle.rex_safety.proofs.Caused.{agreed_cuts, agreed_least}
 use Rattle.rex_safety.proofs.Requests.{agreed_once}
 use Rattle.rex_safety.proofs.Moments.{replies_stand_later}
+use Rattle.rex_event.specs.Cuts.{AreNumbered, IsConsistent}
+use Rattle.rex_event.specs.Causes.{AreRight}
+use Rattle.rex_state.specs.Counts.{counts_of}
+use Rattle.rex_state.proofs.Counts.{runs_count_on}
+use Rattle.rex_state.proofs.Sounds.{start_keeps}
+use Rattle.rex_safety.specs.Values.{delta_of}
+use Rattle.rex_safety.specs.Invariant.{IsIn}
+use Rattle.rex_safety.specs.Agreed.{trace_at}
+use Rattle.rex_order.specs.Edges.{joined, HasEdge, AllRight}
+use Rattle.rex_order.specs.Laws.{AllowExtensions}
+use Rattle.rex_order.proofs.Extensions.{cuts_run_alike}
+use Rattle.rex_order.proofs.Edges.{deltas_allow_extensions}
 use Rattle.rex_world.specs.Laws.{Headline}
 
 -- what is there is some value
@@ -30,6 +42,20 @@ there (Some x) h = (x, refl)
 pub fit_run : (service : Declarations) (values : List Value) → values_fit service values ≡ true → (s : StateValue) × (run service (start_of service) (trace_of values) ≡ Some s)
 fit_run service values h = there (run service (start_of service) (trace_of values)) (and_parts (list_all (spells service) values) (runs service (trace_of values)) h).1
 
+joined_trace : (values : List Value) → joined (map delta_of values) ≡ trace_of values
+joined_trace [] = refl
+joined_trace (v ∷ values) = ap (λ es. (delta_of v).events ++ es) (joined_trace values)
+
+all_right : (values : List Value) → ((v : Value) → IsIn v values → AreRight (delta_of v).events (delta_of v).causes) → AllRight (map delta_of values)
+all_right [] h = tt
+all_right (v ∷ values) h = (h v (inl refl), all_right values (λ w i. h w (inr i)))
+
+in_take : (k : ℕ) (values : List Value) (v : Value) → IsIn v (take k values) → IsIn v values
+in_take zero values v i = absurd i
+in_take (suc k) [] v i = absurd i
+in_take (suc k) (w ∷ values) v (inl e) = inl e
+in_take (suc k) (w ∷ values) v (inr i) = inr (in_take k values v i)
+
 -- what holds of every run of a checked service
 pub headline : (service : Declarations) (requests : List Request) (seed n : ℕ) (lines : List ScheduleLine) → n ≤ 9 → IsService service → IsChecked service
     → All (RequestFits service) requests → Headline service requests seed n lines
@@ -38,7 +64,17 @@ headline service requests seed n lines few good checked fit = record {
   runs = λ front rest is k. fit_run service (take k (agreed (world_after service requests seed n front)))
       (agreed_fits n (service_of service seed) _ (reached_ok service requests seed n few front) refl k);
   cuts = λ front rest is k cut c. agreed_cuts service requests seed n front few good checked k cut c;
-  causes = λ front rest is v i. agreed_right service requests seed n front few good checked v i;
+  orders = λ front rest is k cut c.
+      let r = fit_run service (take k (agreed (world_after service requests seed n front))) (agreed_fits n (service_of service seed) _ (reached_ok service requests seed n few front) refl k) in
+      cuts_run_alike service (start_of service) r.0 (trace_at (world_after service requests seed n front) k) cut good (start_keeps service good checked) r.1 c;
+  edges = λ front rest is k cut c.
+      let vs = take k (agreed (world_after service requests seed n front)) in
+      let r = fit_run service vs (agreed_fits n (service_of service seed) _ (reached_ok service requests seed n few front) refl k) in
+      let counts = (runs_count_on service (start_of service) r.0 (trace_of vs) r.1).numbered in
+      let right = all_right vs (λ v i. (agreed_least service requests seed n front few good checked v (in_take k (agreed (world_after service requests seed n front)) v i)).right) in
+      subst (λ es. AllowExtensions (HasEdge (map delta_of vs)) es cut) (joined_trace vs)
+      (deltas_allow_extensions (counts_of (start_of service)) (map delta_of vs) cut (subst (AreNumbered (counts_of (start_of service))) (sym (joined_trace vs)) counts) right (subst (λ es. IsConsistent es cut) (sym (joined_trace vs)) c));
+  causes = λ front rest is v i. agreed_least service requests seed n front few good checked v i;
   once = λ front rest is. agreed_once service requests seed n front few good checked;
   stands = λ front rest is i j release lead ei ej ballot client sequence value released m later leads after.
       replies_stand_later service good checked requests fit seed n few front i j release lead ei ej ballot client sequence value released m later leads after;

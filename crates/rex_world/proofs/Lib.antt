@@ -3,6 +3,8 @@ pub mod Arming
 pub mod Headlines
 pub mod Ranges
 pub mod Runs
+pub mod Longest
+pub mod Traces
 pub mod Seated
 pub mod Sending
 pub mod Failing

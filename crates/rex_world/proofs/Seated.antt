@@ -17,7 +17,7 @@ past_one : (i : ℕ) → suc (suc i) ≢ 1
 past_one i e = absurd (omega arith)
 
 -- a node that isn't the first one is among the others
-later_at : (x : Here) (xs : List Here) (i : ℕ) → node_at (x ∷ xs) (suc (suc i)) ≡ node_at xs (suc i)
+pub later_at : (x : Here) (xs : List Here) (i : ℕ) → node_at (x ∷ xs) (suc (suc i)) ≡ node_at xs (suc i)
 later_at x xs i = let e : suc (suc i) - 1 ≡ suc i = omega arith in rw (ne_eqb (suc (suc i)) 1 (past_one i), e) refl
 
 later_put : (x : Here) (xs : List Here) (i : ℕ) (y : Here) → put (x ∷ xs) (suc (suc i)) y ≡ x ∷ put xs (suc i) y

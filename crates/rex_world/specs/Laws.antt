@@ -1,11 +1,10 @@
 -- What holds of every run of a scenario.
-use Rattle.std.specs.Prelude.{◌≡◌, ◌⊎◌, ℕ, ℤ, ◌≤◌, List, ◌++◌, Some, slice_get}
+use Rattle.std.specs.Prelude.{◌≡◌, ◌⊎◌, ℕ, ℤ, ◌≤◌, List, ◌++◌, Some, slice_get, map, take}
 use Rattle.std.specs.List.{All}
 use Rattle.rex_syntax.specs.declared.request.Request.{Request}
 use Rattle.rex_syntax.specs.declared.service.Declarations.{Declarations}
 use Rattle.rex_syntax.specs.Service.{IsService}
 use Rattle.rex_syntax.specs.Check.{IsChecked}
-use Rattle.rex_event.specs.Causes.{AreRight}
 use Rattle.rex_event.specs.Cuts.{IsConsistent}
 use Rattle.rex_state.specs.Value.{StateValue}
 use Rattle.rex_state.specs.Start.{start_of}
@@ -13,6 +12,9 @@ use Rattle.rex_state.specs.Machine.{run}
 use Rattle.rex_state.specs.Commute.{GoesFirst}
 use Rattle.rex_scenario.specs.declared.scenario.ScheduleLine.{ScheduleLine}
 use Rattle.rex_scenario.specs.Fits.{RequestFits}
+use Rattle.rex_reduce.specs.Reduced.{AreLeast}
+use Rattle.rex_order.specs.Laws.{CutRunsAlike, AllowExtensions}
+use Rattle.rex_order.specs.Edges.{HasEdge}
 use Rattle.rex_safety.specs.Quorum.{IsNode}
 use Rattle.rex_safety.specs.Values.{Value, delta_of, trace_of}
 use Rattle.rex_safety.specs.Invariant.{IsIn, Begins}
@@ -27,7 +29,7 @@ use Rattle.rex_safety.specs.Stands.{Stands}
 abbrev pub AtFronts : List ScheduleLine → (List ScheduleLine → Type 0) → Type 0
 AtFronts lines P = (front rest : List ScheduleLine) → lines ≡ front ++ rest → P front
 
--- of a run of these lines with n nodes: what two nodes know, the same or different ones, each at its moment, is one list a front of the other; each front of the agreed trace runs from the start on one thread; the events below each of its consistent cuts run too, and the others lead on from there to the same state; the causes of each agreed delta are right; each request begins at most once and is replied to at most once in the agreed trace; and each reply that was released stands in the trace of every later leader
+-- of a run of these lines with n nodes: what two nodes know, the same or different ones, each at its moment, is one list a front of the other; each front of the agreed trace runs from the start on one thread; the events below each of its consistent cuts run too, in every order that keeps what has to come first, to one state, and the others lead on from there to the state of the whole; these orders are just those that the edges of the agreed deltas allow; the causes of each of these are the least that are right; each request begins at most once and is replied to at most once in the agreed trace; and each reply that was released stands in the trace of every later leader
 pub record Headline (service : Declarations) (requests : List Request) (seed n : ℕ) (lines : List ScheduleLine) : Type 0 where
   pub prefix : (earlier later rest : List ScheduleLine) → lines ≡ (earlier ++ later) ++ rest → (a b : ℕ) → IsNode n a → IsNode n b
       → Begins (known_at (world_after service requests seed n earlier) a) (known_at (world_after service requests seed n (earlier ++ later)) b)
@@ -35,7 +37,11 @@ pub record Headline (service : Declarations) (requests : List Request) (seed n :
   pub runs : AtFronts lines (λ front. (k : ℕ) → (s : StateValue) × (run service (start_of service) (trace_at (world_after service requests seed n front) k) ≡ Some s))
   pub cuts : AtFronts lines (λ front. (k : ℕ) (cut : List ℕ) → IsConsistent (trace_at (world_after service requests seed n front) k) cut
       → (s : StateValue) × (run service (start_of service) (trace_at (world_after service requests seed n front) k) ≡ Some s) × GoesFirst service (start_of service) s cut (trace_at (world_after service requests seed n front) k))
-  pub causes : AtFronts lines (λ front. (v : Value) → IsIn v (agreed (world_after service requests seed n front)) → AreRight (delta_of v).events (delta_of v).causes)
+  pub orders : AtFronts lines (λ front. (k : ℕ) (cut : List ℕ) → IsConsistent (trace_at (world_after service requests seed n front) k) cut
+      → CutRunsAlike service (start_of service) (trace_at (world_after service requests seed n front) k) cut)
+  pub edges : AtFronts lines (λ front. (k : ℕ) (cut : List ℕ) → IsConsistent (trace_at (world_after service requests seed n front) k) cut
+      → AllowExtensions (HasEdge (map delta_of (take k (agreed (world_after service requests seed n front))))) (trace_at (world_after service requests seed n front) k) cut)
+  pub causes : AtFronts lines (λ front. (v : Value) → IsIn v (agreed (world_after service requests seed n front)) → AreLeast (delta_of v).events (delta_of v).causes)
   pub once : AtFronts lines (λ front. IsOnce (trace_of (agreed (world_after service requests seed n front))))
   pub stands : AtFronts lines (λ front. (i j : ℕ) (release lead : Moment) → slice_get (moments service requests seed n (beginning n) front) i ≡ Some release → slice_get (moments service requests seed n (beginning n) front) j ≡ Some lead
       → (ballot client sequence : ℕ) (value : ℤ) → IsReleased release ballot client sequence value

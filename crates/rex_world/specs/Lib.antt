@@ -5,6 +5,7 @@ pub mod Calls
 pub mod Places
 pub mod Finding
 pub mod Report
+pub mod Tracing
 pub mod Laws
 pub mod Writing
 pub mod Handing

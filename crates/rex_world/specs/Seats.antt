@@ -85,6 +85,11 @@ abbrev pub AreSeats : Declarations → (seed nodes number : ℕ) → List Seat �
 AreSeats service seed nodes number [] = Unit {0}
 AreSeats service seed nodes number (seat ∷ seats) = IsSeat service seed nodes number seat × AreSeats service seed nodes (suc number) seats
 
+-- each record of these nodes' keepers is read again
+abbrev pub AreReadAll : Declarations → List Seat → Type 0
+AreReadAll service [] = Unit {0}
+AreReadAll service (seat ∷ seats) = AreRead service (records_of (keeper_in seat)) × AreReadAll service seats
+
 -- no keeper of these nodes fails more often
 abbrev pub AreWithin : ℕ → List Seat → Type 0
 AreWithin most [] = Unit {0}

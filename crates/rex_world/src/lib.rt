@@ -1,6 +1,7 @@
 //! A world of nodes: what each schedule line does to it, and the report of a whole scenario.
 #![tactic(auto)]
 
+mod agreed;
 mod calls;
 mod delivering;
 mod ends;
@@ -12,7 +13,9 @@ mod report;
 mod run;
 mod seats;
 mod told;
+mod tracing;
 mod world;
 
 pub use run::RunFault;
+pub use tracing::trace;
 pub use world::World;

@@ -138,6 +138,16 @@ impl Seat {
         }
     }
 
+    /// The keeper of the node.
+    pub(crate) fn keeper(&self) -> &MemKeeper
+        ensures { result.now ≡ keeper_in self.now }
+    {
+        match self {
+            Seat::Running(node) => node.keeper(),
+            Seat::Stopped(keeper) => keeper,
+        }
+    }
+
     // The keeper of the node; one without records is left in its place.
     fn take_keeper(&mut self, alloc: Global) -> MemKeeper
         ensures { result ≡ keeper_in self.old }

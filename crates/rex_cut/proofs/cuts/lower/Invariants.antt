@@ -1,7 +1,7 @@
 use Rattle.std.proofs.Common.{◌≡◌, [], drop}
 use Rattle.std.specs.List.{All}
 use Rattle.rex_cut.specs.Greatest.{lowered}
-use Rattle.rex_cut.specs.Lanes.{HasLane}
+use Rattle.rex_clocks.specs.Lanes.{HasLane}
 use Rattle.rex_cut.proofs.cuts.lower.Given as goal
 
 abbrev pub invariant-loop-event : goal.invariant-loop-event

@@ -1,5 +1,5 @@
-use Rattle.rex_cut.proofs.Deltas.{delta_right}
+use Rattle.rex_cut.proofs.Deltas.{delta_least}
 use Rattle.rex_cut.proofs.laws.causes_are_right.Goals as goal
 
 pub returns : goal.returns
-returns c = λ cut es good. delta_right cut es good
+returns c = λ cut es good. (delta_least cut es good).right

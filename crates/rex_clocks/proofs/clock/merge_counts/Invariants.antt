@@ -1,0 +1,11 @@
+use Rattle.std.proofs.Common.{◌≡◌, ℕ, ◌<◌, ◌≤◌, max, length}
+use Rattle.rex_event.specs.Cuts.{count_at}
+use Rattle.rex_clocks.specs.declared.clock.TheConstants.{LANES}
+use Rattle.rex_clocks.proofs.clock.merge_counts.Given as goal
+
+abbrev pub invariant-loop-lane : goal.invariant-loop-lane
+invariant-loop-lane l = record {
+  done : (k : ℕ) → k < l.lane → count_at l.counts k ≡ max (count_at l.initial.counts k) (count_at l.others k);
+  left : (k : ℕ) → l.lane ≤ k → count_at l.counts k ≡ count_at l.initial.counts k;
+  long : length l.counts ≡ LANES;
+}

@@ -1,0 +1,4 @@
+pub mod Lanes
+pub mod Counts
+pub mod Clocks
+pub mod Laws

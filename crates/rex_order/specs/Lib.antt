@@ -1,0 +1,4 @@
+pub mod Extensions
+pub mod Edges
+pub mod Enabled
+pub mod Laws

@@ -1,0 +1,13 @@
+pub mod Joined
+pub mod Conflicts
+pub mod Kept
+pub mod Beneath
+pub mod Direct
+pub mod First
+pub mod Right
+pub mod Least
+pub mod Fits
+pub mod Once
+pub mod Reduced
+mod Steps
+pub mod Examples

@@ -1,0 +1,11 @@
+//! The least causes that are right for the events of a trace.
+#![tactic(auto)]
+
+pub mod laws;
+mod names;
+mod reduction;
+mod summary;
+mod tables;
+mod uses;
+
+pub use reduction::{Causes, reduce};

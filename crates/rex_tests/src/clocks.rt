@@ -1,0 +1,26 @@
+use rex_clocks::Clock;
+use std::test::*;
+
+#[test]
+fn clocks_cover_what_they_merge(rt: HostRuntime) {
+    let mut first = Clock::new();
+    let mut second = Clock::new();
+    assert!(rt; !first.covers(2, 0));
+    first.tick(2);
+    second.tick(2);
+    second.tick(2);
+    second.tick(15);
+    first.merge(&second);
+    let table = [
+        (2, 1, true),
+        (2, 2, false),
+        (15, 0, true),
+        (14, 0, false),
+        (16, 0, false),
+    ];
+    for (lane, place, covered) in table {
+        assert_eq!(rt; first.covers(lane, place), covered);
+    }
+    assert_eq!(rt; first.count(2), 2);
+    assert!(rt; first == second);
+}

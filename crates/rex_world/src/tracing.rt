@@ -1,0 +1,111 @@
+//! The agreed trace of a scenario.
+
+ghost use Rattle.std.specs.Prelude.{◌≡◌, ◌<◌, ◌≤◌, ◌+◌, ◌^◌, ◌++◌, length, IfOk, OnOk};
+ghost use Rattle.rex_report.specs.Trace.{delta_text};
+ghost use Rattle.rex_scenario.specs.Fits.{ScenarioFits};
+ghost use Rattle.rex_safety.specs.Values as values;
+ghost use Rattle.rex_safety.specs.Values.{delta_of};
+ghost use Rattle.rex_safety.specs.World.{after_lines};
+ghost use Rattle.rex_world.specs.Kept.{IsOf, IsRunning};
+ghost use Rattle.rex_world.specs.Tracing.{trace_text, values_text};
+ghost use Rattle.rex_world.specs.World.{world_of};
+
+use crate::world::World;
+use rex_ballot::Value;
+use rex_delta::{DecodeError, decode};
+use rex_event::Delta;
+use rex_list::List;
+use rex_replay::Replayer;
+use rex_report::push_delta;
+use rex_scenario::Scenario;
+use rex_syntax::checked::Checked;
+use rex_syntax::service::Declarations;
+use std::alloc::{AllocError, Global};
+
+impl World {
+    // Does the lines of a scenario's schedule from the world as it stands; what they report is dropped.
+    fn follow<R: Replayer>(
+        &mut self,
+        svc: &Checked,
+        replayer: &mut R,
+        scenario: &Scenario,
+    ) -> Result<(), AllocError>
+        requires running { IsRunning svc.now self.old }
+        requires ready { R.ready replayer.old }
+        requires fits { ScenarioFits svc.now scenario.now }
+        requires of { IsOf scenario.now self.old }
+        requires count { self.old.done + length scenario.now.schedule < 2 ^ 32 }
+        ensures world { OnOk result (world_of svc.now self.new ≡ after_lines svc.now scenario.now.requests scenario.now.seed scenario.now.nodes (world_of svc.now self.old) scenario.now.schedule) }
+        ensures running { OnOk result (IsRunning svc.now self.new) }
+    {
+        for line in scenario.schedule.as_slice() {
+            self.step(svc, replayer, line)?;
+        }
+        Ok(())
+    }
+}
+
+// Appends the lines of an agreed value.
+fn push_value(
+    out: &mut Vec<u8>,
+    alloc: Global,
+    service: &Declarations,
+    instance: u32,
+    value: &[u8],
+) -> Result<(), AllocError>
+    ensures { OnOk result (out.new.items ≡ out.old.items ++ delta_text service.now instance (delta_of value.now)) }
+{
+    match decode(alloc, value) {
+        Ok(delta) => push_delta(out, service, instance, &delta),
+        Err(DecodeError::OutOfMemory) => Err(AllocError),
+        Err(DecodeError::Bad { .. }) => push_delta(out, service, instance, &no_delta(alloc)),
+    }
+}
+
+// A delta of nothing.
+fn no_delta(alloc: Global) -> Delta
+    ensures { result ≡ values.no_delta }
+{
+    Delta {
+        bases: List::new(alloc),
+        events: List::new(alloc),
+        causes: List::new(alloc),
+    }
+}
+
+// Appends the lines of agreed values.
+fn push_values(
+    out: &mut Vec<u8>,
+    alloc: Global,
+    service: &Declarations,
+    values: &[Value],
+) -> Result<(), AllocError>
+    requires { length values.now ≤ 65535 }
+    ensures { OnOk result (out.new.items ≡ out.old.items ++ values_text service.now 1 values.now) }
+{
+    for place in 0..values.len() {
+        let value = &values[place];
+        push_value(out, alloc, service, place as u32 + 1, value.as_slice())?;
+    }
+    Ok(())
+}
+
+/// The agreed trace after the run of a scenario: for each agreed value its delta, with its causes.
+pub fn trace<R: Replayer>(
+    alloc: Global,
+    svc: &Checked,
+    replayer: &mut R,
+    scenario: &Scenario,
+) -> Result<Vec<u8>, AllocError>
+    requires fits { ScenarioFits svc.now scenario.now }
+    requires ready { R.ready replayer.old }
+    ensures { IfOk result (λ text. text.items ≡ trace_text svc.now scenario.now) }
+{
+    let _service = svc.declarations();
+    let mut world = World::new(alloc, svc, scenario)?;
+    world.follow(svc, replayer, scenario)?;
+    let values = world.agreed(svc)?;
+    let mut text = Vec::new(alloc);
+    push_values(&mut text, alloc, svc.declarations(), values.as_slice())?;
+    Ok(text)
+}
