@@ -85,11 +85,6 @@ impl Proposals {
         }
     }
 
-    /// Where their memory comes from.
-    pub fn allocator(&self) -> Global {
-        *self.items.allocator()
-    }
-
     /// All of them, rising by instance.
     pub fn as_slice(&self) -> &[Proposal]
         ensures is { result.now ≡ self.now }
@@ -119,6 +114,16 @@ impl Proposals {
     {
         put(&mut self.items, proposal)?;
         Ok(())
+    }
+
+    /// Puts the proposal of this value, which it copies, in place of that of its instance. Where memory is short nothing
+    /// changes.
+    pub fn put_copy(&mut self, instance: u32, ballot: u64, value: &[u8]) -> Result<(), AllocError>
+        ensures ok { OnOk result (self.new ≡ spec.with_proposal self.old (record { instance = instance; ballot = ballot; value = value.now })) }
+        ensures err { OnErr result (self.new ≡ self.old) }
+    {
+        let proposal = Proposal::new(*self.items.allocator(), instance, ballot, value)?;
+        self.put(proposal)
     }
 
     /// Forgets those for the instances up to this one. It takes no memory.

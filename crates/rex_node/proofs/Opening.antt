@@ -7,7 +7,6 @@ use Rattle.rex_ballot.specs.Proposals.{IsValue, proposal_for}
 use Rattle.rex_ballot.proofs.Lists.{proposals_are_replaced}
 use Rattle.rex_paxos.specs.Acceptor.{AcceptorValue, accepting}
 use Rattle.rex_paxos.specs.Counting as counting
-use Rattle.rex_paxos.specs.Counting.{IsOneOf, AreCounted}
 use Rattle.rex_paxos.specs.Proposer.{ProposerValue, CountsOnce, proposed}
 use Rattle.rex_paxos.proofs.Counted.{counted_none, counted_push}
 use Rattle.rex_syntax.specs.declared.service.Declarations.{Declarations}

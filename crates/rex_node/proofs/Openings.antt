@@ -6,7 +6,6 @@ use Rattle.rex_ballot.specs.Ballot.{node_of}
 use Rattle.rex_ballot.proofs.Lists.{proposal_for-with}
 use Rattle.rex_paxos.specs.Acceptor.{AcceptorValue, accepting}
 use Rattle.rex_paxos.specs.Counting as counting
-use Rattle.rex_paxos.specs.Counting.{IsOneOf, AreCounted}
 use Rattle.rex_paxos.specs.Proposer.{ProposerValue, is_candidate, proposed}
 use Rattle.rex_paxos.proofs.Counted.{counted_none, counted_push}
 use Rattle.rex_safety.specs.Records.{Proposal, proposal_of}

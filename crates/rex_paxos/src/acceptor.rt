@@ -110,8 +110,7 @@ impl Acceptor {
         ensures ok { OnOk result (self.new ≡ spec.accepting self.old (record { instance = instance; ballot = ballot; value = value.now })) }
         ensures err { OnErr result (self.new ≡ self.old) }
     {
-        let proposal = Proposal::new(self.accepted.allocator(), instance, ballot, value)?;
-        self.accepted.put(proposal)?;
+        self.accepted.put_copy(instance, ballot, value)?;
         self.promised = self.promised.max(ballot);
         Ok(())
     }

@@ -17,7 +17,7 @@ use Rattle.rex_safety.proofs.Grow.{begins_length, Allowed}
 use Rattle.rex_safety.proofs.Step.{acc_below}
 use Rattle.rex_safety.proofs.Roles.{knows_grows, role_grows, put_same, next, grown, next_good, out_grows, records_here, append_good, just_both, just_one, just_others}
 use Rattle.rex_safety.proofs.Lists.{length_push, in_cases, is_in_push, in_from_on, base_low, accepted_real, accepted_covers, from_on_covers, covers_left, covers_right}
-use Rattle.rex_safety.proofs.Settle.{at_most, free_p2c, propose_good, settle_good}
+use Rattle.rex_safety.proofs.Settle.{at_most, free_safe_at, propose_good, settle_good}
 
 -- ---- ballots
 
@@ -215,7 +215,7 @@ module _ {V S : Type 0} where
     active_proposes told v d good l ok e x y f =
         let r = ok.ready x in
         propose_good n sv L R ms m min told d good l v ok e r.majority
-        (free_p2c n sv (K d) d.node.log m l good.safe ok r.majority r.nothing v)
+        (free_safe_at n sv (K d) d.node.log m l good.safe ok r.majority r.nothing v)
         (record { values = known d.node.log; place = refl; chosen = at_most n sv (K d) d.node.log m l good.safe ok r.majority; fits = y })
         (settle f n sv m) (settle_good n sv L R ms m min f)
 

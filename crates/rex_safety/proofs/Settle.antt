@@ -9,7 +9,7 @@ use Rattle.rex_safety.specs.Quorum.{IsNode, count, Quorum, Logs, ChosenAt, Chose
 use Rattle.rex_safety.specs.Node.{Service, Message, Lead, Role, Node}
 use Rattle.rex_safety.specs.Node.Content.{Accept, Chosen as Chose}
 use Rattle.rex_safety.specs.Node.Role.{Follower, Leads}
-use Rattle.rex_safety.specs.Invariant.{IsIn, Covers, IsOpen, with_log, P2c, Prior, AreSafe, Grows, HasHeard, WasReported, Open, IsRightOpen, IsAgainst, LeadsRightly, IsRightRole, IsReplayed, KeepsAll}
+use Rattle.rex_safety.specs.Invariant.{IsIn, Covers, IsOpen, with_log, IsSafeAt, Prior, AreSafe, Grows, HasHeard, WasReported, Open, IsRightOpen, IsAgainst, LeadsRightly, IsRightRole, IsReplayed, KeepsAll}
 use Rattle.rex_safety.specs.Calls.{Call, say, send, others, leading, led, propose, replayed_known, learned, decide, best, choose, lead, turn, settle}
 use Rattle.rex_safety.proofs.Quorums.{overlap}
 use Rattle.rex_safety.proofs.Agree.{agreement}
@@ -93,8 +93,8 @@ module _ {V S : Type 0} where
     promise_quorum = majority n l.counted (λ q. l.ballot ≤ promise (K q)) maj (λ q x e. has_below l.ballot (K q) (ok.heard q x e).promised)
 
     -- an adopted value is the one of the greatest ballot
-    pub adopt_p2c : (p : Proposal V) → BestOk (suc (length (known log))) l.reported (Some p) → P2c n K l.ballot (suc (length (known log))) p.value
-    adopt_p2c p b = record {
+    pub adopt_safe_at : (p : Proposal V) → BestOk (suc (length (known log))) l.reported (Some p) → IsSafeAt n K l.ballot (suc (length (known log))) p.value
+    adopt_safe_at p b = record {
       quorum = promise_quorum;
       pick = inr (record {
         node = d.node;
@@ -111,8 +111,8 @@ module _ {V S : Type 0} where
         d = ok.said p b.0
 
     -- an active node's value is free
-    pub free_p2c : ((p : Proposal V) → IsIn p l.reported → p.instance ≤ length (known log)) → (v : V) → P2c n K l.ballot (suc (length (known log))) v
-    free_p2c none v = record { quorum = promise_quorum; pick = inl (λ q x e c w lt a. no ((ok.heard q x e).covers c (suc (length (known log))) w (lt-suc_self _) lt a)) }
+    pub free_safe_at : ((p : Proposal V) → IsIn p l.reported → p.instance ≤ length (known log)) → (v : V) → IsSafeAt n K l.ballot (suc (length (known log))) v
+    free_safe_at none v = record { quorum = promise_quorum; pick = inl (λ q x e c w lt a. no ((ok.heard q x e).covers c (suc (length (known log))) w (lt-suc_self _) lt a)) }
       where
         no : {c : ℕ} → Covers l.reported (suc (length (known log))) c → ⊥
         no h = absurd (omega (arith, none h.it h.inside, h.at))
@@ -194,8 +194,8 @@ module _ {V S : Type 0} where
           ready = λ t. let r = ok.ready t in record { majority = r.majority; nothing = λ y x. le_trans (r.nothing y x) more };
         }
 
-    pub propose_good : (told : Effect) (d : Call V S) → G d → (l : Lead V) (v : V) → LeadsRightly n (with_log L m d.node.log) d.node.log m l → l.proposal ≡ None → is_majority n l.counted ≡ true → P2c n (with_log L m d.node.log) l.ballot (suc (length (known d.node.log))) v → Prior n sv (with_log L m d.node.log) l.ballot (suc (length (known d.node.log))) v → (k : Call V S → Call V S) → ((e : Call V S) → G e → G (k e)) → G (propose n m told d l (suc (length (known d.node.log))) v k)
-    propose_good told d good l v ok e maj p2c prior k kgood =
+    pub propose_good : (told : Effect) (d : Call V S) → G d → (l : Lead V) (v : V) → LeadsRightly n (with_log L m d.node.log) d.node.log m l → l.proposal ≡ None → is_majority n l.counted ≡ true → IsSafeAt n (with_log L m d.node.log) l.ballot (suc (length (known d.node.log))) v → Prior n sv (with_log L m d.node.log) l.ballot (suc (length (known d.node.log))) v → (k : Call V S → Call V S) → ((e : Call V S) → G e → G (k e)) → G (propose n m told d l (suc (length (known d.node.log))) v k)
+    propose_good told d good l v ok e maj safe_at prior k kgood =
         append_good n sv L R ms m d min good r allowed d.node.armed
         (λ e. k (send (say told (led (leading l (Some (proposal_of l.ballot i v)) (m ∷ []) l.active) e)) (others n m (Accept l.ballot i v))))
         (λ a. kgood _ (next_good n sv L R ms m d min good r allowed (record d.node { armed = a; role = leading l (Some (proposal_of l.ballot i v)) (m ∷ []) l.active }) (d.sends ++ others n m (Accept l.ballot i v)) _ role (record { based = good.here.based; replayed = good.here.replayed })
@@ -217,7 +217,7 @@ module _ {V S : Type 0} where
         owner-in = subst (λ q. IsNode n q) (sym ok.owned) min
 
         allowed : Allowed n sv K d.node.log m r
-        allowed = (le_of_eq ok.promised, owner-in, inl (sym ok.owned, fresh, p2c, prior))
+        allowed = (le_of_eq ok.promised, owner-in, inl (sym ok.owned, fresh, safe_at, prior))
 
         M : Logs V S
         M = next n sv L R ms m d min good r allowed
@@ -274,7 +274,7 @@ module _ {V S : Type 0} where
     }
     choose_good d good l ok e maj (Some p) b k kgood =
         propose_good (effect.Adopts m (suc (length (known d.node.log))) (sv.size p.value)) d good l p.value ok e maj
-        (adopt_p2c n sv (with_log L m d.node.log) d.node.log m l good.safe ok maj p b)
+        (adopt_safe_at n sv (with_log L m d.node.log) d.node.log m l good.safe ok maj p b)
         (adopt_prior n sv (with_log L m d.node.log) d.node.log m l good.safe ok maj p b) k kgood
 
     lead_good : (d : Call V S) → G d → (l : Lead V) → LeadsRightly n (with_log L m d.node.log) d.node.log m l → (o : Option (Proposal V)) → l.proposal ≡ o → (k : Call V S → Call V S) → ((e : Call V S) → G e → G (k e)) → G (lead n sv m d l o k)

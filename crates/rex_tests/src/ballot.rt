@@ -100,7 +100,7 @@ fn proposals_are_of_a_list(rt: HostRuntime) -> Result<(), Fail> {
     let mut list = List::new(rt.alloc());
     list.push(Proposal::new(rt.alloc(), 4, 17, &[])?)?;
     let mut proposals = Proposals::from_list(list);
-    proposals.put(Proposal::new(proposals.allocator(), 2, 17, &[])?)?;
+    proposals.put_copy(2, 17, &[])?;
     assert!(rt; are(proposals.as_slice(), &[(2, 17), (4, 17)]));
     Ok(())
 }

@@ -55,7 +55,9 @@ fn shared() -> [Event; 8]
     ]
 }
 
-pub fn cause(lane: u8, index: u32) -> Cause {
+pub fn cause(lane: u8, index: u32) -> Cause
+    ensures { result ≡ record { lane = lane; index = index } }
+{
     Cause { lane, index }
 }
 
