@@ -110,8 +110,8 @@ pub fn events(
     ensures { ReadsOn result reader.new (events_at bases.now bases.now count reader.old) }
 {
     let mut counts = Vec::from_slice(alloc, bases)?;
-    let mut events = List::new(alloc);
-    let mut lists = List::new(alloc);
+    let mut events = List::from_vec(Vec::with_capacity(alloc, count as usize)?);
+    let mut lists = List::from_vec(Vec::with_capacity(alloc, count as usize)?);
     for _ in 0..count {
         let (event, causes) = event(alloc, reader, bases, &counts)?;
         counts[event.lane as usize] = event.index + 1;

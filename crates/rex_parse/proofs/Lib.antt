@@ -1,6 +1,8 @@
+pub mod Longest
 pub mod Weighing
-pub mod Terms
 pub mod Fine
+pub mod Terms
+pub mod Values
 pub mod Shapes
 pub mod Looking
 pub mod PlainLines

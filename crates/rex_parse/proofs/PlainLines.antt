@@ -12,7 +12,7 @@ use Rattle.rex_parse.specs.declared.language.Above.{Above}
 use Rattle.rex_parse.specs.declared.language.Form.TheVariants as form
 use Rattle.rex_parse.proofs.Fine.{fine_line}
 
-wait_shape : (ws : List (Bor Word)) → length ws < 2 → is_misshapen (slots form.Wait) (texts ws) ≡ true
+pub wait_shape : (ws : List (Bor Word)) → length ws < 2 → is_misshapen (slots form.Wait) (texts ws) ≡ true
 wait_shape [] lt = refl
 wait_shape (w ∷ []) lt = refl
 wait_shape (w ∷ v ∷ ws) lt = absurd (omega arith)

@@ -1,7 +1,6 @@
 -- The words of a line that no code fits.
-use Rattle.std.proofs.Common.{◌≡◌, ℕ, ◌-◌, ◌<◌, ◌≤◌, Bool, true, false, ◌||◌, List, [], ◌∷◌, length, get_or, take, drop, None, refl, arith}
+use Rattle.std.proofs.Common.{◌≡◌, ℕ, ◌<◌, ◌≤◌, Bool, true, false, ◌||◌, List, [], ◌∷◌, length, get_or, drop, None, refl, ap, ◌∙◌, arith}
 use Rattle.std.specs.Borrow.{Bor}
-use Rattle.std.proofs.lemmas.List.{take_rest}
 use Rattle.rex_text.specs.Text.{Word}
 use Rattle.rex_syntax.specs.declared.expr.Expr.{Expr}
 use Rattle.rex_syntax.specs.declared.line.Line.TheVariants as line
@@ -13,7 +12,7 @@ use Rattle.rex_parse.specs.declared.language.Above.{Above}
 use Rattle.rex_parse.specs.declared.language.Form.TheVariants as form
 use Rattle.rex_parse.proofs.Fine.{fine_line}
 
-or_true : (b : Bool) → (b || true) ≡ true
+pub or_true : (b : Bool) → (b || true) ≡ true
 or_true true = refl
 or_true false = refl
 
@@ -21,12 +20,12 @@ or_or_true : (b c : Bool) → (b || (c || true)) ≡ true
 or_or_true true c = refl
 or_or_true false c = or_true c
 
-set_shape : (ws : List (Bor Word)) → length ws < 2 → is_misshapen (slots form.Set) (texts ws) ≡ true
+pub set_shape : (ws : List (Bor Word)) → length ws < 2 → is_misshapen (slots form.Set) (texts ws) ≡ true
 set_shape [] lt = refl
 set_shape (w ∷ []) lt = refl
 set_shape (w ∷ v ∷ ws) lt = absurd (omega arith)
 
-let_shape : (ws : List (Bor Word)) → length ws < 2 → is_misshapen (slots form.Let) (texts ws) ≡ true
+pub let_shape : (ws : List (Bor Word)) → length ws < 2 → is_misshapen (slots form.Let) (texts ws) ≡ true
 let_shape [] lt = refl
 let_shape (w ∷ []) lt = refl
 let_shape (w ∷ v ∷ ws) lt = absurd (omega arith)
@@ -54,11 +53,9 @@ let_now : (a b new : Above) (w : Word) (ws : List Word) (number place : ℕ) (va
     → new ≡ with_line b number (line.Let place value) → new ≡ with_line (with_local a w) number (line.Let (local_place (with_local a w) w) (expr_of a ws))
 let_now a b new w ws number place value made at is e = rw (← made, ← at, ← is) e
 
-pub let_after : (a b new : Above) (ws : List (Bor Word)) (d : Bor Word) (number place : ℕ) (value : Expr) → 2 ≤ length ws
-    → b ≡ with_local a (get_or ws 0 d).now → place ≡ local_place b (get_or ws 0 d).now → value ≡ expr_of a (texts (take (length ws - 2) (drop 2 ws)))
+pub let_after : (a b new : Above) (ws : List (Bor Word)) (d : Bor Word) (number place : ℕ) (rest : List Word) (value : Expr) → 2 ≤ length ws → rest ≡ drop 2 (texts ws)
+    → b ≡ with_local a (get_or ws 0 d).now → place ≡ local_place b (get_or ws 0 d).now → value ≡ expr_of a rest
     → new ≡ with_line b number (line.Let place value) → new ≡ after_form a number form.Let (texts ws)
-let_after a b new [] d number place value two made at is e = absurd (omega arith)
-let_after a b new (w ∷ []) d number place value two made at is e = absurd (omega arith)
-let_after a b new (w ∷ v ∷ ws) d number place value two made at is e =
-    let whole : value ≡ expr_of a (texts ws) = rw take_rest at is in
-    let_now a b new w.now (texts ws) number place value made at whole e
+let_after a b new [] d number place rest value two r made at is e = absurd (omega arith)
+let_after a b new (w ∷ []) d number place rest value two r made at is e = absurd (omega arith)
+let_after a b new (w ∷ v ∷ ws) d number place rest value two r made at is e = let_now a b new w.now (texts ws) number place value made at (is ∙ ap (expr_of a) r) e

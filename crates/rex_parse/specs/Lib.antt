@@ -5,6 +5,7 @@ pub mod Table
 pub mod After
 pub mod Reading
 pub mod Growing
+pub mod Following
 pub mod Good
 pub mod Answers
 pub mod Law

@@ -27,8 +27,13 @@ impl Above {
         )
     }
 
-    // `if EXPR`
-    pub(crate) fn if_code(&self, words: &[&[u8]]) -> Option<ServiceCode>
+    // `if EXPR`, where this is the expression's code
+    pub(crate) fn if_code(
+        &self,
+        words: &[&[u8]],
+        test_code: Option<ServiceCode>,
+    ) -> Option<ServiceCode>
+        requires { test_code ≡ table.whole_expr_code self.now (texts words.now) }
         ensures { result ≡ table.form_code self.now form.If (texts words.now) }
     {
         if !self.is_open() {
@@ -38,7 +43,7 @@ impl Above {
             return Some(ServiceCode::BadForm);
         }
         least(
-            self.whole_expr_code(words),
+            test_code,
             least(self.full_code(), self.order_code(Form::If)),
         )
     }
@@ -73,8 +78,13 @@ impl Above {
         least(self.full_code(), self.order_code(Form::Busy))
     }
 
-    // `reply EXPR`
-    pub(crate) fn reply_code(&self, words: &[&[u8]]) -> Option<ServiceCode>
+    // `reply EXPR`, where this is the expression's code
+    pub(crate) fn reply_code(
+        &self,
+        words: &[&[u8]],
+        value_code: Option<ServiceCode>,
+    ) -> Option<ServiceCode>
+        requires { value_code ≡ table.whole_expr_code self.now (texts words.now) }
         ensures { result ≡ table.form_code self.now form.Reply (texts words.now) }
     {
         if !self.is_open() {
@@ -84,9 +94,6 @@ impl Above {
             return Some(ServiceCode::BadForm);
         }
         let limits = least(self.full_code(), self.inside_code());
-        least(
-            self.whole_expr_code(words),
-            least(limits, self.order_code(Form::Reply)),
-        )
+        least(value_code, least(limits, self.order_code(Form::Reply)))
     }
 }

@@ -7,6 +7,7 @@ ghost use Rattle.rex_parse.specs.declared.language.Form.TheVariants as form;
 ghost use Rattle.rex_parse.specs.Answers.{texts, Takes};
 
 use crate::blocks::BlockKind;
+use crate::exprs::ReadExpr;
 use crate::language::{Above, Fault, Form};
 use crate::words::turns_of;
 use rex_syntax::line::Line;
@@ -81,11 +82,14 @@ impl Above {
             (after_form self.old number form.If (texts words.now)) self.new }
         ensures locals { length self.new.locals ≤ 16 }
     {
-        if let Some(code) = self.if_code(words) {
+        let ReadExpr { code, expr } = self.read_expr(alloc, words)?;
+        if let Some(code) = self.if_code(words, code) {
             return Err(Fault::Refused(code));
         }
-        let test = self.expr_of(alloc, words)?;
-        let line = Line::If { test, otherwise: 0 };
+        let line = Line::If {
+            test: expr,
+            otherwise: 0,
+        };
         self.open_block(number, BlockKind::Then, line)?;
         Ok(())
     }
@@ -178,11 +182,11 @@ impl Above {
             (after_form self.old number form.Reply (texts words.now)) self.new }
         ensures locals { length self.new.locals ≤ 16 }
     {
-        if let Some(code) = self.reply_code(words) {
+        let ReadExpr { code, expr } = self.read_expr(alloc, words)?;
+        if let Some(code) = self.reply_code(words, code) {
             return Err(Fault::Refused(code));
         }
-        let value = self.expr_of(alloc, words)?;
-        self.push_line(number, Line::Reply { value })?;
+        self.push_line(number, Line::Reply { value: expr })?;
         self.end_handler(alloc)?;
         Ok(())
     }

@@ -100,17 +100,6 @@ impl Above {
         }
     }
 
-    // Of what a variable's name stands for.
-    fn variable_kind_code(&self, word: &[u8]) -> Option<ServiceCode>
-        ensures { result ≡ table.variable_kind_code (meaning_of self.now word.now) }
-    {
-        match self.meaning_of(word) {
-            None => Some(ServiceCode::Undeclared),
-            Some(Meaning::Variable(_)) => None,
-            Some(_) => Some(ServiceCode::WrongKind),
-        }
-    }
-
     /// Of a variable's name.
     #[tactic(auto, unfolding(crate::specs::Table::variable_code))]
     pub(crate) fn variable_code(&self, word: &[u8]) -> Option<ServiceCode>
@@ -122,7 +111,7 @@ impl Above {
         if self.is_local(word) {
             return Some(ServiceCode::WrongKind);
         }
-        self.variable_kind_code(word)
+        variable_kind_code(self.meaning_of(word))
     }
 
     /// Of a local's name, which may be new.
@@ -138,7 +127,7 @@ impl Above {
     }
 
     /// Of an operand.
-    pub(crate) fn operand_code(&self, word: &[u8]) -> Option<ServiceCode>
+    fn operand_code(&self, word: &[u8]) -> Option<ServiceCode>
         ensures { result ≡ table.operand_code self.now word.now }
     {
         if begins_number(word) {
@@ -150,7 +139,7 @@ impl Above {
         if self.is_local(word) {
             return None;
         }
-        self.variable_kind_code(word)
+        variable_kind_code(self.meaning_of(word))
     }
 
     // Of operands at the first, third, fifth place and so on, and operators at the others.
@@ -257,7 +246,19 @@ pub(crate) fn count_code(least: u64, most: u64, word: &[u8]) -> Option<ServiceCo
     fits(count_of(least, most, word).is_none(), ServiceCode::NoNumber)
 }
 
-fn operator_code(word: &[u8]) -> Option<ServiceCode>
+/// Of what is due to be a variable's name, by what it stands for.
+pub(crate) fn variable_kind_code(meaning: Option<Meaning>) -> Option<ServiceCode>
+    ensures { result ≡ table.variable_kind_code meaning }
+{
+    match meaning {
+        None => Some(ServiceCode::Undeclared),
+        Some(Meaning::Variable(_)) => None,
+        Some(_) => Some(ServiceCode::WrongKind),
+    }
+}
+
+/// Of an operator.
+pub(crate) fn operator_code(word: &[u8]) -> Option<ServiceCode>
     ensures { result ≡ table.operator_code word.now }
 {
     fits(operator_of(word).is_none(), ServiceCode::BadExpression)

@@ -1,6 +1,6 @@
 //! The least code that fits a line of a handler that leads to the next one alone.
 
-ghost use Rattle.std.specs.Prelude.{◌≡◌, ◌∷◌, [], ◌<◌, length};
+ghost use Rattle.std.specs.Prelude.{◌≡◌, ◌∷◌, [], drop};
 ghost use Rattle.rex_parse.specs.Table as table;
 ghost use Rattle.rex_parse.specs.declared.language.Form.TheVariants as form;
 ghost use Rattle.rex_parse.specs.Answers.{texts};
@@ -42,8 +42,13 @@ impl Above {
         )
     }
 
-    // `wait COND while EXPR`
-    pub(crate) fn wait_code(&self, words: &[&[u8]]) -> Option<ServiceCode>
+    // `wait COND while EXPR`, where this is the expression's code
+    pub(crate) fn wait_code(
+        &self,
+        words: &[&[u8]],
+        test_code: Option<ServiceCode>,
+    ) -> Option<ServiceCode>
+        requires { test_code ≡ table.whole_expr_code self.now (drop 2 (texts words.now)) }
         ensures { result ≡ table.form_code self.now form.Wait (texts words.now) }
     {
         if !self.is_open() {
@@ -56,14 +61,7 @@ impl Above {
             return Some(ServiceCode::BadForm);
         }
         let limits = least(self.full_code(), self.order_code(Form::Wait));
-        least(self.wait_words_code(condition, test), limits)
-    }
-
-    fn wait_words_code(&self, condition: &[u8], test: &[&[u8]]) -> Option<ServiceCode>
-        requires { 0 < length test.now }
-        ensures { result ≡ table.slots_code self.now (table.ConditionName ∷ table.Expression ∷ []) (condition.now ∷ texts test.now) }
-    {
-        least(self.condition_code(condition), self.whole_expr_code(test))
+        least(least(self.condition_code(condition), test_code), limits)
     }
 
     // `signal COND`, `broadcast COND`
@@ -82,8 +80,13 @@ impl Above {
         )
     }
 
-    // `set VAR = EXPR`
-    pub(crate) fn set_code(&self, words: &[&[u8]]) -> Option<ServiceCode>
+    // `set VAR = EXPR`, where this is the expression's code
+    pub(crate) fn set_code(
+        &self,
+        words: &[&[u8]],
+        value_code: Option<ServiceCode>,
+    ) -> Option<ServiceCode>
+        requires { value_code ≡ table.whole_expr_code self.now (drop 2 (texts words.now)) }
         ensures { result ≡ table.form_code self.now form.Set (texts words.now) }
     {
         if !self.is_open() {
@@ -96,18 +99,16 @@ impl Above {
             return Some(ServiceCode::BadForm);
         }
         let limits = least(self.full_code(), self.order_code(Form::Set));
-        least(self.set_words_code(variable, value), limits)
+        least(least(self.variable_code(variable), value_code), limits)
     }
 
-    fn set_words_code(&self, variable: &[u8], value: &[&[u8]]) -> Option<ServiceCode>
-        requires { 0 < length value.now }
-        ensures { result ≡ table.slots_code self.now (table.VariableName ∷ table.Expression ∷ []) (variable.now ∷ texts value.now) }
-    {
-        least(self.variable_code(variable), self.whole_expr_code(value))
-    }
-
-    // `let LOCAL = EXPR`
-    pub(crate) fn let_code(&self, words: &[&[u8]]) -> Option<ServiceCode>
+    // `let LOCAL = EXPR`, where this is the expression's code
+    pub(crate) fn let_code(
+        &self,
+        words: &[&[u8]],
+        value_code: Option<ServiceCode>,
+    ) -> Option<ServiceCode>
+        requires { value_code ≡ table.whole_expr_code self.now (drop 2 (texts words.now)) }
         ensures { result ≡ table.form_code self.now form.Let (texts words.now) }
     {
         if !self.is_open() {
@@ -121,7 +122,7 @@ impl Above {
         }
         let limits = least(self.new_local_code(local), self.full_code());
         least(
-            least(self.local_code(local), self.whole_expr_code(value)),
+            least(self.local_code(local), value_code),
             least(limits, self.order_code(Form::Let)),
         )
     }

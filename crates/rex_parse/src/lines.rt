@@ -1,17 +1,28 @@
 //! A declaration, or a line of a handler that leads to the next one alone: taken where no code fits it.
 
-ghost use Rattle.std.specs.Prelude.{◌≡◌, ◌≤◌, length};
+ghost use Rattle.std.specs.Prelude.{◌≡◌, ◌≤◌, length, drop};
 ghost use Rattle.rex_parse.specs.Table.{form_code};
 ghost use Rattle.rex_parse.specs.After.{after_form};
 ghost use Rattle.rex_parse.specs.declared.language.Form.TheVariants as form;
 ghost use Rattle.rex_parse.specs.Answers.{texts, Takes};
 
+use crate::exprs::ReadExpr;
 use crate::language::{Above, Fault};
 use crate::words::count_of;
 use rex_syntax::line::Line;
 use rex_syntax::service::LockKind;
 use rex_text::read_i64;
 use std::alloc::Global;
+
+// The words after the first two.
+fn after_two<'a, 'b>(words: &'a [&'b [u8]]) -> &'a [&'b [u8]]
+    ensures { texts result.now ≡ drop 2 (texts words.now) }
+{
+    match words {
+        [_, _, rest @ ..] => rest,
+        _ => &[],
+    }
+}
 
 impl Above {
     // `lanes N`
@@ -193,13 +204,17 @@ impl Above {
             (after_form self.old number form.Wait (texts words.now)) self.new }
         ensures locals { length self.new.locals ≤ 16 }
     {
-        if let Some(code) = self.wait_code(words) {
+        let ReadExpr { code, expr } = self.read_expr(alloc, after_two(words))?;
+        if let Some(code) = self.wait_code(words, code) {
             return Err(Fault::Refused(code));
         }
-        if let [condition, _, test @ ..] = words {
+        if let [condition, _, ..] = words {
             let condition = self.condition_number(condition);
-            let test = self.expr_of(alloc, test)?;
-            self.push_line(number, Line::Wait { condition, test })?;
+            let line = Line::Wait {
+                condition,
+                test: expr,
+            };
+            self.push_line(number, line)?;
         }
         Ok(())
     }
@@ -248,13 +263,17 @@ impl Above {
             (after_form self.old number form.Set (texts words.now)) self.new }
         ensures locals { length self.new.locals ≤ 16 }
     {
-        if let Some(code) = self.set_code(words) {
+        let ReadExpr { code, expr } = self.read_expr(alloc, after_two(words))?;
+        if let Some(code) = self.set_code(words, code) {
             return Err(Fault::Refused(code));
         }
-        if let [variable, _, value @ ..] = words {
+        if let [variable, _, ..] = words {
             let variable = self.variable_number(variable);
-            let value = self.expr_of(alloc, value)?;
-            self.push_line(number, Line::Set { variable, value })?;
+            let line = Line::Set {
+                variable,
+                value: expr,
+            };
+            self.push_line(number, line)?;
         }
         Ok(())
     }
@@ -271,14 +290,14 @@ impl Above {
             (after_form self.old number form.Let (texts words.now)) self.new }
         ensures locals { length self.new.locals ≤ 16 }
     {
-        if let Some(code) = self.let_code(words) {
+        let ReadExpr { code, expr } = self.read_expr(alloc, after_two(words))?;
+        if let Some(code) = self.let_code(words, code) {
             return Err(Fault::Refused(code));
         }
-        if let [local, _, value @ ..] = words {
-            let value = self.expr_of(alloc, value)?;
+        if let [local, _, ..] = words {
             self.make_local(alloc, local)?;
             let local = self.local_place(local) as u8;
-            self.push_line(number, Line::Let { local, value })?;
+            self.push_line(number, Line::Let { local, value: expr })?;
         }
         Ok(())
     }

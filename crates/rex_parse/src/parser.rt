@@ -113,11 +113,21 @@ impl Above {
     }
 }
 
+// Every byte is looked at, so that a processor can look at several of them at once.
 fn is_allowed(line: &[u8]) -> bool
     ensures { result ≡ list_all is_allowed line.now }
 {
-    line.iter()
-        .all(|byte| (32 <= *byte && *byte <= 126) || *byte == 9)
+    let mut has_other = false;
+    for byte in line {
+        has_other |= !is_allowed_byte(*byte);
+    }
+    !has_other
+}
+
+fn is_allowed_byte(byte: u8) -> bool
+    ensures { result ≡ text.is_allowed byte }
+{
+    (32 <= byte && byte <= 126) || byte == 9
 }
 
 fn is_skipped(line: &[u8]) -> bool
@@ -133,8 +143,16 @@ fn is_skipped(line: &[u8]) -> bool
 fn words_in(alloc: Global, line: &[u8]) -> Result<Vec<&[u8]>, AllocError>
     ensures { IfOk result (λ found. texts found.items ≡ words_of line.now) }
 {
-    words(line).collect(alloc)
+    let mut found = Vec::with_capacity(alloc, USUAL_WORDS)?;
+    let mut rest = words(line);
+    while let Some(word) = rest.next() {
+        found.push(word)?;
+    }
+    Ok(found)
 }
+
+/// Room for the words of most lines: a `set` with eight operands has eighteen.
+const USUAL_WORDS: usize = 18;
 
 /// A reader of the lines of a service. Contracts see it as what the lines so far have declared.
 #[derive(Drop)]

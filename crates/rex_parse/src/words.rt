@@ -118,18 +118,26 @@ fn is_name_byte(byte: u8) -> bool
     is_letter(byte) || (is_digit(byte) || byte == b'_')
 }
 
+// Every byte is looked at, so that a processor can look at several of them at once.
 fn has_name_bytes(word: &[u8]) -> bool
     ensures { result ≡ list_all spec.is_name_byte word.now }
 {
-    word.iter().all(|byte| is_name_byte(*byte))
+    let mut has_other = false;
+    for byte in word {
+        has_other |= !is_name_byte(*byte);
+    }
+    !has_other
 }
 
 /// Whether a word is one of the words of the language.
 fn is_reserved(word: &[u8]) -> bool
     ensures { result ≡ spec.is_reserved word.now }
 {
-    is_among(&RESERVED, word)
+    word.len() <= LONGEST_RESERVED && is_among(&RESERVED, word)
 }
+
+/// How long the longest words of the language are.
+const LONGEST_RESERVED: usize = 9;
 
 /// Whether a word is one of these.
 pub(crate) fn is_among(words: &[&[u8]], word: &[u8]) -> bool

@@ -1,8 +1,11 @@
-use Rattle.std.proofs.Common.{[], sym}
+use Rattle.std.proofs.Common.{[], sym, ap, ◌∙◌, ◌≡◌, None}
 use Rattle.std.specs.Borrow.{Bor}
 use Rattle.rex_text.specs.Text.{Word}
 use Rattle.rex_parse.proofs.Fine.{local_room}
 use Rattle.rex_parse.proofs.Shapes.{let_words, let_after}
+use Rattle.rex_parse.specs.Answers.{texts}
+use Rattle.rex_parse.specs.Table.{whole_expr_code}
+use Rattle.rex_parse.proofs.Values.{let_value}
 use Rattle.rex_parse.proofs.language.Above.let_line.Goals as goal
 
 pub make_local-requires-clause-room : goal.make_local-requires-clause-room
@@ -15,8 +18,11 @@ returns-in_default-words-clause-takes c = absurd (let_words c.args.self.now c.ar
 
 pub returns-in_ok-push_line-clause-takes : goal.returns-in_ok-push_line-clause-takes
 returns-in_ok-push_line-clause-takes c =
-    let d : Bor Word = record { ref_ptr = (0, 0); now = [] } in (
-      sym c.in_default.ensures,
-      let_after c.args.self.now c.make_local.new.self c.push_line.new.self c.args.words.now d c.args.number c.local_place-local.result c.in_ok-value.value
-          c.in-len2-up.len_at_least c.in_ok-make_local.ensures.taken c.local_place-local.ensures.place c.in_ok-value.ensures c.in_ok-push_line.ensures.taken,
+    let d : Bor Word = record { ref_ptr = (0, 0); now = [] } in
+    let fine = sym c.in_default.ensures in
+    let rest = c.after_two.ensures in
+    let none : c.in_ok-code.field-0.code ≡ None = c.in_ok-code.ensures.code ∙ ap (whole_expr_code c.args.self.now) rest ∙ let_value c.args.self.now c.args.words.now fine in (
+      fine,
+      let_after c.args.self.now c.make_local.new.self c.push_line.new.self c.args.words.now d c.args.number c.local_place-local.result (texts c.after_two.result.now) c.in_ok-code.field-0.expr
+          c.in-len2-up.len_at_least rest c.in_ok-make_local.ensures.taken c.local_place-local.ensures.place (c.in_ok-code.ensures.expr none) c.in_ok-push_line.ensures.taken,
     )

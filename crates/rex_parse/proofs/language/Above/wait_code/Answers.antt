@@ -1,0 +1,16 @@
+use Rattle.std.proofs.Common.{rules, [], refl}
+use Rattle.std.specs.Borrow.{Bor}
+use Rattle.rex_text.specs.Text.{Word}
+use Rattle.rex_parse.specs.Answers.{texts}
+use Rattle.rex_parse.specs.declared.language.Form.TheVariants as form
+use Rattle.rex_parse.proofs.PlainLines.{wait_shape}
+use Rattle.rex_parse.proofs.Values.{too_few, wait_code_is}
+use Rattle.rex_parse.proofs.language.Above.wait_code.Goals as goal
+
+pub returns-in_default : goal.returns-in_default
+returns-in_default c = too_few c.args.self.now form.Wait (texts c.args.words.now) (search rules) refl (wait_shape c.args.words.now c.in_default.len_below)
+
+pub returns : goal.returns
+returns c =
+    let d : Bor Word = record { ref_ptr = (0, 0); now = [] } in
+    wait_code_is c.args.self.now c.args.words.now d c.args.test_code c.least-limits.result c.least-2.result (search rules) c.in-len2-up.len_at_least (search rules) (search rules) c.requires (search rules) (search rules)
