@@ -6,7 +6,8 @@ use Rattle.rex_traits.specs.Causes.{Rose}
 use Rattle.rex_cli.specs.Due.{Due}
 use Rattle.rex_cli.specs.Outcome.{Ends}
 use Rattle.rex_cli.specs.Causes.{Judges, JudgesFor, IsBroken, IsCaused, service_in}
-use Rattle.rex_cli.specs.declared.command.Command.{Command}
+use Rattle.rex_command.specs.declared.commands.Command.{Command}
+use Rattle.rex_command.specs.declared.commands.Command.TheVariants.{Run, Trace, Check, Generate, Soak}
 
 -- 1 where there is no service
 unread : (o : Option Declarations) (status : ℕ) → Judges o status → (status ≡ 1) ↔ (o ≡ None)
@@ -25,16 +26,28 @@ never_two None status j two = cc
 never_two (Some s) status (inl j) two = let zero = j.0 in cc
 never_two (Some s) status (inr j) two = let three = j.0 in cc
 
+-- of a command that asks for a service
+judged : (command : Command) (o : Option Declarations) (status : ℕ) → Judges o status → ((status ≡ 1) ↔ (o ≡ None)) × ((status ≡ 2) ↔ (Some command ≡ None)) × ((status ≡ 3) ↔ IsBroken o)
+judged command o status j = (unread o status j, (λ two. absurd (never_two o status j two), λ none. absurd cc), unchecked o status j)
+
 caused : (command : Option Command) (input : List ℕ) (status : ℕ) → JudgesFor command input status → IsCaused command input status
 caused None input status j = record {
   unread = (λ one. absurd cc, λ h. absurd h);
   usage = (λ _. refl, λ _. j);
   unchecked = (λ three. absurd cc, λ h. absurd h);
 }
-caused (Some command) input status j = record {
-  unread = unread (service_in command input) status j;
-  usage = (λ two. absurd (never_two (service_in command input) status j two), λ none. absurd cc);
-  unchecked = unchecked (service_in command input) status j;
+caused (Some (Generate seed size)) input status j = record {
+  unread = (λ one. absurd cc, λ h. absurd h);
+  usage = (λ two. absurd cc, λ none. absurd cc);
+  unchecked = (λ three. absurd cc, λ h. absurd h);
+}
+caused (Some (Run workers)) input status j = let p = judged (Run workers) (service_in (Run workers) input) status j in record { unread = p.0; usage = p.1; unchecked = p.2 }
+caused (Some Trace) input status j = let p = judged Trace (service_in Trace input) status j in record { unread = p.0; usage = p.1; unchecked = p.2 }
+caused (Some Check) input status j = let p = judged Check (service_in Check input) status j in record { unread = p.0; usage = p.1; unchecked = p.2 }
+caused (Some (Soak seed size workers)) input status j = record {
+  unread = (λ one. absurd cc, λ h. absurd h);
+  usage = (λ two. absurd cc, λ none. absurd cc);
+  unchecked = (λ three. absurd cc, λ h. absurd h);
 }
 
 -- the same of an input that may not be told

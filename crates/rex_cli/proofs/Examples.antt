@@ -1,20 +1,18 @@
 -- What the program is to answer, computed.
 use Rattle.std.proofs.Common.{◌≡◌, ℕ, List, [], ◌∷◌, ◌++◌, refl, codes}
+use Rattle.std.specs.Prelude.{None}
 use Rattle.std.specs.Fmt.{digits}
 use Rattle.rex_parse.specs.Words.{is_name}
 use Rattle.rex_parse.specs.Table.{new_code, lock_code, variable_code, local_code, number_code, expr_code}
 use Rattle.rex_parse.specs.Reading.{answer_from as service_answer_from}
 use Rattle.rex_scenario.specs.Reading.{answer_from}
-use Rattle.rex_cli.specs.Due.{Due, due, due_usage}
+use Rattle.rex_command.specs.declared.commands.Command.TheVariants.{Run, Check}
+use Rattle.rex_cli.specs.Due.{Due, due_command, due_for, due_usage}
 
 -- lines as a text, each with a LF
 abbrev text_of : List (List ℕ) → List ℕ
 text_of [] = []
 text_of (line ∷ lines) = line ++ 10 ∷ text_of lines
-
--- the words of a command line
-abbrev rex : List ℕ → List (List ℕ)
-rex word = codes "rex" ∷ word ∷ []
 
 -- a status and one line
 abbrev one_line : ℕ → List ℕ → Due
@@ -38,50 +36,44 @@ scenario reply =
 abbrev idle : List (List ℕ) → List (List ℕ)
 idle lines = codes "%nodes 1" ∷ codes "%service" ∷ (service (codes "reply r") ++ codes "%requests" ∷ codes "%schedule" ∷ lines)
 
-idle_runs : due (rex (codes "run")) (text_of (idle [])) ≡ one_line 0 (codes "end node 1 follower promised 0 known 0 replayed 0 a=0")
+idle_runs : due_command (Run 1) (text_of (idle [])) ≡ one_line 0 (codes "end node 1 follower promised 0 known 0 replayed 0 a=0")
 unfolding answer_from is_name new_code lock_code variable_code local_code number_code expr_code digits
 idle_runs = refl
 
-leader_runs : due (rex (codes "run")) (text_of (idle (codes "elect 1" ∷ [])))
+leader_runs : due_command (Run 1) (text_of (idle (codes "elect 1" ∷ [])))
     ≡ record { status = 0; text = text_of (codes "1 node 1 candidate ballot 17" ∷ codes "1 node 1 active ballot 17" ∷ codes "end node 1 active promised 17 known 0 live 0 a=0" ∷ []) }
 unfolding answer_from is_name new_code lock_code variable_code local_code number_code expr_code digits
 leader_runs = refl
 
 -- a reply that reads without the lock is refused by its line in the scenario
-race_is_refused : due (rex (codes "run")) (text_of (scenario (codes "reply a"))) ≡ one_line 3 (codes "refused handler add line 11 C1")
+race_is_refused : due_command (Run 1) (text_of (scenario (codes "reply a"))) ≡ one_line 3 (codes "refused handler add line 11 C1")
 unfolding answer_from is_name new_code lock_code variable_code local_code number_code expr_code digits
 race_is_refused = refl
 
-nothing_is_no_scenario : due (rex (codes "run")) [] ≡ one_line 1 (codes "refused line 1 S3")
+nothing_is_no_scenario : due_command (Run 1) [] ≡ one_line 1 (codes "refused line 1 S3")
 unfolding answer_from digits
 nothing_is_no_scenario = refl
 
 -- ---- check
 
-counter_is_checked : due (rex (codes "check")) (text_of (service (codes "reply r"))) ≡ one_line 0 (codes "checked handlers 1 locks 1 conditions 0 variables 1")
+counter_is_checked : due_command Check (text_of (service (codes "reply r"))) ≡ one_line 0 (codes "checked handlers 1 locks 1 conditions 0 variables 1")
 unfolding service_answer_from is_name new_code lock_code variable_code local_code number_code expr_code digits
 counter_is_checked = refl
 
-race_is_not_checked : due (rex (codes "check")) (text_of (service (codes "reply a"))) ≡ one_line 3 (codes "refused handler add line 9 C1")
+race_is_not_checked : due_command Check (text_of (service (codes "reply a"))) ≡ one_line 3 (codes "refused handler add line 9 C1")
 unfolding service_answer_from is_name new_code lock_code variable_code local_code number_code expr_code digits
 race_is_not_checked = refl
 
-nothing_is_no_service : due (rex (codes "check")) [] ≡ one_line 1 (codes "refused line 1 P14")
+nothing_is_no_service : due_command Check [] ≡ one_line 1 (codes "refused line 1 P14")
 unfolding service_answer_from digits
 nothing_is_no_service = refl
 
 -- a scenario is no service
-scenario_is_no_service : due (rex (codes "check")) (text_of (scenario (codes "reply r"))) ≡ one_line 1 (codes "refused line 1 P2")
+scenario_is_no_service : due_command Check (text_of (scenario (codes "reply r"))) ≡ one_line 1 (codes "refused line 1 P2")
 unfolding service_answer_from is_name new_code lock_code variable_code local_code number_code expr_code digits
 scenario_is_no_service = refl
 
 -- ---- other words
 
-other_word : due (rex (codes "fly")) [] ≡ due_usage
-other_word = refl
-
-no_word : due (codes "rex" ∷ []) [] ≡ due_usage
-no_word = refl
-
-one_word_more : due (codes "rex" ∷ codes "run" ∷ codes "run" ∷ []) [] ≡ due_usage
-one_word_more = refl
+other_words : due_for None [] ≡ due_usage
+other_words = refl

@@ -1,4 +1,5 @@
 pub mod Whole
 pub mod Caused
 pub mod There
+pub mod Soaking
 mod Examples

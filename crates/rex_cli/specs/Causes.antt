@@ -9,8 +9,8 @@ use Rattle.rex_parse.specs.declared.language.ServiceCode.{ServiceCode}
 use Rattle.rex_scenario.specs.Reading.{answer_of as scenario_answer}
 use Rattle.rex_scenario.specs.declared.scenario.ScenarioCode.{ScenarioCode}
 use Rattle.rex_scenario.specs.declared.scenario.Sections.{Sections}
-use Rattle.rex_cli.specs.declared.command.Command.{Command}
-use Rattle.rex_cli.specs.declared.command.Command.TheVariants.{Run, Trace, Check}
+use Rattle.rex_command.specs.declared.commands.Command.{Command}
+use Rattle.rex_command.specs.declared.commands.Command.TheVariants.{Run, Trace, Check, Generate, Soak}
 
 -- the service of a text that is a scenario
 abbrev pub scenario_service : Result Sections (ℕ × ScenarioCode) → Option Declarations
@@ -22,25 +22,35 @@ abbrev pub plain_service : Result Above (ℕ × ServiceCode) → Option Declarat
 plain_service (Ok a) = Some (service_of a)
 plain_service (Err e) = None
 
--- the service that an input declares: `run` and `trace` ask for a scenario with one, and `check` for one alone
+-- the service that an input declares: `run` and `trace` ask for a scenario with one, and `check` for one alone; `gen` and `soak` ask for none
 abbrev pub service_in : Command → List ℕ → Option Declarations
-service_in Run input = scenario_service (scenario_answer input)
+service_in (Run workers) input = scenario_service (scenario_answer input)
 service_in Trace input = scenario_service (scenario_answer input)
 service_in Check input = if nat_lt 4194304 (length input) then None else plain_service (service_answer input)
+service_in (Generate seed size) input = None
+service_in (Soak seed size workers) input = None
 
 -- 1 where there is no service, 0 where there is one that is checked, 3 where there is one that isn't
 abbrev pub Judges : Option Declarations → ℕ → Type 0
 Judges None status = status ≡ 1
 Judges (Some service) status = ((status ≡ 0) × IsChecked service) ⊎ ((status ≡ 3) × (IsChecked service → ⊥))
 
+-- the same for a command, with 0 where it asks for no service
+abbrev pub JudgesCommand : Command → List ℕ → ℕ → Type 0
+JudgesCommand (Generate seed size) input status = status ≡ 0
+JudgesCommand (Soak seed size workers) input status = status ≡ 0
+JudgesCommand command input status = Judges (service_in command input) status
+
 -- the same for words, with 2 where they are no command line
 abbrev pub JudgesFor : Option Command → List ℕ → ℕ → Type 0
 JudgesFor None input status = status ≡ 2
-JudgesFor (Some command) input status = Judges (service_in command input) status
+JudgesFor (Some command) input status = JudgesCommand command input status
 
--- the words are a command line, and the input is no scenario or, for `check`, no service
+-- the words are a command line that asks for an input, and that is no scenario or, for `check`, no service
 abbrev pub IsUnread : Option Command → List ℕ → Type 0
 IsUnread None input = ⊥
+IsUnread (Some (Generate seed size)) input = ⊥
+IsUnread (Some (Soak seed size workers)) input = ⊥
 IsUnread (Some command) input = service_in command input ≡ None
 
 -- there is a service that isn't checked

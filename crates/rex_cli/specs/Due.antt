@@ -15,10 +15,14 @@ use Rattle.rex_lockset.specs.Refusal.{refusal_of}
 use Rattle.rex_lockset.specs.declared.refusal.Refused.{Refused}
 use Rattle.rex_world.specs.Report.{report_of}
 use Rattle.rex_world.specs.Tracing.{trace_text}
-use Rattle.rex_cli.specs.Command.{command_of}
+use Rattle.rex_world.specs.Summaries.{summary_of}
+use Rattle.rex_world.specs.declared.summary.Summary.{Summary}
+use Rattle.rex_report.specs.Ends.{variable_words}
 use Rattle.rex_cli.specs.Refusals.{service_code, scenario_code, line_of, text_refusal, check_refusal}
-use Rattle.rex_cli.specs.declared.command.Command.{Command}
-use Rattle.rex_cli.specs.declared.command.Command.TheVariants.{Run, Trace, Check}
+use Rattle.rex_command.specs.Reading.{command_of}
+use Rattle.rex_command.specs.declared.commands.Command.{Command}
+use Rattle.rex_command.specs.declared.commands.Command.TheVariants.{Run, Trace, Check, Generate, Soak}
+use Rattle.rex_gen.specs.Scenario.{scenario_text}
 
 -- a status and a text
 pub record Due : Type 0 where
@@ -77,11 +81,37 @@ abbrev pub due_check : Result Above (ℕ × ServiceCode) → Due
 due_check (Ok a) = due_counts (service_of a) (refusal_of (service_of a))
 due_check (Err e) = due_refused e.0 (service_code e.1)
 
--- what a command asks for; a service may be as long as a scenario
+-- the numbers of a summary, and the variables with their values
+abbrev pub summary_words : ℕ → ℕ → Declarations → Summary → List (List ℕ)
+summary_words seed size service s =
+    decimal seed ∷ decimal size ∷ codes "lines" ∷ decimal s.lines ∷ codes "messages" ∷ decimal s.messages ∷ codes "known" ∷ decimal s.known ∷ codes "released" ∷ decimal s.released
+    ∷ variable_words service.variables s.variables
+
+-- the line that sums up the run of a generated scenario
+abbrev pub summary_line : ℕ → ℕ → Declarations → Summary → List ℕ
+summary_line seed size service s = line_of (codes "soak") (summary_words seed size service s)
+
+-- a generated scenario asks for the summary of its run, where its service isn't refused
+abbrev pub due_summary : ℕ → ℕ → Scenario → Declarations → Option Refused → Due
+due_summary seed size s service None = record { status = 0; text = summary_line seed size service (summary_of service s) }
+due_summary seed size s service (Some refused) = due_unchecked service refused
+
+-- what `soak` asks for, given what the generated text says
+abbrev pub due_soak : ℕ → ℕ → Result Sections (ℕ × ScenarioCode) → Due
+due_soak seed size (Ok s) = due_summary seed size (scenario_of s) (service_of s.service) (refusal_of (service_of s.service))
+due_soak seed size (Err e) = due_refused e.0 (scenario_code e.1)
+
+-- what `gen` asks for
+abbrev pub due_generated : ℕ → ℕ → Due
+due_generated seed size = record { status = 0; text = scenario_text seed size }
+
+-- what a command asks for, however many workers replay; a service may be as long as a scenario
 abbrev pub due_command : Command → List ℕ → Due
-due_command Run input = due_run (scenario_answer input)
+due_command (Run workers) input = due_run (scenario_answer input)
 due_command Trace input = due_trace (scenario_answer input)
 due_command Check input = if nat_lt 4194304 (length input) then due_refused 0 (scenario_code TooLong) else due_check (service_answer input)
+due_command (Generate seed size) input = due_generated seed size
+due_command (Soak seed size workers) input = due_soak seed size (scenario_answer (scenario_text seed size))
 
 -- what a command asks for, if there is one
 abbrev pub due_for : Option Command → List ℕ → Due

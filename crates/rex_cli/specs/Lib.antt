@@ -1,4 +1,4 @@
-pub mod Command
+pub mod Commands
 pub mod Refusals
 pub mod Due
 pub mod Causes

@@ -1,22 +1,24 @@
 //! What an input is answered.
 
-ghost use Rattle.std.specs.Prelude.{◌≡◌, ◌≤◌, ◌<◌, None, Some, IfOk, IfSome, option_map, length};
+ghost use Rattle.std.specs.Prelude.{◌≡◌, ◌≤◌, ◌<◌, ℕ, None, Some, IfOk, IfSome, option_map, length};
 ghost use Rattle.rex_syntax.specs.Check.{IsChecked};
 ghost use Rattle.rex_syntax.specs.Service.{IsService};
 ghost use Rattle.rex_lockset.specs.Refusal.{refusal_of as refusal};
 ghost use Rattle.rex_scenario.specs.Fits.{ScenarioFits};
 ghost use Rattle.rex_world.specs.Laws.{Headline};
 ghost use Rattle.rex_cli.specs.Due as due;
-ghost use Rattle.rex_cli.specs.Causes.{Judges, service_in};
+ghost use Rattle.rex_cli.specs.Causes.{Judges, JudgesCommand, service_in};
 ghost use Rattle.rex_cli.specs.Headline.{Committed};
 ghost use Rattle.rex_cli.specs.Response.{MayRun, due_of};
-ghost use Rattle.rex_cli.specs.declared.command.Command.TheVariants as commands;
+ghost use Rattle.rex_command.specs.Laws.{Fits};
+ghost use Rattle.rex_command.specs.declared.commands.Command.TheVariants as commands;
 
-use crate::command::Command;
+use crate::generated::{generate, soak};
 use crate::refusals::{check_refusal, line, scenario_code, service_code, text_refusal};
+use rex_command::Command;
 use rex_lockset::{refusal_of, refusals_are_exact};
 use rex_parse::{ReadError, read_service};
-use rex_replay::OneThread;
+use rex_replay::{OneThread, Replayer};
 use rex_report::Piece;
 use rex_scenario::{SCENARIO_BYTES, Scenario, ScenarioCode, ScenarioError, read_scenario};
 use rex_syntax::checked::Checked;
@@ -64,16 +66,16 @@ pub(crate) fn usage(alloc: Global) -> Result<Answer, AllocError>
     Ok(Answer { status: 2, text })
 }
 
-// What an input is answered that is refused at a line with a code.
-fn refused(alloc: Global, line: u32, code: &'static [u8]) -> Result<Answer, AllocError>
+/// What a text is answered that is refused at a line with a code.
+pub(crate) fn refused(alloc: Global, line: u32, code: &'static [u8]) -> Result<Answer, AllocError>
     ensures { IfOk result (λ a. a ≡ due.due_refused line code.now) }
 {
     let text = text_refusal(alloc, line, code)?;
     Ok(Answer { status: 1, text })
 }
 
-// What a service is answered that the check refuses, if it does.
-fn unchecked(alloc: Global, service: &Declarations) -> Result<Option<Answer>, AllocError>
+/// What a service is answered that the check refuses, if it does.
+pub(crate) fn unchecked(alloc: Global, service: &Declarations) -> Result<Option<Answer>, AllocError>
     requires { IsService service.now }
     ensures due { IfOk result (λ a. a ≡ option_map (due.due_unchecked service.now) (refusal service.now)) }
     ensures broken { IfOk result (λ a. IfSome a (λ _. IsChecked service.now → ⊥)) }
@@ -137,8 +139,8 @@ fn trace_input(alloc: Global, input: &[u8]) -> Result<Answer, AllocError>
 // What `run` asks for.
 fn run_input(alloc: Global, input: &[u8]) -> Result<Response, AllocError>
     requires { length input.now ≤ 4194305 }
-    ensures due { IfOk result (λ r. due_of r ≡ due.due_command commands.Run input.now) }
-    ensures judges { IfOk result (λ r. Judges (service_in commands.Run input.now) (due_of r).status) }
+    ensures due { IfOk result (λ r. due_of r ≡ due.due_command (commands.Run 1) input.now) }
+    ensures judges { IfOk result (λ r. Judges (service_in (commands.Run 1) input.now) (due_of r).status) }
     ensures headline { IfOk result (λ r. (due_of r).status ≡ 0 → Committed input.now) }
     ensures fits { IfOk result MayRun }
 {
@@ -202,26 +204,27 @@ fn check_input(alloc: Global, input: &[u8]) -> Result<Answer, AllocError>
 }
 
 /// What a command asks for, given an input.
-pub(crate) fn response_to(
+pub(crate) fn response_to<R: Replayer>(
     alloc: Global,
+    replayer: &mut R,
     command: Command,
     input: &[u8],
 ) -> Result<Response, AllocError>
-    requires { length input.now ≤ 4194305 }
+    requires ready { R.ready replayer.old }
+    requires long { length input.now ≤ 4194305 }
+    requires fits { Fits command }
     ensures due { IfOk result (λ r. due_of r ≡ due.due_command command input.now) }
-    ensures judges { IfOk result (λ r. Judges (service_in command input.now) (due_of r).status) }
-    ensures headline { command ≡ commands.Run → IfOk result (λ r. (due_of r).status ≡ 0 → Committed input.now) }
+    ensures judges { IfOk result (λ r. JudgesCommand command input.now (due_of r).status) }
+    ensures headline { (workers : ℕ) → command ≡ commands.Run workers → IfOk result (λ r. (due_of r).status ≡ 0 → Committed input.now) }
     ensures fits { IfOk result MayRun }
+    ensures ready { R.ready replayer.new }
 {
-    match command {
-        Command::Run => run_input(alloc, input),
-        Command::Trace => {
-            let answer = trace_input(alloc, input)?;
-            Ok(Response::Told(answer))
-        }
-        Command::Check => {
-            let answer = check_input(alloc, input)?;
-            Ok(Response::Told(answer))
-        }
-    }
+    let answer = match command {
+        Command::Run { .. } => return run_input(alloc, input),
+        Command::Trace => trace_input(alloc, input)?,
+        Command::Check => check_input(alloc, input)?,
+        Command::Generate { seed, size } => generate(alloc, seed, size)?,
+        Command::Soak { seed, size, .. } => soak(alloc, replayer, seed, size)?,
+    };
+    Ok(Response::Told(answer))
 }

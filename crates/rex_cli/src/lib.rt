@@ -2,7 +2,7 @@
 #![tactic(auto)]
 
 mod answers;
-mod command;
+mod generated;
 mod refusals;
 mod running;
 

@@ -1,7 +1,10 @@
-ghost use Rattle.std.specs.Prelude.{◌≡◌, ◌≤◌, ◌<◌, ◌⊎◌, Some, None, map, IfOk, IfSome, IsErrOf, string_bytes};
+ghost use Rattle.std.specs.Prelude.{◌≡◌, ◌≤◌, ◌<◌, ◌⊎◌, ℕ, [], true, false, Some, None, IsSome, map, IfOk, IfSome, IsErrOf, string_bytes};
 ghost use Rattle.std.specs.Io.KnownBytes.{IsAtEnd};
 ghost use Rattle.rex_traits.specs.Causes.{Rose};
-ghost use Rattle.rex_cli.specs.Command as spec;
+ghost use Rattle.rex_command.specs.Laws.{Fits};
+ghost use Rattle.rex_command.specs.Reading as spec;
+ghost use Rattle.rex_command.specs.declared.commands.Command.TheVariants as commands;
+ghost use Rattle.rex_cli.specs.Commands as inputs;
 ghost use Rattle.rex_cli.specs.Due as due;
 ghost use Rattle.rex_cli.specs.Causes.{JudgesFor, IsCaused};
 ghost use Rattle.rex_scenario.specs.Fits.{ScenarioFits};
@@ -9,46 +12,98 @@ ghost use Rattle.rex_world.specs.Report.{report_of};
 ghost use Rattle.rex_cli.specs.Outcome.{Gives, Ends};
 ghost use Rattle.rex_cli.specs.Response.{MayRun, due_of};
 ghost use Rattle.rex_cli.specs.Headline.{Committed};
-ghost use Rattle.rex_cli.specs.declared.command.Command.TheVariants as commands;
+ghost use Rattle.rex_state.specs.Counts.{AreCounted};
+ghost use Rattle.rex_state.specs.Machine.{run};
+ghost use Rattle.rex_state.specs.Sound.{IsSound};
 ghost use Rattle.rex_streams.specs.declared.reading.ReadFault.TheVariants as fault;
 
 use crate::answers::{Answer, Plan, Response, response_to, usage};
-use crate::command::command_of;
-use rex_replay::OneThread;
+use rex_command::{Command, command_of};
+use rex_crew::Crew;
+use rex_event::Event;
+use rex_replay::{ByCall, Replayer};
+use rex_state::state::State;
 use rex_streams::{ReadFault, read_input, write_all};
+use rex_syntax::checked::Checked;
 use rex_traits::{Gate, Sink, SinkFault, Source};
 use rex_world::{RunFault, World};
-use std::alloc::Global;
+use std::alloc::{AllocError, Global};
 use std::thread::Threads;
 
-// What the words and what the source gives are answered.
-fn respond<S: Source>(
+// Whether a command reads an input.
+fn reads_input(command: Command) -> bool
+    ensures { result ≡ inputs.reads_input command }
+{
+    match command {
+        Command::Run { .. } => true,
+        Command::Trace => true,
+        Command::Check => true,
+        Command::Generate { .. } => false,
+        Command::Soak { .. } => false,
+    }
+}
+
+// What a command is answered that reads an input.
+fn read_and_respond<R: Replayer, S: Source>(
     alloc: Global,
-    words: &[String],
+    replayer: &mut R,
+    command: Command,
     source: &mut S,
 ) -> Result<Response, ReadFault>
-    ensures due { IfOk result (λ r. IfSome (S.left source.old) (λ input. due_of r ≡ due.due (map string_bytes words.now) input)) }
-    ensures judges { IfOk result (λ r. IfSome (S.left source.old) (λ input. JudgesFor (spec.command_of (map string_bytes words.now)) input (due_of r).status)) }
-    ensures usage { spec.command_of (map string_bytes words.now) ≡ None → IfOk result (λ r. due_of r ≡ due.due_usage) }
+    requires ready { R.ready replayer.old }
+    requires fits { Fits command }
+    requires reads { inputs.reads_input command ≡ true }
+    ensures due { IfOk result (λ r. IfSome (S.left source.old) (λ input. due_of r ≡ due.due_command command input)) }
+    ensures judges { IfOk result (λ r. IfSome (S.left source.old) (λ input. JudgesFor (Some command) input (due_of r).status)) }
     ensures whole { IfOk result (λ r. (due_of r).status ≡ 0 → IsAtEnd (S.left source.new)) }
-    ensures headline { spec.command_of (map string_bytes words.now) ≡ Some commands.Run → IfOk result (λ r. (due_of r).status ≡ 0 → IfSome (S.left source.old) Committed) }
+    ensures headline { (workers : ℕ) → command ≡ commands.Run workers → IfOk result (λ r. (due_of r).status ≡ 0 → IfSome (S.left source.old) Committed) }
     ensures low { IfOk result (λ r. (due_of r).status < 4) }
     ensures fits { IfOk result MayRun }
     ensures later { S.faults source.old ≤ S.faults source.new }
     ensures failed { IsErrOf result fault.Failed → Rose (S.faults source.old) (S.faults source.new) }
+    ensures ready { R.ready replayer.new }
 {
-    let Some(command) = command_of(words) else {
+    match read_input(alloc, source) {
+        Ok(input) => match response_to(alloc, replayer, command, &input.bytes) {
+            Ok(response) => Ok(response),
+            Err(_) => Err(ReadFault::OutOfMemory),
+        },
+        Err(fault) => Err(fault),
+    }
+}
+
+// What is answered; an input is read where the command reads one.
+fn respond<R: Replayer, S: Source>(
+    alloc: Global,
+    replayer: &mut R,
+    command: Option<Command>,
+    source: &mut S,
+) -> Result<Response, ReadFault>
+    requires ready { R.ready replayer.old }
+    requires fits { IfSome command Fits }
+    ensures due { IfOk result (λ r. IfSome (inputs.input_for command (S.left source.old)) (λ input. due_of r ≡ due.due_for command input)) }
+    ensures judges { IfOk result (λ r. IfSome (inputs.input_for command (S.left source.old)) (λ input. JudgesFor command input (due_of r).status)) }
+    ensures whole { inputs.reads command ≡ true → IfOk result (λ r. (due_of r).status ≡ 0 → IsAtEnd (S.left source.new)) }
+    ensures unread { inputs.reads command ≡ false → (source.new ≡ source.old) × (IsErrOf result fault.Failed → ⊥) }
+    ensures headline { (workers : ℕ) → command ≡ Some (commands.Run workers) → IfOk result (λ r. (due_of r).status ≡ 0 → IfSome (S.left source.old) Committed) }
+    ensures low { IfOk result (λ r. (due_of r).status < 4) }
+    ensures fits { IfOk result MayRun }
+    ensures later { S.faults source.old ≤ S.faults source.new }
+    ensures failed { IsErrOf result fault.Failed → Rose (S.faults source.old) (S.faults source.new) }
+    ensures ready { R.ready replayer.new }
+{
+    let Some(command) = command else {
         return match usage(alloc) {
             Ok(answer) => Ok(Response::Told(answer)),
             Err(_) => Err(ReadFault::OutOfMemory),
         };
     };
-    match read_input(alloc, source) {
-        Ok(input) => match response_to(alloc, command, &input.bytes) {
-            Ok(response) => Ok(response),
-            Err(_) => Err(ReadFault::OutOfMemory),
-        },
-        Err(fault) => Err(fault),
+    if reads_input(command) {
+        return read_and_respond(alloc, replayer, command, source);
+    }
+    match response_to(alloc, replayer, command, &[]) {
+        Ok(response) => Ok(response),
+        Err(_) => Err(ReadFault::OutOfMemory),
     }
 }
 
@@ -66,15 +121,16 @@ fn give_text<K: Sink>(answer: &Answer, sink: &mut K) -> u8
 }
 
 // Runs a plan, and answers the status.
-fn give_run<K: Sink>(alloc: Global, plan: &Plan, sink: &mut K) -> u8
-    requires { ScenarioFits plan.now.service plan.now.scenario }
+fn give_run<R: Replayer, K: Sink>(alloc: Global, replayer: &mut R, plan: &Plan, sink: &mut K) -> u8
+    requires ready { R.ready replayer.old }
+    requires fits { ScenarioFits plan.now.service plan.now.scenario }
     ensures gives { Gives (record { status = 0; text = report_of plan.now.service plan.now.scenario }) (K.held sink.old) (K.held sink.new) result }
     ensures ends { Ends (record { status = 0; text = report_of plan.now.service plan.now.scenario }) (K.faults sink.old) (K.faults sink.new) result }
 {
     let Ok(mut world) = World::new(alloc, &plan.service, &plan.scenario) else {
         return 6;
     };
-    match world.run(&plan.service, &mut OneThread, &plan.scenario, sink) {
+    match world.run(&plan.service, replayer, &plan.scenario, sink) {
         Ok(()) => 0,
         Err(RunFault::Failed) => 5,
         Err(RunFault::OutOfMemory) => 6,
@@ -82,7 +138,13 @@ fn give_run<K: Sink>(alloc: Global, plan: &Plan, sink: &mut K) -> u8
 }
 
 // Gives what was asked for.
-fn give<K: Sink>(alloc: Global, response: &Response, sink: &mut K) -> u8
+fn give<R: Replayer, K: Sink>(
+    alloc: Global,
+    replayer: &mut R,
+    response: &Response,
+    sink: &mut K,
+) -> u8
+    requires ready { R.ready replayer.old }
     requires fits { MayRun response.now }
     requires low { (due_of response.now).status < 4 }
     ensures gives { Gives (due_of response.now) (K.held sink.old) (K.held sink.new) result }
@@ -90,34 +152,79 @@ fn give<K: Sink>(alloc: Global, response: &Response, sink: &mut K) -> u8
 {
     match response {
         Response::Told(answer) => give_text(answer, sink),
-        Response::Run(plan) => give_run(alloc, plan, sink),
+        Response::Run(plan) => give_run(alloc, replayer, plan, sink),
+    }
+}
+
+// Does what a command asks for. The clauses are those of `rex_main`.
+fn obey<R: Replayer, S: Source, K: Sink>(
+    alloc: Global,
+    replayer: &mut R,
+    command: Option<Command>,
+    source: &mut S,
+    sink: &mut K,
+) -> u8
+    requires ready { R.ready replayer.old }
+    requires fits { IfSome command Fits }
+    ensures run { IfSome (inputs.input_for command (S.left source.old)) (λ input. Gives (due.due_for command input) (K.held sink.old) (K.held sink.new) result) }
+    ensures causes { result < 4 → IfSome (inputs.input_for command (S.left source.old)) (λ input. IsCaused command input result) }
+    ensures whole { inputs.reads command ≡ true → result ≡ 0 → IsAtEnd (S.left source.new) }
+    ensures unread { inputs.reads command ≡ false → (source.new ≡ source.old) × (result ≡ 4 → ⊥) }
+    ensures read_fault { result ≡ 4 → Rose (S.faults source.old) (S.faults source.new) }
+    ensures write_fault { result ≡ 5 → Rose (K.faults sink.old) (K.faults sink.new) }
+    ensures known { result ≤ 6 }
+    ensures complete { IfSome (inputs.input_for command (S.left source.old)) (λ input. (due.due_for command input).status ≡ 0
+        → (Rose (S.faults source.old) (S.faults source.new) → ⊥) → (Rose (K.faults sink.old) (K.faults sink.new) → ⊥)
+        → (result ≡ 0) ⊎ (result ≡ 6)) }
+    ensures headline { (workers : ℕ) → command ≡ Some (commands.Run workers) → result ≡ 0 → IfSome (S.left source.old) Committed }
+{
+    match respond(alloc, replayer, command, source) {
+        Ok(response) => give(alloc, replayer, &response, sink),
+        Err(ReadFault::Failed) => 4,
+        Err(ReadFault::OutOfMemory) => 6,
+    }
+}
+
+// How many workers replay.
+fn workers_for(command: Option<Command>) -> u8
+    requires { IfSome command Fits }
+    ensures { (0 < result) × (result ≤ 16) }
+{
+    match command {
+        Some(Command::Run { workers }) => workers,
+        Some(Command::Soak { workers, .. }) => workers,
+        _ => 1,
     }
 }
 
 /// Does all that the program `rex` does, and answers its status: 0 where all output was written; 1 where the input is no
 /// scenario or, for `check`, no service; 2 where the words are no command line; 3 where the service isn't checked; 4
 /// where a read failed, and nothing was written; 5 where a write failed; 6 for want of memory. After 5 and 6 a front of
-/// the output was written. The words begin with the program's name. The runtime's threads and the gate are not used yet.
+/// the output was written. The words begin with the program's name. The runtime gives the threads on which `run` and
+/// `soak` replay, and each of them passes the gate before it tries an event.
 pub fn rex_main<R: Threads + Sync, S: Source, K: Sink, G: Gate + Sync>(
-    _rt: &R,
+    rt: &R,
     alloc: Global,
     words: &[String],
     source: &mut S,
     sink: &mut K,
-    _gate: &G,
+    gate: &G,
 ) -> u8
-    // Below 4 the status and what was written are what the words and the input ask for.
-    ensures run { IfSome (S.left source.old) (λ input. Gives (due.due (map string_bytes words.now) input) (K.held sink.old) (K.held sink.new) result) }
+    // Below 4 the status and what was written are what the words and the input ask for, however many workers replay.
+    ensures run { IfSome (inputs.input_for (spec.command_of (map string_bytes words.now)) (S.left source.old)) (λ input. Gives (due.due (map string_bytes words.now) input) (K.held sink.old) (K.held sink.new) result) }
 
     // Below 4 it is 1 exactly where the input is no scenario or no service, 2 exactly where the words are no command
     // line, and 3 exactly where the service isn't checked.
-    ensures causes { result < 4 → IfSome (S.left source.old) (λ input. IsCaused (spec.command_of (map string_bytes words.now)) input result) }
+    ensures causes { result < 4 → IfSome (inputs.input_for (spec.command_of (map string_bytes words.now)) (S.left source.old)) (λ input. IsCaused (spec.command_of (map string_bytes words.now)) input result) }
 
     // Words that are no command line are answered whatever the source.
     ensures usage { spec.command_of (map string_bytes words.now) ≡ None → Gives due.due_usage (K.held sink.old) (K.held sink.new) result }
 
-    // At 0 the input was read to its end.
-    ensures whole { result ≡ 0 → IsAtEnd (S.left source.new) }
+    // At 0 the input was read to its end, where one is read.
+    ensures whole { inputs.reads (spec.command_of (map string_bytes words.now)) ≡ true → result ≡ 0 → IsAtEnd (S.left source.new) }
+
+    // Where none is read, the source stays as it was, and no read fails.
+    ensures unread { inputs.reads (spec.command_of (map string_bytes words.now)) ≡ false → (source.new ≡ source.old) × (result ≡ 4 → ⊥) }
 
     // A fault is answered only where it was counted.
     ensures read_fault { result ≡ 4 → Rose (S.faults source.old) (S.faults source.new) }
@@ -125,16 +232,28 @@ pub fn rex_main<R: Threads + Sync, S: Source, K: Sink, G: Gate + Sync>(
     ensures known { result ≤ 6 }
 
     // Where 0 is due and no fault was counted, the status is 0, or want of memory.
-    ensures complete { IfSome (S.left source.old) (λ input. (due.due (map string_bytes words.now) input).status ≡ 0
+    ensures complete { IfSome (inputs.input_for (spec.command_of (map string_bytes words.now)) (S.left source.old)) (λ input. (due.due (map string_bytes words.now) input).status ≡ 0
         → (Rose (S.faults source.old) (S.faults source.new) → ⊥) → (Rose (K.faults sink.old) (K.faults sink.new) → ⊥)
         → (result ≡ 0) ⊎ (result ≡ 6)) }
 
     // At 0 the run that the report tells of keeps its agreed trace, and what it has released.
-    ensures headline { spec.command_of (map string_bytes words.now) ≡ Some commands.Run → result ≡ 0 → IfSome (S.left source.old) Committed }
+    ensures headline { (workers : ℕ) → spec.command_of (map string_bytes words.now) ≡ Some (commands.Run workers) → result ≡ 0 → IfSome (S.left source.old) Committed }
 {
-    match respond(alloc, words, source) {
-        Ok(response) => give(alloc, &response, sink),
-        Err(ReadFault::Failed) => 4,
-        Err(ReadFault::OutOfMemory) => 6,
+    match command_of(alloc, words) {
+        Ok(command) => {
+            let crew = Crew::new(rt, workers_for(command), gate);
+            let call = |alloc: Global, svc: &Checked, from: &State, events: &[Event]| -> Result<
+                State,
+                AllocError,
+            >
+                requires sound { IsSound svc.now from.now }
+                requires runs { IsSome (run svc.now from.now events.now) }
+                requires counted { AreCounted events.now }
+                ensures runs { IfOk result (λ s. run svc.now from.now events.now ≡ Some s) }
+                ensures sound { IfOk result (λ s. IsSound svc.now s) }
+            { crew.replay(alloc, svc, from, events) };
+            obey(alloc, &mut ByCall { call }, command, source, sink)
+        }
+        Err(_) => 6,
     }
 }

@@ -29,3 +29,4 @@ pub use node::Node;
 pub use refusal::Refusal;
 pub use restart::{NotStarted, RestartFault};
 pub use step::Step;
+pub use values::replay_values;

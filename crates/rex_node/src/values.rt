@@ -16,7 +16,7 @@ use rex_syntax::checked::Checked;
 use std::alloc::{AllocError, Global};
 
 /// The state to which the events of the deltas lead that values spell, one delta after another. They run from the state.
-pub(crate) fn replay_values<R: Replayer>(
+pub fn replay_values<R: Replayer>(
     alloc: Global,
     svc: &Checked,
     replayer: &mut R,

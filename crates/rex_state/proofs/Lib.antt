@@ -13,7 +13,7 @@ pub mod Live
 pub mod Touched
 mod Examples
 mod Changes
-mod Apart
+pub mod Apart
 mod Meet
 mod Disjoint
 pub mod Commute

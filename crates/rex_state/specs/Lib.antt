@@ -4,6 +4,7 @@ pub mod Locks
 pub mod Actions
 pub mod Own
 pub mod Machine
+pub mod Put
 pub mod Start
 pub mod Flows
 pub mod Sound

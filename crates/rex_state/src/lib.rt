@@ -9,4 +9,5 @@ mod own;
 mod parts;
 pub mod state;
 
+pub use own::do_own;
 pub use parts::new_entries;

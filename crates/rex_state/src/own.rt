@@ -163,3 +163,15 @@ pub(crate) fn run_lane(own: &mut Option<Frame>, variables: &mut [i64], svc: &Che
         run_on(frame, variables, svc);
     }
 }
+
+/// Does an event to its own lane alone: to its frame, and to variables of which only those count whose guards the lane
+/// holds.
+pub fn do_own(own: &mut Option<Frame>, variables: &mut [i64], svc: &Checked, kind: &Kind)
+    requires start { CanStart svc.now kind.now own.old }
+    requires fits { IfSome (spec.started svc.now kind.now own.old) (FitsIn svc.now) }
+    requires variables { length variables.old ≡ length svc.now.variables }
+    ensures { (own.new, variables.new) ≡ spec.own_after svc.now kind.now own.old variables.old }
+{
+    start(own, svc, kind);
+    run_lane(own, variables, svc);
+}

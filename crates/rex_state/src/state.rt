@@ -1,19 +1,20 @@
 //! States.
 
-ghost use Rattle.std.specs.Prelude.{◌≡◌, ◌<◌, ◌≤◌, ◌+◌, ◌^◌, Some, IsSome, IfOk, IsOk, slice_get};
+ghost use Rattle.std.specs.Prelude.{◌≡◌, ◌<◌, ◌≤◌, ◌+◌, ◌^◌, Some, IsSome, IfOk, IsOk, slice_get, length};
 ghost use Rattle.std.specs.Option.{option_copied};
 ghost use Rattle.rex_state.specs.Value.{value_of};
 ghost use Rattle.rex_state.specs.Locks as locks;
 ghost use Rattle.rex_state.specs.Machine as spec;
 ghost use Rattle.rex_state.specs.Start.{start_of};
 ghost use Rattle.rex_state.specs.Sound.{IsSound};
-ghost use Rattle.rex_state.specs.Room.{CanApply, IsSmall};
+ghost use Rattle.rex_state.specs.Room.{CanApply, HasQueue, HasEntry, IsSmall};
+ghost use Rattle.rex_state.specs.Put.{with_lane, with_variable, noted};
 ghost use Rattle.rex_state.specs.Spare.{spare_of};
 ghost use Rattle.rex_state.specs.Counts.{counts_of};
 
 use crate::apply::{change_clients, change_queues};
 use crate::can::{client_allows, is_in, locks_allow, mask, own_can, queue_at, queues_allow};
-use crate::lane::{Entry, Lane, Queue, as_lane, exclusive_holder, holder};
+use crate::lane::{Entry, Lane, Queue, as_lane, copy_frame, exclusive_holder, holder};
 use crate::own::{run_lane, start};
 use crate::parts::{
     copy_lanes, copy_queues, empty_queues, first_values, idle_lanes, lane_counts, new_entries,
@@ -150,6 +151,16 @@ impl State {
         }
     }
 
+    /// A frame equal to that of a lane, unless it is idle or isn't there.
+    pub fn copied_frame(&self, lane: u8) -> Option<Frame>
+        ensures { result ≡ spec.frame_at self.now lane }
+    {
+        match self.lanes.get(lane as usize) {
+            Some(found) => found.frame.as_ref().map(copy_frame),
+            None => None,
+        }
+    }
+
     /// What is known of a client. Its sequence is 0 where it has sent nothing.
     pub fn entry(&self, client: u16) -> Entry
         ensures { result ≡ spec.entry_at self.now.clients client }
@@ -266,5 +277,32 @@ impl State {
         ensures spare { spare_of self.old ≤ spare_of self.new + 1 }
     {
         self.apply(svc, event);
+    }
+
+    /// Puts what a lane came to elsewhere: how many events it did, and its frame.
+    pub fn put_lane(&mut self, lane: u8, done: u32, frame: Option<Frame>)
+        requires { lane < length self.old.lanes }
+        ensures { self.new ≡ with_lane self.old lane done frame }
+    {
+        self.lanes[lane as usize] = Lane { done, frame };
+    }
+
+    /// Puts the value that a variable came to elsewhere.
+    pub fn put_variable(&mut self, variable: usize, value: i64)
+        requires { variable < length self.old.variables }
+        ensures { self.new ≡ with_variable self.old variable value }
+    {
+        self.variables[variable] = value;
+    }
+
+    /// Does to the queues and to the clients' entries what an event does, and nothing else.
+    pub fn note(&mut self, event: &Event)
+        requires lane { event.now.lane < 16 }
+        requires queue { HasQueue event.now.kind self.old.queues }
+        requires entry { HasEntry event.now.kind self.old.clients }
+        ensures { self.new ≡ noted self.old event.now }
+    {
+        change_queues(&mut self.queues, &event.kind, event.lane);
+        change_clients(&mut self.clients, &event.kind);
     }
 }

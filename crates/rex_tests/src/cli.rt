@@ -4,12 +4,12 @@ use std::process::Abort;
 use std::test::*;
 use std::thread::Threads;
 
-/// The program's word, its input, and the status and the text that are wanted.
+/// The program's words, its input, and the status and the text that are wanted.
 type Case = (&'static str, &'static str, u8, &'static str);
 
 const USAGE: &str = "usage: rex run|trace|check|gen|soak\n";
 
-static TEXTS: [Case; 8] = [
+static TEXTS: [Case; 12] = [
     ("run", "", 1, "refused line 1 S3\n"),
     ("trace", "", 1, "refused line 1 S3\n"),
     ("check", "", 1, "refused line 1 P14\n"),
@@ -23,6 +23,20 @@ static TEXTS: [Case; 8] = [
     ("check", "%nodes 1\n", 1, "refused line 1 P2\n"),
     ("fly", "", 2, USAGE),
     ("runs", "", 2, USAGE),
+    ("gen 7", "", 2, USAGE),
+    ("run --workers 17", "", 2, USAGE),
+    (
+        "soak 7 1",
+        "",
+        0,
+        "soak 7 1 lines 40 messages 11 known 1 released 3 a=17\n",
+    ),
+    (
+        "soak 7 10 --workers 2",
+        "",
+        0,
+        "soak 7 10 lines 379 messages 72 known 10 released 30 a=305\n",
+    ),
 ];
 
 /// A service whose handler adds its argument, up to what it replies.

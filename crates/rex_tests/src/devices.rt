@@ -4,7 +4,7 @@ ghost use Rattle.std.specs.Prelude.{Some};
 ghost use Rattle.rex_traits.specs.Memory.{mem_left, reads};
 
 use crate::runs::status_over;
-use rex_traits::{Failed, MemSink, MemSource, Source};
+use rex_traits::{Failed, MemSink, MemSource, OpenGate, Source};
 use std::alloc::AllocGlobal;
 use std::test::*;
 use std::thread::Threads;
@@ -102,7 +102,7 @@ fn gives<R: Threads + Sync + AllocGlobal>(
     let source = MemSource::new(Vec::from_slice(alloc, COMMIT)?, vec![in alloc; read]?);
     let mut source = Slow { source, most };
     let mut sink = MemSink::new(alloc, vec![in alloc; write]?, most);
-    let answer = status_over(rt, "run", &mut source, &mut sink)?;
+    let answer = status_over(rt, "run", &mut source, &mut sink, &OpenGate)?;
     let written = sink.held();
     Ok(answer == status && written.len() == count && COMMITTED.starts_with(written))
 }

@@ -7,9 +7,15 @@
 #[cfg(test)]
 mod ballot;
 #[cfg(test)]
+mod board;
+#[cfg(test)]
 mod cli;
 #[cfg(test)]
 mod clocks;
+#[cfg(test)]
+mod command;
+#[cfg(test)]
+mod crew;
 #[cfg(test)]
 mod cut;
 #[cfg(test)]
@@ -22,6 +28,10 @@ mod durable;
 mod event;
 #[cfg(test)]
 mod gate;
+#[cfg(test)]
+mod gates;
+#[cfg(test)]
+mod generator;
 #[cfg(test)]
 mod list;
 #[cfg(test)]

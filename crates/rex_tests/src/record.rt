@@ -1,5 +1,4 @@
-ghost use Rattle.std.specs.Prelude.{◌≡◌, ◌<◌, ◌≤◌, ◌+◌, [], IsTrue};
-ghost use Rattle.rex_event.specs.declared.event.Kind.TheVariants.{Begin};
+ghost use Rattle.std.specs.Prelude.{◌<◌, ◌≤◌, ◌+◌, IsTrue};
 ghost use Rattle.rex_event.specs.Cuts.{IsConsistent};
 ghost use Rattle.rex_record.specs.Kept.{CanBegin, IsRecorder};
 
@@ -50,45 +49,43 @@ fn word_of(turn: &Turn) -> &'static str {
     }
 }
 
-fn begin(client: u16) -> Kind
-    ensures { result ≡ Begin client 1 0 [] }
-{
-    Kind::Begin {
-        client,
-        sequence: 1,
-        handler: 0,
-        arguments: Arguments::new(),
-    }
-}
-
-/// Whether an idle lane could begin the first request of a client.
-fn can_begin(recorder: &Recorder, svc: &Checked, client: u16) -> bool
+/// Whether an idle lane could begin a request.
+fn can_begin(recorder: &Recorder, svc: &Checked, request: &Request) -> bool
     requires { IsRecorder svc.now recorder.now.value }
-    ensures { IsTrue result → CanBegin svc.now recorder.now.value.state (record { client = client; sequence = 1; handler = 0; arguments = [] }) }
+    ensures { IsTrue result → CanBegin svc.now recorder.now.value.state request.now }
 {
     let event = Event {
         lane: 0,
         index: 0,
-        kind: begin(client),
+        kind: Kind::Begin {
+            client: request.client,
+            sequence: request.sequence,
+            handler: request.handler,
+            arguments: request.arguments,
+        },
     };
     let _service = svc.declarations();
     recorder.state().enabled(svc, &event)
 }
 
-/// Queues the first request of a client that has none, where an idle lane could begin it.
-fn queue(rt: &impl Abort, recorder: &mut Recorder, svc: &Checked, client: u16)
+/// Queues a request of a client that has none, which an idle lane could begin.
+pub fn queue(rt: &impl Abort, recorder: &mut Recorder, svc: &Checked, request: Request)
     requires { IsRecorder svc.now recorder.old.value }
     ensures { IsRecorder svc.now recorder.new.value }
 {
-    let request = Request {
+    assert!(rt; can_begin(recorder, svc, &request));
+    assert!(rt; recorder.queued(request.client).is_none());
+    recorder.queue(svc, request).expect(rt, "memory");
+}
+
+/// The first request of a client, for the first handler.
+fn first_request(client: u16) -> Request {
+    Request {
         client,
         sequence: 1,
         handler: 0,
         arguments: Arguments::new(),
-    };
-    assert!(rt; can_begin(recorder, svc, client));
-    assert!(rt; recorder.queued(client).is_none());
-    recorder.queue(svc, request).expect(rt, "memory");
+    }
 }
 
 /// A recorder at the start, with a request each of clients 1 and 2.
@@ -97,8 +94,8 @@ pub fn two_rolls(rt: &impl Abort, alloc: Global, svc: &Checked) -> Recorder
 {
     let state = State::start(alloc, svc).expect(rt, "memory");
     let mut recorder = Recorder::new(alloc, state).expect(rt, "memory");
-    queue(rt, &mut recorder, svc, 1);
-    queue(rt, &mut recorder, svc, 2);
+    queue(rt, &mut recorder, svc, first_request(1));
+    queue(rt, &mut recorder, svc, first_request(2));
     recorder
 }
 

@@ -33,7 +33,7 @@ fn recorded(rt: &impl Abort, alloc: Global, svc: &Checked) -> Recorder
 }
 
 /// Whether each event leaves its lane's count room for the next one.
-fn are_counted(events: &[Event]) -> bool
+pub(crate) fn are_counted(events: &[Event]) -> bool
     ensures { IsTrue result → AreCounted events.now }
 {
     events.iter().all(|event| event.index < 100)

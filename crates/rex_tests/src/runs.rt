@@ -1,6 +1,8 @@
+use crate::gates::HoldingGate;
 use rex_cli::rex_main;
-use rex_traits::{MemSink, MemSource, OpenGate, Source};
+use rex_traits::{Gate, MemSink, MemSource, OpenGate, Source};
 use std::alloc::AllocGlobal;
+use std::process::Abort;
 use std::test::*;
 use std::thread::Threads;
 
@@ -154,22 +156,26 @@ pub struct Outcome {
     pub written: Vec<u8>,
 }
 
-/// Runs the program over these devices, and answers its status.
-pub fn status_over<R: Threads + Sync + AllocGlobal, S: Source>(
+/// Runs the program with these words, with a space between, over these devices and behind a gate, and answers its status.
+pub fn status_over<R: Threads + Sync + AllocGlobal, S: Source, G: Gate + Sync>(
     rt: &R,
-    word: &str,
+    line: &str,
     source: &mut S,
     sink: &mut MemSink,
+    gate: &G,
 ) -> Result<u8, Fail> {
     let alloc = rt.alloc();
-    let words = vec![in alloc; "rex".to_string(alloc)?, word.to_string(alloc)?]?;
-    Ok(rex_main(rt, alloc, &words, source, sink, &OpenGate))
+    let mut words = vec![in alloc; "rex".to_string(alloc)?]?;
+    for word in line.split(' ') {
+        words.push(word.to_string(alloc)?)?;
+    }
+    Ok(rex_main(rt, alloc, &words, source, sink, gate))
 }
 
-/// Runs the program over memory. The read and the write of these numbers, from 1, fail; 0 is none.
+/// Runs the program with these words over memory. The read and the write of these numbers, from 1, fail; 0 is none.
 pub fn run<R: Threads + Sync + AllocGlobal>(
     rt: &R,
-    word: &str,
+    line: &str,
     input: &[u8],
     read: u64,
     write: u64,
@@ -178,7 +184,7 @@ pub fn run<R: Threads + Sync + AllocGlobal>(
     let bytes = Vec::from_slice(alloc, input)?;
     let mut source = MemSource::new(bytes, vec![in alloc; read]?);
     let mut sink = MemSink::new(alloc, vec![in alloc; write]?, 100);
-    let status = status_over(rt, word, &mut source, &mut sink)?;
+    let status = status_over(rt, line, &mut source, &mut sink, &OpenGate)?;
     let written = Vec::from_slice(alloc, sink.held())?;
     Ok(Outcome { status, written })
 }
@@ -193,8 +199,68 @@ fn a_request_is_served(rt: HostRuntime) -> Result<(), Fail> {
 
 #[test]
 fn a_stopped_leader_catches_up(rt: HostRuntime) -> Result<(), Fail> {
-    let outcome = run(&rt, "run", CATCHING_UP, 0, 0)?;
-    assert_eq!(rt; outcome.status, 0);
-    assert_eq!(rt; outcome.written.as_slice(), CAUGHT_UP);
+    for line in ["run", "run --workers 2", "run --workers 8"] {
+        let outcome = run(&rt, line, CATCHING_UP, 0, 0)?;
+        assert_eq!(rt; outcome.status, 0);
+        assert_eq!(rt; outcome.written.as_slice(), CAUGHT_UP);
+    }
     Ok(())
+}
+
+/// Two lanes that take one lock in turn; the node that led starts anew, and replays what they did.
+const REPLAYED: &[u8] = b"%nodes 1
+%service
+lanes 2
+lock L
+var a on L = 0
+handler add x
+acquire L
+set a = a + x
+let r = a
+release L
+reply r
+%requests
+1 1 add 5
+2 1 add 7
+%schedule
+elect 1
+submit 1 1
+submit 1 2
+lane 1 1
+lane 1 1
+lane 1 2
+lane 1 2
+lane 1 1
+lane 1 2
+cut 1
+stop 1
+start 1
+replay 1
+";
+
+/// How its report ends.
+const REPLAYED_END: &[u8] =
+    b"13 node 1 replayed 1\nend node 1 follower promised 17 known 1 replayed 1 a=12\n";
+
+/// Two workers replay while one of them is held until the other one tries its second event.
+fn replay_held<R: Threads + Sync + AllocGlobal + Abort>(
+    rt: &R,
+    held: u8,
+    until: u8,
+) -> Result<(), Fail> {
+    let gate = HoldingGate::new(held, until);
+    let bytes = Vec::from_slice(rt.alloc(), REPLAYED)?;
+    let mut source = MemSource::new(bytes, vec![in rt.alloc(); 0]?);
+    let mut sink = MemSink::new(rt.alloc(), vec![in rt.alloc(); 0]?, 4096);
+    let status = status_over(rt, "run --workers 2", &mut source, &mut sink, &gate)?;
+    assert!(rt; status == 0 && sink.held().ends_with(REPLAYED_END));
+    assert!(rt; gate.is_kept(), "{held} was held");
+    assert!(rt; gate.entered_once(), "{held} was held");
+    Ok(())
+}
+
+#[test]
+fn workers_replay_beside_each_other(rt: HostRuntime) -> Result<(), Fail> {
+    replay_held(&rt, 0, 1)?;
+    replay_held(&rt, 1, 0)
 }

@@ -5,6 +5,8 @@ pub mod Ranges
 pub mod Runs
 pub mod Longest
 pub mod Traces
+pub mod Releasing
+pub mod Summing
 pub mod Seated
 pub mod Sending
 pub mod Failing

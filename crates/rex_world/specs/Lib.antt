@@ -6,6 +6,7 @@ pub mod Places
 pub mod Finding
 pub mod Report
 pub mod Tracing
+pub mod Summaries
 pub mod Laws
 pub mod Writing
 pub mod Handing

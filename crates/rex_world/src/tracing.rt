@@ -1,14 +1,11 @@
 //! The agreed trace of a scenario.
 
-ghost use Rattle.std.specs.Prelude.{◌≡◌, ◌<◌, ◌≤◌, ◌+◌, ◌^◌, ◌++◌, length, IfOk, OnOk};
+ghost use Rattle.std.specs.Prelude.{◌≡◌, ◌≤◌, ◌++◌, length, IfOk, OnOk};
 ghost use Rattle.rex_report.specs.Trace.{delta_text};
 ghost use Rattle.rex_scenario.specs.Fits.{ScenarioFits};
 ghost use Rattle.rex_safety.specs.Values as values;
 ghost use Rattle.rex_safety.specs.Values.{delta_of};
-ghost use Rattle.rex_safety.specs.World.{after_lines};
-ghost use Rattle.rex_world.specs.Kept.{IsOf, IsRunning};
 ghost use Rattle.rex_world.specs.Tracing.{trace_text, values_text};
-ghost use Rattle.rex_world.specs.World.{world_of};
 
 use crate::world::World;
 use rex_ballot::Value;
@@ -21,29 +18,6 @@ use rex_scenario::Scenario;
 use rex_syntax::checked::Checked;
 use rex_syntax::service::Declarations;
 use std::alloc::{AllocError, Global};
-
-impl World {
-    // Does the lines of a scenario's schedule from the world as it stands; what they report is dropped.
-    fn follow<R: Replayer>(
-        &mut self,
-        svc: &Checked,
-        replayer: &mut R,
-        scenario: &Scenario,
-    ) -> Result<(), AllocError>
-        requires running { IsRunning svc.now self.old }
-        requires ready { R.ready replayer.old }
-        requires fits { ScenarioFits svc.now scenario.now }
-        requires of { IsOf scenario.now self.old }
-        requires count { self.old.done + length scenario.now.schedule < 2 ^ 32 }
-        ensures world { OnOk result (world_of svc.now self.new ≡ after_lines svc.now scenario.now.requests scenario.now.seed scenario.now.nodes (world_of svc.now self.old) scenario.now.schedule) }
-        ensures running { OnOk result (IsRunning svc.now self.new) }
-    {
-        for line in scenario.schedule.as_slice() {
-            self.step(svc, replayer, line)?;
-        }
-        Ok(())
-    }
-}
 
 // Appends the lines of an agreed value.
 fn push_value(

@@ -1,0 +1,17 @@
+pub mod Reading
+pub mod Apart
+pub mod Facts
+pub mod Lanes
+pub mod Keeps
+pub mod Later
+pub mod Doing
+pub mod Placing
+pub mod Naming
+pub mod Stepping
+pub mod Dealt
+pub mod Opening
+pub mod Collecting
+pub mod Noting
+pub mod Finishing
+pub mod Ending
+pub mod Moments

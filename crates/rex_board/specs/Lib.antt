@@ -1,0 +1,11 @@
+pub mod Recorded
+pub mod Moment
+pub mod Steps
+pub mod Seated
+pub mod Turns
+pub mod Places
+pub mod Turned
+pub mod Boards
+pub mod Dealing
+pub mod Finishing
+pub mod Laws

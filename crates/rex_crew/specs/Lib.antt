@@ -1,0 +1,4 @@
+pub mod Rounds
+pub mod Work
+pub mod Jobs
+pub mod Dealing

@@ -1,0 +1,11 @@
+pub mod Lines
+pub mod Numbers
+pub mod Commands
+pub mod Texts
+pub mod Counter
+pub mod Head
+pub mod Asked
+pub mod Steps
+pub mod Orders
+pub mod Rounds
+pub mod Whole

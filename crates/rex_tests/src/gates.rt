@@ -1,0 +1,101 @@
+//! Gates that watch the workers of a crew, and hold one of them.
+
+use rex_traits::Gate;
+use std::sync::atomic::{AtomicU64, Ordering};
+
+/// How often a worker that is held looks at most whether it may go on. One that looked so often goes on, and that is noted.
+const LOOKS: u64 = 1 << 30;
+
+/// A gate for two lanes that begin with no events done. It holds one worker until another one enters with index 1: the
+/// second event of its lane.
+#[derive(Drop)]
+pub struct HoldingGate {
+    held: u8,
+    until: u8,
+    /// Whether the other worker came: 1, or else 0.
+    came: AtomicU64,
+    /// How many holds ended with no sight of the other worker.
+    gave_up: AtomicU64,
+    /// For each lane one more than the index that was entered last; 0 before.
+    last: [AtomicU64; 2],
+    /// How often an index was entered that is neither its lane's last one nor the next, or another lane.
+    astray: AtomicU64,
+    /// How often worker 0 entered the events 0, 1 and 2 of lane 0.
+    first: [AtomicU64; 3],
+}
+
+fn zero() -> AtomicU64 {
+    AtomicU64::new(0)
+}
+
+impl HoldingGate {
+    /// A gate that holds worker `held` until worker `until` enters with index 1.
+    pub fn new(held: u8, until: u8) -> HoldingGate {
+        HoldingGate {
+            held,
+            until,
+            came: zero(),
+            gave_up: zero(),
+            last: [zero(), zero()],
+            astray: zero(),
+            first: [zero(), zero(), zero()],
+        }
+    }
+
+    /// Waits for the other worker, up to a bound.
+    fn hold(&self) {
+        if self.gave_up.load(Ordering::SeqCst) > 0 {
+            return;
+        }
+        for _ in 0..LOOKS {
+            if self.came.load(Ordering::SeqCst) > 0 {
+                return;
+            }
+        }
+        self.gave_up.fetch_add(1, Ordering::SeqCst);
+    }
+
+    /// Notes that an event of a lane was entered.
+    fn note(&self, lane: u8, index: u32) {
+        let next = u64::from(index) + 1;
+        let is_near = match self.last.get(lane as usize) {
+            Some(last) => {
+                let before = last.swap(next, Ordering::SeqCst);
+                before == next || before == u64::from(index)
+            }
+            None => false,
+        };
+        if !is_near {
+            self.astray.fetch_add(1, Ordering::SeqCst);
+        }
+    }
+
+    /// Whether each hold ended as the other worker came, and no lane's entered index fell or skipped.
+    pub fn is_kept(&self) -> bool {
+        self.gave_up.load(Ordering::SeqCst) == 0 && self.astray.load(Ordering::SeqCst) == 0
+    }
+
+    /// Whether worker 0 entered each of the events 0, 1 and 2 of lane 0 once.
+    pub fn entered_once(&self) -> bool {
+        self.first
+            .iter()
+            .all(|count| count.load(Ordering::SeqCst) == 1)
+    }
+}
+
+impl Gate for HoldingGate {
+    fn enter(&self, worker: u8, lane: u8, index: u32) {
+        self.note(lane, index);
+        if worker == 0 && lane == 0 {
+            if let Some(count) = self.first.get(index as usize) {
+                count.fetch_add(1, Ordering::SeqCst);
+            }
+        }
+        if worker == self.until && index == 1 {
+            self.came.store(1, Ordering::SeqCst);
+        }
+        if worker == self.held {
+            self.hold();
+        }
+    }
+}

@@ -1,0 +1,48 @@
+-- The releases of a schedule, line by line.
+use Rattle.std.proofs.Common.{◌≡◌, ℕ, List, [], ◌∷◌, ◌++◌, sym, ap, subst, ◌∙◌, append-nil, append_assoc}
+use Rattle.std.specs.Prelude.{filter}
+use Rattle.std.proofs.lemmas.List.Elements.{filter-append}
+use Rattle.rex_syntax.specs.declared.request.Request.{Request}
+use Rattle.rex_syntax.specs.declared.service.Declarations.{Declarations}
+use Rattle.rex_report.specs.declared.effect.Effect.{Effect}
+use Rattle.rex_scenario.specs.declared.scenario.Scenario.{Scenario}
+use Rattle.rex_scenario.specs.declared.scenario.ScheduleLine.{ScheduleLine}
+use Rattle.rex_safety.specs.World.{World as ModelWorld, effects_of, row}
+use Rattle.rex_world.specs.declared.world.World.{World}
+use Rattle.rex_world.specs.Kept.{IsOf}
+use Rattle.rex_world.specs.Summaries.{is_release, releases_from}
+use Rattle.rex_world.specs.World.{nodes_of, world_of}
+use Rattle.rex_world.proofs.Runs.{next_of}
+
+-- what the next line reports
+abbrev pub told_of : Declarations → World → ScheduleLine → List Effect
+told_of service w line = (row service w.requests w.seed (nodes_of w) (world_of service w) line).effects
+
+-- the releases of the next line come first, and then those of the other lines
+releases_next : (service : Declarations) (s : Scenario) (w : World) (line : ScheduleLine) (rest left : List ScheduleLine) → IsOf s w → left ≡ line ∷ rest
+    → releases_from service s (world_of service w) left ≡ filter is_release (told_of service w line) ++ releases_from service s (next_of service w line) rest
+releases_next service s w line rest left of l =
+    subst (λ (n : ℕ). filter is_release (effects_of service s.requests s.seed n (world_of service w) left) ≡ first ++ filter is_release (effects_of service s.requests s.seed n (next_of service w line) rest)) of.nodes
+    (subst (λ (seed : ℕ). filter is_release (effects_of service s.requests seed (nodes_of w) (world_of service w) left) ≡ first ++ filter is_release (effects_of service s.requests seed (nodes_of w) (next_of service w line) rest)) of.seed
+    (subst (λ (requests : List Request). filter is_release (effects_of service requests w.seed (nodes_of w) (world_of service w) left) ≡ first ++ filter is_release (effects_of service requests w.seed (nodes_of w) (next_of service w line) rest)) of.requests
+    (ap (λ (ls : List ScheduleLine). filter is_release (effects_of service w.requests w.seed (nodes_of w) (world_of service w) ls)) l
+    ∙ filter-append is_release (told_of service w line) (effects_of service w.requests w.seed (nodes_of w) (next_of service w line) rest))))
+  where
+    first : List Effect
+    first = filter is_release (told_of service w line)
+
+-- with the releases of one line more
+pub releases_more : (service : Declarations) (s : Scenario) (w after : World) (line : ScheduleLine) (rest left : List ScheduleLine) (had now told whole : List Effect) → IsOf s w → left ≡ line ∷ rest
+    → world_of service after ≡ next_of service w line → told ≡ told_of service w line → now ≡ had ++ filter is_release told
+    → had ++ releases_from service s (world_of service w) left ≡ whole → now ++ releases_from service s (world_of service after) rest ≡ whole
+releases_more service s w after line rest left had now told whole of l world told_is now_is before =
+    ap (λ (es : List Effect). es ++ releases_from service s (world_of service after) rest) (now_is ∙ ap (λ (es : List Effect). had ++ filter is_release es) told_is)
+    ∙ ap (λ (x : ModelWorld). (had ++ filter is_release (told_of service w line)) ++ releases_from service s x rest) world
+    ∙ append_assoc had (filter is_release (told_of service w line)) (releases_from service s (next_of service w line) rest)
+    ∙ ap (λ (es : List Effect). had ++ es) (sym (releases_next service s w line rest left of l))
+    ∙ before
+
+-- none are left at the end
+pub releases_all : (service : Declarations) (s : Scenario) (w : World) (left : List ScheduleLine) (had whole : List Effect) → left ≡ [] → had ++ releases_from service s (world_of service w) left ≡ whole → had ≡ whole
+releases_all service s w left had whole none before =
+    sym (append-nil had) ∙ ap (λ (ls : List ScheduleLine). had ++ releases_from service s (world_of service w) ls) (sym none) ∙ before

@@ -1,0 +1,83 @@
+-- The agreed trace runs, and its state has the variables of the summary.
+use Rattle.std.proofs.Common.{◌≡◌, ℕ, ℤ, zero, suc, ◌<◌, ◌≤◌, ◌+◌, Bool, true, false, List, [], ◌∷◌, length, Option, refl, sym, ap, subst, ◌∙◌, arith}
+use Rattle.std.specs.Prelude.{nat_lt, Some, IsSome, unwrap_or, if◌then◌else◌}
+use Rattle.rex_syntax.specs.declared.service.Declarations.{Declarations}
+use Rattle.rex_state.specs.Value.{StateValue}
+use Rattle.rex_state.specs.Start.{start_of}
+use Rattle.rex_state.specs.Machine.{run}
+use Rattle.rex_report.specs.declared.effect.Effect.{Effect}
+use Rattle.rex_scenario.specs.declared.scenario.Scenario.{Scenario}
+use Rattle.rex_safety.specs.Records.{known}
+use Rattle.rex_safety.specs.Values.{Value, trace_of, state_after, values_fit}
+use Rattle.rex_safety.specs.Lanes.{Here}
+use Rattle.rex_safety.specs.Agreed.{agreed, longest}
+use Rattle.rex_safety.specs.Quorum.{IsNode}
+use Rattle.rex_safety.specs.World.{World as ModelWorld, node_at, beginning, after_lines}
+use Rattle.rex_safety.specs.Keeping.{KeptValuesFit}
+use Rattle.rex_world.specs.declared.summary.Summary.{Summary}
+use Rattle.rex_world.specs.declared.world.World.{World}
+use Rattle.rex_world.specs.Kept.{IsRunning}
+use Rattle.rex_world.specs.Summaries.{releases_from, last_world, summary_of}
+use Rattle.rex_world.specs.World.{messages_of, nodes_of, world_of}
+use Rattle.rex_world.proofs.Headlines.{fit_run}
+use Rattle.rex_world.proofs.Seated.{later_at}
+
+-- what holds of no values and of what each node knows, holds of the longest list
+holds_of_longest : (P : List Value → Type 0) (xs : List Here) → P [] → ((m : ℕ) → IsNode (length xs) m → P (known (node_at xs m).log)) → P (longest xs)
+holds_of_longest P [] none each = none
+holds_of_longest P (x ∷ xs) none each = either (nat_lt (length (known x.log)) (length (longest xs))) (each 1 (omega arith, omega arith)) (holds_of_longest P xs none later)
+  where
+    later : (m : ℕ) → IsNode (length xs) m → P (known (node_at xs m).log)
+    later zero there = absurd (let l : 0 < 0 = there.0 in omega (arith, l))
+    later (suc i) there = subst (λ (y : Here). P (known y.log)) (later_at x xs i) (each (suc (suc i)) (omega arith, omega (arith, there.1)))
+
+    either : (t : Bool) → P (known x.log) → P (longest xs) → P (if t then longest xs else known x.log)
+    either true a b = b
+    either false a b = a
+
+-- the agreed values of a running world fit
+agreed_fit : KeptValuesFit → (service : Declarations) (w : World) → IsRunning service w → values_fit service (agreed (world_of service w)) ≡ true
+agreed_fit law service w h =
+    holds_of_longest (λ values. values_fit service values ≡ true) (world_of service w).nodes refl
+    (λ m there. (law service w.seed (nodes_of w) (world_of service w) h.service_is h.checked h.kept).next.known m (subst (λ (n : ℕ). IsNode n m) h.kept.world.many there))
+
+some_is : {A : Type 0} (o : Option A) (x : A) → o ≡ Some x → IsSome o
+some_is o x h = rw h refl
+
+-- values that are the agreed ones run from the start
+pub agreed_runs : KeptValuesFit → (service : Declarations) (w : World) (values : List Value) (start : StateValue) → IsRunning service w → values ≡ agreed (world_of service w) → start ≡ start_of service → IsSome (run service start (trace_of values))
+agreed_runs law service w values start h is at =
+    let r = fit_run service (agreed (world_of service w)) (agreed_fit law service w h) in
+    some_is (run service start (trace_of values)) r.0
+    (ap (λ (s : StateValue). run service s (trace_of values)) at ∙ ap (λ (vs : List Value). run service (start_of service) (trace_of vs)) is ∙ r.1)
+
+-- as many messages as the network has bytes of
+as_many : (net : List (List ℕ)) → length (messages_of net) ≡ length net
+as_many [] = refl
+as_many (bytes ∷ rest) = ap suc (as_many rest)
+
+-- the numbers of a run are those of its last world
+pub summary_is : (service : Declarations) (s : Scenario) (first last : World) (values : List Value) (releases : List Effect) (start state : StateValue) (lines messages known_ones released : ℕ) (variables : List ℤ)
+    → world_of service first ≡ beginning s.nodes → world_of service last ≡ after_lines service s.requests s.seed s.nodes (world_of service first) s.schedule
+    → releases ≡ releases_from service s (world_of service first) s.schedule → values ≡ agreed (world_of service last) → start ≡ start_of service → run service start (trace_of values) ≡ Some state
+    → lines ≡ length s.schedule → messages ≡ length last.net → known_ones ≡ length values → released ≡ length releases → variables ≡ state.variables
+    → ◌≡◌ {A = Summary} (record { lines = lines; messages = messages; known = known_ones; released = released; variables = variables }) (summary_of service s)
+summary_is service s first last values releases start state lines messages known_ones released variables first_is last_is releases_are values_are start_is ran lines_is messages_is known_is released_is variables_are =
+    same lines_is
+    (messages_is ∙ sym (as_many last.net) ∙ ap (λ (w : ModelWorld). length w.messages) ended)
+    (known_is ∙ ap length agreed_is)
+    (released_is ∙ ap length (releases_are ∙ ap (λ (w : ModelWorld). releases_from service s w s.schedule) first_is))
+    (variables_are ∙ ap (λ (x : StateValue). x.variables) (sym after) ∙ ap (λ (vs : List Value). (state_after service (trace_of vs)).variables) agreed_is)
+  where
+    ended : world_of service last ≡ last_world service s
+    ended = last_is ∙ ap (λ (w : ModelWorld). after_lines service s.requests s.seed s.nodes w s.schedule) first_is
+
+    agreed_is : values ≡ agreed (last_world service s)
+    agreed_is = values_are ∙ ap agreed ended
+
+    after : state_after service (trace_of values) ≡ state
+    after = ap (λ o. unwrap_or o (start_of service)) (ap (λ (x : StateValue). run service x (trace_of values)) (sym start_is) ∙ ran)
+
+    same : {a b c d : ℕ} {e : List ℤ} → lines ≡ a → messages ≡ b → known_ones ≡ c → released ≡ d → variables ≡ e
+        → ◌≡◌ {A = Summary} (record { lines = lines; messages = messages; known = known_ones; released = released; variables = variables }) (record { lines = a; messages = b; known = c; released = d; variables = e })
+    same p q r t u = rw (p, q, r, t, u) refl

@@ -1,0 +1,66 @@
+//! A run whose report isn't written.
+
+ghost use Rattle.std.specs.Prelude.{◌≡◌, ◌<◌, ◌+◌, ◌^◌, ◌++◌, filter, length, IfOk, OnOk};
+ghost use Rattle.rex_scenario.specs.Fits.{ScenarioFits};
+ghost use Rattle.rex_safety.specs.World.{after_lines};
+ghost use Rattle.rex_world.specs.Kept.{IsOf, IsRunning};
+ghost use Rattle.rex_world.specs.Summaries as spec;
+ghost use Rattle.rex_world.specs.World.{world_of};
+
+use crate::world::World;
+use rex_event::{Event, Kind};
+use rex_replay::Replayer;
+use rex_report::Effect;
+use rex_scenario::Scenario;
+use rex_syntax::checked::Checked;
+use std::alloc::AllocError;
+
+// Whether an effect is the release of a reply.
+fn is_release(effect: &Effect) -> bool
+    ensures { result ≡ spec.is_release effect.now }
+{
+    match effect {
+        Effect::Released { .. } => true,
+        _ => false,
+    }
+}
+
+// Appends the releases among effects.
+fn push_releases(releases: &mut Vec<Effect>, effects: &[Effect]) -> Result<(), AllocError>
+    ensures { OnOk result (releases.new.items ≡ releases.old.items ++ filter spec.is_release effects.now) }
+{
+    let _event: Option<(Event, Kind)> = None;
+    for effect in effects {
+        if is_release(effect) {
+            releases.push(*effect)?;
+        }
+    }
+    Ok(())
+}
+
+impl World {
+    /// Does the lines of a scenario's schedule from the world as it stands, and answers the releases that they report.
+    pub(crate) fn follow<R: Replayer>(
+        &mut self,
+        svc: &Checked,
+        replayer: &mut R,
+        scenario: &Scenario,
+    ) -> Result<Vec<Effect>, AllocError>
+        requires running { IsRunning svc.now self.old }
+        requires ready { R.ready replayer.old }
+        requires fits { ScenarioFits svc.now scenario.now }
+        requires of { IsOf scenario.now self.old }
+        requires count { self.old.done + length scenario.now.schedule < 2 ^ 32 }
+        ensures world { OnOk result (world_of svc.now self.new ≡ after_lines svc.now scenario.now.requests scenario.now.seed scenario.now.nodes (world_of svc.now self.old) scenario.now.schedule) }
+        ensures releases { IfOk result (λ es. es.items ≡ spec.releases_from svc.now scenario.now (world_of svc.now self.old) scenario.now.schedule) }
+        ensures running { OnOk result (IsRunning svc.now self.new) }
+        ensures ready { R.ready replayer.new }
+    {
+        let mut releases = Vec::new(self.alloc);
+        for line in scenario.schedule.as_slice() {
+            let effects = self.step(svc, replayer, line)?;
+            push_releases(&mut releases, effects.as_slice())?;
+        }
+        Ok(releases)
+    }
+}
