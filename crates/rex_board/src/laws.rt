@@ -18,7 +18,7 @@ pub fn fresh_lanes_stand_at_the_start()
     ensures { FreshLanesStandAtTheStart }
 {}
 
-/// The store that does an event stores one more than its lane's word has, so no lane's word ever falls.
+/// The store that does an event stores one more than its lane's word has.
 pub fn lane_words_rise_by_one()
     ensures { LaneWordsRiseByOne }
 {}

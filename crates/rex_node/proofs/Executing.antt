@@ -8,6 +8,7 @@ use Rattle.rand_pcg.specs.Pcg.{pcg32}
 use Rattle.rex_syntax.specs.declared.request.Request.{Request}
 use Rattle.rex_syntax.specs.declared.service.Declarations.{Declarations}
 use Rattle.rex_syntax.specs.Service.{IsService}
+use Rattle.rex_event.specs.declared.event.Event.{Event}
 use Rattle.rex_state.specs.declared.lane.Entry.{Entry}
 use Rattle.rex_state.specs.Value.{StateValue}
 use Rattle.rex_state.specs.Start.{start_of}
@@ -18,6 +19,7 @@ use Rattle.rex_record.specs.declared.turns.Turn.{Turn}
 use Rattle.rex_record.specs.declared.turns.Turn.TheVariants as turn
 use Rattle.rex_record.specs.Turn.{turn_of, does_draw, dice_after}
 use Rattle.rex_record.specs.Value.{queued_in, queue_after, is_begin, turned}
+use Rattle.rex_record.specs.Take.{taken_turn}
 use Rattle.rex_record.specs.Kept.{IsRecorder, CanBegin}
 use Rattle.rex_paxos.specs.Acceptor.{AcceptorValue}
 use Rattle.rex_paxos.specs.Proposer.{ProposerValue}
@@ -32,6 +34,7 @@ use Rattle.rex_safety.specs.Values.{Value, trace_of, state_after}
 use Rattle.rex_safety.specs.Ranges.{RoleFits}
 use Rattle.rex_safety.specs.Calls.{begin}
 use Rattle.rex_safety.specs.Lanes as lanes
+use Rattle.rex_safety.specs.Takes as takes
 use Rattle.rex_safety.specs.Lanes.{queue_with, submit_request, live_state, known_state}
 use Rattle.rex_node.specs.declared.refusal.Refusal.{Refusal}
 use Rattle.rex_node.specs.Calls.{LeadsTo, if_up, turn_at}
@@ -40,7 +43,7 @@ use Rattle.rex_safety.proofs.Replies.{state_is}
 use Rattle.rex_safety.proofs.Queues.{queued_positive, due_begins, queue_after_answer}
 use Rattle.rex_node.specs.Parts.{ActingValue, NodeValue, Executes, ActsFor, OpenIsCut, IsActing, IsUp, IsNode, HasGoneOn, here_of, open_of, role_of, work_of}
 use Rattle.rex_node.proofs.Proposed.{open_turned}
-use Rattle.rex_node.specs.Submitting.{answer_in, taken}
+use Rattle.rex_node.specs.Submitting.{answer_in, taken, given}
 
 module _ (service : Declarations) (values : List Value) (a : ActingValue) (h : Executes service values a) where
   pub start_is : state_after service (trace_of values) ≡ a.recorder.start
@@ -108,6 +111,19 @@ module _ (service : Declarations) (values : List Value) (a : ActingValue) (h : E
       fewer : (t : Turn) (queue : List Request) → All (RequestFits service) queue → All (RequestFits service) (queue_after queue t)
       fewer (turn.Done e) queue k = dropped (is_begin e.kind) queue k
       fewer _ queue k = k
+
+  -- so it does after an event that it was handed, with the same requests
+  pub given_executes : (t : Turn) → IsRecorder service (given service a t).recorder → Executes service values (given service a t)
+  given_executes t k = record { recorder = k; known = h.known; requests = h.requests; answers = h.answers }
+
+  -- what comes of an event that is handed in is what comes of it in the model
+  pub given_is : (e : Event) (vs : List Value) (w : Option ActingValue) → values ≡ vs → w ≡ Some a
+      → taken_turn service a.recorder.state a.recorder.queue (length a.recorder.live) e
+      ≡ taken_turn service (state_after service (trace_of vs ++ (work_of w).live)) (work_of w).queue (length (work_of w).live) e
+  given_is e vs w i f =
+      ap (λ (s : StateValue). taken_turn service s a.recorder.queue (length a.recorder.live) e) (sym live_is)
+      ∙ ap (λ (us : List Value). taken_turn service (state_after service (trace_of us ++ a.recorder.live)) a.recorder.queue (length a.recorder.live) e) i
+      ∙ ap (λ (u : Option ActingValue). taken_turn service (state_after service (trace_of vs ++ (work_of u).live)) (work_of u).queue (length (work_of u).live) e) (sym f)
 
 -- ---- what the recorder may take
 
@@ -196,6 +212,9 @@ module _ {K : Type 0} (records : K → List (List ℕ)) (service : Declarations)
       (sym (live_state_is service x.known a h (known (here_of records service x).log) (Some a) (sym k) refl))
       ∙ ap (λ (w : Option ActingValue). (lanes.turned service lane t (begin (here_of records service (record x { acting = w })))).node) (sym e)
 
+  given_to : (t : Turn) → x.acting ≡ Some a → here_of records service (record x { acting = Some (given service a t) }) ≡ (takes.taken t (begin (here_of records service x))).node
+  given_to t e = ap (λ (w : Option ActingValue). (takes.taken t (begin (here_of records service (record x { acting = w })))).node) (sym e)
+
 -- a node that isn't refused is up
 pub up_of : (b : Bool) (o : Option Refusal) → if_up b o ≡ None → b ≡ true
 up_of true o e = refl
@@ -247,4 +266,18 @@ module _ {K : Type 0} (records : K → List (List ℕ)) (service : Declarations)
   pub turn_stays : (t : Turn) (dice : Lcg) (b : ActingValue) → b ≡ record { recorder = turned service a.recorder t; dice = dice; proposed = a.proposed; answers = a.answers } → IsRecorder service b.recorder → IsService service → StaysNode records service x (record z { acting = Some b })
   turn_stays t dice b f k good =
       let kept : IsRecorder service (turned service a.recorder t) = subst (λ (c : ActingValue). IsRecorder service c.recorder) f k in
-      stays b (λ p h. subst (ActsFor service x.known p) (sym f) (record { executes = turned_executes service x.known a h.executes t dice a.proposed kept; open_is_cut = open_turned service good x.known a h.executes t dice kept p h.open_is_cut }))
+      stays b (λ p h. subst (ActsFor service x.known p) (sym f) (record { executes = turned_executes service x.known a h.executes t dice a.proposed kept; open_is_cut = open_turned service good x.known a h.executes t (queue_after a.recorder.queue t) dice kept p h.open_is_cut }))
+
+  pub given_of_node : (event : Event) → taken_turn service a.recorder.state a.recorder.queue (length a.recorder.live) event ≡ takes.taken_in service (here_of records service x) event
+  given_of_node event = given_is service x.known a has event (known (here_of records service x).log) x.acting is_up.known x_has
+
+  pub given_leads : (t : Turn) (b : ActingValue) → b ≡ given service a t → LeadsTo (takes.taken t) (here_of records service x) (here_of records service (record z { acting = Some b }))
+  given_leads t b f =
+      ap (λ (n : NodeValue K). here_of records service (record n { acting = Some b })) z_is
+      ∙ ap (λ (c : ActingValue). here_of records service (record x { acting = Some c })) f
+      ∙ given_to records service x a b t x_has
+
+  pub given_stays : (t : Turn) (b : ActingValue) → b ≡ given service a t → IsRecorder service b.recorder → IsService service → StaysNode records service x (record z { acting = Some b })
+  given_stays t b f k good =
+      let kept : IsRecorder service (given service a t).recorder = subst (λ (c : ActingValue). IsRecorder service c.recorder) f k in
+      stays b (λ p h. subst (ActsFor service x.known p) (sym f) (record { executes = given_executes service x.known a h.executes t kept; open_is_cut = open_turned service good x.known a h.executes t a.recorder.queue a.dice kept p h.open_is_cut }))

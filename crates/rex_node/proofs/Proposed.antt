@@ -1,9 +1,10 @@
--- An open proposal stays the cut that was proposed last where a lane has its turn.
+-- An open proposal stays the cut that was proposed last where an event is recorded.
 use Rattle.std.proofs.Common.{◌≡◌, ℕ, true, false, cond, not, ◌⊎◌, inl, inr, List, [], ◌∷◌, ◌++◌, refl, sym, ap, subst, ◌∙◌, arith, le_trans, le-ltb, append-nil, Option, Some, None}
 use Rattle.std.specs.Prelude.{unwrap_or}
 use Rattle.std.proofs.lemmas.Bool.{false≢true, eqb-true}
 use Rattle.std.proofs.lemmas.List.Elements.{filter-append}
 use Rattle.rand_pcg.specs.Lcg.{Lcg}
+use Rattle.rex_syntax.specs.declared.request.Request.{Request}
 use Rattle.rex_syntax.specs.declared.service.Declarations.{Declarations}
 use Rattle.rex_syntax.specs.Service.{IsService}
 use Rattle.rex_event.specs.declared.event.Event.{Event}
@@ -20,7 +21,8 @@ use Rattle.rex_state.proofs.Counts.{count_is, runs_rise}
 use Rattle.rex_state.proofs.Cuts.{cuts_go_first}
 use Rattle.rex_record.specs.declared.turns.Turn.{Turn}
 use Rattle.rex_record.specs.declared.turns.Turn.TheVariants as turn
-use Rattle.rex_record.specs.Value.{turned}
+use Rattle.rex_record.specs.Value.{live_after}
+use Rattle.rex_record.specs.Value as recorders
 use Rattle.rex_record.specs.Kept.{IsRecorder}
 use Rattle.rex_safety.specs.Records.{Proposal}
 use Rattle.rex_safety.specs.Values.{Value, events_of, trace_of, state_after}
@@ -99,7 +101,7 @@ module _ (service : Declarations) (good : IsService service) (values : List Valu
   mid_within = subst (λ (s : StateValue). IsWithin (counts_of a.recorder.state) (counts_of s)) (sym mid) (λ lane. (runs_rise service go.state a.recorder.state (beyond a.proposed a.recorder.live) go.rest).rise lane)
 
   -- with one event more
-  cut_pushed : (e : Event) (after : StateValue) (queue : List _) (dice : Lcg) → next service a.recorder.state e ≡ Some after
+  cut_pushed : (e : Event) (after : StateValue) (queue : List Request) (dice : Lcg) → next service a.recorder.state e ≡ Some after
       → IsCutAt service values (record { recorder = record { start = a.recorder.start; live = a.recorder.live ++ e ∷ []; state = after; queue = queue }; dice = dice; proposed = a.proposed; answers = a.answers }) value
   cut_pushed e after queue dice k = record {
     consistent = consistent_push a.proposed a.recorder.live e c.consistent out;
@@ -114,18 +116,29 @@ module _ (service : Declarations) (good : IsService service) (values : List Valu
       out : is_below a.proposed e ≡ false
       out = not_below a.proposed e after c.within k
 
-  -- after a turn
-  cut_turned : (t : Turn) (dice : Lcg) → IsRecorder service (turned service a.recorder t) → IsCutAt service values (record { recorder = turned service a.recorder t; dice = dice; proposed = a.proposed; answers = a.answers }) value
-  cut_turned (turn.Done e) dice k =
+  -- after an event, or none, whatever the queue is then
+  abbrev with_turn : Turn → List Request → Lcg → ActingValue
+  with_turn t queue dice = record {
+    recorder = record { start = a.recorder.start; live = live_after a.recorder.live t; state = recorders.state_after service a.recorder.state t; queue = queue };
+    dice = dice;
+    proposed = a.proposed;
+    answers = a.answers;
+  }
+
+  cut_turned : (t : Turn) (queue : List Request) (dice : Lcg) → IsRecorder service (with_turn t queue dice).recorder → IsCutAt service values (with_turn t queue dice) value
+  cut_turned (turn.Done e) queue dice k =
       let r = run-first service a.recorder.state (unwrap_or (next service a.recorder.state e) a.recorder.state) e [] (sym (run-then service a.recorder.start a.recorder.state a.recorder.live (e ∷ []) h.recorder.runs) ∙ k.runs) in
-      cut_pushed e (unwrap_or (next service a.recorder.state e) a.recorder.state) _ dice (r.1 ∙ r.2)
-  cut_turned turn.Full dice k = record { consistent = c.consistent; within = c.within; events = c.events; others = c.others }
-  cut_turned turn.Idle dice k = record { consistent = c.consistent; within = c.within; events = c.events; others = c.others }
-  cut_turned (turn.Held by) dice k = record { consistent = c.consistent; within = c.within; events = c.events; others = c.others }
-  cut_turned turn.Unsignalled dice k = record { consistent = c.consistent; within = c.within; events = c.events; others = c.others }
+      cut_pushed e (unwrap_or (next service a.recorder.state e) a.recorder.state) queue dice (r.1 ∙ r.2)
+  cut_turned turn.Full queue dice k = record { consistent = c.consistent; within = c.within; events = c.events; others = c.others }
+  cut_turned turn.Idle queue dice k = record { consistent = c.consistent; within = c.within; events = c.events; others = c.others }
+  cut_turned (turn.Held by) queue dice k = record { consistent = c.consistent; within = c.within; events = c.events; others = c.others }
+  cut_turned turn.Unsignalled queue dice k = record { consistent = c.consistent; within = c.within; events = c.events; others = c.others }
+  cut_turned turn.Unfit queue dice k = record { consistent = c.consistent; within = c.within; events = c.events; others = c.others }
 
 -- an open proposal stays the cut that it is
-pub open_turned : (service : Declarations) → IsService service → (values : List Value) (a : ActingValue) → Executes service values a → (t : Turn) (dice : Lcg) → IsRecorder service (turned service a.recorder t)
-    → (o : Option (Proposal Value)) → OpenIsCut service values a o → OpenIsCut service values (record { recorder = turned service a.recorder t; dice = dice; proposed = a.proposed; answers = a.answers }) o
-open_turned service good values a h t dice k None c = tt
-open_turned service good values a h t dice k (Some p) c = cut_turned service good values a h p.value c t dice k
+pub open_turned : (service : Declarations) → IsService service → (values : List Value) (a : ActingValue) → Executes service values a → (t : Turn) (queue : List Request) (dice : Lcg)
+    → IsRecorder service (record { start = a.recorder.start; live = live_after a.recorder.live t; state = recorders.state_after service a.recorder.state t; queue = queue })
+    → (o : Option (Proposal Value)) → OpenIsCut service values a o
+    → OpenIsCut service values (record { recorder = record { start = a.recorder.start; live = live_after a.recorder.live t; state = recorders.state_after service a.recorder.state t; queue = queue }; dice = dice; proposed = a.proposed; answers = a.answers }) o
+open_turned service good values a h t queue dice k None c = tt
+open_turned service good values a h t queue dice k (Some p) c = cut_turned service good values a h p.value c t queue dice k

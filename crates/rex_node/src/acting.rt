@@ -5,18 +5,19 @@ ghost use Rattle.rand_pcg.specs.Pcg.{pcg32};
 ghost use Rattle.rex_state.specs.Machine.{lane_of};
 ghost use Rattle.rex_record.specs.Turn.{turn_of, does_draw, dice_after};
 ghost use Rattle.rex_event.specs.Cuts.{below, IsConsistent};
+ghost use Rattle.rex_record.specs.Take.{taken_turn};
 ghost use Rattle.rex_record.specs.Value.{turned, releases};
 ghost use Rattle.rex_safety.specs.Values as values;
 ghost use Rattle.rex_record.specs.Kept.{IsRecorder};
 ghost use Rattle.rex_gate.specs.Noted.{noted};
 ghost use Rattle.rex_scenario.specs.Fits.{RequestFits};
 ghost use Rattle.rex_node.specs.Leading.{settling};
-ghost use Rattle.rex_node.specs.Submitting.{answer_in, taken};
+ghost use Rattle.rex_node.specs.Submitting.{answer_in, given, taken};
 
 use crate::step::Draft;
 use rand_pcg::Lcg64Xsh32;
 use rex_delta::{DecodeError, decode};
-use rex_event::Cut;
+use rex_event::{Cut, Event};
 use rex_gate::{Answer, Answers};
 use rex_record::{Recorder, Release, Turn};
 use rex_report::Effect;
@@ -106,6 +107,18 @@ impl Acting {
         ensures kept { IsRecorder svc.now self.new.recorder }
     {
         self.recorder.lane_step(svc, lane, now, &mut self.dice)
+    }
+
+    /// Takes an event that was made elsewhere among the live ones, where it is its lane's next one.
+    pub fn take_event(&mut self, svc: &Checked, event: &Event) -> Result<Turn, AllocError>
+        requires recorder { IsRecorder svc.now self.old.recorder }
+        requires count { (lane_of self.old.recorder.state event.now.lane).done + 1 < 2 ^ 32 }
+        ensures turn { IfOk result (λ t. t ≡ taken_turn svc.now self.old.recorder.state self.old.recorder.queue (length self.old.recorder.live) event.now) }
+        ensures ok { IfOk result (λ t. self.new ≡ given svc.now self.old t) }
+        ensures err { OnErr result (self.new ≡ self.old) }
+        ensures kept { IsRecorder svc.now self.new.recorder }
+    {
+        self.recorder.take_event(svc, event)
     }
 
     /// The live events below the cut that was proposed last, which are those of this value, are known: they are live no longer,

@@ -7,12 +7,14 @@ ghost use Rattle.rex_scenario.specs.Fits.{RequestFits};
 ghost use Rattle.rex_safety.specs.Node.{role_name, lead_name};
 ghost use Rattle.rex_safety.specs.Calls.{begin};
 ghost use Rattle.rex_safety.specs.Lanes.{effect_of, live_state, submit_request, turned};
+ghost use Rattle.rex_safety.specs.Takes as takes;
 ghost use Rattle.rex_node.specs.Parts.{here_of, role_of, open_of, proposal_in, IsNode, StaysNode};
 ghost use Rattle.rex_node.specs.Calls.{Refuses, LeadsTo, if_up, if_active, refusal_active, turn_at};
 
 use crate::acting::Acting;
 use crate::refusal::Refusal;
 use rex_ballot::{Proposal, Value};
+use rex_event::Event;
 use rex_gate::Answer;
 use rex_paxos::{Acceptor, Proposer};
 use rex_record::Turn;
@@ -177,6 +179,32 @@ impl<K: Keeper> Node<K> {
             None => Err(Refusal::OutOfMemory),
             Some(mut acting) => {
                 let turn = acting.lane(svc, lane, now);
+                self.acting = Some(acting);
+                Ok(turn?)
+            }
+        }
+    }
+
+    /// Takes an event that was made elsewhere among the live ones, where it is the next one of its lane: `Done`, `Full` or
+    /// `Unfit`.
+    pub fn take_event(&mut self, svc: &Checked, event: &Event) -> Result<Turn, Refusal>
+        requires node { IsNode K.records svc.now self.old }
+        requires count { (lane_of (live_state svc.now (here_of K.records svc.now self.old)) event.now.lane).done + 1 < 2 ^ 32 }
+        ensures refused { Refuses (refusal_active (here_of K.records svc.now self.old)) result }
+        ensures told { IfOk result (λ turn. turn ≡ takes.taken_in svc.now (here_of K.records svc.now self.old) event.now) }
+        ensures node { IfOk result (λ turn. LeadsTo (takes.taken turn) (here_of K.records svc.now self.old) (here_of K.records svc.now self.new)) }
+        ensures same { OnErr result (self.new ≡ self.old) }
+        ensures keeper { self.new.keeper ≡ self.old.keeper }
+        ensures kept { StaysNode K.records svc.now self.old self.new }
+    {
+        let _service = svc.declarations();
+        if let Some(refusal) = self.active_refusal() {
+            return Err(refusal);
+        }
+        match self.acting.take() {
+            None => Err(Refusal::OutOfMemory),
+            Some(mut acting) => {
+                let turn = acting.take_event(svc, event);
                 self.acting = Some(acting);
                 Ok(turn?)
             }

@@ -222,7 +222,7 @@ module _ (service : Declarations) (good : IsService service) (checked : IsChecke
         let index : (lane_of a.state e.lane).done ≡ e.index = eqb-true _ _ n.index in
         le-ltb e.index (count_at (counts_of mid) e.lane) (omega (arith, (runs_rise service mid a.state es h).rise e.lane, count_is a.state e.lane, index))
 
-    goes_on_with : (e : Event) (after : StateValue) → next service a.state e ≡ Some after → (q : Option (Proposal Value)) → OpenGoesOn service vs a.start a.state w.live q → OpenGoesOn service vs a.start after (w.live ++ e ∷ []) q
+    pub goes_on_with : (e : Event) (after : StateValue) → next service a.state e ≡ Some after → (q : Option (Proposal Value)) → OpenGoesOn service vs a.start a.state w.live q → OpenGoesOn service vs a.start after (w.live ++ e ∷ []) q
     goes_on_with e after k None h = tt
     goes_on_with e after k (Some p) h = record {
       between = h.between;
@@ -266,6 +266,7 @@ module _ (service : Declarations) (good : IsService service) (checked : IsChecke
     turned_acting lane clock random dice turn.Idle l h = record { start = a.start; state = a.state; known_runs = a.known_runs; recorder = a.recorder; goes_on = a.goes_on; requests = a.requests; clients = a.clients; unused = a.unused }
     turned_acting lane clock random dice (turn.Held by) l h = record { start = a.start; state = a.state; known_runs = a.known_runs; recorder = a.recorder; goes_on = a.goes_on; requests = a.requests; clients = a.clients; unused = a.unused }
     turned_acting lane clock random dice turn.Unsignalled l h = record { start = a.start; state = a.state; known_runs = a.known_runs; recorder = a.recorder; goes_on = a.goes_on; requests = a.requests; clients = a.clients; unused = a.unused }
+    turned_acting lane clock random dice turn.Unfit l h = record { start = a.start; state = a.state; known_runs = a.known_runs; recorder = a.recorder; goes_on = a.goes_on; requests = a.requests; clients = a.clients; unused = a.unused }
 
     pub acting_turned : (lane : ℕ) (clock : ℤ) (random : ℕ) (dice : Lcg) (t : Turn) → lane < service.lanes → turn_of service (state_after service (trace_of vs ++ w.live)) w.queue (length w.live) lane clock random ≡ t → IsActing service vs o (record { queue = queue_after w.queue t; live = live_after w.live t; dice = dice })
     acting_turned lane clock random dice t l h = turned_acting lane clock random dice t l (subst (λ (s : StateValue). turn_of service s w.queue (length w.live) lane clock random ≡ t) live_is h)

@@ -68,7 +68,7 @@ module _ (service : Declarations) (good : IsService service) (checked : IsChecke
   abbrev pub WorksHere : CallHere → Type 0
   WorksHere d = Works n (service_of service seed) me (IsActing service) (acting_new service good checked) (acting_known service good checked seed) d
 
-  active_works : (t : Bool) (d e : CallHere) → WorksHere d → WorksHere e → WorksHere (active_only t d e)
+  pub active_works : (t : Bool) (d e : CallHere) → WorksHere d → WorksHere e → WorksHere (active_only t d e)
   active_works true d e w h = h
   active_works false d e w h = record { each = w.each }
 
@@ -152,7 +152,7 @@ module _ (service : Declarations) (good : IsService service) (checked : IsChecke
   abbrev pub AllWork : World → Type 0
   AllWork w = (m : ℕ) → WorksHere service good checked seed n m (begin (node_at w.nodes m))
 
-  after_work : (w : World) → length w.nodes ≡ n → AllWork w → (m : ℕ) (d : CallHere) → WorksHere service good checked seed n m d → AllWork (after w m d).world
+  pub after_work : (w : World) → length w.nodes ≡ n → AllWork w → (m : ℕ) (d : CallHere) → WorksHere service good checked seed n m d → AllWork (after w m d).world
   after_work w many h m d k q = go (node_or_not n m)
     where
       place : (t : Bool) → eqb q m ≡ t → node_at (put w.nodes m d.node) q ≡ cond t d.node (node_at w.nodes q) → WorksHere service good checked seed n q (begin (node_at (put w.nodes m d.node) q))

@@ -31,6 +31,7 @@ use Rattle.rex_record.proofs.Goes.{not_full, turn_goes_on}
 use Rattle.rex_scenario.specs.Fits.{RequestFits}
 use Rattle.rex_safety.specs.Values.{Value, delta_of, events_of, trace_of, spells}
 use Rattle.rex_safety.specs.Clients.{KindHasClient, HasClient, IsUnused}
+use Rattle.rex_safety.specs.Takes.{KindBeginsInRange, BeginsInRange}
 use Rattle.rex_safety.proofs.Bytes.{spelled_delta}
 use Rattle.rex_safety.proofs.Told.{IsAwaited, there_or_not, awaited, none_some, same_at}
 
@@ -100,6 +101,17 @@ done_client service r lane clock random e good h there fit u d =
           let own : own_can service e.kind (frame_at r.state lane) r.state.variables ≡ true = subst (λ (l : ℕ). own_can service e.kind (frame_at r.state l) r.state.variables ≡ true) g.own n.enabled.own in
           record { kind = busy_client service r.state lane e.kind (run_keeps service r.start r.state r.live good h.sound h.runs) u (λ b. none_some p.0 (sym b ∙ p.1)) own }
     ]
+
+-- ---- an event that a node is handed
+
+-- an event that the state allows begins a request in its range, or is a reply to a client that waits for it
+allowed_client : (service : Declarations) (s : StateValue) (lane : ℕ) (kind : Kind) → IsSound service s → IsUnused s.clients → KindBeginsInRange kind → own_can service kind (frame_at s lane) s.variables ≡ true → KindHasClient kind
+allowed_client service s lane (Begin client sequence handler arguments) sound u range h = range
+allowed_client service s lane (Reply client value) sound u range h = awaited_client s client sound.by.complete.clients u (awaited service s lane client value sound.by.served h)
+allowed_client service s lane _ sound u range h = tt
+
+pub next_client : (service : Declarations) (s t : StateValue) (e : Event) → IsSound service s → IsUnused s.clients → BeginsInRange e → next service s e ≡ Some t → HasClient e
+next_client service s t e sound u range n = let i : IsNext service s e t = next_is service s e t n in record { kind = allowed_client service s e.lane e.kind sound u range.kind i.enabled.own }
 
 -- ---- the events of values
 

@@ -54,7 +54,7 @@ AreTold w = length w.handed ≡ length w.messages
 after_told : (w : World) (m : ℕ) (d : CallHere) → AreTold w → AreTold (after w m d).world
 after_told w m d h = omega (arith, h, length-append w.handed (replicate (length d.sends) false), length-append w.messages d.sends, length-replicate (length d.sends) false)
 
-if_up_told : (t : Bool) (w : World) (m : ℕ) (d : CallHere) → AreTold w → AreTold (if_up t w m d).world
+pub if_up_told : (t : Bool) (w : World) (m : ℕ) (d : CallHere) → AreTold w → AreTold (if_up t w m d).world
 if_up_told true w m d h = after_told w m d h
 if_up_told false w m d h = h
 
@@ -91,11 +91,11 @@ module _ (service : Declarations) (good : IsService service) (checked : IsChecke
   Kept w = IsKept service seed n w
 
   -- what active nodes work with, where it is known that what they know fits
-  acting_of : (w : World) → IsWorld n sv w → AllWork service good checked requests fit seed n few w
+  pub acting_of : (w : World) → IsWorld n sv w → AllWork service good checked requests fit seed n few w
       → (m : ℕ) (l : Lead Value) → roles w m ≡ Leads l → l.active ≡ true → IsActing service (known_at w m) l.proposal (node_at w.nodes m).work
   acting_of w ok all m l e a = (all m).each l e a (known_run service good checked requests fit seed n few w ok m (node_of_lead n sv w ok m l e))
 
-  all_work : (w : World) → Kept w → AllWork service good checked requests fit seed n few w
+  pub all_work : (w : World) → Kept w → AllWork service good checked requests fit seed n few w
   all_work w k m = record { each = λ l e a f. k.acting m l e a }
 
   pub beginning_kept : Kept (beginning n)

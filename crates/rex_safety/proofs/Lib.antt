@@ -39,5 +39,7 @@ pub mod Caused
 pub mod Kept
 pub mod Keeps
 pub mod Spelled
+pub mod Takes
+pub mod Doings
 pub mod Examples
 pub mod Schedules

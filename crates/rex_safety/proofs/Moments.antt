@@ -29,7 +29,8 @@ use Rattle.rex_safety.specs.Values.{trace_of, values_fit}
 use Rattle.rex_safety.specs.Lanes.{node_trace}
 use Rattle.rex_safety.specs.Stands.{Stands}
 use Rattle.rex_safety.specs.Agreed.{known_at}
-use Rattle.rex_safety.specs.Releases.{IsAmong, Moment, receiver_of, node_in, step_moments, moments, IsReleased, IsLeader, IsLater}
+use Rattle.rex_safety.specs.Laws.{ReleasesStand}
+use Rattle.rex_safety.specs.Releases.{IsAmong, Moment, receiver_of, node_in, step_moments, moments, IsLater}
 use Rattle.rex_safety.proofs.Traces.{stands_more}
 use Rattle.rex_safety.proofs.Grow.{grows_same, grows_trans}
 use Rattle.rex_safety.proofs.Fronts.{fits_front}
@@ -111,14 +112,14 @@ module _ (service : Declarations) (good : IsService service) (checked : IsChecke
     pub grows : Grows L (logs x.world)
     pub true_of : IsTrue service good checked n x.node x.world x.effects
 
-  abbrev AreMoments : Logs Value StateValue → List Moment → Type 0
+  abbrev pub AreMoments : Logs Value StateValue → List Moment → Type 0
   AreMoments L [] = Unit {0}
   AreMoments L (x ∷ xs) = IsMoment L x × AreMoments (logs x.world) xs
 
   weaker : (L M : Logs Value StateValue) (x : Moment) → Grows L M → IsMoment M x → IsMoment L x
   weaker L M x g h = record { ok = h.ok; grows = grows_trans g h.grows; true_of = h.true_of }
 
-  step_moments_are : (number : ℕ) (w : World) (xs : List ScheduleLine) (rest : List Moment) → IsWorld n sv w → AreMoments (logs (steps service requests seed n w xs).world) rest → AreMoments (logs w) (step_moments service requests seed n number w xs ++ rest)
+  pub step_moments_are : (number : ℕ) (w : World) (xs : List ScheduleLine) (rest : List Moment) → IsWorld n sv w → AreMoments (logs (steps service requests seed n w xs).world) rest → AreMoments (logs w) (step_moments service requests seed n number w xs ++ rest)
   step_moments_are number w [] rest ok h = h
   step_moments_are number w (x ∷ xs) rest ok h =
       let r = step_ok service requests seed n few w x ok in (
@@ -164,18 +165,15 @@ module _ (service : Declarations) (good : IsService service) (checked : IsChecke
       whole [] = refl
       whole (v ∷ vs) = ap (λ xs. v ∷ xs) (whole vs)
 
-  pub replies_stand_later : (lines : List ScheduleLine) (i j : ℕ) (release lead : Moment) → slice_get (moments service requests seed n (beginning n) lines) i ≡ Some release → slice_get (moments service requests seed n (beginning n) lines) j ≡ Some lead
-      → (ballot c s : ℕ) (x : ℤ) → IsReleased release ballot c s x → (m later : ℕ) → IsLeader lead.world m later → IsLater i ballot j later → Stands (node_trace (node_at lead.world.nodes m)) c s x
-  replies_stand_later lines i j release lead ei ej ballot c s x rel m later ldr after = by after
+  -- each reply that is released at one of these moments stands in the trace of every later leader
+  pub moments_stand : (L : Logs Value StateValue) (ms : List Moment) → AreMoments L ms → ReleasesStand ms
+  moments_stand L ms all i j release lead ei ej ballot c s x rel m later ldr is_later = by is_later
     where
-      all : AreMoments (logs (beginning n)) (moments service requests seed n (beginning n) lines)
-      all = moments_are (beginning n) lines (beginning_ok service requests seed n few)
+      mr : IsMoment L release
+      mr = one_at L ms i release all ei
 
-      mr : IsMoment (logs (beginning n)) release
-      mr = one_at (logs (beginning n)) (moments service requests seed n (beginning n) lines) i release all ei
-
-      ml : IsMoment (logs (beginning n)) lead
-      ml = one_at (logs (beginning n)) (moments service requests seed n (beginning n) lines) j lead all ej
+      ml : IsMoment L lead
+      ml = one_at L ms j lead all ej
 
       t : IsNode n release.node × (is_active (node_at release.world.nodes release.node).role ≡ true) × StandsIn service good checked (known_at release.world release.node) c s x
       t = mr.true_of.each c s x rel.among
@@ -202,13 +200,13 @@ module _ (service : Declarations) (good : IsService service) (checked : IsChecke
       forward l b =
           longer_stands release.world lead.world release.node m c s x
           (later_knows n sv (logs release.world) (logs lead.world) release.node m k.0 ldr.lead mr.ok.cluster.safe ml.ok.cluster.safe
-          (two_at (logs (beginning n)) (moments service requests seed n (beginning n) lines) i j release lead all ei ej l) t.0 min okk k.2 okl ldr.active b) here
+          (two_at L ms i j release lead all ei ej l) t.0 min okk k.2 okl ldr.active b) here
 
       backward : j ≤ i → k.0.ballot < ldr.lead.ballot → Stands (node_trace (node_at lead.world.nodes m)) c s x
       backward l b =
           longer_stands release.world lead.world release.node m c s x
           (earlier_knows n sv (logs lead.world) (logs release.world) release.node m k.0 ldr.lead ml.ok.cluster.safe mr.ok.cluster.safe
-          (two_at (logs (beginning n)) (moments service requests seed n (beginning n) lines) j i lead release all ej ei l) t.0 min okl ldr.active okk k.2 b) here
+          (two_at L ms j i lead release all ej ei l) t.0 min okl ldr.active okk k.2 b) here
 
       by : IsLater i ballot j later → Stands (node_trace (node_at lead.world.nodes m)) c s x
       by (inr h) = forward h.1 (omega (arith, kb, ldr.ballot_is, h.0))
@@ -217,3 +215,6 @@ module _ (service : Declarations) (good : IsService service) (checked : IsChecke
           order : (i < j) ⊎ (j ≤ i) → Stands (node_trace (node_at lead.world.nodes m)) c s x
           order (inl l) = forward (omega arith) (omega (arith, kb, ldr.ballot_is, h))
           order (inr l) = backward l (omega (arith, kb, ldr.ballot_is, h))
+
+  pub replies_stand_later : (lines : List ScheduleLine) → ReleasesStand (moments service requests seed n (beginning n) lines)
+  replies_stand_later lines = moments_stand (logs (beginning n)) (moments service requests seed n (beginning n) lines) (moments_are (beginning n) lines (beginning_ok service requests seed n few))

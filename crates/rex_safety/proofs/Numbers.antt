@@ -43,7 +43,7 @@ module _ (service : Declarations) (requests : List Request) (seed n : ℕ) (few 
   -- ---- calls of a node
 
   module _ (m : ℕ) (min : IsNode n m) where
-    active_fits : (t : Bool) (d e : CallHere) → FitsAt m min d → FitsAt m min e → FitsAt m min (active_only t d e)
+    pub active_fits : (t : Bool) (d e : CallHere) → FitsAt m min d → FitsAt m min e → FitsAt m min (active_only t d e)
     active_fits true d e h k = k
     active_fits false d e h k = record { log = h.log; role = h.role; sends = h.sends }
 
@@ -104,7 +104,7 @@ module _ (service : Declarations) (requests : List Request) (seed n : ℕ) (few 
     messages = λ x i. h.messages x (subst (IsIn x) (ap (λ xs. w.messages ++ xs) e ∙ append-nil w.messages) i);
   }
 
-  any_fits : (w : World) → length w.nodes ≡ n → AllFit w → (m : ℕ) (call : CallHere → CallHere) → ((min : IsNode n m) (d : CallHere) → FitsAt m min d → FitsAt m min (call d)) → AllFit (at_node w m call).world
+  pub any_fits : (w : World) → length w.nodes ≡ n → AllFit w → (m : ℕ) (call : CallHere → CallHere) → ((min : IsNode n m) (d : CallHere) → FitsAt m min d → FitsAt m min (call d)) → AllFit (at_node w m call).world
   any_fits w many h m call k = go (node_at w.nodes m).up refl (node_or_not n m)
     where
       go : (t : Bool) → (node_at w.nodes m).up ≡ t → IsNode n m ⊎ (IsNode n m → ⊥) → AllFit (if_up t w m (call (begin (node_at w.nodes m)))).world

@@ -118,14 +118,19 @@ RulesAreKept =
 
 -- ---- replies
 
--- of every run with a checked service and requests that fit it: each released reply stands in the trace of every later leader, which is its known deltas and then its live events
-abbrev pub RepliesStand : Type 0
-RepliesStand =
-    (service : Declarations) (requests : List Request) (seed n : ℕ) (lines : List ScheduleLine) → n ≤ 9 → IsService service → IsChecked service → All (RequestFits service) requests
-    → (i j : ℕ) (release lead : Moment) → slice_get (moments service requests seed n (beginning n) lines) i ≡ Some release → slice_get (moments service requests seed n (beginning n) lines) j ≡ Some lead
+-- each reply that is released at one of these moments stands in the trace of every later leader, which is its known deltas and then its live events
+abbrev pub ReleasesStand : List Moment → Type 0
+ReleasesStand run =
+    (i j : ℕ) (release lead : Moment) → slice_get run i ≡ Some release → slice_get run j ≡ Some lead
     → (ballot client sequence : ℕ) (value : ℤ) → IsReleased release ballot client sequence value
     → (m later : ℕ) → IsLeader lead.world m later → IsLater i ballot j later
     → Stands (node_trace (node_at lead.world.nodes m)) client sequence value
+
+-- it is so of every run with a checked service and requests that fit it
+abbrev pub RepliesStand : Type 0
+RepliesStand =
+    (service : Declarations) (requests : List Request) (seed n : ℕ) (lines : List ScheduleLine) → n ≤ 9 → IsService service → IsChecked service → All (RequestFits service) requests
+    → ReleasesStand (moments service requests seed n (beginning n) lines)
 
 -- each request has at most one begin and at most one reply in the agreed trace
 abbrev pub RequestsHappenOnce : Type 0

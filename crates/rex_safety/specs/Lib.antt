@@ -17,5 +17,7 @@ pub mod Ranges
 pub mod Rules
 pub mod Laws
 pub mod Kept
+pub mod Takes
 pub mod Limits
 pub mod Keeping
+pub mod Doings

@@ -1,9 +1,11 @@
 //! What holds of every run of a world, whatever its schedule: messages may be lost, repeated and reordered, nodes may stop, fail and
-//! come back. Each function is the statement that its contract makes, and does nothing.
+//! come back, and active nodes may be handed events that no line spells. Each function is the statement that its contract makes, and
+//! does nothing.
 
 ghost use Rattle.rex_safety.specs.Laws.{ChosenValuesAgree, KnownBeginsAgreed, ListsOnlyGrow, KnownListsArePrefixes, AgreedTracesRun, BasesAreRight, RulesAreKept, RepliesStand, RequestsHappenOnce, ActiveTracesRun, CutsAreFaithful, LeadersGoOnToTheEnd, NextValuesFit, NumbersStayInRange, CountsAreFew, AgreedCausesAreLeast, AgreedCutsGoFirst, ValuesStayBytes, ValuesStayShort, NodesStayKept};
 ghost use Rattle.rex_safety.specs.Keeping.{BeginningsAreKept, StepsAreKept, LinesAreKept, KeptValuesFit, KeptBasesAreRight, KeptCutsAreSpelled, KeptCutsAreFaithful, KeptCountsHaveRoom};
 ghost use Rattle.rex_safety.specs.Limits.{ValuesLeadToLimitedStates};
+ghost use Rattle.rex_safety.specs.Doings.{TakesAreKept, DoingsAreKept, DoingsAgree, DoingsBeginAgreed, DoingsOnlyGrow, DoingsGivePrefixes, DoingsRun, DoingsKeepBases, DoingsHappenOnce, DoingsKeepReplies};
 
 /// Two values that are chosen for one instance are equal (Lamport, 2001).
 pub fn chosen_values_agree()
@@ -148,4 +150,54 @@ pub fn kept_counts_have_room()
 /// At most 65,535 values that fit lead to a state whose counts and sequences are in their ranges.
 pub fn values_lead_to_limited_states()
     ensures { ValuesLeadToLimitedStates }
+{}
+
+/// A kept world of which a node is handed an event is kept.
+pub fn takes_are_kept()
+    ensures { TakesAreKept }
+{}
+
+/// So is one after lines and events that nodes are handed, where they name what is there.
+pub fn doings_are_kept()
+    ensures { DoingsAreKept }
+{}
+
+/// After any lines and events that nodes are handed, two values that are chosen for one instance are equal.
+pub fn values_agree_after_doings()
+    ensures { DoingsAgree }
+{}
+
+/// After them what each node knows begins the agreed list.
+pub fn known_begins_agreed_after_doings()
+    ensures { DoingsBeginAgreed }
+{}
+
+/// What a node knows only grows by them, and so does the agreed list.
+pub fn lists_only_grow_after_doings()
+    ensures { DoingsOnlyGrow }
+{}
+
+/// Of what two nodes know after them, at whatever moments, one list begins the other.
+pub fn known_lists_are_prefixes_after_doings()
+    ensures { DoingsGivePrefixes }
+{}
+
+/// After them each front of the agreed list runs from the start on one thread.
+pub fn agreed_traces_run_after_doings()
+    ensures { DoingsRun }
+{}
+
+/// After them a checkpoint is of the state to which the known deltas up to it run.
+pub fn bases_are_right_after_doings()
+    ensures { DoingsKeepBases }
+{}
+
+/// After them each request has at most one begin and at most one reply in the agreed trace.
+pub fn requests_happen_once_after_doings()
+    ensures { DoingsHappenOnce }
+{}
+
+/// Each reply that is released among them stands in the trace of every later leader.
+pub fn released_replies_stand_after_doings()
+    ensures { DoingsKeepReplies }
 {}

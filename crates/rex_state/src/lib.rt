@@ -9,5 +9,6 @@ mod own;
 mod parts;
 pub mod state;
 
-pub use own::do_own;
+pub use can::{can_begin, client_allows};
+pub use own::{do_own, run_on, start_lane};
 pub use parts::new_entries;

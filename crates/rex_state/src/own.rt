@@ -119,7 +119,7 @@ fn fresh(
 }
 
 /// The frame from which a lane goes on after an event.
-pub(crate) fn start(own: &mut Option<Frame>, svc: &Checked, kind: &Kind)
+pub fn start_lane(own: &mut Option<Frame>, svc: &Checked, kind: &Kind)
     requires { CanStart svc.now kind.now own.old }
     ensures { own.new ≡ spec.started svc.now kind.now own.old }
 {
@@ -143,7 +143,7 @@ pub(crate) fn start(own: &mut Option<Frame>, svc: &Checked, kind: &Kind)
 }
 
 /// Runs the lines of a busy lane up to its next event, unless it waits.
-fn run_on(frame: &mut Frame, variables: &mut [i64], svc: &Checked)
+pub fn run_on(frame: &mut Frame, variables: &mut [i64], svc: &Checked)
     requires fits { FitsIn svc.now frame.old }
     requires variables { length variables.old ≡ length svc.now.variables }
     ensures { (frame.new, variables.new) ≡ spec.ran svc.now frame.old variables.old }
@@ -172,6 +172,6 @@ pub fn do_own(own: &mut Option<Frame>, variables: &mut [i64], svc: &Checked, kin
     requires variables { length variables.old ≡ length svc.now.variables }
     ensures { (own.new, variables.new) ≡ spec.own_after svc.now kind.now own.old variables.old }
 {
-    start(own, svc, kind);
+    start_lane(own, svc, kind);
     run_lane(own, variables, svc);
 }

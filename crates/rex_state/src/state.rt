@@ -1,21 +1,21 @@
 //! States.
 
-ghost use Rattle.std.specs.Prelude.{◌≡◌, ◌<◌, ◌≤◌, ◌+◌, ◌^◌, Some, IsSome, IfOk, IsOk, slice_get, length};
+ghost use Rattle.std.specs.Prelude.{◌≡◌, ◌<◌, ◌≤◌, ◌+◌, ◌^◌, Some, IsSome, IfSome, IfOk, IsOk, slice_get, length};
 ghost use Rattle.std.specs.Option.{option_copied};
 ghost use Rattle.rex_state.specs.Value.{value_of};
 ghost use Rattle.rex_state.specs.Locks as locks;
 ghost use Rattle.rex_state.specs.Machine as spec;
 ghost use Rattle.rex_state.specs.Start.{start_of};
 ghost use Rattle.rex_state.specs.Sound.{IsSound};
-ghost use Rattle.rex_state.specs.Room.{CanApply, HasQueue, HasEntry, IsSmall};
-ghost use Rattle.rex_state.specs.Put.{with_lane, with_variable, noted};
+ghost use Rattle.rex_state.specs.Room.{CanApply, FitsIn, HasQueue, HasEntry, IsSmall};
+ghost use Rattle.rex_state.specs.Put.{with_lane, with_variable, noted, lines_run};
 ghost use Rattle.rex_state.specs.Spare.{spare_of};
 ghost use Rattle.rex_state.specs.Counts.{counts_of};
 
 use crate::apply::{change_clients, change_queues};
 use crate::can::{client_allows, is_in, locks_allow, mask, own_can, queue_at, queues_allow};
 use crate::lane::{Entry, Lane, Queue, as_lane, copy_frame, exclusive_holder, holder};
-use crate::own::{run_lane, start};
+use crate::own::{run_lane, start_lane};
 use crate::parts::{
     copy_lanes, copy_queues, empty_queues, first_values, idle_lanes, lane_counts, new_entries,
 };
@@ -238,7 +238,7 @@ impl State {
     {
         let own = &mut self.lanes[lane as usize];
         own.done += 1;
-        start(&mut own.frame, svc, kind);
+        start_lane(&mut own.frame, svc, kind);
         run_lane(&mut own.frame, &mut self.variables, svc);
         change_queues(&mut self.queues, kind, lane);
         change_clients(&mut self.clients, kind);
@@ -304,5 +304,16 @@ impl State {
     {
         change_queues(&mut self.queues, &event.kind, event.lane);
         change_clients(&mut self.clients, &event.kind);
+    }
+
+    /// Runs the lines of a lane up to its next event.
+    pub fn run_lines(&mut self, svc: &Checked, lane: u8)
+        requires lane { lane < length self.old.lanes }
+        requires fits { IfSome (spec.frame_at self.old lane) (FitsIn svc.now) }
+        requires variables { length self.old.variables ≡ length svc.now.variables }
+        ensures { self.new ≡ lines_run svc.now self.old lane }
+    {
+        let own = &mut self.lanes[lane as usize];
+        run_lane(&mut own.frame, &mut self.variables, svc);
     }
 }

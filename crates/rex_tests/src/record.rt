@@ -216,6 +216,42 @@ fn settling_releases_the_replies(rt: &impl Abort, alloc: Global, svc: &Checked) 
     assert!(rt; recorder.trace().len() == 1 && recorder.start().done(0) == 5);
 }
 
+/// Hands an event of the first lane to the recorder, and answers what came of it.
+fn take(rt: &impl Abort, recorder: &mut Recorder, svc: &Checked, index: u32, client: u16) -> Turn
+    requires { IsRecorder svc.now recorder.old.value }
+    ensures { IsRecorder svc.now recorder.new.value }
+{
+    let kind = Kind::Begin {
+        client,
+        sequence: 1,
+        handler: 0,
+        arguments: Arguments::new(),
+    };
+    let event = Event {
+        lane: 0,
+        index,
+        kind,
+    };
+    assert!(rt; recorder.state().done(0) < 100);
+    recorder.take_event(svc, &event).expect(rt, "memory")
+}
+
+/// An event of a client that has a request queued is not taken, nor one that isn't its lane's next one.
+fn events_are_taken(rt: &impl Abort, alloc: Global, svc: &Checked) {
+    let mut recorder = two_rolls(rt, alloc, svc);
+    assert!(rt; take(rt, &mut recorder, svc, 0, 1) == Turn::Unfit);
+    assert!(rt; take(rt, &mut recorder, svc, 1, 3) == Turn::Unfit);
+    let done = take(rt, &mut recorder, svc, 0, 3);
+    assert!(rt; word_of(&done) == "begin");
+    assert!(rt; recorder.trace().len() == 1 && recorder.queued(1) == Some(1));
+}
+
+#[test]
+fn handed_events_are_taken(rt: HostRuntime) {
+    let svc = checked(&rt, rt.alloc(), ROLLER);
+    events_are_taken(&rt, rt.alloc(), &svc);
+}
+
 #[test]
 fn turns_are_recorded(rt: HostRuntime) {
     let svc = checked(&rt, rt.alloc(), ROLLER);

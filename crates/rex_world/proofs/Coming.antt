@@ -58,7 +58,7 @@ pub same_world : (d e : ℕ) (xs ys : List Here) (ms ns : List (Message Value)) 
     → let a : ModelWorld = record { done = d; nodes = xs; messages = ms; handed = hs } in let b : ModelWorld = record { done = e; nodes = ys; messages = ns; handed = gs } in a ≡ b
 same_world d e xs ys ms ns hs gs p q r s = cc
 
-put_same : (xs : List Here) (m : ℕ) → put xs m (node_at xs m) ≡ xs
+pub put_same : (xs : List Here) (m : ℕ) → put xs m (node_at xs m) ≡ xs
 put_same [] m = refl
 put_same (x ∷ xs) m = go (eqb m 1) (put_same xs (m - 1))
   where

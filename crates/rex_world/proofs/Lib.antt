@@ -1,5 +1,6 @@
 pub mod Acted
 pub mod Arming
+pub mod Given
 pub mod Headlines
 pub mod Ranges
 pub mod Runs

@@ -95,7 +95,7 @@ module _ (service : Declarations) where
     pub set_within : (most : ℕ) (seat : Seat) → AreWithin most seats → faults_of (keeper_in seat) ≤ most → AreWithin most (slice_set seats (number - 1) seat)
     set_within most seat all one = within_from most seats (number - 1) seat all one
 
-    new_is : (seat : Seat) → node_at (heres service (slice_set seats (number - 1) seat)) number ≡ here_in service seat
+    pub new_is : (seat : Seat) → node_at (heres service (slice_set seats (number - 1) seat)) number ≡ here_in service seat
     new_is seat = subst (λ (m : ℕ). node_at (heres service (slice_set seats (number - 1) seat)) m ≡ here_in service seat) (sym is_next) (new_index seats (number - 1) seat inside)
 
     pub put_is : (seat : Seat) → heres service (slice_set seats (number - 1) seat) ≡ put (heres service seats) number (here_in service seat)

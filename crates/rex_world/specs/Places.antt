@@ -1,11 +1,15 @@
 -- What a call of one node does to the nodes of a world.
-use Rattle.std.specs.Prelude.{◌≡◌, ℕ, ◌-◌, List, length, Result, slice_index_or, slice_set}
+use Rattle.std.specs.Prelude.{◌≡◌, ℕ, ◌-◌, List, length, Result, IfOk, OnErr, slice_index_or, slice_set}
 use Rattle.rex_syntax.specs.declared.service.Declarations.{Declarations}
+use Rattle.rex_event.specs.declared.event.Event.{Event}
+use Rattle.rex_record.specs.declared.turns.Turn.{Turn}
 use Rattle.rex_traits.specs.declared.mem_keeper.Fate.{Fate}
-use Rattle.rex_safety.specs.Lanes.{CallHere}
+use Rattle.rex_safety.specs.Lanes.{Here, CallHere}
+use Rattle.rex_safety.specs.Takes.{taken, taken_in}
 use Rattle.rex_safety.specs.World.{node_at, put}
 use Rattle.rex_node.specs.declared.refusal.Refusal.{Refusal}
 use Rattle.rex_node.specs.declared.step.Step.{Step}
+use Rattle.rex_node.specs.Calls.{LeadsTo, Refuses, refusal_active}
 use Rattle.rex_world.specs.declared.seats.Seat.{Seat}
 use Rattle.rex_world.specs.Seats.{AreKept, armed_in, heres}
 use Rattle.rex_world.specs.Calls.{Acts, IsWhole, IsStarted}
@@ -31,3 +35,19 @@ pub record IsArmedAt (fate : Fate) (number : ℕ) (before after : List Seat) : T
   pub seat : Seat
   pub seat_is : seat ≡ slice_index_or before (number - 1) seat
   pub others : after ≡ slice_set before (number - 1) (armed_in fate seat)
+
+-- ---- events that a node is handed
+
+-- a node that is handed an event takes it where it can, or refuses the call and is as it was
+pub record IsHanded (service : Declarations) (e : Event) (before after : Here) (outcome : Result Turn Refusal) : Type 0 where
+  pub refused : Refuses (refusal_active before) outcome
+  pub told : IfOk outcome (λ (t : Turn). t ≡ taken_in service before e)
+  pub takes : IfOk outcome (λ (t : Turn). LeadsTo (taken t) before after)
+  pub same : OnErr outcome (after ≡ before)
+
+-- only the node of this number is handed it
+pub record IsHandedAt (service : Declarations) (seed number : ℕ) (e : Event) (before after : List Seat) (outcome : Result Turn Refusal) : Type 0 where
+  pub handed : IsHanded service e (node_at (heres service before) number) (node_at (heres service after) number) outcome
+  pub others : heres service after ≡ put (heres service before) number (node_at (heres service after) number)
+  pub many : length after ≡ length before
+  pub seats : (most : ℕ) → AreKept service seed (length before) most before → AreKept service seed (length before) most after

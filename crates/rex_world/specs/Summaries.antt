@@ -1,5 +1,5 @@
 -- What a run comes to, in numbers.
-use Rattle.std.specs.Prelude.{ℕ, Bool, true, false, List, filter, length}
+use Rattle.std.specs.Prelude.{Bool, true, false, List, filter, length}
 use Rattle.rex_syntax.specs.declared.service.Declarations.{Declarations}
 use Rattle.rex_report.specs.declared.effect.Effect.{Effect}
 use Rattle.rex_report.specs.declared.effect.Effect.TheVariants.{Released}

@@ -69,8 +69,8 @@ fn push_seat(out: &mut Vec<u8>, svc: &Checked, number: u8, seat: &Seat) -> Resul
     }
 }
 
-/// Appends the line of each node.
-pub(crate) fn push_ends(out: &mut Vec<u8>, svc: &Checked, world: &World) -> Result<(), AllocError>
+// Appends the lines of nodes of a world.
+fn push_seats(out: &mut Vec<u8>, svc: &Checked, world: &World) -> Result<(), AllocError>
     requires { IsRunning svc.now world.now }
     ensures { OnOk result (out.new.items ≡ out.old.items ++ ends_text svc.now 1 (world_of svc.now world.now).nodes) }
 {
@@ -80,4 +80,14 @@ pub(crate) fn push_ends(out: &mut Vec<u8>, svc: &Checked, world: &World) -> Resu
         number += 1;
     }
     Ok(())
+}
+
+impl World {
+    /// Appends the end line of each node.
+    pub fn push_ends(&self, svc: &Checked, out: &mut Vec<u8>) -> Result<(), AllocError>
+        requires { IsRunning svc.now self.now }
+        ensures { OnOk result (out.new.items ≡ out.old.items ++ ends_text svc.now 1 (world_of svc.now self.now).nodes) }
+    {
+        push_seats(out, svc, self)
+    }
 }

@@ -17,11 +17,13 @@ ghost use Rattle.rex_node.specs.Going.{RunsOn};
 ghost use Rattle.rex_node.specs.Messages.{content_in, message_in};
 ghost use Rattle.rex_world.specs.Seats.{AreSeats, disarmed, heres};
 ghost use Rattle.rex_world.specs.Calls.{Starts};
-ghost use Rattle.rex_world.specs.Places.{ActsAt, IsArmedAt, StartsAt};
+ghost use Rattle.rex_world.specs.Places.{ActsAt, IsArmedAt, IsHandedAt, StartsAt};
 
 use crate::seats::Seat;
+use rex_event::Event;
 use rex_msg::Message;
 use rex_node::{Refusal, Step};
+use rex_record::Turn;
 use rex_replay::Replayer;
 use rex_syntax::checked::Checked;
 use rex_syntax::request::Request;
@@ -108,6 +110,24 @@ pub(crate) fn lane_at(
 {
     let nodes = seats.len() as u8;
     seats[number as usize - 1].lane(alloc, svc, seed, nodes, number, lane, done)
+}
+
+/// The node is handed an event that was made elsewhere.
+pub(crate) fn take_at(
+    seats: &mut [Seat],
+    svc: &Checked,
+    seed: u32,
+    number: u8,
+    event: &Event,
+) -> Result<Turn, Refusal>
+    requires there { IsNode (length seats.old) number }
+    requires few { length seats.old ≤ 9 }
+    requires seats { AreSeats svc.now seed (length seats.old) 1 seats.old }
+    requires count { (node_at (heres svc.now seats.old) number).up ≡ true → (lane_of (lanes.live_state svc.now (node_at (heres svc.now seats.old) number)) event.now.lane).done + 1 < 2 ^ 32 }
+    ensures { IsHandedAt svc.now seed number event.now seats.old seats.new result }
+{
+    let nodes = seats.len() as u8;
+    seats[number as usize - 1].take_event(svc, seed, nodes, number, event)
 }
 
 /// The node proposes live events: all of them, or at most so many of each lane.

@@ -13,7 +13,6 @@ ghost use Rattle.rex_world.specs.Report.{effects_text, ends_text, report_from};
 ghost use Rattle.rex_world.specs.World.{nodes_of, world_of};
 ghost use Rattle.rex_world.specs.Writing.{IsWritten};
 
-use crate::ends::push_ends;
 use crate::report::push_effects;
 use crate::world::World;
 use rex_replay::Replayer;
@@ -133,7 +132,7 @@ impl World {
         ensures later { K.faults sink.old ≤ K.faults sink.new }
         ensures failed { IsErrOf result fault.Failed → Rose (K.faults sink.old) (K.faults sink.new) }
     {
-        push_ends(waiting, svc, self)?;
+        self.push_ends(svc, waiting)?;
         write_waiting(sink, waiting, 0)
     }
 

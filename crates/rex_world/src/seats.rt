@@ -18,6 +18,7 @@ ghost use Rattle.rex_node.specs.Messages.{content_in, message_in};
 ghost use Rattle.rex_report.specs.declared.effect.Effect.TheVariants as effect;
 ghost use Rattle.rex_world.specs.Seats.{IsSeat, StaysSeat, armed_in, disarmed, here_in, is_up_in, keeper_in};
 ghost use Rattle.rex_world.specs.Calls.{Acts, IsWhole, Starts, IsStarted, TellsOf};
+ghost use Rattle.rex_world.specs.Places.{IsHanded};
 
 use rex_event::{Event, Kind};
 use rex_gate::Answer;
@@ -82,6 +83,8 @@ fn turn_effect(lane: u8, turn: Turn) -> Effect
         Turn::Idle => Effect::Idle { lane },
         Turn::Held { by } => Effect::Held { lane, by },
         Turn::Unsignalled => Effect::Unsignalled { lane },
+        // No turn of a lane comes to this.
+        Turn::Unfit => Effect::Nothing,
     }
 }
 
@@ -247,6 +250,29 @@ impl Seat {
         }
         match self {
             Seat::Running(node) => turned(alloc, lane, node.lane(svc, lane, done as i64)),
+            Seat::Stopped(_) => Err(Refusal::Down),
+        }
+    }
+
+    /// The node is handed an event that was made elsewhere.
+    pub(crate) fn take_event(
+        &mut self,
+        svc: &Checked,
+        seed: u32,
+        nodes: u8,
+        number: u8,
+        event: &Event,
+    ) -> Result<Turn, Refusal>
+        requires seat { IsSeat svc.now seed nodes number self.old }
+        requires count { (here_in svc.now self.old).up ≡ true → (lane_of (lanes.live_state svc.now (here_in svc.now self.old)) event.now.lane).done + 1 < 2 ^ 32 }
+        ensures handed { IsHanded svc.now event.now (here_in svc.now self.old) (here_in svc.now self.new) result }
+        ensures seat { StaysSeat svc.now seed nodes number self.old self.new }
+    {
+        if !self.is_up() {
+            return Err(Refusal::Down);
+        }
+        match self {
+            Seat::Running(node) => node.take_event(svc, event),
             Seat::Stopped(_) => Err(Refusal::Down),
         }
     }

@@ -3,9 +3,12 @@
 ghost use Rattle.std.specs.Prelude.{◌≡◌, ◌≤◌, ◌++◌, length, IfOk, OnOk};
 ghost use Rattle.rex_report.specs.Trace.{delta_text};
 ghost use Rattle.rex_scenario.specs.Fits.{ScenarioFits};
+ghost use Rattle.rex_safety.specs.Agreed.{agreed};
 ghost use Rattle.rex_safety.specs.Values as values;
 ghost use Rattle.rex_safety.specs.Values.{delta_of};
+ghost use Rattle.rex_world.specs.Kept.{IsRunning};
 ghost use Rattle.rex_world.specs.Tracing.{trace_text, values_text};
+ghost use Rattle.rex_world.specs.World.{world_of};
 
 use crate::world::World;
 use rex_ballot::Value;
@@ -64,6 +67,17 @@ fn push_values(
     Ok(())
 }
 
+impl World {
+    /// Appends the agreed trace: for each value that the nodes agreed on its delta, with its causes.
+    pub fn push_trace(&self, svc: &Checked, out: &mut Vec<u8>) -> Result<(), AllocError>
+        requires { IsRunning svc.now self.now }
+        ensures { OnOk result (out.new.items ≡ out.old.items ++ values_text svc.now 1 (agreed (world_of svc.now self.now))) }
+    {
+        let values = self.agreed(svc)?;
+        push_values(out, self.alloc, svc.declarations(), values.as_slice())
+    }
+}
+
 /// The agreed trace after the run of a scenario: for each agreed value its delta, with its causes.
 pub fn trace<R: Replayer>(
     alloc: Global,
@@ -78,8 +92,7 @@ pub fn trace<R: Replayer>(
     let _service = svc.declarations();
     let mut world = World::new(alloc, svc, scenario)?;
     world.follow(svc, replayer, scenario)?;
-    let values = world.agreed(svc)?;
     let mut text = Vec::new(alloc);
-    push_values(&mut text, alloc, svc.declarations(), values.as_slice())?;
+    world.push_trace(svc, &mut text)?;
     Ok(text)
 }

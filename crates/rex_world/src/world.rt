@@ -1,24 +1,28 @@
 //! The world.
 
-ghost use Rattle.std.specs.Prelude.{◌≡◌, ◌<◌, ◌≤◌, ◌+◌, ◌^◌, false, true, length, replicate, IfOk, OnOk, OnErr, if◌then◌else◌};
+ghost use Rattle.std.specs.Prelude.{◌≡◌, ◌<◌, ◌≤◌, ◌+◌, ◌^◌, Err, false, true, length, replicate, IfOk, OnOk, OnErr, if◌then◌else◌};
 ghost use Rattle.rex_scenario.specs.Fits.{IsNode, LineFits, ScenarioFits};
 ghost use Rattle.rex_traits.specs.declared.mem_keeper.Fate.TheVariants as fate;
 ghost use Rattle.rex_safety.specs.Node.{new_node};
-ghost use Rattle.rex_safety.specs.World.{beginning, row, steps_of};
+ghost use Rattle.rex_safety.specs.World.{beginning, node_at, row, steps_of};
+ghost use Rattle.rex_safety.specs.Takes.{BeginsInRange, take, taken_in};
+ghost use Rattle.rex_node.specs.Calls.{Refuses, refusal_active};
+ghost use Rattle.rex_node.specs.declared.refusal.Refusal.TheVariants as why;
 ghost use Rattle.rex_scenario.specs.declared.scenario.ScheduleLine.TheVariants as line;
-ghost use Rattle.rex_world.specs.Calls.{ArmsNone, DidSteps};
+ghost use Rattle.rex_world.specs.Calls.{ArmsNone, DidSteps, IsWhole};
 ghost use Rattle.rex_world.specs.Seats.{AreSeats, AreWithin, IsSeat, faults_of, here_in, heres, keeper_in};
 ghost use Rattle.rex_world.specs.World.{nodes_of, world_of};
 ghost use Rattle.rex_world.specs.Kept.{IsRunning, IsSame};
 
 use crate::calls::tell_all;
-use crate::places::arm_at;
+use crate::places::{arm_at, take_at};
 use crate::seats::Seat;
 use crate::told::Told;
 use rex_event::{Event, Kind};
 use rex_list::List;
 use rex_net::Net;
-use rex_node::{Node, RestartFault};
+use rex_node::{Node, Refusal, RestartFault};
+use rex_record::Turn;
 use rex_replay::Replayer;
 use rex_report::Effect;
 use rex_scenario::{Scenario, ScheduleLine};
@@ -88,6 +92,14 @@ fn fate_of(kept: bool) -> Fate
     ensures { result ≡ (if kept then fate.Kept else fate.Lost) }
 {
     if kept { Fate::Kept } else { Fate::Lost }
+}
+
+// Whether memory was short where a node was handed an event.
+fn is_short(turn: &Result<Turn, Refusal>) -> bool
+    ensures whole { IsWhole turn.now → result ≡ false }
+    ensures short { turn.now ≡ Err why.OutOfMemory → result ≡ true }
+{
+    matches!(turn, Err(Refusal::OutOfMemory))
 }
 
 impl World {
@@ -198,6 +210,26 @@ impl World {
         tell_all(&mut told.effects, &told.sent)?;
         self.done += 1;
         Ok(List::from_vec(told.effects))
+    }
+
+    /// Hands a node an event that was made elsewhere: an active node takes it among its live ones where it is the next one of
+    /// its lane (`Done`; else `Full` or `Unfit`). No schedule line spells this, and none is counted.
+    pub fn take_event(&mut self, svc: &Checked, node: u8, event: &Event) -> Result<Turn, Refusal>
+        requires running { IsRunning svc.now self.old }
+        requires there { IsNode (nodes_of self.old) node }
+        requires begins { BeginsInRange event.now }
+        ensures refused { Refuses (refusal_active (node_at (world_of svc.now self.old).nodes node)) result }
+        ensures told { IfOk result (λ turn. turn ≡ taken_in svc.now (node_at (world_of svc.now self.old).nodes node) event.now) }
+        ensures world { OnOk result (world_of svc.now self.new ≡ take svc.now (world_of svc.now self.old) node event.now) }
+        ensures unchanged { OnErr result (world_of svc.now self.new ≡ world_of svc.now self.old) }
+        ensures running { IsWhole result → IsRunning svc.now self.new }
+        ensures same { IsSame self.old self.new }
+        ensures done { self.new.done ≡ self.old.done }
+        ensures broken { result ≡ Err why.OutOfMemory → self.new.broken ≡ true }
+    {
+        let turn = take_at(&mut self.seats, svc, self.seed, node, event);
+        self.broken = is_short(&turn);
+        turn
     }
 
     /// Does a schedule line, and answers what it reports.

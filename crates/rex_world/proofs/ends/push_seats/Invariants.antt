@@ -1,7 +1,7 @@
 use Rattle.std.proofs.Common.{◌≡◌, ◌+◌, ◌++◌, take}
 use Rattle.rex_world.specs.Report.{ends_text}
 use Rattle.rex_world.specs.Seats.{heres}
-use Rattle.rex_world.proofs.ends.push_ends.Given as goal
+use Rattle.rex_world.proofs.ends.push_seats.Given as goal
 
 abbrev pub invariant-loop-seat : goal.invariant-loop-seat
 invariant-loop-seat l = record {

@@ -2,7 +2,7 @@ use Rattle.std.proofs.Common.{◌<◌, List, length, get_or, ap, arith, ◌∙�
 use Rattle.rex_world.specs.declared.seats.Seat.{Seat}
 use Rattle.rex_world.specs.World.{nodes_of}
 use Rattle.rex_world.proofs.Endings.{ends_next, numbered_at}
-use Rattle.rex_world.proofs.ends.push_ends.Goals as goal
+use Rattle.rex_world.proofs.ends.push_seats.Goals as goal
 
 pub push_seat-requires : goal.push_seat-requires
 push_seat-requires c =

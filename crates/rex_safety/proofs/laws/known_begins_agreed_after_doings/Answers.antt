@@ -1,0 +1,7 @@
+use Rattle.rex_safety.proofs.Agreeing.{known_begins}
+use Rattle.rex_safety.proofs.Doings.{doings_reached}
+use Rattle.rex_safety.specs.Values.{service_of}
+use Rattle.rex_safety.proofs.laws.known_begins_agreed_after_doings.Goals as goal
+
+pub returns : goal.returns
+returns c = λ service requests seed n doings few. known_begins n (service_of service seed) _ (doings_reached service requests seed n few doings)

@@ -1,0 +1,97 @@
+-- What holds of every world to which schedule lines and events that nodes are handed lead.
+use Rattle.std.specs.Prelude.{ℕ, ◌+◌, ◌≤◌, List, [], ◌∷◌, ◌++◌, length}
+use Rattle.std.specs.List.{All}
+use Rattle.rex_syntax.specs.declared.request.Request.{Request}
+use Rattle.rex_syntax.specs.declared.service.Declarations.{Declarations}
+use Rattle.rex_syntax.specs.Service.{IsService}
+use Rattle.rex_syntax.specs.Check.{IsChecked}
+use Rattle.rex_event.specs.declared.event.Event.{Event}
+use Rattle.rex_scenario.specs.Fits.{IsNode, RequestFits}
+use Rattle.rex_safety.specs.World.{World, beginning, steps_of}
+use Rattle.rex_safety.specs.Agreed.{agreed}
+use Rattle.rex_safety.specs.Values.{trace_of}
+use Rattle.rex_safety.specs.Once.{IsOnce}
+use Rattle.rex_safety.specs.Kept.{IsKept}
+use Rattle.rex_safety.specs.Laws.{HasOneValue, KnowsAgreed, OnlyGrows, IsOneList, AgreedRuns, BaseIsRight, ReleasesStand}
+use Rattle.rex_safety.specs.Releases.{Moment, step_moments}
+use Rattle.rex_safety.specs.Takes.{Doing, DoingFits, BeginsInRange, take, does, after_doings}
+use Rattle.rex_safety.specs.Takes.Doing.{Does, Takes}
+
+-- the world after doings, from the beginning
+abbrev pub world_after_doings : Declarations → List Request → ℕ → ℕ → List Doing → World
+world_after_doings service requests seed n doings = after_doings service requests seed n (beginning n) doings
+
+-- ---- what is kept
+
+-- a kept world of which a node is handed an event is kept
+abbrev pub TakesAreKept : Type 0
+TakesAreKept =
+    (service : Declarations) (seed n : ℕ) (w : World) (m : ℕ) (e : Event) → n ≤ 9 → IsService service → IsChecked service → IsNode n m → BeginsInRange e
+    → IsKept service seed n w → IsKept service seed n (take service w m e)
+
+-- so is one after any doings that name what is there
+abbrev pub DoingsAreKept : Type 0
+DoingsAreKept =
+    (service : Declarations) (requests : List Request) (seed n : ℕ) (w : World) (doings : List Doing) → n ≤ 9 → IsService service → IsChecked service → All (RequestFits service) requests
+    → All (DoingFits n (length requests) service.lanes) doings → IsKept service seed n w → IsKept service seed n (after_doings service requests seed n w doings)
+
+-- ---- what holds after any doings
+
+-- a fact of the world after any doings, for at most nine nodes
+abbrev pub AfterAnyDoings : ((service : Declarations) (n : ℕ) (w : World) → Type 0) → Type 0
+AfterAnyDoings P = (service : Declarations) (requests : List Request) (seed n : ℕ) (doings : List Doing) → n ≤ 9 → P service n (world_after_doings service requests seed n doings)
+
+-- a fact of the worlds at two moments, the first of which is the earlier one or the same
+abbrev pub AtTwoMomentsOfDoings : ((service : Declarations) (n : ℕ) (earlier later : World) → Type 0) → Type 0
+AtTwoMomentsOfDoings P =
+    (service : Declarations) (requests : List Request) (seed n : ℕ) (doings more : List Doing) → n ≤ 9
+    → P service n (world_after_doings service requests seed n doings) (world_after_doings service requests seed n (doings ++ more))
+
+-- two values that are chosen for one instance are equal
+abbrev pub DoingsAgree : Type 0
+DoingsAgree = AfterAnyDoings HasOneValue
+
+-- what each node knows begins the agreed list
+abbrev pub DoingsBeginAgreed : Type 0
+DoingsBeginAgreed = AfterAnyDoings KnowsAgreed
+
+-- what a node knows only grows, and so does the agreed list
+abbrev pub DoingsOnlyGrow : Type 0
+DoingsOnlyGrow = AtTwoMomentsOfDoings OnlyGrows
+
+-- of what two nodes know, each at its moment, one begins the other
+abbrev pub DoingsGivePrefixes : Type 0
+DoingsGivePrefixes = AtTwoMomentsOfDoings IsOneList
+
+-- each front of the agreed list runs from the start on one thread
+abbrev pub DoingsRun : Type 0
+DoingsRun = AfterAnyDoings AgreedRuns
+
+-- a checkpoint is of the state to which the known deltas up to it run
+abbrev pub DoingsKeepBases : Type 0
+DoingsKeepBases = AfterAnyDoings BaseIsRight
+
+-- each request has at most one begin and at most one reply in the agreed trace
+abbrev pub DoingsHappenOnce : Type 0
+DoingsHappenOnce =
+    (service : Declarations) (requests : List Request) (seed n : ℕ) (doings : List Doing) → n ≤ 9 → IsService service → IsChecked service
+    → IsOnce (trace_of (agreed (world_after_doings service requests seed n doings)))
+
+-- ---- replies
+
+-- the moments of a doing: those of a schedule line, or the one at which a node is handed an event, which releases nothing and is after so many lines
+abbrev pub moments_of : Declarations → List Request → ℕ → ℕ → World → Doing → List Moment
+moments_of service requests seed n w (Does line) = step_moments service requests seed n (w.done + 1) w (steps_of w line)
+moments_of service requests seed n w (Takes m e) = (record { line = w.done; node = m; world = take service w m e; effects = [] }) ∷ []
+
+-- the moments of doings, one doing after the other
+abbrev pub moments_of_doings : Declarations → List Request → ℕ → ℕ → World → List Doing → List Moment
+moments_of_doings service requests seed n w [] = []
+moments_of_doings service requests seed n w (x ∷ rest) =
+    moments_of service requests seed n w x ++ moments_of_doings service requests seed n (does service requests seed n w x) rest
+
+-- with a checked service and requests that fit it, each released reply stands in the trace of every later leader
+abbrev pub DoingsKeepReplies : Type 0
+DoingsKeepReplies =
+    (service : Declarations) (requests : List Request) (seed n : ℕ) (doings : List Doing) → n ≤ 9 → IsService service → IsChecked service → All (RequestFits service) requests
+    → ReleasesStand (moments_of_doings service requests seed n (beginning n) doings)
