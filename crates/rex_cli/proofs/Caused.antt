@@ -1,30 +1,16 @@
 -- What an answer's status says of the service is what each status is caused by.
-use Rattle.std.proofs.Common.{◌≡◌, ◌⊎◌, ℕ, List, Option, Some, None, inl, inr, refl, ap, ◌∙◌}
+use Rattle.std.proofs.Common.{◌≡◌, ◌⊎◌, ℕ, List, Option, Some, None, refl}
 use Rattle.std.specs.Prelude.{◌↔◌, IfSome}
 use Rattle.rex_syntax.specs.declared.service.Declarations.{Declarations}
 use Rattle.rex_traits.specs.Causes.{Rose}
-use Rattle.rex_cli.specs.Due.{Due}
-use Rattle.rex_cli.specs.Outcome.{Ends}
-use Rattle.rex_cli.specs.Causes.{Judges, JudgesFor, IsBroken, IsCaused, service_in}
+use Rattle.rex_answer.specs.Due.{Due}
+use Rattle.rex_answer.specs.Outcome.{Ends}
+use Rattle.rex_answer.specs.Causes.{Judges, IsBroken}
+use Rattle.rex_answer.proofs.Judged.{unread, unchecked, never_two}
+use Rattle.rex_answer.proofs.Ended.{ended_well}
+use Rattle.rex_cli.specs.Causes.{JudgesFor, IsCaused, service_in}
 use Rattle.rex_command.specs.declared.commands.Command.{Command}
 use Rattle.rex_command.specs.declared.commands.Command.TheVariants.{Run, Trace, Check, Generate, Soak}
-
--- 1 where there is no service
-unread : (o : Option Declarations) (status : ℕ) → Judges o status → (status ≡ 1) ↔ (o ≡ None)
-unread None status j = (λ _. refl, λ _. j)
-unread (Some s) status (inl j) = (λ one. absurd (let zero = j.0 in cc), λ none. absurd cc)
-unread (Some s) status (inr j) = (λ one. absurd (let three = j.0 in cc), λ none. absurd cc)
-
--- 3 where there is one that isn't checked
-unchecked : (o : Option Declarations) (status : ℕ) → Judges o status → (status ≡ 3) ↔ IsBroken o
-unchecked None status j = (λ three. absurd cc, λ broken. absurd broken)
-unchecked (Some s) status (inl j) = (λ three. absurd (let zero = j.0 in cc), λ broken. absurd (broken j.1))
-unchecked (Some s) status (inr j) = (λ _. j.1, λ _. j.0)
-
-never_two : (o : Option Declarations) (status : ℕ) → Judges o status → status ≡ 2 → ⊥
-never_two None status j two = cc
-never_two (Some s) status (inl j) two = let zero = j.0 in cc
-never_two (Some s) status (inr j) two = let three = j.0 in cc
 
 -- of a command that asks for a service
 judged : (command : Command) (o : Option Declarations) (status : ℕ) → Judges o status → ((status ≡ 1) ↔ (o ≡ None)) × ((status ≡ 2) ↔ (Some command ≡ None)) × ((status ≡ 3) ↔ IsBroken o)
@@ -55,13 +41,7 @@ pub caused_if : (left : Option (List ℕ)) (command : Option Command) (status : 
 caused_if None command status h = tt
 caused_if (Some input) command status h = caused command input status h
 
--- where 0 is due and the sink counted no fault, the status is 0 or 6
-ended_well : (d due : Due) (status before after : ℕ) → d ≡ due → Ends d before after status → due.status ≡ 0 → (Rose before after → ⊥) → (status ≡ 0) ⊎ (status ≡ 6)
-ended_well d due status before after same (inl is) zero quiet = inl (is ∙ ap (λ (x : Due). x.status) same ∙ zero)
-ended_well d due status before after same (inr (inl failed)) zero quiet = absurd (quiet failed.1)
-ended_well d due status before after same (inr (inr short)) zero quiet = inr short
-
--- the same of an input that may not be told, whatever the source counted
+-- where 0 is due of an input that may not be told and the sink counted no fault, the status is 0 or 6, whatever the source counted
 pub complete_if : (Q : Type 0) (left : Option (List ℕ)) (due : List ℕ → Due) (d : Due) (status before after : ℕ) → IfSome left (λ input. d ≡ due input) → Ends d before after status
     → IfSome left (λ input. (due input).status ≡ 0 → Q → (Rose before after → ⊥) → (status ≡ 0) ⊎ (status ≡ 6))
 complete_if Q None due d status before after is ends = tt

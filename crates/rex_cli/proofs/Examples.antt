@@ -7,7 +7,8 @@ use Rattle.rex_parse.specs.Table.{new_code, lock_code, variable_code, local_code
 use Rattle.rex_parse.specs.Reading.{answer_from as service_answer_from}
 use Rattle.rex_scenario.specs.Reading.{answer_from}
 use Rattle.rex_command.specs.declared.commands.Command.TheVariants.{Run, Check}
-use Rattle.rex_cli.specs.Due.{Due, due_command, due_for, due_usage}
+use Rattle.rex_answer.specs.Due.{Due}
+use Rattle.rex_cli.specs.Due.{due_command, due_for, due_usage}
 
 -- lines as a text, each with a LF
 abbrev text_of : List (List ℕ) → List ℕ

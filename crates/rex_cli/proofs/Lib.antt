@@ -1,5 +1,5 @@
 pub mod Whole
 pub mod Caused
-pub mod There
+pub mod Nodes
 pub mod Soaking
 mod Examples

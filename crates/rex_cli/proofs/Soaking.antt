@@ -9,7 +9,8 @@ use Rattle.rex_scenario.specs.declared.scenario.ScenarioCode.{ScenarioCode}
 use Rattle.rex_scenario.specs.declared.scenario.Sections.{Sections}
 use Rattle.rex_soak.specs.Generated.{GeneratedScenariosAreGood}
 use Rattle.rex_command.specs.Laws.{IsScenario}
-use Rattle.rex_cli.specs.Due.{Due, due_soak}
+use Rattle.rex_answer.specs.Due.{Due}
+use Rattle.rex_cli.specs.Due.{due_soak}
 
 zero : (seed size : ℕ) (answer : Result Sections (ℕ × ScenarioCode)) (s : Sections) → answer ≡ Ok s → refusal_of (service_of s.service) ≡ None → (due_soak seed size answer).status ≡ 0
 zero seed size answer s read passes = rw (read, passes) refl

@@ -7,9 +7,12 @@ use Rattle.rex_text.specs.Text.{numbered, lines_of}
 use Rattle.rex_parse.specs.Reading.{answer_of as service_answer}
 use Rattle.rex_scenario.specs.Reading.{start, answer_from}
 use Rattle.rex_scenario.specs.declared.scenario.ScenarioCode.TheVariants.{TooLong}
-use Rattle.rex_cli.specs.Refusals.{scenario_code}
-use Rattle.rex_cli.specs.Due.{Due, due_refused, due_run, due_trace, due_check, due_command}
-use Rattle.rex_cli.specs.Causes.{scenario_service, plain_service, service_in, Judges, JudgesCommand, JudgesFor}
+use Rattle.rex_answer.proofs.Whole.{above, for_whole}
+use Rattle.rex_answer.specs.Refusals.{scenario_code}
+use Rattle.rex_answer.specs.Due.{Due, due_refused}
+use Rattle.rex_answer.specs.Causes.{scenario_service, Judges}
+use Rattle.rex_cli.specs.Due.{due_run, due_trace, due_check, due_command}
+use Rattle.rex_cli.specs.Causes.{plain_service, service_in, JudgesCommand, JudgesFor}
 use Rattle.rex_cli.specs.Headline.{CommittedIn, Committed}
 use Rattle.rex_command.specs.declared.commands.Command.{Command}
 use Rattle.rex_command.specs.declared.commands.Command.TheVariants.{Run, Trace, Check, Generate, Soak}
@@ -43,24 +46,6 @@ committed_long : (bytes : List ℕ) → 4194304 < length bytes → Committed byt
 committed_long bytes lt = subst (λ (b : Bool). CommittedIn (if b then Err (0, TooLong) else answer_from (start true) 1 (numbered 1 (lines_of bytes)))) (sym (lt-ltb 4194304 (length bytes) lt)) tt
 
 -- ---- from the bytes that were read to all
-
-longer : (a b c : ℕ) → 4194305 ≤ a → c ≡ a + b → 4194304 < c
-longer a b c le e = omega arith
-
-above : (a : ℕ) → 4194305 ≤ a → 4194304 < a
-above a le = omega arith
-
-all_read : (P : List ℕ → Type 0) (xs ys bytes : List ℕ) → ((us vs : List ℕ) → 4194304 < length us → 4194304 < length vs → P us → P vs) → xs ≡ bytes ++ ys → (length bytes < 4194305 → ys ≡ [])
-    → P bytes → (length bytes < 4194305) ⊎ (4194305 ≤ length bytes) → P xs
-all_read P xs ys bytes alike e end p (inl lt) = subst P (sym (e ∙ ap (λ (rest : List ℕ). bytes ++ rest) (end lt) ∙ append-nil bytes)) p
-all_read P xs ys bytes alike e end p (inr le) =
-    alike bytes xs (above (length bytes) le) (longer (length bytes) (length ys) (length xs) le (ap length e ∙ length-append bytes ys)) p
-
-for_whole : (P : List ℕ → Type 0) (old new : Option (List ℕ)) (bytes : List ℕ) → ((us vs : List ℕ) → 4194304 < length us → 4194304 < length vs → P us → P vs) → Consumes old new bytes
-    → (length bytes < 4194305 → IsAtEnd new) → P bytes → IfSome old P
-for_whole P None new bytes alike e end p = tt
-for_whole P (Some xs) None bytes alike e end p = absurd e
-for_whole P (Some xs) (Some ys) bytes alike e end p = all_read P xs ys bytes alike e end p (cases_lt (length bytes) 4194305)
 
 -- what is due
 pub whole_due : (command : Command) (d : Due) (old new : Option (List ℕ)) (bytes : List ℕ) → reads_input command ≡ true → Consumes old new bytes → (length bytes < 4194305 → IsAtEnd new)

@@ -1,21 +1,14 @@
 -- What each status below 4 says of the words and the input.
-use Rattle.std.specs.Prelude.{◌≡◌, ◌↔◌, ◌⊎◌, ℕ, List, length, nat_lt, Option, Some, None, Result, Ok, Err, if◌then◌else◌}
+use Rattle.std.specs.Prelude.{◌≡◌, ◌↔◌, ℕ, List, length, nat_lt, Option, Some, None, Result, Ok, Err, if◌then◌else◌}
 use Rattle.rex_syntax.specs.declared.service.Declarations.{Declarations}
-use Rattle.rex_syntax.specs.Check.{IsChecked}
 use Rattle.rex_parse.specs.Reading.{answer_of as service_answer}
 use Rattle.rex_parse.specs.After.{service_of}
 use Rattle.rex_parse.specs.declared.language.Above.{Above}
 use Rattle.rex_parse.specs.declared.language.ServiceCode.{ServiceCode}
 use Rattle.rex_scenario.specs.Reading.{answer_of as scenario_answer}
-use Rattle.rex_scenario.specs.declared.scenario.ScenarioCode.{ScenarioCode}
-use Rattle.rex_scenario.specs.declared.scenario.Sections.{Sections}
+use Rattle.rex_answer.specs.Causes.{scenario_service, Judges, IsBroken}
 use Rattle.rex_command.specs.declared.commands.Command.{Command}
 use Rattle.rex_command.specs.declared.commands.Command.TheVariants.{Run, Trace, Check, Generate, Soak}
-
--- the service of a text that is a scenario
-abbrev pub scenario_service : Result Sections (ℕ × ScenarioCode) → Option Declarations
-scenario_service (Ok s) = Some (service_of s.service)
-scenario_service (Err e) = None
 
 -- the service of a text that is one
 abbrev pub plain_service : Result Above (ℕ × ServiceCode) → Option Declarations
@@ -30,12 +23,7 @@ service_in Check input = if nat_lt 4194304 (length input) then None else plain_s
 service_in (Generate seed size) input = None
 service_in (Soak seed size workers) input = None
 
--- 1 where there is no service, 0 where there is one that is checked, 3 where there is one that isn't
-abbrev pub Judges : Option Declarations → ℕ → Type 0
-Judges None status = status ≡ 1
-Judges (Some service) status = ((status ≡ 0) × IsChecked service) ⊎ ((status ≡ 3) × (IsChecked service → ⊥))
-
--- the same for a command, with 0 where it asks for no service
+-- what a status says of the service that an input declares under a command: 0 where the command asks for none
 abbrev pub JudgesCommand : Command → List ℕ → ℕ → Type 0
 JudgesCommand (Generate seed size) input status = status ≡ 0
 JudgesCommand (Soak seed size workers) input status = status ≡ 0
@@ -52,11 +40,6 @@ IsUnread None input = ⊥
 IsUnread (Some (Generate seed size)) input = ⊥
 IsUnread (Some (Soak seed size workers)) input = ⊥
 IsUnread (Some command) input = service_in command input ≡ None
-
--- there is a service that isn't checked
-abbrev pub IsBroken : Option Declarations → Type 0
-IsBroken None = ⊥
-IsBroken (Some service) = IsChecked service → ⊥
 
 -- the words are a command line, and the input has a service that isn't checked
 abbrev pub IsUnchecked : Option Command → List ℕ → Type 0

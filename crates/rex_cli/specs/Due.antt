@@ -18,28 +18,16 @@ use Rattle.rex_world.specs.Tracing.{trace_text}
 use Rattle.rex_world.specs.Summaries.{summary_of}
 use Rattle.rex_world.specs.declared.summary.Summary.{Summary}
 use Rattle.rex_report.specs.Ends.{variable_words}
-use Rattle.rex_cli.specs.Refusals.{service_code, scenario_code, line_of, text_refusal, check_refusal}
+use Rattle.rex_answer.specs.Refusals.{service_code, scenario_code, line_of}
+use Rattle.rex_answer.specs.Due.{Due, due_refused, due_unchecked}
 use Rattle.rex_command.specs.Reading.{command_of}
 use Rattle.rex_command.specs.declared.commands.Command.{Command}
 use Rattle.rex_command.specs.declared.commands.Command.TheVariants.{Run, Trace, Check, Generate, Soak}
 use Rattle.rex_gen.specs.Scenario.{scenario_text}
 
--- a status and a text
-pub record Due : Type 0 where
-  pub status : ℕ
-  pub text : List ℕ
-
 -- words that are no command line are answered so
 abbrev pub due_usage : Due
 due_usage = record { status = 2; text = codes "usage: rex run|trace|check|gen|soak" ++ 10 ∷ [] }
-
--- an input that is refused at a line with a code is answered so
-abbrev pub due_refused : ℕ → List ℕ → Due
-due_refused number code = record { status = 1; text = text_refusal number code }
-
--- a service that the check refuses is answered so
-abbrev pub due_unchecked : Declarations → Refused → Due
-due_unchecked service refused = record { status = 3; text = check_refusal service refused }
 
 -- a scenario asks for its report, where its service isn't refused
 abbrev pub due_report : Scenario → Declarations → Option Refused → Due

@@ -1,22 +1,21 @@
 //! What an input is answered.
 
-ghost use Rattle.std.specs.Prelude.{◌≡◌, ◌≤◌, ◌<◌, ℕ, None, Some, IfOk, IfSome, option_map, length};
-ghost use Rattle.rex_syntax.specs.Check.{IsChecked};
+ghost use Rattle.std.specs.Prelude.{◌≡◌, ◌≤◌, ℕ, Some, IfOk, length};
 ghost use Rattle.rex_syntax.specs.Service.{IsService};
 ghost use Rattle.rex_lockset.specs.Refusal.{refusal_of as refusal};
 ghost use Rattle.rex_scenario.specs.Fits.{ScenarioFits};
 ghost use Rattle.rex_world.specs.Laws.{Headline};
+ghost use Rattle.rex_answer.specs.Causes.{Judges};
 ghost use Rattle.rex_cli.specs.Due as due;
-ghost use Rattle.rex_cli.specs.Causes.{Judges, JudgesCommand, service_in};
+ghost use Rattle.rex_cli.specs.Causes.{JudgesCommand, service_in};
 ghost use Rattle.rex_cli.specs.Headline.{Committed};
 ghost use Rattle.rex_cli.specs.Response.{MayRun, due_of};
 ghost use Rattle.rex_command.specs.Laws.{Fits};
 ghost use Rattle.rex_command.specs.declared.commands.Command.TheVariants as commands;
 
 use crate::generated::{generate, soak};
-use crate::refusals::{check_refusal, line, scenario_code, service_code, text_refusal};
+use rex_answer::{Answer, line, refused, scenario_code, service_code, unchecked};
 use rex_command::Command;
-use rex_lockset::{refusal_of, refusals_are_exact};
 use rex_parse::{ReadError, read_service};
 use rex_replay::{OneThread, Replayer};
 use rex_report::Piece;
@@ -26,22 +25,6 @@ use rex_syntax::service::{Declarations, Service};
 use rex_world::laws::headline_holds;
 use rex_world::trace;
 use std::alloc::{AllocError, Global};
-use std::marker::Model;
-
-/// A status, and what is to be written before the program ends with it. Contracts see it as what is due.
-#[derive(Drop)]
-pub(crate) struct Answer {
-    pub(crate) status: u8,
-    pub(crate) text: Vec<u8>,
-}
-
-impl Model for Answer {
-    ghost use Rattle.rex_cli.specs.Due.{Due};
-
-    ghost Value = { Due };
-
-    ghost view = { λ a. record { status = a.status; text = a.text.items } };
-}
 
 /// A scenario, and its checked service.
 #[derive(Drop)]
@@ -64,31 +47,6 @@ pub(crate) fn usage(alloc: Global) -> Result<Answer, AllocError>
 {
     let text = Vec::from_slice(alloc, b"usage: rex run|trace|check|gen|soak\n")?;
     Ok(Answer { status: 2, text })
-}
-
-/// What a text is answered that is refused at a line with a code.
-pub(crate) fn refused(alloc: Global, line: u32, code: &'static [u8]) -> Result<Answer, AllocError>
-    ensures { IfOk result (λ a. a ≡ due.due_refused line code.now) }
-{
-    let text = text_refusal(alloc, line, code)?;
-    Ok(Answer { status: 1, text })
-}
-
-/// What a service is answered that the check refuses, if it does.
-pub(crate) fn unchecked(alloc: Global, service: &Declarations) -> Result<Option<Answer>, AllocError>
-    requires { IsService service.now }
-    ensures due { IfOk result (λ a. a ≡ option_map (due.due_unchecked service.now) (refusal service.now)) }
-    ensures broken { IfOk result (λ a. IfSome a (λ _. IsChecked service.now → ⊥)) }
-    ensures checked { IfOk result (λ a. a ≡ None → IsChecked service.now) }
-{
-    refusals_are_exact();
-    match refusal_of(alloc, service)? {
-        None => Ok(None),
-        Some(refused) => {
-            let text = check_refusal(alloc, service, refused)?;
-            Ok(Some(Answer { status: 3, text }))
-        }
-    }
 }
 
 // What a scenario asks for.

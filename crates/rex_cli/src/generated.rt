@@ -8,8 +8,7 @@ ghost use Rattle.rex_gen.specs.Scenario.{scenario_text};
 ghost use Rattle.rex_command.specs.Laws.{IsScenario};
 ghost use Rattle.rex_cli.specs.Due as due;
 
-use crate::answers::{Answer, refused, unchecked};
-use crate::refusals::scenario_code;
+use rex_answer::{Answer, refused, scenario_code, unchecked};
 use rex_gen::scenario;
 use rex_replay::Replayer;
 use rex_report::{Piece, push_pieces, push_variables};

@@ -3,7 +3,6 @@
 
 mod answers;
 mod generated;
-mod refusals;
 mod running;
 
 pub use running::rex_main;

@@ -1,6 +1,7 @@
 ghost use Rattle.std.specs.Prelude.{◌≡◌, ◌≤◌, ◌<◌, ◌⊎◌, ℕ, [], true, false, Some, None, IsSome, map, IfOk, IfSome, IsErrOf, string_bytes};
 ghost use Rattle.std.specs.Io.KnownBytes.{IsAtEnd};
 ghost use Rattle.rex_traits.specs.Causes.{Rose};
+ghost use Rattle.rex_answer.specs.Outcome.{Gives, Ends};
 ghost use Rattle.rex_command.specs.Laws.{Fits};
 ghost use Rattle.rex_command.specs.Reading as spec;
 ghost use Rattle.rex_command.specs.declared.commands.Command.TheVariants as commands;
@@ -9,7 +10,6 @@ ghost use Rattle.rex_cli.specs.Due as due;
 ghost use Rattle.rex_cli.specs.Causes.{JudgesFor, IsCaused};
 ghost use Rattle.rex_scenario.specs.Fits.{ScenarioFits};
 ghost use Rattle.rex_world.specs.Report.{report_of};
-ghost use Rattle.rex_cli.specs.Outcome.{Gives, Ends};
 ghost use Rattle.rex_cli.specs.Response.{MayRun, due_of};
 ghost use Rattle.rex_cli.specs.Headline.{Committed};
 ghost use Rattle.rex_state.specs.Counts.{AreCounted};
@@ -17,15 +17,15 @@ ghost use Rattle.rex_state.specs.Machine.{run};
 ghost use Rattle.rex_state.specs.Sound.{IsSound};
 ghost use Rattle.rex_streams.specs.declared.reading.ReadFault.TheVariants as fault;
 
-use crate::answers::{Answer, Plan, Response, response_to, usage};
+use crate::answers::{Plan, Response, response_to, usage};
 use rex_command::{Command, command_of};
 use rex_crew::Crew;
 use rex_event::Event;
 use rex_replay::{ByCall, Replayer};
 use rex_state::state::State;
-use rex_streams::{ReadFault, read_input, write_all};
+use rex_streams::{ReadFault, read_input};
 use rex_syntax::checked::Checked;
-use rex_traits::{Gate, Sink, SinkFault, Source};
+use rex_traits::{Gate, Sink, Source};
 use rex_world::{RunFault, World};
 use std::alloc::{AllocError, Global};
 use std::thread::Threads;
@@ -107,19 +107,6 @@ fn respond<R: Replayer, S: Source>(
     }
 }
 
-// Writes an answer's text, and answers its status.
-fn give_text<K: Sink>(answer: &Answer, sink: &mut K) -> u8
-    requires { answer.now.status < 4 }
-    ensures gives { Gives answer.now (K.held sink.old) (K.held sink.new) result }
-    ensures ends { Ends answer.now (K.faults sink.old) (K.faults sink.new) result }
-{
-    match write_all(sink, &answer.text) {
-        Ok(()) => answer.status,
-        Err(SinkFault::Failed) => 5,
-        Err(SinkFault::OutOfMemory) => 6,
-    }
-}
-
 // Runs a plan, and answers the status.
 fn give_run<R: Replayer, K: Sink>(alloc: Global, replayer: &mut R, plan: &Plan, sink: &mut K) -> u8
     requires ready { R.ready replayer.old }
@@ -151,7 +138,7 @@ fn give<R: Replayer, K: Sink>(
     ensures ends { Ends (due_of response.now) (K.faults sink.old) (K.faults sink.new) result }
 {
     match response {
-        Response::Told(answer) => give_text(answer, sink),
+        Response::Told(answer) => answer.give(sink),
         Response::Run(plan) => give_run(alloc, replayer, plan, sink),
     }
 }

@@ -4,7 +4,7 @@ ghost use Rattle.std.specs.Prelude.{◌≡◌, ◌<◌, Some, map, IfOk, IfSome,
 ghost use Rattle.rex_syntax.specs.Service.{IsService};
 ghost use Rattle.rex_lockset.specs.Refusal.{refusal_of};
 ghost use Rattle.rex_report.specs.Pieces.{text_of};
-ghost use Rattle.rex_cli.specs.Refusals as spec;
+ghost use Rattle.rex_answer.specs.Refusals as spec;
 
 use rex_lockset::{Refused, refusals_are_there};
 use rex_parse::ServiceCode;
@@ -15,7 +15,7 @@ use rex_syntax::service::{Declarations, Handler};
 use std::alloc::{AllocError, Global};
 
 /// The code of a line of a service.
-pub(crate) fn service_code(code: ServiceCode) -> &'static [u8]
+pub fn service_code(code: ServiceCode) -> &'static [u8]
     ensures { result.now ≡ spec.service_code code }
 {
     match code {
@@ -37,7 +37,7 @@ pub(crate) fn service_code(code: ServiceCode) -> &'static [u8]
 }
 
 /// The code of a line of a scenario.
-pub(crate) fn scenario_code(code: ScenarioCode) -> &'static [u8]
+pub fn scenario_code(code: ScenarioCode) -> &'static [u8]
     ensures { result.now ≡ spec.scenario_code code }
 {
     match code {
@@ -58,7 +58,7 @@ pub(crate) fn scenario_code(code: ScenarioCode) -> &'static [u8]
 }
 
 /// The code of the check.
-pub(crate) fn check_code(code: CheckCode) -> &'static [u8]
+pub fn check_code(code: CheckCode) -> &'static [u8]
     ensures { result.now ≡ spec.check_code code }
 {
     match code {
@@ -75,7 +75,7 @@ pub(crate) fn check_code(code: CheckCode) -> &'static [u8]
 }
 
 /// A line of a word and further words, each after a space.
-pub(crate) fn line(alloc: Global, first: &[u8], rest: &[Piece<'_>]) -> Result<Vec<u8>, AllocError>
+pub fn line(alloc: Global, first: &[u8], rest: &[Piece<'_>]) -> Result<Vec<u8>, AllocError>
     ensures { IfOk result (λ text. text.items ≡ spec.line_of first.now (map text_of rest.now)) }
 {
     let mut text = Vec::from_slice(alloc, first)?;
@@ -85,11 +85,7 @@ pub(crate) fn line(alloc: Global, first: &[u8], rest: &[Piece<'_>]) -> Result<Ve
 }
 
 /// The line for a text that is refused at a line with a code.
-pub(crate) fn text_refusal(
-    alloc: Global,
-    number: u32,
-    code: &'static [u8],
-) -> Result<Vec<u8>, AllocError>
+pub fn text_refusal(alloc: Global, number: u32, code: &'static [u8]) -> Result<Vec<u8>, AllocError>
     ensures { IfOk result (λ text. text.items ≡ spec.text_refusal number code.now) }
 {
     line(
@@ -115,7 +111,7 @@ fn number_in(handler: &Handler, place: Option<u16>) -> u32
 }
 
 /// The line for a service that the check refuses.
-pub(crate) fn check_refusal(
+pub fn check_refusal(
     alloc: Global,
     service: &Declarations,
     refused: Refused,

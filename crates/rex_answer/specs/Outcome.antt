@@ -4,7 +4,7 @@ use Rattle.rex_traits.specs.Causes.{Rose}
 use Rattle.std.specs.declared.option.Option.{Option}
 use Rattle.std.specs.Io.KnownBytes.{Appends, Keeps}
 use Rattle.rex_streams.specs.Front.{AppendsFront}
-use Rattle.rex_cli.specs.Due.{Due}
+use Rattle.rex_answer.specs.Due.{Due}
 
 -- below 4 the status and what was written are what is due; at 4 nothing was written, and above it a front of what is due
 pub record Gives (due : Due) (held_old held_new : Option (List ℕ)) (status : ℕ) : Type 0 where

@@ -1,8 +1,6 @@
 -- The handler that the check refuses, or one of whose lines it refuses.
-use Rattle.std.proofs.Common.{◌≡◌, ℕ, ◌<◌, ◌≤◌, Bool, true, false, refl, arith, List, length, Option, sym, ap, subst, ◌∙◌, get_or}
-use Rattle.std.specs.Prelude.{IfSome, ◌==◌, ◌||◌}
-use Rattle.std.proofs.lemmas.Bool.{eqb-true, false≢true}
-use Rattle.rex_scenario.specs.Headings.{is_node_count}
+use Rattle.std.proofs.Common.{◌≡◌, ℕ, ◌<◌, List, length, Option, sym, ap, subst, ◌∙◌, get_or}
+use Rattle.std.specs.Prelude.{IfSome}
 use Rattle.std.proofs.lemmas.List.Elements.{All-get_or}
 use Rattle.std.proofs.lemmas.Option.{get_or_from_slice_get, slice_get_within}
 use Rattle.rex_syntax.specs.declared.service.Handler.{Handler}
@@ -11,7 +9,7 @@ use Rattle.rex_syntax.specs.Service.{IsService, IsHandler}
 use Rattle.rex_lockset.specs.declared.refusal.Refused.{Refused}
 use Rattle.rex_lockset.specs.Laws.{IsThere}
 use Rattle.rex_report.specs.Names.{no_handler}
-use Rattle.rex_cli.specs.Refusals.{handler_of}
+use Rattle.rex_answer.specs.Refusals.{handler_of}
 
 pub handler_there : (service : Declarations) (r : Refused) → IsThere service r → r.handler < length service.handlers
 handler_there service r there = slice_get_within service.handlers r.handler there.found there.there
@@ -34,13 +32,3 @@ line_there service r good there =
     let fits : IsHandler service (handler_of service r) = All-get_or (IsHandler service) service.handlers r.handler no_handler (handler_there service r there) good.handlers in
     let lines : IfSome r.line (λ l. l < length (handler_of service r).lines) = subst (λ (h : Handler). IfSome r.line (λ l. l < length h.lines)) (found_is service r there) there.line in
     further r.line (length (handler_of service r).lines) (length (handler_of service r).line_numbers) fits.numbered lines
-
--- a scenario has at most nine nodes
-pub few_nodes : (n : ℕ) → is_node_count n ≡ true → n ≤ 9
-few_nodes n h = by (n == 1) refl (n == 3) refl (n == 5) refl h
-  where
-    by : (a : Bool) → (n == 1) ≡ a → (b : Bool) → (n == 3) ≡ b → (c : Bool) → (n == 5) ≡ c → a || (b || c) ≡ true → n ≤ 9
-    by true e b f c g k = let one : n ≡ 1 = eqb-true n 1 e in omega (arith, one)
-    by false e true f c g k = let three : n ≡ 3 = eqb-true n 3 f in omega (arith, three)
-    by false e false f true g k = let five : n ≡ 5 = eqb-true n 5 g in omega (arith, five)
-    by false e false f false g k = absurd (false≢true k)

@@ -1,7 +1,7 @@
 use Rattle.std.proofs.Common.{◌≡◌}
-use Rattle.rex_cli.specs.Refusals.{handler_of}
-use Rattle.rex_cli.proofs.There.{handler_there, handler_is, line_there}
-use Rattle.rex_cli.proofs.refusals.check_refusal.Goals as goal
+use Rattle.rex_answer.specs.Refusals.{handler_of}
+use Rattle.rex_answer.proofs.There.{handler_there, handler_is, line_there}
+use Rattle.rex_answer.proofs.refusals.check_refusal.Goals as goal
 
 pub bounds-as_slice-refused : goal.bounds-as_slice-refused
 bounds-as_slice-refused c =

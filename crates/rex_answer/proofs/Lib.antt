@@ -1,0 +1,4 @@
+pub mod There
+pub mod Judged
+pub mod Ended
+pub mod Whole

@@ -1,0 +1,4 @@
+pub mod Refusals
+pub mod Due
+pub mod Causes
+pub mod Outcome
