@@ -35,6 +35,8 @@ mod generator;
 #[cfg(test)]
 mod list;
 #[cfg(test)]
+mod live;
+#[cfg(test)]
 mod lockset;
 #[cfg(test)]
 mod msg;

@@ -1,0 +1,136 @@
+-- One doing after the other.
+use Rattle.std.proofs.Common.{◌≡◌, ℕ, suc, ◌+◌, ◌<◌, ◌≤◌, Bool, true, false, cond, List, [], ◌∷◌, ◌++◌, length, get_or, take, Option, refl, sym, ◌∙◌, ap, subst, arith, append_assoc, append-nil}
+use Rattle.std.specs.Prelude.{Some, None, Result, Ok, Err, OnOk, OnErr, if◌then◌else◌}
+use Rattle.std.proofs.lemmas.List.{take_more}
+use Rattle.std.proofs.lemmas.Bool.{ne_eqb, false≢true}
+use Rattle.rex_syntax.specs.declared.request.Request.{Request}
+use Rattle.rex_syntax.specs.declared.service.Declarations.{Declarations}
+use Rattle.rex_event.specs.declared.event.Event.{Event}
+use Rattle.rex_record.specs.declared.turns.Turn.{Turn}
+use Rattle.rex_scenario.specs.declared.scenario.ScheduleLine.TheVariants.{Replay}
+use Rattle.rex_safety.specs.Node.{Message, Role, is_active, role_name}
+use Rattle.rex_safety.specs.Node.Role.{Follower, Leads}
+use Rattle.rex_safety.specs.Calls.{begin}
+use Rattle.rex_safety.specs.Values.{Value}
+use Rattle.rex_safety.specs.Lanes.{Here, active_only}
+use Rattle.rex_safety.specs.World.{World as ModelWorld, node_at, put, if_up}
+use Rattle.rex_safety.specs.Takes.{Doing, take_event, take as take_in, does, after_doings}
+use Rattle.rex_safety.specs.Takes.Doing.{Does, Takes}
+use Rattle.rex_node.specs.Calls as calls
+use Rattle.rex_node.specs.Calls.{Refuses, refusal_active, if_active}
+use Rattle.rex_node.specs.declared.refusal.Refusal.{Refusal}
+use Rattle.rex_node.specs.declared.refusal.Refusal.TheVariants as why
+use Rattle.rex_steady.specs.Schedule.{takes, agreement, agreements, replays}
+use Rattle.rex_world.specs.declared.world.World.{World}
+use Rattle.rex_world.specs.Calls.{IsWhole}
+use Rattle.rex_world.specs.World.{nodes_of, world_of}
+use Rattle.rex_world.specs.Kept.{IsRunning, IsSame}
+use Rattle.rex_lead.specs.Doing.{Did}
+
+-- ---- lists of doings
+
+takes_next : (es : List Event) (e : Event) → takes (es ++ e ∷ []) ≡ takes es ++ Takes 1 e ∷ []
+takes_next [] e = refl
+takes_next (d ∷ es) e = ap (λ (xs : List Doing). Takes 1 d ∷ xs) (takes_next es e)
+
+pub takes_more : (block : List Event) (i : ℕ) (e : Event) → i < length block → e ≡ get_or block i e → takes (take (i + 1) block) ≡ takes (take i block) ++ Takes 1 e ∷ []
+takes_more block i e there is =
+    ap takes (take_more block i e there) ∙ (ap (λ (d : Event). takes (take i block ++ d ∷ [])) (sym is) ∙ takes_next (take i block) e)
+
+pub agreements_next : (blocks : List (List Event)) (block : List Event) → agreements (blocks ++ block ∷ []) ≡ agreements blocks ++ (takes block ++ agreement)
+agreements_next [] block = ap (λ (xs : List Doing). takes block ++ xs) (append-nil agreement)
+agreements_next (b ∷ blocks) block =
+    ap (λ (xs : List Doing). takes b ++ (agreement ++ xs)) (agreements_next blocks block)
+    ∙ sym (append_assoc (takes b) (agreement ++ agreements blocks) (takes block ++ agreement))
+
+pub replays_next : (k : ℕ) → 1 ≤ k → replays (k + 1) ≡ replays k ++ Does (Replay (k + 1)) ∷ []
+replays_next k some = subst (λ (m : ℕ). replays m ≡ replays k ++ Does (Replay m) ∷ []) e (ap (λ (t : Bool). cond t [] (replays k ++ Does (Replay (suc k)) ∷ [])) (ne_eqb (suc k) 1 (λ d. omega (arith, d, some))))
+  where
+    e : suc k ≡ k + 1
+    e = omega arith
+
+-- ---- what a world did
+
+module _ (service : Declarations) where
+  after_both : (requests : List Request) (seed n : ℕ) (w : ModelWorld) (xs ys : List Doing) → after_doings service requests seed n w (xs ++ ys) ≡ after_doings service requests seed n (after_doings service requests seed n w xs) ys
+  after_both requests seed n w [] ys = refl
+  after_both requests seed n w (x ∷ xs) ys = after_both requests seed n (does service requests seed n w x) xs ys
+
+  -- a world did some doings, and then others
+  pub did_both : (u v w : World) (xs ys : List Doing) → Did service u v xs → Did service v w ys → Did service u w (xs ++ ys)
+  did_both u v w xs ys h k = record {
+    world =
+        k.world
+        ∙ (ap (λ (r : List Request). after_doings service r v.seed (nodes_of v) (world_of service v) ys) h.same.requests
+        ∙ (ap (λ (s : ℕ). after_doings service u.requests s (nodes_of v) (world_of service v) ys) h.same.seed
+        ∙ (ap (λ (n : ℕ). after_doings service u.requests u.seed n (world_of service v) ys) h.same.nodes
+        ∙ (ap (λ (m : ModelWorld). after_doings service u.requests u.seed (nodes_of u) m ys) h.world
+        ∙ sym (after_both u.requests u.seed (nodes_of u) (world_of service u) xs ys)))));
+    running = k.running;
+    same = record { nodes = k.same.nodes ∙ h.same.nodes; requests = k.same.requests ∙ h.same.requests; seed = k.same.seed ∙ h.same.seed };
+  }
+
+  pub did_as : (u w : World) (xs ys : List Doing) → xs ≡ ys → Did service u w xs → Did service u w ys
+  did_as u w xs ys e h = subst (Did service u w) e h
+
+-- ---- an event that node 1 is handed
+
+put_own : (nodes : List Here) → put nodes 1 (node_at nodes 1) ≡ nodes
+put_own [] = refl
+put_own (x ∷ nodes) = refl
+
+module _ (service : Declarations) (w : ModelWorld) (e : Event) where
+  abbrev after_take : Bool → Bool → ModelWorld
+  after_take up active = (if_up up w 1 (active_only active (begin (node_at w.nodes 1)) (take_event service e (begin (node_at w.nodes 1))))).world
+
+  idle : after_take true false ≡ w
+  idle =
+      ap (λ (nodes : List Here). record w { nodes = nodes; messages = w.messages ++ []; handed = w.handed ++ [] }) (put_own w.nodes)
+      ∙ (ap (λ (messages : List (Message Value)). record w { messages = messages; handed = w.handed ++ [] }) (append-nil w.messages)
+      ∙ ap (λ (handed : List Bool). record w { handed = handed }) (append-nil w.handed))
+
+  refused_by : (up : Bool) (role : Role Value) (r : Refusal) → calls.if_up up (if_active role None) ≡ Some r → after_take up (is_active role) ≡ w
+  refused_by false role r h = refl
+  refused_by true Follower r h = idle
+  refused_by true (Leads l) r h = go l.active h
+    where
+      go : (active : Bool) → (if active then None else Some (why.NotActive (role_name (Leads l)))) ≡ Some r → after_take true active ≡ w
+      go true h = absurd (cc)
+      go false h = idle
+
+  -- where it is refused the model's world is as it was
+  refused : (r : Refusal) → refusal_active (node_at w.nodes 1) ≡ Some r → take_in service w 1 e ≡ w
+  refused r h = refused_by (node_at w.nodes 1).up (node_at w.nodes 1).role r h
+
+-- a result that isn't want of memory
+whole_of : (result : Result Turn Refusal) → (result ≡ Err why.OutOfMemory → ⊥) → IsWhole result
+whole_of (Ok turn) h = tt
+whole_of (Err why.OutOfMemory) h = h refl
+whole_of (Err why.Down) h = tt
+whole_of (Err (why.NotActive role)) h = tt
+whole_of (Err (why.Open instance)) h = tt
+whole_of (Err why.Ended) h = tt
+whole_of (Err why.Nothing) h = tt
+whole_of (Err (why.Live events)) h = tt
+whole_of (Err why.UpToDate) h = tt
+whole_of (Err why.Spent) h = tt
+
+-- where memory was not short the world is the one that the model's take leads to
+handed : (service : Declarations) (before after : World) (e : Event) (result : Result Turn Refusal) → IsWhole result → Refuses (refusal_active (node_at (world_of service before).nodes 1)) result
+    → OnOk result (world_of service after ≡ take_in service (world_of service before) 1 e) → OnErr result (world_of service after ≡ world_of service before)
+    → world_of service after ≡ take_in service (world_of service before) 1 e
+handed service before after e (Ok turn) whole refuses ok err = ok
+handed service before after e (Err r) whole refuses ok err = go (refusal_active (node_at (world_of service before).nodes 1)) refl refuses
+  where
+    go : (due : Option Refusal) → refusal_active (node_at (world_of service before).nodes 1) ≡ due → Refuses {A = Turn} due (Err r) → world_of service after ≡ take_in service (world_of service before) 1 e
+    go (Some q) h k = err ∙ sym (refused service (world_of service before) e q h)
+    go None h k = absurd (subst (λ (q : Refusal). IsWhole {A = Turn} (Err q)) k whole)
+
+-- a world that isn't broken took the event as the model does
+pub took : (service : Declarations) (before after : World) (e : Event) (result : Result Turn Refusal) → after.broken ≡ false → (result ≡ Err why.OutOfMemory → after.broken ≡ true)
+    → Refuses (refusal_active (node_at (world_of service before).nodes 1)) result
+    → OnOk result (world_of service after ≡ take_in service (world_of service before) 1 e) → OnErr result (world_of service after ≡ world_of service before)
+    → (IsWhole result → IsRunning service after) → IsSame before after → Did service before after (Takes 1 e ∷ [])
+took service before after e result sound broken refuses ok err running same =
+    let whole : IsWhole result = whole_of result (λ h. false≢true (sym sound ∙ broken h)) in
+    record { world = handed service before after e result whole refuses ok err; running = running whole; same = same }

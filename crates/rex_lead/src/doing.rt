@@ -1,0 +1,76 @@
+//! What a world does on the way: schedule lines, and events that it is handed.
+
+ghost use Rattle.std.specs.Prelude.{◌≡◌, ◌<◌, ◌≤◌, ◌+◌, ◌^◌, [], ◌∷◌, length, OnOk};
+ghost use Rattle.std.specs.List.{All};
+ghost use Rattle.rex_scenario.specs.Fits.{LineFits};
+ghost use Rattle.rex_scenario.specs.declared.scenario.ScheduleLine.TheVariants.{Flush};
+ghost use Rattle.rex_safety.specs.Takes.{BeginsInRange};
+ghost use Rattle.rex_safety.specs.Takes.Doing.{Does, Takes};
+ghost use Rattle.rex_steady.specs.Schedule.{takes};
+ghost use Rattle.rex_world.specs.World.{nodes_of};
+ghost use Rattle.rex_world.specs.Kept.{IsRunning};
+ghost use Rattle.rex_lead.specs.Doing.{Did};
+
+use rex_event::Event;
+use rex_replay::OneThread;
+use rex_scenario::ScheduleLine;
+use rex_syntax::checked::Checked;
+use rex_world::World;
+use std::alloc::AllocError;
+
+/// Does a schedule line, and leaves aside what it reports.
+pub(crate) fn do_line(
+    world: &mut World,
+    svc: &Checked,
+    line: &ScheduleLine,
+) -> Result<(), AllocError>
+    requires running { IsRunning svc.now world.old }
+    requires fits { LineFits (nodes_of world.old) (length world.old.requests) svc.now.lanes line.now }
+    requires count { world.old.done + 1 < 2 ^ 32 }
+    ensures did { OnOk result (Did svc.now world.old world.new (Does line.now ∷ [])) }
+    ensures done { OnOk result (world.new.done ≡ world.old.done + 1) }
+{
+    world.step(svc, &mut OneThread, line)?;
+    Ok(())
+}
+
+// Hands node 1 an event.
+fn hand_event(world: &mut World, svc: &Checked, event: &Event) -> Result<(), AllocError>
+    requires running { IsRunning svc.now world.old }
+    requires there { 1 ≤ nodes_of world.old }
+    requires begins { BeginsInRange event.now }
+    ensures did { OnOk result (Did svc.now world.old world.new (Takes 1 event.now ∷ [])) }
+    ensures done { OnOk result (world.new.done ≡ world.old.done) }
+{
+    // What a node that isn't active is handed is left out, also by the model.
+    let _turn = world.take_event(svc, 1, event);
+    if world.broken() {
+        return Err(AllocError);
+    }
+    Ok(())
+}
+
+/// Hands node 1 the events of a block, one after the other.
+pub(crate) fn hand_over(world: &mut World, svc: &Checked, block: &[Event]) -> Result<(), AllocError>
+    requires running { IsRunning svc.now world.old }
+    requires there { 1 ≤ nodes_of world.old }
+    requires begins { All BeginsInRange block.now }
+    ensures did { OnOk result (Did svc.now world.old world.new (takes block.now)) }
+    ensures done { OnOk result (world.new.done ≡ world.old.done) }
+{
+    for event in block {
+        hand_event(world, svc, event)?;
+    }
+    Ok(())
+}
+
+/// What node 1 asks is handed to all others, and then what they answer to node 1.
+pub(crate) fn ask_others(world: &mut World, svc: &Checked) -> Result<(), AllocError>
+    requires running { IsRunning svc.now world.old }
+    requires count { world.old.done + 2 < 2 ^ 32 }
+    ensures did { OnOk result (Did svc.now world.old world.new (Does Flush ∷ Does Flush ∷ [])) }
+    ensures done { OnOk result (world.new.done ≡ world.old.done + 2) }
+{
+    do_line(world, svc, &ScheduleLine::Flush)?;
+    do_line(world, svc, &ScheduleLine::Flush)
+}

@@ -1,0 +1,9 @@
+pub mod Goes
+pub mod Leads
+pub mod Record
+pub mod Told
+pub mod Lends
+pub mod Same
+pub mod Kept
+pub mod Once
+pub mod Opens

@@ -1,0 +1,6 @@
+pub mod Floor
+pub mod Laws
+pub mod Desk
+pub mod Tally
+pub mod Lent
+pub mod Places

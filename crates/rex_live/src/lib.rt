@@ -1,0 +1,16 @@
+//! A floor, on which each lane of a service is a thread: the lanes' events under one lock are one history. The lines between
+//! two events of a lane run outside the lock, on copies of what the lane may read.
+#![tactic(auto)]
+
+mod desk;
+mod events;
+mod floor;
+pub mod laws;
+mod lending;
+mod places;
+mod segment;
+mod setting;
+
+pub use desk::LONGEST;
+pub use floor::{Floor, run_lanes};
+pub use setting::Setting;

@@ -1,0 +1,12 @@
+pub mod Flushes
+pub mod Majorities
+pub mod Phases
+pub mod Shapes
+pub mod Wholes
+pub mod Elections
+pub mod Taking
+pub mod Agreements
+pub mod Blocks
+pub mod Replays
+pub mod Ends
+pub mod Examples

@@ -1,0 +1,11 @@
+use Rattle.std.proofs.Common.{[]}
+use Rattle.std.proofs.lemmas.List.Elements.{All-nil}
+use Rattle.rex_scenario.specs.Fits.{RequestFits}
+use Rattle.rex_safety.proofs.Takes.{take_kept}
+use Rattle.rex_steady.proofs.Ends.{steady}
+use Rattle.rex_steady.proofs.laws.leaders_are_steady.Goals as goal
+
+pub returns : goal.returns
+returns c = λ service requests seed n blocks s some few good checked fit is short runs.
+    steady service requests seed n blocks s some few good checked fit
+    (λ service seed n w m e few good checked there range kept. take_kept service good checked [] (All-nil (RequestFits service)) seed n few w kept m there e range) is short runs

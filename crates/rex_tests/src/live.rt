@@ -1,0 +1,150 @@
+use crate::gates::HoldingGate;
+use crate::runs::Outcome;
+use rex_traits::{Gate, MemSink, MemSource, OpenGate};
+use rexlive_cli::live_main;
+use std::alloc::AllocGlobal;
+use std::process::Abort;
+use std::sync::Wait;
+use std::test::*;
+use std::thread::Threads;
+
+/// Two lanes that add to a variable under its lock, and two requests.
+const BOTH: &[u8] = b"%nodes 1
+%service
+lanes 2
+lock L
+var a on L = 0
+handler add x
+acquire L
+set a = a + x
+let r = a
+release L
+reply r
+%requests
+1 1 add 5
+2 1 add 7
+%schedule
+";
+
+/// How its output ends, whatever the trace.
+const BOTH_END: &[u8] = b"\nend node 1 active promised 17 known 1 live 0 a=12\n";
+
+/// One lane, and one request, among three nodes.
+const ONE: &[u8] = b"%nodes 3
+%service
+lanes 1
+lock L
+var a on L = 0
+handler add x
+acquire L
+set a = a + x
+let r = a
+release L
+reply r
+%requests
+1 1 add 5
+%schedule
+";
+
+/// Its output.
+const ONE_TOLD: &[u8] = b"delta 1 events 4
+1.0 begin 1 1 add 5
+1.1 acquire L
+1.2 release L
+1.3 reply 1 5
+end node 1 active promised 17 known 1 live 0 a=5
+end node 2 follower promised 17 known 1 replayed 1 a=5
+end node 3 follower promised 17 known 1 replayed 1 a=5
+";
+
+/// Runs the program with these words over memory, behind a gate. The read and the write of these numbers, from 1, fail; 0
+/// is none.
+fn live<R: Threads + Wait + Sync + AllocGlobal, G: Gate + Sync>(
+    rt: &R,
+    line: &str,
+    input: &[u8],
+    faults: (u64, u64),
+    gate: &G,
+) -> Result<Outcome, Fail> {
+    let alloc = rt.alloc();
+    let mut words = vec![in alloc; String::new(alloc); 0]?;
+    for word in line.split(' ') {
+        words.push(word.to_string(alloc)?)?;
+    }
+    let bytes = Vec::from_slice(alloc, input)?;
+    let mut source = MemSource::new(bytes, vec![in alloc; faults.0]?);
+    let mut sink = MemSink::new(alloc, vec![in alloc; faults.1]?, 100);
+    let status = live_main(rt, rt, alloc, &words, &mut source, &mut sink, gate);
+    let written = Vec::from_slice(alloc, sink.held())?;
+    Ok(Outcome { status, written })
+}
+
+/// Words, an input, the read and the write that fail, the status, and the output.
+type Case = (&'static str, &'static [u8], (u64, u64), u8, &'static [u8]);
+
+static CASES: [Case; 8] = [
+    ("rexlive", ONE, (0, 0), 0, ONE_TOLD),
+    ("rexlive", b"", (0, 0), 1, b"refused line 1 S3\n"),
+    (
+        "rexlive",
+        b"%nodes 1\n%service\nlanes 1\nhandler h\nreply 0\n%requests\n%schedule\nelect 1\n",
+        (0, 0),
+        1,
+        b"refused line 8 S8\n",
+    ),
+    (
+        "rexlive",
+        b"%nodes 1\n%service\nlanes 1\nlock L\nhandler h\nacquire L\nreply 0\n%requests\n%schedule\n",
+        (0, 0),
+        3,
+        b"refused handler h line 7 C7\n",
+    ),
+    (
+        "rexlive",
+        b"%nodes 1\n%service\nlanes 1\nhandler h\nreply 0\n%requests\n%schedule\n",
+        (0, 0),
+        0,
+        b"end node 1 active promised 17 known 0 live 0\n",
+    ),
+    ("rexlive run", ONE, (0, 0), 2, b"usage: rexlive\n"),
+    ("rexlive", ONE, (1, 0), 4, b""),
+    ("rexlive", ONE, (0, 1), 5, b""),
+];
+
+#[test]
+fn each_status_has_its_cause(rt: HostRuntime) -> Result<(), Fail> {
+    for (line, input, faults, status, written) in &CASES {
+        let outcome = live(&rt, line, input, *faults, &OpenGate)?;
+        assert_eq!(rt; outcome.status, *status, "{line}");
+        assert_eq!(rt; outcome.written.as_slice(), *written, "{line}");
+    }
+    Ok(())
+}
+
+#[test]
+fn two_lanes_end_alike(rt: HostRuntime) -> Result<(), Fail> {
+    for _ in 0..10 {
+        let outcome = live(&rt, "rexlive", BOTH, (0, 0), &OpenGate)?;
+        assert!(rt; outcome.status == 0 && outcome.written.ends_with(BOTH_END));
+    }
+    Ok(())
+}
+
+/// Two lanes, of which one's thread is held until the other one tries its second event.
+fn live_held<R: Threads + Wait + Sync + AllocGlobal + Abort>(
+    rt: &R,
+    held: u8,
+    until: u8,
+) -> Result<(), Fail> {
+    let gate = HoldingGate::new(held, until);
+    let outcome = live(rt, "rexlive", BOTH, (0, 0), &gate)?;
+    assert!(rt; outcome.status == 0 && outcome.written.ends_with(BOTH_END));
+    assert!(rt; gate.is_kept(), "{held} was held");
+    Ok(())
+}
+
+#[test]
+fn lanes_run_beside_each_other(rt: HostRuntime) -> Result<(), Fail> {
+    live_held(&rt, 0, 1)?;
+    live_held(&rt, 1, 0)
+}

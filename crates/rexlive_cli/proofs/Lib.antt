@@ -1,0 +1,4 @@
+pub mod Whole
+pub mod Gives
+pub mod Played
+pub mod Said

@@ -1,0 +1,8 @@
+//! What the program `rexlive` does, from its words and a source's bytes to a sink's bytes and a status.
+#![tactic(auto)]
+
+mod answers;
+mod histories;
+mod running;
+
+pub use running::live_main;

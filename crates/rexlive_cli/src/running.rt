@@ -1,0 +1,124 @@
+//! The top call.
+
+ghost use Rattle.std.specs.Prelude.{◌≡◌, ◌≤◌, ◌<◌, ◌⊎◌, ℕ, IfOk, IfSome, IsErrOf, Some, length};
+ghost use Rattle.std.specs.Io.KnownBytes.{IsAtEnd};
+ghost use Rattle.rex_traits.specs.Causes.{Rose};
+ghost use Rattle.rex_syntax.specs.declared.service.Declarations.{Declarations};
+ghost use Rattle.rex_syntax.specs.Check.{IsChecked};
+ghost use Rattle.rex_scenario.specs.Reading.{unscheduled_answer_of};
+ghost use Rattle.rex_streams.specs.declared.reading.ReadFault.TheVariants as fault;
+ghost use Rattle.rex_answer.specs.Causes.{Judges, scenario_service};
+ghost use Rattle.rex_answer.specs.Outcome.{Gives};
+ghost use Rattle.rexlive_cli.specs.Due as due;
+ghost use Rattle.rexlive_cli.specs.Outcome.{GivesSome, IsCaused};
+
+use crate::answers::{answer_input, usage};
+use rex_answer::Answer;
+use rex_streams::{ReadFault, read_input};
+use rex_traits::{Gate, Sink, Source};
+use std::alloc::Global;
+use std::sync::Wait;
+use std::thread::Threads;
+
+// What the input of a source is answered.
+fn read_and_answer<R: Threads + Sync, W: Wait + Sync, S: Source, G: Gate + Sync>(
+    rt: &R,
+    wait: &W,
+    alloc: Global,
+    source: &mut S,
+    gate: &G,
+) -> Result<Answer, ReadFault>
+    ensures due { IfOk result (λ a. IfSome (S.left source.old) (λ input. due.IsDue input a)) }
+    ensures judges { IfOk result (λ a. IfSome (S.left source.old) (λ input. Judges (scenario_service (unscheduled_answer_of input)) a.status)) }
+    ensures whole { IfOk result (λ a. a.status ≡ 0 → IsAtEnd (S.left source.new)) }
+    ensures low { IfOk result (λ a. a.status < 4) }
+    ensures used { IfOk result (λ a. a.status ≡ 2 → ⊥) }
+    ensures later { S.faults source.old ≤ S.faults source.new }
+    ensures failed { IsErrOf result fault.Failed → Rose (S.faults source.old) (S.faults source.new) }
+{
+    match read_input(alloc, source) {
+        Ok(input) => match answer_input(rt, wait, alloc, &input.bytes, gate) {
+            Ok(answer) => Ok(answer),
+            Err(_) => Err(ReadFault::OutOfMemory),
+        },
+        Err(fault) => Err(fault),
+    }
+}
+
+// Plays the scenario that a source gives, and answers the status. The clauses are those of `live_main`.
+fn play_input<R: Threads + Sync, W: Wait + Sync, S: Source, K: Sink, G: Gate + Sync>(
+    rt: &R,
+    wait: &W,
+    alloc: Global,
+    source: &mut S,
+    sink: &mut K,
+    gate: &G,
+) -> u8
+    ensures run { IfSome (S.left source.old) (λ input. GivesSome (due.IsDue input) (K.held sink.old) (K.held sink.new) result) }
+    ensures causes { result < 4 → IfSome (S.left source.old) (λ input. IsCaused (scenario_service (unscheduled_answer_of input)) result) }
+    ensures whole { result ≡ 0 → IsAtEnd (S.left source.new) }
+    ensures read_fault { result ≡ 4 → Rose (S.faults source.old) (S.faults source.new) }
+    ensures write_fault { result ≡ 5 → Rose (K.faults sink.old) (K.faults sink.new) }
+    ensures known { result ≤ 6 }
+    ensures used { result ≡ 2 → ⊥ }
+    ensures complete { IfSome (S.left source.old) (λ input. (service : Declarations) → scenario_service (unscheduled_answer_of input) ≡ Some service → IsChecked service
+        → (Rose (S.faults source.old) (S.faults source.new) → ⊥) → (Rose (K.faults sink.old) (K.faults sink.new) → ⊥)
+        → (result ≡ 0) ⊎ (result ≡ 6)) }
+{
+    match read_and_answer(rt, wait, alloc, source, gate) {
+        Ok(answer) => answer.give(sink),
+        Err(ReadFault::Failed) => 4,
+        Err(ReadFault::OutOfMemory) => 6,
+    }
+}
+
+/// Does all that the program `rexlive` does, and answers its status: 0 where all output was written; 1 where the input is no
+/// scenario with an empty schedule; 2 where the words are no command line; 3 where the service isn't checked; 4 where a read
+/// failed, and nothing was written; 5 where a write failed; 6 for want of memory. After 5 and 6 a front of the output was
+/// written. The words are the program's name alone.
+///
+/// Each lane of the service is a thread, given by the runtime `rt`; they wait for each other by `wait`, and each passes the
+/// gate before it tries an event. What they recorded, in whatever order that came, is led to agreement by node 1 of the
+/// scenario's nodes, in blocks of 4,096 events; the other nodes replay it. The output is the agreed trace, and what each node
+/// came to. That the lanes get on isn't promised: the clauses hold where the call returns.
+pub fn live_main<R: Threads + Sync, W: Wait + Sync, S: Source, K: Sink, G: Gate + Sync>(
+    rt: &R,
+    wait: &W,
+    alloc: Global,
+    words: &[String],
+    source: &mut S,
+    sink: &mut K,
+    gate: &G,
+) -> u8
+    // Below 4 the status and what was written are what is due to the input, for one of the histories that lanes may make.
+    ensures run { length words.now ≡ 1 → IfSome (S.left source.old) (λ input. GivesSome (due.IsDue input) (K.held sink.old) (K.held sink.new) result) }
+
+    // Below 4 it is 1 exactly where the input is no scenario without schedule lines, and 3 exactly where its service isn't checked.
+    ensures causes { length words.now ≡ 1 → result < 4 → IfSome (S.left source.old) (λ input. IsCaused (scenario_service (unscheduled_answer_of input)) result) }
+
+    // Words that are no command line are answered whatever the source, which stays as it was; others are not answered so.
+    ensures usage { (length words.now ≡ 1 → ⊥) → Gives due.due_usage (K.held sink.old) (K.held sink.new) result × (source.new ≡ source.old) × (result ≡ 4 → ⊥) }
+    ensures used { result ≡ 2 → length words.now ≡ 1 → ⊥ }
+
+    // At 0 the input was read to its end.
+    ensures whole { result ≡ 0 → IsAtEnd (S.left source.new) }
+
+    // A fault is answered only where it was counted.
+    ensures read_fault { result ≡ 4 → Rose (S.faults source.old) (S.faults source.new) }
+    ensures write_fault { result ≡ 5 → Rose (K.faults sink.old) (K.faults sink.new) }
+    ensures known { result ≤ 6 }
+
+    // Where the input is a scenario with a checked service and no schedule line, and no fault was counted, the status is 0, or
+    // want of memory.
+    ensures complete { length words.now ≡ 1 → IfSome (S.left source.old) (λ input. (service : Declarations) → scenario_service (unscheduled_answer_of input) ≡ Some service → IsChecked service
+        → (Rose (S.faults source.old) (S.faults source.new) → ⊥) → (Rose (K.faults sink.old) (K.faults sink.new) → ⊥)
+        → (result ≡ 0) ⊎ (result ≡ 6)) }
+{
+    if words.len() == 1 {
+        return play_input(rt, wait, alloc, source, sink, gate);
+    }
+    match usage(alloc) {
+        Ok(answer) => answer.give(sink),
+        Err(_) => 6,
+    }
+}
