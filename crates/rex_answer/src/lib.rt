@@ -4,8 +4,6 @@
 mod answers;
 mod giving;
 mod refusals;
-mod words;
 
 pub use answers::{Answer, refused, unchecked};
 pub use refusals::{check_code, check_refusal, line, scenario_code, service_code, text_refusal};
-pub use words::words_of;
