@@ -1,5 +1,4 @@
 pub mod Whole
 pub mod Caused
-pub mod Nodes
 pub mod Soaking
 mod Examples

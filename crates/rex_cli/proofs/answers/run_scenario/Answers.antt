@@ -1,5 +1,5 @@
 use Rattle.std.proofs.Common.{rules}
-use Rattle.rex_cli.proofs.Nodes.{few_nodes}
+use Rattle.rex_world.proofs.Beginning.{few_nodes}
 use Rattle.rex_cli.proofs.answers.run_scenario.Goals as goal
 
 pub returns-clause-headline : goal.returns-clause-headline
