@@ -45,6 +45,7 @@ scenario_code scenario.TooManyLines = codes "S9"
 scenario_code scenario.NotThere = codes "S10"
 scenario_code scenario.TooManyRequests = codes "S11"
 scenario_code scenario.WrongLimits = codes "S12"
+scenario_code scenario.NoOldForm = codes "S13"
 
 -- the code of the check
 abbrev pub check_code : CheckCode → List ℕ
@@ -57,6 +58,7 @@ check_code check.LoopDiffers = codes "C6"
 check_code check.HeldAtReply = codes "C7"
 check_code check.ConditionLock = codes "C8"
 check_code check.TooLong = codes "C9"
+check_code check.HeldAtDown = codes "C10"
 
 -- a line of a word and further words, each after a space
 abbrev pub line_of : List ℕ → List (List ℕ) → List ℕ

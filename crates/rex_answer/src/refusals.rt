@@ -54,6 +54,7 @@ pub fn scenario_code(code: ScenarioCode) -> &'static [u8]
         ScenarioCode::NotThere => b"S10",
         ScenarioCode::TooManyRequests => b"S11",
         ScenarioCode::WrongLimits => b"S12",
+        ScenarioCode::NoOldForm => b"S13",
     }
 }
 
@@ -71,6 +72,7 @@ pub fn check_code(code: CheckCode) -> &'static [u8]
         CheckCode::HeldAtReply => b"C7",
         CheckCode::ConditionLock => b"C8",
         CheckCode::TooLong => b"C9",
+        CheckCode::HeldAtDown => b"C10",
     }
 }
 

@@ -1,10 +1,11 @@
 -- Nodes, ballots and instances, and the ballot that a node takes next.
 use Rattle.std.specs.Prelude.{◌≡◌, ℕ, ◌+◌, ◌-◌, ◌*◌, ◌/◌, ◌%◌, ◌^◌, ◌<◌, ◌≤◌, Bool, ◌&&◌, nat_le, Option, Some, None, if◌then◌else◌}
+use Rattle.rex_ballot.specs.Limits.{most_nodes}
 
--- nodes are numbered from 1 to 9 at most
+-- nodes are numbered from 1
 pub record IsNode (node : ℕ) : Type 0 where
   pub first : 1 ≤ node
-  pub last : node ≤ 9
+  pub last : node ≤ most_nodes
 
 -- a ballot is 16 times a round, and a node
 abbrev pub ballot_of : ℕ → ℕ → ℕ
@@ -30,7 +31,7 @@ pub record IsInstance (instance : ℕ) : Type 0 where
 -- ---- the same as tests
 
 abbrev pub is_node : ℕ → Bool
-is_node n = nat_le 1 n && nat_le n 9
+is_node n = nat_le 1 n && nat_le n most_nodes
 
 abbrev pub is_ballot : ℕ → Bool
 is_ballot n = nat_le 1 (round_of n) && nat_le (round_of n) 4294967296 && is_node (node_of n)

@@ -3,7 +3,7 @@ use Rattle.std.proofs.Common.{◌≡◌, ◌≢◌, ◌⊎◌, inl, inr, ⊎_eli
 use Rattle.std.specs.Prelude.{◌&&◌, ◌||◌, nat_eq, Option, Some, None}
 use Rattle.std.proofs.lemmas.Bool.{cases_eq, ne_eqb}
 use Rattle.rex_event.specs.declared.event.Event.{Event}
-use Rattle.rex_event.specs.Conflict.{conflict, same_name, named_lock, named_client, is_sharing, wakes}
+use Rattle.rex_event.specs.Conflict.{conflict, same_name, named_lock, named_client, named_semaphore, is_sharing, wakes}
 use Rattle.rex_event.specs.Order.{Has, Precedes, IsOrdered}
 
 -- ---- conflicts go both ways
@@ -32,7 +32,7 @@ or_back false false = refl
 
 conflict_back : (d e : Event) → conflict d e ≡ conflict e d
 conflict_back d e =
-    rw (name_back (Some d.lane) (Some e.lane), name_back (named_lock d.kind) (named_lock e.kind), and_back (is_sharing d.kind) (is_sharing e.kind), name_back (named_client d.kind) (named_client e.kind), or_back (wakes d e) (wakes e d)) refl
+    rw (name_back (Some d.lane) (Some e.lane), name_back (named_lock d.kind) (named_lock e.kind), and_back (is_sharing d.kind) (is_sharing e.kind), name_back (named_client d.kind) (named_client e.kind), name_back (named_semaphore d.kind) (named_semaphore e.kind), or_back (wakes d e) (wakes e d)) refl
 
 -- ---- one of two events stands first
 

@@ -117,6 +117,7 @@ module _ (r : Recording) (z : TableId) (ok : IsRight r) (s s' : BoardSeat) (stat
     lanes = ap (λ (x : StateValue). length x.lanes) t.state ∙ length-set state.lanes m.lane _ ∙ c.lanes;
     variables = ap (λ (x : StateValue). x.variables) t.state ∙ c.variables;
     queues = ap (λ (x : StateValue). x.queues) t.state ∙ c.queues;
+    semaphores = ap (λ (x : StateValue). x.semaphores) t.state ∙ c.semaphores;
     clients = ap (λ (x : StateValue). x.clients) t.state ∙ c.clients;
   }
     where

@@ -8,6 +8,7 @@ use Rattle.rex_syntax.specs.declared.locks.Mode.{Mode}
 use Rattle.rex_syntax.specs.declared.locks.Mode.TheVariants.{Free, Shared, Exclusive}
 use Rattle.rex_syntax.specs.Locks.{mode_of, is_free, is_exclusive}
 use Rattle.rex_frame.specs.Guarded.{Agree}
+use Rattle.rex_event.specs.Limits.{most_lanes}
 use Rattle.rex_event.specs.declared.event.Kind.{Kind}
 use Rattle.rex_event.specs.declared.event.Kind.TheVariants.{AcqSh, RelSh}
 use Rattle.rex_event.specs.declared.event.Event.{Event}
@@ -99,23 +100,23 @@ module _ (r : Recording) (ok : IsRight r) where
       let b : length (counts_of (start_of r)) ≡ length (start_of r).lanes = length-map (start_of r).lanes done_of in
       omega (arith, a, b, ok.sound.by.complete.lanes)
 
-  pub in_lanes : (e : Event) → Has e (events_of r) → e.lane < 16
+  pub in_lanes : (e : Event) → Has e (events_of r) → e.lane < most_lanes
   in_lanes e there = omega (arith, lane_there e there, ok.good.lanes)
 
-  pub cause_lane : (e : Event) (list : List Cause) (c : Cause) → AreCausesOf r e list → Has c list → c.lane < 16
-  cause_lane e list c h k = let d = ok.events.each e list c h k in subst (λ (x : ℕ). x < 16) (ap (λ (z : Cause). z.lane) d.2) (in_lanes d.0 d.1)
+  pub cause_lane : (e : Event) (list : List Cause) (c : Cause) → AreCausesOf r e list → Has c list → c.lane < most_lanes
+  cause_lane e list c h k = let d = ok.events.each e list c h k in subst (λ (x : ℕ). x < most_lanes) (ap (λ (z : Cause). z.lane) d.2) (in_lanes d.0 d.1)
 
   -- what is covered stays covered as counts rise
-  pub covers_more : (C D : List ℕ) (e : Event) → ((m : ℕ) → m < 16 → count_at C m ≤ count_at D m) → IsCovered r C e → IsCovered r D e
+  pub covers_more : (C D : List ℕ) (e : Event) → ((m : ℕ) → m < most_lanes → count_at C m ≤ count_at D m) → IsCovered r C e → IsCovered r D e
   covers_more C D e up c = record {
     each = λ list k h there. let a : k.index < count_at C k.lane = c.each list k h there in let b : count_at C k.lane ≤ count_at D k.lane = up k.lane (cause_lane e list k h there) in omega arith;
   }
 
-  below_as : (C D : List ℕ) → ((m : ℕ) → m < 16 → count_at D m ≡ count_at C m) → (x : Event) → Has x (events_of r) → is_below D x ≡ is_below C x
+  below_as : (C D : List ℕ) → ((m : ℕ) → m < most_lanes → count_at D m ≡ count_at C m) → (x : Event) → Has x (events_of r) → is_below D x ≡ is_below C x
   below_as C D same x there = ap (nat_lt x.index) (same x.lane (in_lanes x there))
 
   -- the state at a cut depends on the counts of the lanes alone
-  pub lanes_alone : (C D : List ℕ) (s : StateValue) → ((m : ℕ) → m < 16 → count_at D m ≡ count_at C m) → IsStateAt (service_of r) (start_of r) (events_of r) C s → IsConsistent (events_of r) C
+  pub lanes_alone : (C D : List ℕ) (s : StateValue) → ((m : ℕ) → m < most_lanes → count_at D m ≡ count_at C m) → IsStateAt (service_of r) (start_of r) (events_of r) C s → IsConsistent (events_of r) C
       → IsStateAt (service_of r) (start_of r) (events_of r) D s × IsConsistent (events_of r) D
   lanes_alone C D s same at cut = (
     ap (λ (l : List Event). run (service_of r) (start_of r) l) (filters_same (is_below C) (is_below D) (events_of r) (below_as C D same)) ∙ at,

@@ -11,6 +11,7 @@ use Rattle.atomic_table.specs.Table.{State}
 use Rattle.atomic_table.specs.Seated.{TableId}
 use Rattle.rex_syntax.specs.declared.locks.Mode.TheVariants.{Exclusive}
 use Rattle.rex_frame.specs.declared.frame.Frame.{Frame}
+use Rattle.rex_event.specs.Limits.{most_lanes}
 use Rattle.rex_event.specs.declared.event.Event.{Event}
 use Rattle.rex_event.specs.Order.{Has}
 use Rattle.rex_event.specs.Cuts.{count_at, counted_all, is_below, below}
@@ -41,19 +42,20 @@ value_at (x ∷ words) zero w h = some-injective x w h
 value_at (x ∷ words) (suc i) w h = value_at words i w h
 
 pub no_values : (words : List ℕ) (s : StateValue) → HasWordValues words 0 s s
-no_values words s = record { long = refl; each = λ x lt. absurd (omega arith); lanes = refl; queues = refl; clients = refl }
+no_values words s = record { long = refl; each = λ x lt. absurd (omega arith); lanes = refl; queues = refl; semaphores = refl; clients = refl }
 
-pub more_values : (words : List ℕ) (n w : ℕ) (s t u : StateValue) → HasWordValues words n s t → n < length s.variables → get_elem? words (16 + n) ≡ some w → u ≡ with_variable t n (cast_signed w64 w) → HasWordValues words (n + 1) s u
+pub more_values : (words : List ℕ) (n w : ℕ) (s t u : StateValue) → HasWordValues words n s t → n < length s.variables → get_elem? words (most_lanes + n) ≡ some w → u ≡ with_variable t n (cast_signed w64 w) → HasWordValues words (n + 1) s u
 more_values words n w s t u h there at is = record {
   long = ap (λ (x : StateValue). length x.variables) is ∙ length-set t.variables n _ ∙ h.long;
   each = λ x lt. ap (λ (y : StateValue). value_of y.variables x) is ∙ by x lt (cases_eq x n);
   lanes = ap (λ (x : StateValue). x.lanes) is ∙ h.lanes;
   queues = ap (λ (x : StateValue). x.queues) is ∙ h.queues;
+  semaphores = ap (λ (x : StateValue). x.semaphores) is ∙ h.semaphores;
   clients = ap (λ (x : StateValue). x.clients) is ∙ h.clients;
 }
   where
     by : (x : ℕ) → x < n + 1 → (x ≡ n) ⊎ (x ≡ n → ⊥) → value_of (set t.variables n (cast_signed w64 w)) x ≡ word_value words x
-    by x lt (inl q) = ap (value_of (set t.variables n (cast_signed w64 w))) q ∙ get_or-set_same t.variables n (cast_signed w64 w) (pos 0) (omega (arith, h.long, there)) ∙ ap (cast_signed w64) (sym (value_at words (16 + n) w at)) ∙ ap (word_value words) (sym q)
+    by x lt (inl q) = ap (value_of (set t.variables n (cast_signed w64 w))) q ∙ get_or-set_same t.variables n (cast_signed w64 w) (pos 0) (omega (arith, h.long, there)) ∙ ap (cast_signed w64) (sym (value_at words (most_lanes + n) w at)) ∙ ap (word_value words) (sym q)
     by x lt (inr ne) = get_or-set_other t.variables n x (cast_signed w64 w) (pos 0) ne ∙ h.each x (omega arith)
 
 -- ---- equal lists
@@ -86,7 +88,7 @@ holder_below s lock (suc n) = by (exclusive_by (mode_in_frame (frame_at s n) loc
 -- ---- the end
 
 module _ (r : Recording) (z : TableId) (t : State (Unit {0}) View) (M : IsMoment r t) (host : BoardSeat) (seen : get_elem? t.views host.id ≡ some host.me.0) (state : StateValue) (c : IsCollecting r z host state []) where
-  lanes_few : (service_of r).lanes ≤ 16
+  lanes_few : (service_of r).lanes ≤ most_lanes
   lanes_few = M.right.good.lanes
 
   collected : (lane : ℕ) → lane < (service_of r).lanes → IsCollected r host state lane
@@ -129,7 +131,7 @@ module _ (r : Recording) (z : TableId) (t : State (Unit {0}) View) (M : IsMoment
 
   -- each variable's word has the state's value
   word_is : (x : ℕ) → x < variables_in r → word_value t.words x ≡ value_of M.state.variables x
-  word_is x lt = by (holder_below M.state (guard r x) 16)
+  word_is x lt = by (holder_below M.state (guard r x) most_lanes)
     where
       no_mode : (lock : ℕ) → mode_in_frame None lock ≡ Exclusive → ⊥
       no_mode lock h = cc
@@ -144,7 +146,7 @@ module _ (r : Recording) (z : TableId) (t : State (Unit {0}) View) (M : IsMoment
           let none : frame_at M.state l ≡ None = ap (λ (y : Lane). y.frame) (get_or_past M.state.lanes l no_lane (omega (arith, lanes_long, more))) in
           absurd (no_mode (guard r x) (subst (λ f. HoldsAlone f (guard r x)) none h))
 
-      by : ((l : ℕ) × (l < 16) × HoldsAlone (frame_at M.state l) (guard r x)) ⊎ ((l : ℕ) → l < 16 → HoldsAlone (frame_at M.state l) (guard r x) → ⊥) → word_value t.words x ≡ value_of M.state.variables x
+      by : ((l : ℕ) × (l < most_lanes) × HoldsAlone (frame_at M.state l) (guard r x)) ⊎ ((l : ℕ) → l < most_lanes → HoldsAlone (frame_at M.state l) (guard r x) → ⊥) → word_value t.words x ≡ value_of M.state.variables x
       by (inl q) = held q.0 q.2 (cases_lt q.0 (service_of r).lanes)
       by (inr none) = M.shared x lt none
 
@@ -153,7 +155,7 @@ module _ (r : Recording) (z : TableId) (t : State (Unit {0}) View) (M : IsMoment
 
   module _ (later last : StateValue) (noted_is : later ≡ noted_all state (events_of r)) (values : HasWordValues t.words (variables_in r) later last) where
     noted : IsNoted (service_of r) (start_of r) M.state state later
-    noted = subst (IsNoted (service_of r) (start_of r) M.state state) (sym noted_is) (noted_run (service_of r) (start_of r) M.state state (events_of r) runs c.queues c.clients)
+    noted = subst (IsNoted (service_of r) (start_of r) M.state state) (sym noted_is) (noted_run (service_of r) (start_of r) M.state state (events_of r) runs c.queues c.semaphores c.clients)
 
     first_long : length state.variables ≡ variables_in r
     first_long = ap length c.variables ∙ M.right.sound.by.complete.variables
@@ -163,8 +165,8 @@ module _ (r : Recording) (z : TableId) (t : State (Unit {0}) View) (M : IsMoment
         let long : length last.variables ≡ variables_in r = values.long ∙ ap length noted.variables ∙ first_long in
         same_items last.variables M.state.variables (pos 0) (long ∙ sym variables_long) (λ k lt. let less : k < variables_in r = omega arith in values.each k less ∙ word_is k less)
 
-    state_same : (s u : StateValue) → s.variables ≡ u.variables → s.lanes ≡ u.lanes → s.queues ≡ u.queues → s.clients ≡ u.clients → s ≡ u
-    state_same s u a b d e = λ i. record { variables = a i; lanes = b i; queues = d i; clients = e i }
+    state_same : (s u : StateValue) → s.variables ≡ u.variables → s.lanes ≡ u.lanes → s.queues ≡ u.queues → s.semaphores ≡ u.semaphores → s.clients ≡ u.clients → s ≡ u
+    state_same s u a b d m e = λ i. record { variables = a i; lanes = b i; queues = d i; semaphores = m i; clients = e i }
 
     pub answers : run (service_of r) (start_of r) (events_of r) ≡ Some last
-    answers = runs ∙ ap Some (sym (state_same last M.state variables_are (values.lanes ∙ noted.lanes ∙ lanes_are) (values.queues ∙ noted.queues) (values.clients ∙ noted.clients)))
+    answers = runs ∙ ap Some (sym (state_same last M.state variables_are (values.lanes ∙ noted.lanes ∙ lanes_are) (values.queues ∙ noted.queues) (values.semaphores ∙ noted.semaphores) (values.clients ∙ noted.clients)))

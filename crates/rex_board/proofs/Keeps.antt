@@ -11,6 +11,7 @@ use Rattle.atomic_table.specs.Table.{State, Me, step, keeps, Allows, Splits, Joi
 use Rattle.atomic_table.proofs.Lists.{at_set}
 use Rattle.std.specs.Prelude.{Option}
 use Rattle.rex_frame.specs.declared.frame.Frame.{Frame}
+use Rattle.rex_event.specs.Limits.{most_lanes}
 use Rattle.rex_event.specs.declared.event.Event.{Event}
 use Rattle.rex_event.specs.Order.{Has}
 use Rattle.rex_event.specs.Cuts.{count_at, is_below, below}
@@ -73,7 +74,7 @@ module _ (r : Recording) (s : S) (M : IsMoment r s) where
 
       own : Says r know' M.owner M.host M.dealt id w
       own = subst (SaysRole r know' M.owner M.host M.dealt id w) (sym role')
-          (key ∙ mine.0, subst (λ (x : ℕ). x < M.dealt) (sym lane) mine.1, subst (λ (x : ℕ). x < 16) (sym lane) mine.2, ap M.owner lane ∙ mine.3, put_here M.know v.lane k w.lane lane ∙ sym knows)
+          (key ∙ mine.0, subst (λ (x : ℕ). x < M.dealt) (sym lane) mine.1, subst (λ (x : ℕ). x < most_lanes) (sym lane) mine.2, ap M.owner lane ∙ mine.3, put_here M.know v.lane k w.lane lane ∙ sym knows)
 
       pub seat_moves : IsMoment r record { words = words; homes = s.homes; views = set s.views id w }
       seat_moves = record {
@@ -101,7 +102,7 @@ module _ (r : Recording) (slots id : ℕ) (me : Me (Unit {0}) View) (role : me.0
   abbrev v : View
   v = me.0
 
-  pub looks : (i : ℕ) → i < 16 → Allows (IsMoment r) slots id me i (λ n. n) (looked (step slots i 0 0 none) me)
+  pub looks : (i : ℕ) → i < most_lanes → Allows (IsMoment r) slots id me i (λ n. n) (looked (step slots i 0 0 none) me)
   looks i small_lane s M deep at small =
       let mine = says_lane r s M id v at role in
       let n : ℕ = slice_index s.words i in
@@ -110,9 +111,9 @@ module _ (r : Recording) (slots id : ℕ) (me : Me (Unit {0}) View) (role : me.0
       let back : M.know v.lane ≡ v.knows = mine.4 in
       let known : IsKnown r s.words M.state v.lane v.knows = subst (IsKnown r s.words M.state v.lane) back (M.lanes v.lane mine.2) in
       let bounds : List ℕ = set v.knows.bounds i n in
-      let up : (other : ℕ) → other < 16 → count_at (M.know v.lane).bounds other ≤ count_at bounds other =
+      let up : (other : ℕ) → other < most_lanes → count_at (M.know v.lane).bounds other ≤ count_at bounds other =
       λ other lt. subst (λ (k : Knowledge). count_at k.bounds other ≤ count_at bounds other) (sym back) (set_up v.knows.bounds i n other (known.bounds i small_lane)) in
-      let below : (other : ℕ) → other < 16 → count_at bounds other ≤ count_at s.words other =
+      let below : (other : ℕ) → other < most_lanes → count_at bounds other ≤ count_at s.words other =
       λ other lt. set_most v.knows.bounds i n other (count_at s.words other) (known.bounds other lt) (λ q. let a : count_at s.words other ≡ n = ap (count_at s.words) q in omega arith) in
       let L = lanes.looks r M.right s.words M.know (lanes_of r s M) v.lane mine.2 bounds up below in
       let L' : AreLanes r s.words (put_at M.know v.lane w.knows) = subst (λ (k : Knowledge). AreLanes r s.words (put_at M.know v.lane (with_bounds k bounds))) back L in
@@ -120,18 +121,18 @@ module _ (r : Recording) (slots id : ℕ) (me : Me (Unit {0}) View) (role : me.0
       (w, keeps, tt, subst (λ (ws : List ℕ). IsMoment r record { words = ws; homes = s.homes; views = set s.views id w }) (sym same) new, (refl, known.bounds i small_lane))
 
   module _ (e : Event) (next : IsEventAt r v.lane v.knows.done e) (covered : IsCovered r v.knows.bounds e) where
-    pub fetches : (x : ℕ) → x < variables_in r → Takes e (guard r x) → Allows (IsMoment r) slots id me (16 + x) (λ n. n) (loaded (step slots (16 + x) 0 0 none) me)
+    pub fetches : (x : ℕ) → x < variables_in r → Takes e (guard r x) → Allows (IsMoment r) slots id me (most_lanes + x) (λ n. n) (loaded (step slots (most_lanes + x) 0 0 none) me)
     fetches x room takes s M deep at small =
         let mine = says_lane r s M id v at role in
         let back : M.know v.lane ≡ v.knows = mine.4 in
-        let n : ℕ = slice_index s.words (16 + x) in
-        let same : set s.words (16 + x) n ≡ s.words = set-get_or s.words (16 + x) 0 in
+        let n : ℕ = slice_index s.words (most_lanes + x) in
+        let same : set s.words (most_lanes + x) n ≡ s.words = set-get_or s.words (most_lanes + x) 0 in
         let L = lanes.fetches r M.right s.words M.know (lanes_of r s M) v.lane mine.2 e (subst (λ (k : Knowledge). IsEventAt r v.lane k.done e) (sym back) next)
         (subst (λ (k : Knowledge). IsCovered r k.bounds e) (sym back) covered) x room takes in
         let L' : AreLanes r s.words (put_at M.know v.lane (with_load v.knows x (word_value s.words x))) = subst (λ (k : Knowledge). AreLanes r s.words (put_at M.know v.lane (with_load k x (word_value s.words x)))) back L in
         let new : IsMoment r record { words = s.words; homes = s.homes; views = set s.views id (loaded_view v x n) } =
         seat_moves r s M id v at role (loaded_view v x n) (with_load v.knows x (word_value s.words x)) s.words role refl refl refl L' in
-        let sub : 16 + x - 16 ≡ x = omega arith in (
+        let sub : most_lanes + x - most_lanes ≡ x = omega arith in (
           loaded_view v x n,
           keeps,
           tt,
@@ -172,18 +173,18 @@ module _ (r : Recording) (slots id : ℕ) (me : Me (Unit {0}) View) (role : me.0
           ),
         )
 
-  pub publishes : (x n : ℕ) → x < variables_in r → HoldsAlone v.knows.frame (guard r x) → cast_signed w64 n ≡ value_of v.knows.copies x → Allows (IsMoment r) slots id me (16 + x) (λ _. n) (λ _. stored (step slots (16 + x) n 0 none) me n)
+  pub publishes : (x n : ℕ) → x < variables_in r → HoldsAlone v.knows.frame (guard r x) → cast_signed w64 n ≡ value_of v.knows.copies x → Allows (IsMoment r) slots id me (most_lanes + x) (λ _. n) (λ _. stored (step slots (most_lanes + x) n 0 none) me n)
   publishes x n room held is s M deep at small =
       let mine = says_lane r s M id v at role in
       let back : M.know v.lane ≡ v.knows = mine.4 in
       let L = lanes.publishes r M.right s.words M.know (lanes_of r s M) v.lane mine.2 x n room (subst (λ (k : Knowledge). HoldsAlone k.frame (guard r x)) (sym back) held) (subst (λ (k : Knowledge). cast_signed w64 n ≡ value_of k.copies x) (sym back) is) in
-      let L' : AreLanes r (set s.words (16 + x) n) (put_at M.know v.lane (with_store v.knows x)) = subst (λ (k : Knowledge). AreLanes r (set s.words (16 + x) n) (put_at M.know v.lane (with_store k x))) back L in
-      let sub : 16 + x - 16 ≡ x = omega arith in (
+      let L' : AreLanes r (set s.words (most_lanes + x) n) (put_at M.know v.lane (with_store v.knows x)) = subst (λ (k : Knowledge). AreLanes r (set s.words (most_lanes + x) n) (put_at M.know v.lane (with_store k x))) back L in
+      let sub : most_lanes + x - most_lanes ≡ x = omega arith in (
         stored_view v x,
         keeps,
         tt,
-        seat_moves r s M id v at role (stored_view v x) (with_store v.knows x) (set s.words (16 + x) n) role refl refl refl L',
-        ap (λ (y : ℕ). (stored_view v y, me.1)) (sym sub),
+        seat_moves r s M id v at role (stored_view v x) (with_store v.knows x) (set s.words (most_lanes + x) n) role refl refl refl L',
+        (omega arith, ap (λ (y : ℕ). (stored_view v y, me.1)) (sym sub)),
       )
 
 -- ---- the host deals a lane, and takes one in
@@ -191,7 +192,7 @@ module _ (r : Recording) (slots id : ℕ) (me : Me (Unit {0}) View) (role : me.0
 none_there : {A : Type 0} (xs : List A) (i : ℕ) (a : A) → xs ≡ [] → get_elem? xs i ≡ some a → ⊥
 none_there {A = A} xs i a e h = some-ne-none a (sym h ∙ ap (λ (l : List A). get_elem? l i) e)
 
-pub deals : (r : Recording) (id : ℕ) (v : View) → v.role ≡ Host → v.lane < 16 → v.gathered ≡ [] → Splits (IsMoment r) id v (dealt_left v) (dealt_right v)
+pub deals : (r : Recording) (id : ℕ) (v : View) → v.role ≡ Host → v.lane < most_lanes → v.gathered ≡ [] → Splits (IsMoment r) id v (dealt_left v) (dealt_right v)
 deals r id v role small empty s M at =
     let d = says_host r s M id v at role in
     let n : ℕ = length s.views in
@@ -263,7 +264,7 @@ gathers r id other v w role role' s M at ne at' =
       untouched = M.untouched;
     }
   where
-    entries : (s : S) (M : IsMoment r s) → ((i : ℕ) (g : Gathered) → get_elem? v.gathered i ≡ some g → IsGathered M.know M.owner id g) → w.lane < 16 → M.know w.lane ≡ w.knows
+    entries : (s : S) (M : IsMoment r s) → ((i : ℕ) (g : Gathered) → get_elem? v.gathered i ≡ some g → IsGathered M.know M.owner id g) → w.lane < most_lanes → M.know w.lane ≡ w.knows
         → (i : ℕ) (g : Gathered) → get_elem? (gathered v w).gathered i ≡ some g → IsGathered M.know (put_at M.owner w.lane id) id g
     entries s M old small knows i g q = ⊎_elim
         (λ (h : get_elem? v.gathered i ≡ some g). let o = old i g h in
@@ -281,7 +282,7 @@ gathers r id other v w role role' s M at ne at' =
 
 -- ---- the beginning
 
-nothing_below : (r : Recording) (ok : IsRight r) (words : List ℕ) → ((l : ℕ) → l < 16 → count_at words l ≡ (lane_of (start_of r) l).done) → (e : Event) → Has e (events_of r) → is_below words e ≡ false
+nothing_below : (r : Recording) (ok : IsRight r) (words : List ℕ) → ((l : ℕ) → l < most_lanes → count_at words l ≡ (lane_of (start_of r) l).done) → (e : Event) → Has e (events_of r) → is_below words e ≡ false
 nothing_below r ok words lanes e there =
     let above : count_at (counts_of (start_of r)) e.lane ≤ e.index = numbered_above (counts_of (start_of r)) (events_of r) e (numbered r ok) there in
     let count : count_at (counts_of (start_of r)) e.lane ≡ (lane_of (start_of r) e.lane).done = count_is (start_of r) e.lane in
@@ -292,7 +293,7 @@ none_kept : (words : List ℕ) (es : List Event) → ((e : Event) → Has e es �
 none_kept words [] h = refl
 none_kept words (e ∷ es) h = rw (h e (inl refl)) (none_kept words es (λ x b. h x (inr b)))
 
-pub opens : (r : Recording) → IsRight r → (words : List ℕ) → length words ≡ 16 + variables_in r → ((l : ℕ) → l < 16 → count_at words l ≡ (lane_of (start_of r) l).done)
+pub opens : (r : Recording) → IsRight r → (words : List ℕ) → length words ≡ most_lanes + variables_in r → ((l : ℕ) → l < most_lanes → count_at words l ≡ (lane_of (start_of r) l).done)
     → ((x : ℕ) → x < variables_in r → word_value words x ≡ value_of (start_of r).variables x) → IsMoment r (opening words [] (first_view r))
 opens r ok words wide lanes variables = record {
   right = ok;
@@ -303,7 +304,7 @@ opens r ok words wide lanes variables = record {
   know = first_known r;
   lanes = λ l lt. record {
     done = sym (lanes l lt);
-    bounds = λ m small. let z : count_at (replicate 16 0) m ≡ 0 = get_or-replicate 16 m 0 0 small in omega arith;
+    bounds = λ m small. let z : count_at (replicate most_lanes 0) m ≡ 0 = get_or-replicate most_lanes m 0 0 small in omega arith;
     frame = refl;
     wide = ok.sound.by.complete.variables;
     copies = λ x h. refl;

@@ -2,6 +2,7 @@
 use Rattle.std.proofs.Common.{◌≡◌, ◌≢◌, ℕ, ◌+◌, ◌<◌, ◌≤◌, ◌^◌, arith, List, length, get_or, sym, ap, ◌∙◌, subst}
 use Rattle.atomic_table.specs.Seated.{TableId}
 use Rattle.rex_syntax.specs.declared.service.Declarations.{Declarations}
+use Rattle.rex_event.specs.Limits.{most_lanes}
 use Rattle.rex_event.specs.declared.event.Event.{Event}
 use Rattle.rex_event.specs.declared.delta.Cause.{Cause}
 use Rattle.rex_event.specs.Order.{Has}
@@ -57,7 +58,7 @@ module _ (r : Recording) (z : TableId) (service : Declarations) (state : StateVa
     only_list d c list h =
         only_causes r b.right m.place d inside c list (subst (λ (e : Event). AreCausesOf r e list) (event_is d) h) ∙ ap (λ (l : List (List Cause)). get_or l m.place c) (sym b.causes_are)
 
-    pub lanes_of_causes : (d : Event) (list : List Cause) → list ≡ get_or causes m.place list → (c : Cause) → Has c list → c.lane < 16
+    pub lanes_of_causes : (d : Event) (list : List Cause) → list ≡ get_or causes m.place list → (c : Cause) → Has c list → c.lane < most_lanes
     lanes_of_causes d list is c h = cause_lane r b.right (get_or es m.place d) list c (subst (AreCausesOf r (get_or es m.place d)) (sym is) (list_is d list)) h
 
     pub names_lock : (d : Event) (lock : ℕ) → GivesUp (get_or es m.place d) lock → lock < 64

@@ -2,6 +2,7 @@
 use Rattle.std.specs.Prelude.{◌≡◌, ◌+◌, List, []}
 use Rattle.atomic_table.specs.Seated.{TableId}
 use Rattle.rex_syntax.specs.declared.service.Declarations.{Declarations}
+use Rattle.rex_event.specs.Limits.{most_lanes}
 use Rattle.rex_event.specs.declared.event.Event.{Event}
 use Rattle.rex_event.specs.declared.delta.Cause.{Cause}
 use Rattle.rex_state.specs.Value.{StateValue}
@@ -11,10 +12,10 @@ use Rattle.rex_board.specs.declared.board.Board.{Board}
 use Rattle.rex_board.specs.Seated.{BoardSeat}
 use Rattle.rex_board.specs.Recorded.{IsRight, service_of, start_of, events_of, causes_of, variables_in}
 
--- the board replays the recording: its service, its state, its events and their causes are those of the recording, and it has a word for each of 16 lanes and for each variable
+-- the board replays the recording: its service, its state, its events and their causes are those of the recording, and it has a word for each of the most lanes and for each variable
 pub record IsBoardOf (r : Recording) (z : TableId) (service : Declarations) (state : StateValue) (es : List Event) (causes : List (List Cause)) : Type 0 where
   pub right : IsRight r
-  pub words : z.words ≡ 16 + variables_in r
+  pub words : z.words ≡ most_lanes + variables_in r
   pub slots : z.slots ≡ 0
   pub service_is : service ≡ service_of r
   pub state_is : state ≡ start_of r

@@ -4,6 +4,7 @@ use Rattle.std.specs.Int.{cast_signed}
 use mir.Syntax.{w64}
 use Rattle.atomic_table.specs.Table.{Me, Step}
 use Rattle.rex_frame.specs.declared.frame.Frame.{Frame}
+use Rattle.rex_event.specs.Limits.{most_lanes}
 use Rattle.rex_event.specs.declared.event.Event.{Event}
 use Rattle.rex_event.specs.Cuts.{count_at}
 use Rattle.rex_state.specs.Value.{StateValue}
@@ -38,9 +39,9 @@ abbrev pub loaded_view : View → ℕ → ℕ → View
 loaded_view v x found = record v { knows = with_load v.knows x (cast_signed w64 found) }
 
 abbrev pub loaded : Step (Unit {0}) → ViewAndSlots → ℕ → ViewAndSlots → Type 0
-loaded st m found m' = m' ≡ (loaded_view m.0 (st.word - 16) found, m.1)
+loaded st m found m' = m' ≡ (loaded_view m.0 (st.word - most_lanes) found, m.1)
 
--- ---- the store of a variable: a mark
+-- ---- the store of a variable, whose word comes after those of the lanes: a mark
 
 abbrev pub with_store : Knowledge → ℕ → Knowledge
 with_store k x = record k { stored = x ∷ k.stored }
@@ -49,7 +50,7 @@ abbrev pub stored_view : View → ℕ → View
 stored_view v x = record v { knows = with_store v.knows x }
 
 abbrev pub stored : Step (Unit {0}) → ViewAndSlots → ℕ → ViewAndSlots → Type 0
-stored st m value m' = m' ≡ (stored_view m.0 (st.word - 16), m.1)
+stored st m value m' = (most_lanes ≤ st.word) × (m' ≡ (stored_view m.0 (st.word - most_lanes), m.1))
 
 -- ---- the store of the lane's own word: the lane's next event with the lines after it, and no marks
 
@@ -107,8 +108,8 @@ gathered v w = record v { gathered = v.gathered ++ (record { lane = w.lane; know
 -- nothing is recorded
 abbrev pub no_recording : Recording
 no_recording = record {
-  service = record { marker = record {}; value = record { lanes = 0; locks = []; conditions = []; variables = []; handlers = [] } };
-  start = record { marker = record {}; value = record { variables = []; lanes = []; queues = []; clients = [] } };
+  service = record { marker = record {}; value = record { lanes = 0; locks = []; semaphores = []; conditions = []; variables = []; handlers = [] } };
+  start = record { marker = record {}; value = record { variables = []; lanes = []; queues = []; semaphores = []; clients = [] } };
   events = record { marker = record {}; value = [] };
   causes = record { marker = record {}; value = [] };
 }

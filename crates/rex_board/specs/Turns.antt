@@ -3,6 +3,7 @@ use Rattle.std.specs.Prelude.{◌≡◌, ℕ, ◌+◌, ◌<◌, ◌≤◌, List,
 use mathlib.Core.Option.{some}
 use lib.ListN.{get_elem?}
 use Rattle.atomic_table.specs.Seated.{TableId}
+use Rattle.rex_event.specs.Limits.{most_lanes}
 use Rattle.rex_event.specs.declared.event.Event.{Event}
 use Rattle.rex_event.specs.declared.delta.Cause.{Cause}
 use Rattle.rex_event.specs.Order.{Has}
@@ -31,7 +32,7 @@ pub record IsPlaced (r : Recording) (lane done place : ℕ) : Type 0 where
 pub record IsSeatOf (r : Recording) (z : TableId) (m : LaneSeat) : Type 0 where
   pub table : m.seat.table_id ≡ z
   pub key : m.seat.me.0.key ≡ r
-  pub lane : m.lane < 16
+  pub lane : m.lane < most_lanes
   pub there : m.lane < (service_of r).lanes
   pub small : m.done < 4294967296
   pub wide : length m.copies.items ≡ variables_in r

@@ -18,7 +18,7 @@ pub struct Board<'a> {
     pub events: &'a [Event],
     /// The causes of each event.
     pub causes: &'a [List<Cause>],
-    /// The words: 16 for lanes, then one for each variable.
+    /// The words: one for each of the most lanes, then one for each variable.
     pub table: Table<(), View, Recording, Rule, Global>,
 }
 

@@ -7,12 +7,12 @@ ghost use Rattle.rex_board.specs.Turns.{IsLooking, IsMissing, IsFirstMissing, lo
 
 use crate::plays::Look;
 use crate::seat::{LaneSeat, Words};
-use rex_event::Cause;
+use rex_event::{Cause, LANES};
 
 impl LaneSeat {
     /// Loads the word of a lane, which raises the bound on it.
     fn look(&mut self, words: &Words, lane: u8) -> u64
-        requires table { (self.old.seat.table_id ≡ words.now.table_id) × (16 ≤ words.now.table_id.words) × (lane < 16) }
+        requires table { (self.old.seat.table_id ≡ words.now.table_id) × (LANES ≤ words.now.table_id.words) × (lane < LANES) }
         ensures looking { IsLooking self.old self.new }
         ensures known { (count_at self.old.bounds lane ≤ result) × (count_at self.new.bounds lane ≡ result) }
         ensures counted { loads_of self.old < loads_of self.new }
@@ -25,7 +25,7 @@ impl LaneSeat {
 
     /// What a load found, if the cause is not known to be done.
     fn misses(&mut self, words: &Words, cause: Cause) -> Option<u64>
-        requires table { (self.old.seat.table_id ≡ words.now.table_id) × (16 ≤ words.now.table_id.words) × (cause.lane < 16) }
+        requires table { (self.old.seat.table_id ≡ words.now.table_id) × (LANES ≤ words.now.table_id.words) × (cause.lane < LANES) }
         ensures looking { IsLooking self.old self.new }
         ensures missing { MatchOption result (cause.index < count_at self.new.bounds cause.lane) (λ seen. IsMissing self.old self.new cause seen) }
     {
@@ -39,8 +39,8 @@ impl LaneSeat {
 
     /// The first of the causes that is not known to be done, and what a load found of its lane.
     pub(crate) fn first_missing(&mut self, words: &Words, causes: &[Cause]) -> Option<(Cause, u64)>
-        requires table { (self.old.seat.table_id ≡ words.now.table_id) × (16 ≤ words.now.table_id.words) }
-        requires lanes { (c : ACause) → Has c causes.now → c.lane < 16 }
+        requires table { (self.old.seat.table_id ≡ words.now.table_id) × (LANES ≤ words.now.table_id.words) }
+        requires lanes { (c : ACause) → Has c causes.now → c.lane < LANES }
         ensures looking { IsLooking self.old self.new }
         ensures missing { MatchOption result
             ((c : ACause) → Has c causes.now → c.index < count_at self.new.bounds c.lane)

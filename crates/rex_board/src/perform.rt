@@ -7,7 +7,7 @@ ghost use Rattle.rex_board.specs.Turns.{IsReady, IsLater, AreLoaded, AreStored, 
 
 use crate::plays::Perform;
 use crate::seat::{LaneSeat, Words};
-use rex_event::Event;
+use rex_event::{Event, LANES};
 use rex_state::do_own;
 use rex_syntax::checked::Checked;
 
@@ -15,7 +15,7 @@ impl LaneSeat {
     /// Does the lane's next event, whose causes are known to be done: the store of the lane's word is the moment, and
     /// then the lane's own frame and copies go on to its next event.
     pub(crate) fn perform(&mut self, words: &Words, svc: &Checked, event: &Event)
-        requires table { (self.old.seat.table_id ≡ words.now.table_id) × (words.now.table_id.words ≡ 16 + variables_in words.now.key) × (self.old.seat.me.0.key ≡ words.now.key) × (self.old.lane < 16) }
+        requires table { (self.old.seat.table_id ≡ words.now.table_id) × (words.now.table_id.words ≡ LANES + variables_in words.now.key) × (self.old.seat.me.0.key ≡ words.now.key) × (self.old.lane < LANES) }
         requires service { svc.now ≡ service_of words.now.key }
         requires ready { IsReady words.now.key self.old event.now }
         requires loaded { (lock : ℕ) → Takes event.now lock → AreLoaded words.now.key self.old lock (variables_in words.now.key) }

@@ -4,6 +4,7 @@ ghost use Rattle.rex_board.specs.Seated.{IsSeated};
 use crate::recording::Recording;
 use crate::view::{Rule, View};
 use atomic_table::{Seat, Shared};
+use rex_event::LANES;
 use rex_frame::frame::Frame;
 
 /// The words that lanes share.
@@ -20,7 +21,7 @@ pub struct LaneSeat {
     /// The place of the lane's next event among all events; behind the last if it has none.
     pub place: usize,
     /// For each lane a number of events that it is known to have done.
-    pub bounds: [u64; 16],
+    pub bounds: [u64; LANES],
     pub frame: Option<Frame>,
     /// Copies of all variables, of which those count whose guards the lane holds.
     pub copies: Vec<i64>,

@@ -13,18 +13,18 @@ use crate::seat::{LaneSeat, Words};
 use crate::variables::word_of;
 use crate::view::View;
 use atomic_table::{Seat, Table};
-use rex_event::{Cause, Event};
+use rex_event::{Cause, Event, LANES};
 use rex_list::List;
 use rex_state::state::State;
 use rex_syntax::checked::Checked;
 use std::alloc::{AllocError, Global};
 
-/// The words of the lanes: 16 counts of events.
+/// The words of the lanes: a count of events for each of the most lanes.
 fn lane_words(alloc: Global, start: &State) -> Result<Vec<u64>, AllocError>
-    ensures { IfOk result (λ words. HasLaneWords start.now 16 words.items) }
+    ensures { IfOk result (λ words. HasLaneWords start.now LANES words.items) }
 {
     let mut words = Vec::new(alloc);
-    for lane in 0..16u8 {
+    for lane in 0..LANES as u8 {
         words.push(start.done(lane) as u64)?;
     }
     Ok(words)
@@ -32,7 +32,7 @@ fn lane_words(alloc: Global, start: &State) -> Result<Vec<u64>, AllocError>
 
 /// Adds a word for each variable.
 fn push_values(words: &mut Vec<u64>, values: &[i64]) -> Result<(), AllocError>
-    requires { length words.old.items ≡ 16 }
+    requires { length words.old.items ≡ LANES }
     ensures { IfOk result (λ _. HasValueWords values.now (length values.now) words.old.items words.new.items) }
 {
     for variable in 0..values.len() {
@@ -60,7 +60,7 @@ fn deal(
     lane: u8,
 ) -> Result<LaneSeat, AllocError>
     requires right { IsRight words.now.key × (start.now ≡ start_of words.now.key) × (events.now ≡ events_of words.now.key) }
-    requires table { (words.now.table_id.words ≡ 16 + variables_in words.now.key) × (lane < 16) × (lane < (service_of words.now.key).lanes) }
+    requires table { (words.now.table_id.words ≡ LANES + variables_in words.now.key) × (lane < LANES) × (lane < (service_of words.now.key).lanes) }
     requires hosting { IsHosting words.now.key words.now.table_id host.old × (host.old.me.0.lane ≡ lane) }
     ensures hosting { IfOk result (λ _. IsHosting words.now.key words.now.table_id host.new × (host.new.me.0.lane ≡ lane + 1)) }
     ensures seat { IfOk result (λ m. IsSeatOf words.now.key words.now.table_id m × (m.lane ≡ lane)) }
@@ -72,7 +72,7 @@ fn deal(
         lane,
         done: start.done(lane),
         place: next_place(events, 0, lane),
-        bounds: [0; 16],
+        bounds: [0; LANES],
         frame: start.copied_frame(lane),
         copies,
     })
@@ -88,7 +88,7 @@ fn deal_all(
     lanes: u8,
 ) -> Result<Vec<LaneSeat>, AllocError>
     requires right { IsRight words.now.key × (start.now ≡ start_of words.now.key) × (events.now ≡ events_of words.now.key) }
-    requires table { (words.now.table_id.words ≡ 16 + variables_in words.now.key) × (lanes ≤ 16) × (lanes ≡ (service_of words.now.key).lanes) }
+    requires table { (words.now.table_id.words ≡ LANES + variables_in words.now.key) × (lanes ≤ LANES) × (lanes ≡ (service_of words.now.key).lanes) }
     requires hosting { IsHosting words.now.key words.now.table_id host.old × (host.old.me.0.lane ≡ 0) }
     ensures hosting { IfOk result (λ _. IsHosting words.now.key words.now.table_id host.new) }
     ensures seats { IfOk result (λ seats. AreDealt words.now.key words.now.table_id lanes seats.items) }

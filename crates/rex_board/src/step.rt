@@ -10,7 +10,7 @@ ghost use Rattle.rex_board.specs.Boards.{IsBoard, recording_of, table_of};
 use crate::board::{Board, BoardTurn};
 use crate::places::next_place;
 use crate::seat::{LaneSeat, Words};
-use rex_event::{Event, Kind};
+use rex_event::{Event, Kind, LANES};
 use rex_syntax::checked::Checked;
 
 /// The lock that an event takes, in some mode.
@@ -40,7 +40,7 @@ impl LaneSeat {
     /// Does the lane's next event, whose causes are known to be done: it first loads the variables whose guard the event
     /// takes, and stores those whose guard it gives up.
     fn do_event(&mut self, words: &Words, svc: &Checked, event: &Event)
-        requires table { (self.old.seat.table_id ≡ words.now.table_id) × (words.now.table_id.words ≡ 16 + variables_in words.now.key) × (self.old.seat.me.0.key ≡ words.now.key) × (self.old.lane < 16) }
+        requires table { (self.old.seat.table_id ≡ words.now.table_id) × (words.now.table_id.words ≡ LANES + variables_in words.now.key) × (self.old.seat.me.0.key ≡ words.now.key) × (self.old.lane < LANES) }
         requires service { svc.now ≡ service_of words.now.key }
         requires ready { IsReady words.now.key self.old event.now }
         requires names { (lock : ℕ) → GivesUp event.now lock → lock < 64 }
@@ -60,7 +60,7 @@ impl LaneSeat {
 
     /// Loads the variables whose guard the event takes.
     fn prepare_taken(&mut self, words: &Words, svc: &Checked, event: &Event)
-        requires table { (self.old.seat.table_id ≡ words.now.table_id) × (words.now.table_id.words ≡ 16 + variables_in words.now.key) }
+        requires table { (self.old.seat.table_id ≡ words.now.table_id) × (words.now.table_id.words ≡ LANES + variables_in words.now.key) }
         requires service { svc.now ≡ service_of words.now.key }
         requires ready { IsReady words.now.key self.old event.now }
         requires wide { length self.old.copies.items ≡ variables_in words.now.key }
@@ -74,7 +74,7 @@ impl LaneSeat {
 
     /// Stores the variables whose guard the event gives up, if the lane holds it exclusively.
     fn prepare_released(&mut self, words: &Words, svc: &Checked, event: &Event)
-        requires table { (self.old.seat.table_id ≡ words.now.table_id) × (words.now.table_id.words ≡ 16 + variables_in words.now.key) }
+        requires table { (self.old.seat.table_id ≡ words.now.table_id) × (words.now.table_id.words ≡ LANES + variables_in words.now.key) }
         requires service { svc.now ≡ service_of words.now.key }
         requires names { (lock : ℕ) → GivesUp event.now lock → lock < 64 }
         requires wide { length self.old.copies.items ≡ variables_in words.now.key }

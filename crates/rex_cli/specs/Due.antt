@@ -1,5 +1,5 @@
 -- What is due: the status and the text that the words and the input ask for.
-use Rattle.std.specs.Prelude.{ℕ, List, [], ◌∷◌, ◌++◌, length, nat_lt, Option, Some, None, Result, Ok, Err, codes, if◌then◌else◌}
+use Rattle.std.specs.Prelude.{◌==◌, ℕ, List, [], ◌∷◌, ◌++◌, length, nat_lt, Option, Some, None, Result, Ok, Err, codes, if◌then◌else◌}
 use Rattle.std.specs.Fmt.{decimal}
 use Rattle.rex_syntax.specs.declared.service.Declarations.{Declarations}
 use Rattle.rex_parse.specs.Reading.{answer_of as service_answer}
@@ -49,11 +49,15 @@ abbrev pub due_trace : Result Sections (ℕ × ScenarioCode) → Due
 due_trace (Ok s) = due_agreed (scenario_of s) (service_of s.service) (refusal_of (service_of s.service))
 due_trace (Err e) = due_refused e.0 (scenario_code e.1)
 
--- how many handlers, locks, conditions and variables a service declares
+-- how many semaphores a service declares, where there are some
+abbrev pub semaphores_counted : ℕ → List (List ℕ)
+semaphores_counted count = if count == 0 then [] else (codes "semaphores" ∷ decimal count ∷ [])
+
+-- how many handlers, locks, conditions, variables and semaphores a service declares
 abbrev pub counts_of : Declarations → List (List ℕ)
 counts_of service =
     codes "handlers" ∷ decimal (length service.handlers) ∷ codes "locks" ∷ decimal (length service.locks) ∷ codes "conditions" ∷ decimal (length service.conditions)
-    ∷ codes "variables" ∷ decimal (length service.variables) ∷ []
+    ∷ codes "variables" ∷ decimal (length service.variables) ∷ semaphores_counted (length service.semaphores)
 
 -- the line with its counts
 abbrev pub counts_line : Declarations → List ℕ

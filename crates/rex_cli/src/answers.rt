@@ -1,11 +1,12 @@
 //! What an input is answered.
 
-ghost use Rattle.std.specs.Prelude.{◌≡◌, ◌≤◌, ℕ, Some, IfOk, length};
+ghost use Rattle.std.specs.Prelude.{◌≡◌, ◌≤◌, ◌++◌, ℕ, Some, IfOk, OnOk, length};
 ghost use Rattle.rex_syntax.specs.Service.{IsService};
 ghost use Rattle.rex_lockset.specs.Refusal.{refusal_of as refusal};
 ghost use Rattle.rex_scenario.specs.Fits.{ScenarioFits};
 ghost use Rattle.rex_world.specs.Laws.{Headline};
 ghost use Rattle.rex_answer.specs.Causes.{Judges};
+ghost use Rattle.rex_report.specs.Pieces.{spaced};
 ghost use Rattle.rex_cli.specs.Due as due;
 ghost use Rattle.rex_cli.specs.Causes.{JudgesCommand, service_in};
 ghost use Rattle.rex_cli.specs.Headline.{Committed};
@@ -14,11 +15,11 @@ ghost use Rattle.rex_command.specs.Laws.{Fits};
 ghost use Rattle.rex_command.specs.declared.commands.Command.TheVariants as commands;
 
 use crate::generated::{generate, soak};
-use rex_answer::{Answer, line, refused, scenario_code, service_code, unchecked};
+use rex_answer::{Answer, refused, scenario_code, service_code, unchecked};
 use rex_command::Command;
 use rex_parse::{ReadError, read_service};
 use rex_replay::{OneThread, Replayer};
-use rex_report::Piece;
+use rex_report::{Piece, push_pieces};
 use rex_scenario::{SCENARIO_BYTES, Scenario, ScenarioCode, ScenarioError, read_scenario};
 use rex_syntax::checked::Checked;
 use rex_syntax::service::{Declarations, Service};
@@ -112,13 +113,26 @@ fn run_input(alloc: Global, input: &[u8]) -> Result<Response, AllocError>
     }
 }
 
-// How many handlers, locks, conditions and variables a service declares.
+// Appends how many semaphores a service declares, where there are some.
+fn push_semaphore_count(out: &mut Vec<u8>, count: usize) -> Result<(), AllocError>
+    ensures { OnOk result (out.new.items ≡ out.old.items ++ spaced (due.semaphores_counted count)) }
+{
+    if count == 0 {
+        return Ok(());
+    }
+    push_pieces(
+        out,
+        &[Piece::Word(b"semaphores"), Piece::Number(count as u64)],
+    )
+}
+
+// How many handlers, locks, conditions, variables and semaphores a service declares.
 fn counts(alloc: Global, service: &Declarations) -> Result<Vec<u8>, AllocError>
     ensures { IfOk result (λ text. text.items ≡ due.counts_line service.now) }
 {
-    line(
-        alloc,
-        b"checked",
+    let mut text = Vec::from_slice(alloc, b"checked")?;
+    push_pieces(
+        &mut text,
         &[
             Piece::Word(b"handlers"),
             Piece::Number(service.handlers.len() as u64),
@@ -129,7 +143,10 @@ fn counts(alloc: Global, service: &Declarations) -> Result<Vec<u8>, AllocError>
             Piece::Word(b"variables"),
             Piece::Number(service.variables.len() as u64),
         ],
-    )
+    )?;
+    push_semaphore_count(&mut text, service.semaphores.len())?;
+    text.push(b'\n')?;
+    Ok(text)
 }
 
 // What a service is answered.

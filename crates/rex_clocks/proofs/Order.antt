@@ -6,7 +6,7 @@ use Rattle.rex_event.specs.declared.event.Event.{Event}
 use Rattle.rex_event.specs.Conflict.{conflict}
 use Rattle.rex_event.specs.Order.{Has, Precedes, ConflictsBefore, Chain, IsOrdered}
 use Rattle.rex_event.specs.Cuts.{count_at, AreNumbered}
-use Rattle.rex_clocks.specs.declared.clock.TheConstants.{LANES}
+use Rattle.rex_event.specs.declared.event.TheConstants.{LANES}
 use Rattle.rex_clocks.specs.Counts.{ticked, merged}
 use Rattle.rex_clocks.specs.Clocks.{merged_clocks, clock_before, clock_of}
 use Rattle.rex_clocks.specs.Laws.{IsClockOf}

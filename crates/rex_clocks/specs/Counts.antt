@@ -1,7 +1,7 @@
 -- Counts of events by lane, of which each covers the first events of its lane.
 use Rattle.std.specs.Prelude.{ℕ, ◌+◌, Bool, nat_lt, max, List, [], ◌∷◌, replicate, slice_set}
 use Rattle.rex_event.specs.Cuts.{count_at}
-use Rattle.rex_clocks.specs.declared.clock.TheConstants.{LANES}
+use Rattle.rex_event.specs.declared.event.TheConstants.{LANES}
 
 -- counts that cover nothing
 abbrev pub none : List ℕ

@@ -1,27 +1,30 @@
-ghost use Rattle.std.specs.Prelude.{◌≡◌, ◌<◌};
+ghost use Rattle.std.specs.Prelude.{◌≡◌, ◌<◌, ◌≤◌, ℕ};
 ghost use Rattle.rex_event.specs.Cuts.{count_at};
 ghost use Rattle.rex_clocks.specs.Counts as spec;
 
+use rex_event::LANES;
 use std::marker::Model;
-
-/// How many lanes a clock counts.
-pub const LANES: usize = 16;
 
 /// A vector clock (Mattern, 1989; Fidge, 1988): for each lane, numbered from 0, how many of its first events it covers.
 /// A value that takes no memory and is copied.
-#[derive(Clone, Copy, PartialEq, Eq)]
+#[derive(Clone, Copy)]
 pub struct Clock {
     counts: [u32; LANES],
+    /// So many of the first lanes have all that it covers: where a trace has few lanes the others cost nothing.
+    lanes: u8,
 }
 
 impl Model for Clock {
-    ghost use Rattle.std.specs.Prelude.{List, ℕ};
+    ghost use Rattle.std.specs.Prelude.{◌≡◌, List, ℕ};
+    ghost use Rattle.rex_clocks.specs.Used.{used};
 
     ghost Value = { List ℕ };
 
     ghost view = { λ c. c.counts };
 
-    ghost inverse = { λ counts. record { counts = counts } };
+    ghost invariant = { λ c. c.lanes ≡ used c.counts };
+
+    ghost inverse = { λ counts. record { counts = counts; lanes = used counts } };
 }
 
 impl Clock {
@@ -29,7 +32,10 @@ impl Clock {
     pub fn new() -> Clock
         ensures { result ≡ spec.none }
     {
-        Clock { counts: [0; LANES] }
+        Clock {
+            counts: [0; LANES],
+            lanes: 0,
+        }
     }
 
     /// Covers one more event of a lane.
@@ -39,13 +45,23 @@ impl Clock {
         ensures { self.new ≡ spec.ticked self.old lane }
     {
         self.counts[lane as usize] += 1;
+        self.lanes = self.lanes.max(lane + 1);
     }
 
     /// Covers what another clock covers, too.
     pub fn merge(&mut self, other: &Clock)
         ensures { self.new ≡ spec.merged self.old other.now }
     {
-        merge_counts(&mut self.counts, &other.counts);
+        merge_counts(&mut self.counts, &other.counts, other.lanes);
+        self.lanes = self.lanes.max(other.lanes);
+    }
+
+    /// So many of the first lanes have all that it covers.
+    pub fn lanes(&self) -> u8
+        ensures few { result ≤ LANES }
+        ensures beyond { (lane : ℕ) → result ≤ lane → count_at self.now lane ≡ 0 }
+    {
+        self.lanes
     }
 
     /// How many events of a lane it covers; 0 where there is no such lane.
@@ -66,11 +82,13 @@ impl Clock {
     }
 }
 
-/// Raises each count to the other's, where that is greater.
-fn merge_counts(counts: &mut [u32; LANES], others: &[u32; LANES])
+/// Raises each count to the other's, where that is greater. The others are 0 but for so many first ones.
+fn merge_counts(counts: &mut [u32; LANES], others: &[u32; LANES], lanes: u8)
+    requires few { lanes ≤ LANES }
+    requires beyond { (lane : ℕ) → lanes ≤ lane → count_at others.now lane ≡ 0 }
     ensures { counts.new ≡ spec.merged counts.old others.now }
 {
-    for lane in 0..LANES {
+    for lane in 0..lanes as usize {
         counts[lane] = counts[lane].max(others[lane]);
     }
 }

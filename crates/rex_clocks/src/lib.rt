@@ -4,4 +4,4 @@
 mod clock;
 pub mod laws;
 
-pub use clock::{Clock, LANES};
+pub use clock::Clock;

@@ -5,7 +5,7 @@ use Rattle.rex_event.specs.declared.event.Event.{Event}
 use Rattle.rex_event.specs.declared.delta.Delta.{Delta}
 use Rattle.rex_event.specs.Cuts.{AreNumbered, below}
 use Rattle.rex_event.specs.Pieces.{AllCausesFit}
-use Rattle.rex_clocks.specs.declared.clock.TheConstants.{LANES}
+use Rattle.rex_event.specs.declared.event.TheConstants.{LANES}
 use Rattle.rex_clocks.specs.Lanes.{HasLane}
 use Rattle.rex_clocks.proofs.Leads.{all_from_has}
 use Rattle.rex_clocks.proofs.Numbered.{numbered_lane}

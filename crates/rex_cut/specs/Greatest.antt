@@ -1,6 +1,7 @@
 -- The greatest consistent cut below limits, from the list's first event to its last.
 use Rattle.std.specs.Prelude.{◌≡◌, ℕ, ◌≤◌, ◌&&◌, Bool, not, List, [], ◌∷◌, ◌++◌, length, slice_set, if◌then◌else◌}
 use Rattle.std.specs.List.{list_any}
+use Rattle.rex_event.specs.Limits.{most_lanes}
 use Rattle.rex_event.specs.declared.event.Event.{Event}
 use Rattle.rex_event.specs.Conflict.{conflict}
 use Rattle.rex_event.specs.Cuts.{counted_all, AreNumbered, is_below, IsWithin}
@@ -24,10 +25,10 @@ lowered out cut (e ∷ es) =
 abbrev pub greatest_cut : List ℕ → List Event → List ℕ
 greatest_cut limits es = lowered [] limits es
 
--- the lanes are at most 16, events are numbered on from what each lane did before them, and the count of each lane lies between that and what it did with them
+-- the lanes are no more than the most, events are numbered on from what each lane did before them, and the count of each lane lies between that and what it did with them
 pub record IsCutOf (es : List Event) (counts : List ℕ) : Type 0 where
   pub bases : List ℕ
-  pub few : length counts ≤ 16
+  pub few : length counts ≤ most_lanes
   pub long : length bases ≡ length counts
   pub numbered : AreNumbered bases es
   pub from : IsWithin counts bases

@@ -7,7 +7,7 @@ ghost use Rattle.rex_cut.specs.Greatest.{greatest_cut, IsCutOf};
 ghost use Rattle.rex_clocks.specs.Lanes.{HasLane};
 ghost use Rattle.rex_reduce.specs.Reduced.{HasNext};
 
-use rex_event::{Cut, Event, conflict};
+use rex_event::{Cut, Event, LANES, conflict};
 use rex_list::List;
 use std::alloc::{AllocError, Global};
 
@@ -21,8 +21,8 @@ pub(crate) fn is_below(counts: &[u32], event: &Event) -> bool
 }
 
 fn meets_any(out: &[Event], event: &Event) -> bool
-    requires out { All (HasLane 16) out.now }
-    requires event { event.now.lane < 16 }
+    requires out { All (HasLane LANES) out.now }
+    requires event { event.now.lane < LANES }
     ensures { result ≡ spec.meets_any out.now event.now }
 {
     out.iter().any(|earlier| conflict(earlier, event))
@@ -30,8 +30,8 @@ fn meets_any(out: &[Event], event: &Event) -> bool
 
 /// Whether an event stays below a cut from which these are left out.
 fn stays(counts: &[u32], out: &[Event], event: &Event) -> bool
-    requires few { length counts.now ≤ 16 }
-    requires out { All (HasLane 16) out.now }
+    requires few { length counts.now ≤ LANES }
+    requires out { All (HasLane LANES) out.now }
     requires event { event.now.lane < length counts.now }
     ensures { result ≡ (cuts.is_below counts.now event.now && not (spec.meets_any out.now event.now)) }
 {
@@ -50,7 +50,7 @@ fn stop(counts: &mut [u32], event: &Event)
 
 /// Lowers a cut until it is consistent.
 fn lower(alloc: Global, counts: &mut [u32], events: &[Event]) -> Result<(), AllocError>
-    requires few { length counts.old ≤ 16 }
+    requires few { length counts.old ≤ LANES }
     requires lanes { All (HasLane (length counts.old)) events.now }
     ensures { OnOk result (counts.new ≡ spec.lowered [] counts.old events.now) }
 {

@@ -4,9 +4,10 @@ use Rattle.std.specs.Prelude.{IfSome}
 use Rattle.std.proofs.lemmas.List.Elements.{All-weaker}
 use Rattle.std.proofs.Math.Pow.{pow_mono}
 use Rattle.rex_event.specs.declared.event.Kind.{Kind}
-use Rattle.rex_event.specs.declared.event.Kind.TheVariants.{Begin, AcqEx, AcqSh, RelEx, RelSh, TryOk, TryBusy, Wait, Wake, Signal, Broadcast, Clock, Random, Reply}
+use Rattle.rex_event.specs.declared.event.Kind.TheVariants.{Begin, AcqEx, AcqSh, RelEx, RelSh, TryOk, TryBusy, Wait, Wake, Signal, Broadcast, Clock, Random, Reply, Down, Up}
 use Rattle.rex_event.specs.declared.event.Event.{Event}
 use Rattle.rex_event.specs.declared.delta.Cause.{Cause}
+use Rattle.rex_event.specs.Limits.{most_lanes}
 use Rattle.rex_event.specs.Cuts.{counted}
 use Rattle.rex_delta.specs.Spelling.{KindFits, CauseFits, EventFits, EventsFit}
 use Rattle.rex_delta.specs.Writing.{HasLane, CanBeWritten, CanAllBeWritten}
@@ -35,16 +36,18 @@ KindFits-more lanes more (Wake condition lock) le fits = fits
 KindFits-more lanes more (Clock value) le fits = fits
 KindFits-more lanes more (Random value) le fits = fits
 KindFits-more lanes more (Reply client value) le fits = fits
+KindFits-more lanes more (Down semaphore) le fits = fits
+KindFits-more lanes more (Up semaphore) le fits = fits
 
-can_be_written : (bases counts : List ℕ) (e : Event) (causes : List Cause) → length counts ≤ 16 → EventFits bases counts e causes → CanBeWritten e causes
+can_be_written : (bases counts : List ℕ) (e : Event) (causes : List Cause) → length counts ≤ most_lanes → EventFits bases counts e causes → CanBeWritten e causes
 can_be_written bases counts e causes few fits = record {
   lane = omega (arith, fits.lane);
-  kind = KindFits-more (length counts) 16 e.kind few fits.kind;
+  kind = KindFits-more (length counts) most_lanes e.kind few fits.kind;
   few = omega (arith, fits.few, others_few bases counts e.lane (length counts));
   each = All-weaker (CauseFits bases counts e.lane) HasLane (λ c h. record { lane = omega (arith, h.there) }) causes fits.each;
 }
 
-pub can_all_be_written : (bases counts : List ℕ) (es : List Event) (lists : List (List Cause)) → length counts ≤ 16 → EventsFit bases counts es lists → CanAllBeWritten es lists
+pub can_all_be_written : (bases counts : List ℕ) (es : List Event) (lists : List (List Cause)) → length counts ≤ most_lanes → EventsFit bases counts es lists → CanAllBeWritten es lists
 can_all_be_written bases counts [] [] few fit = tt
 can_all_be_written bases counts [] (causes ∷ lists) few fit = fit
 can_all_be_written bases counts (e ∷ es) [] few fit = fit

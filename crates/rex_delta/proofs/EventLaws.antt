@@ -1,15 +1,16 @@
 -- Events and their causes: what is read is spelled so.
-use Rattle.std.proofs.Common.{◌≡◌, ℕ, zero, suc, ◌+◌, ◌-◌, ◌≤◌, true, List, [], ◌∷◌, ◌++◌, length, Result, Ok, refl, sym, ap, subst, arith, append_assoc}
+use Rattle.std.proofs.Common.{◌≡◌, ℕ, zero, suc, ◌+◌, ◌-◌, ◌<◌, ◌≤◌, true, List, [], ◌∷◌, ◌++◌, length, Result, Ok, refl, sym, ap, subst, arith, append_assoc}
 use Rattle.std.specs.Prelude.{◌==◌, nat_le, IfOk}
 use Rattle.std.specs.Int.{w16, w32, to_be_bytes}
 use Rattle.std.specs.List.{flat_map, All}
-use Rattle.std.proofs.lemmas.Bool.{leb-true, eqb-true}
+use Rattle.std.proofs.lemmas.Bool.{leb-true}
 use Rattle.std.proofs.lemmas.List.Elements.{All-cons, All-nil}
 use Rattle.rex_event.specs.declared.event.Kind.{Kind}
 use Rattle.rex_event.specs.declared.event.Event.{Event}
 use Rattle.rex_event.specs.declared.delta.Cause.{Cause}
 use Rattle.rex_event.specs.declared.delta.Delta.{Delta}
-use Rattle.rex_event.specs.Cuts.{count_at, counted}
+use Rattle.rex_event.specs.Limits.{most_lanes}
+use Rattle.rex_event.specs.Cuts.{count_at}
 use Rattle.rex_wire.specs.Reading.{Left}
 use Rattle.rex_wire.specs.Spelling.{byte}
 use Rattle.rex_wire.specs.Decoding.{Gives}
@@ -20,11 +21,12 @@ use Rattle.rex_wire.proofs.Whole.{IsFound, whole_found, is_found}
 use Rattle.rex_wire.proofs.Ranges.{is_between-true}
 use Rattle.rex_wire.proofs.Lists.{same}
 use Rattle.rex_wire.proofs.Lists.{AreEach, AreEach-to_all, list_spelled}
-use Rattle.rex_delta.specs.Spelling.{is_between, IsBetween, greatest_base, code_of, content, cause_bytes, event_bytes, events_bytes, delta_bytes, others_below, CauseFits, AreRising, EventFits, EventsFit, HasTypedKind, HasSpelling}
-use Rattle.rex_delta.specs.Reading.{may_be_cause, may_be_index, cause_at, causes_at, event_at, events_at, bases_at, delta_at, delta_in}
+use Rattle.rex_delta.specs.Spelling.{is_between, IsBetween, greatest_base, code_of, content, cause_bytes, event_bytes, events_bytes, has_counting, version_of, delta_bytes, others_below, CauseFits, AreRising, EventFits, EventsFit, HasTypedKind, HasSpelling}
+use Rattle.rex_delta.specs.Reading.{may_be_cause, may_be_index, cause_at, causes_at, event_at, Before, least_kind, most_kind, first_before, after_event, events_at, bases_at, delta_at, delta_in}
 use Rattle.rex_delta.proofs.Allowed.{may_be_cause-true, may_be_index-true}
 use Rattle.rex_delta.proofs.Lists.{base_at, bases_in, bases_repeated, after_cause, causes_in, causes_repeated}
 use Rattle.rex_delta.proofs.KindLaws.{kind_bytes, IsKindOf, kind_spelled}
+use Rattle.rex_delta.proofs.Versions.{Suits, least_some, most_few, some_counts, version_is}
 
 -- a cause that may follow the lanes below a number
 pub record IsCauseFrom (bases counts : List ℕ) (lane above : ℕ) (c : Cause) : Type 0 where
@@ -63,7 +65,8 @@ causes_spelled bases counts lane n above = list_spelled (cause_at bases counts l
 -- ---- events
 
 -- an event and its causes, which a kind of its types' numbers has
-pub record IsEventAfter (bases counts : List ℕ) (x : Event × List Cause) : Type 0 where
+pub record IsEventAfter (bases counts : List ℕ) (least most : ℕ) (x : Event × List Cause) : Type 0 where
+  pub code : IsBetween least most (code_of x.0.kind)
   pub fits : EventFits bases counts x.0 x.1
   pub typed : HasTypedKind x.0
 
@@ -85,8 +88,9 @@ event_taken bases counts l a b c d number count kind causes first second third f
     let t = Takes-then l a d _ _ lane (Takes-then a b d _ _ second (Takes-then b c d _ _ counted fourth)) in
     subst (λ (text : List ℕ). Takes l text d) (sym (event_parts (event_of counts number kind) causes)) t
 
-event_after : (bases counts : List ℕ) (number count : ℕ) (kind : Kind) (causes : List Cause) → IsBetween 1 (length counts) number → IsKindOf (length counts) kind → count ≤ others_below bases counts (number - 1) (length counts) → AreEach after_cause (IsCauseFrom bases counts (number - 1)) 0 causes → length causes ≡ count → IsEventAfter bases counts (event_of counts number kind, causes)
-event_after bases counts number count kind causes range is few each long = record {
+event_after : (bases counts : List ℕ) (least most number count : ℕ) (kind : Kind) (causes : List Cause) → IsBetween 1 (length counts) number → IsKindOf (length counts) least most kind → count ≤ others_below bases counts (number - 1) (length counts) → AreEach after_cause (IsCauseFrom bases counts (number - 1)) 0 causes → length causes ≡ count → IsEventAfter bases counts least most (event_of counts number kind, causes)
+event_after bases counts least most number count kind causes range is few each long = record {
+  code = is.code;
   fits = record {
     lane = omega (arith, range.0, range.1);
     index = refl;
@@ -98,48 +102,61 @@ event_after bases counts number count kind causes range is few each long = recor
   typed = record { kind = is.typed };
 }
 
-pub event_spelled : (bases counts : List ℕ) → IsSpelled (event_at bases counts) pair_bytes (IsEventAfter bases counts)
+pub event_spelled : (bases counts : List ℕ) (least most : ℕ) → 1 ≤ least → most ≤ 16 → IsSpelled (event_at bases counts least most) pair_bytes (IsEventAfter bases counts least most)
 unfolding event_at
-event_spelled bases counts = record {
+event_spelled bases counts least most some few = record {
   takes = λ l x bytes e.
       let lanes = length counts in
       let number = step (allowed_spelled wide8 (is_between 1 lanes)) l _ x bytes e in
       let lane = number.value - 1 in
-      let kind = step (kind_spelled lanes) number.left _ x number.takes.bytes number.next in
+      let kind = step (kind_spelled lanes least most some few) number.left _ x number.takes.bytes number.next in
       let count = step (allowed_spelled wide8 (λ n. nat_le n (others_below bases counts lane lanes))) kind.left _ x kind.takes.bytes kind.next in
       let causes = step (causes_spelled bases counts lane count.value 0) count.left _ x count.takes.bytes count.next in
       let range = is_between-true 1 lanes number.value number.may in
       let taken = event_taken bases counts l number.left kind.left count.left causes.left number.value count.value kind.value causes.value number.takes kind.takes count.takes causes.takes range.0 causes.may.1 in
-      let after = event_after bases counts number.value count.value kind.value causes.value range kind.may (leb-true _ _ count.may) causes.may.0 causes.may.1 in
-      is_taken pair_bytes (IsEventAfter bases counts) l ((event_of counts number.value kind.value, causes.value), causes.left) x causes.next (taken, after);
+      let after = event_after bases counts least most number.value count.value kind.value causes.value range kind.may (leb-true _ _ count.may) causes.may.0 causes.may.1 in
+      is_taken pair_bytes (IsEventAfter bases counts least most) l ((event_of counts number.value kind.value, causes.value), causes.left) x causes.next (taken, after);
 }
 
 abbrev pub listed_bytes : List Event × List (List Cause) → List ℕ
 listed_bytes p = events_bytes p.0 p.1
 
--- so many events that fit one after the other
-pub record AreEventsAfter (bases counts : List ℕ) (n : ℕ) (p : List Event × List (List Cause)) : Type 0 where
-  pub fit : EventsFit bases counts p.0 p.1
+-- so many events that fit one after the other, of kinds up to the greatest, with one on a semaphore where that is due
+pub record AreEventsAfter (bases : List ℕ) (b : Before) (n : ℕ) (p : List Event × List (List Cause)) : Type 0 where
+  pub fit : EventsFit bases b.counts p.0 p.1
   pub typed : All HasTypedKind p.0
   pub long : length p.0 ≡ n
+  pub few : All (λ e. code_of e.kind ≤ b.most) p.0
+  pub some : 0 < n → b.due ≡ true → has_counting p.0 ≡ true
 
-pub events_spelled : (bases : List ℕ) (n : ℕ) (counts : List ℕ) → IsSpelled (events_at bases counts n) listed_bytes (AreEventsAfter bases counts n)
+pub events_spelled : (bases : List ℕ) (n : ℕ) (b : Before) → b.most ≤ 16 → b.later ≡ n - 1 → IsSpelled (events_at bases b n) listed_bytes (AreEventsAfter bases b n)
 unfolding events_at
-events_spelled bases zero counts = record {
+events_spelled bases zero b most later = record {
   takes = λ l x bytes e.
-      is_taken listed_bytes (AreEventsAfter bases counts 0) l (([], []), l) x e (Takes-none l bytes, record { fit = tt; typed = All-nil HasTypedKind; long = refl });
+      is_taken listed_bytes (AreEventsAfter bases b 0) l (([], []), l) x e (
+        Takes-none l bytes,
+        record {
+          fit = tt;
+          typed = All-nil HasTypedKind;
+          long = refl;
+          few = All-nil (λ (e : Event). code_of e.kind ≤ b.most);
+          some = λ lt. absurd (omega arith);
+        },
+      );
 }
-events_spelled bases (suc n) counts = record {
+events_spelled bases (suc n) b most later = record {
   takes = λ l x bytes e.
-      let a = step (event_spelled bases counts) l _ x bytes e in
-      let b = step (events_spelled bases n (counted counts a.value.0)) a.left _ x a.takes.bytes a.next in
-      let all : List Event × List (List Cause) = (a.value.0 ∷ b.value.0, a.value.1 ∷ b.value.1) in
-      let are : AreEventsAfter bases counts (suc n) all = record {
-        fit = (a.may.fits, b.may.fit);
-        typed = All-cons HasTypedKind a.value.0 b.value.0 a.may.typed b.may.typed;
-        long = ap suc b.may.long;
+      let first = step (event_spelled bases b.counts (least_kind b.due b.later) b.most (least_some b.due b.later) most) l _ x bytes e in
+      let others = step (events_spelled bases n (after_event b first.value.0) most (omega (arith, later))) first.left _ x first.takes.bytes first.next in
+      let all : List Event × List (List Cause) = (first.value.0 ∷ others.value.0, first.value.1 ∷ others.value.1) in
+      let are : AreEventsAfter bases b (suc n) all = record {
+        fit = (first.may.fits, others.may.fit);
+        typed = All-cons HasTypedKind first.value.0 others.value.0 first.may.typed others.may.typed;
+        long = ap suc others.may.long;
+        few = All-cons (λ (e : Event). code_of e.kind ≤ b.most) first.value.0 others.value.0 first.may.code.1 others.may.few;
+        some = λ lt d. some_counts b.due b.later first.value.0 others.value.0 first.may.code.0 (omega (arith, later, others.may.long)) (λ more. others.may.some (omega (arith, more, others.may.long))) d;
       } in
-      is_taken listed_bytes (AreEventsAfter bases counts (suc n)) l (all, b.left) x b.next (Takes-then l a.left b.left _ _ a.takes b.takes, are);
+      is_taken listed_bytes (AreEventsAfter bases b (suc n)) l (all, others.left) x others.next (Takes-then l first.left others.left _ _ first.takes others.takes, are);
 }
 
 -- ---- a delta
@@ -150,19 +167,19 @@ base_spelled s = IsSpelled-weaker (λ base. nat_le base greatest_base ≡ true) 
 bases_spelled : (n : ℕ) → IsSpelled (bases_at n) (flat_map (to_be_bytes w32)) (λ xs. AreEach same (λ _ base. base ≤ greatest_base) (tt {0}) xs × (length xs ≡ n))
 bases_spelled n = list_spelled base_at same bases_in bases_repeated (to_be_bytes w32) (λ _ base. base ≤ greatest_base) base_spelled n (tt {0})
 
-pub delta_parts : (d : Delta) → delta_bytes d ≡ byte 1 ++ (byte (length d.bases) ++ (flat_map (to_be_bytes w32) d.bases ++ (to_be_bytes w16 (length d.events) ++ events_bytes d.events d.causes)))
-delta_parts d = ap (λ (t : List ℕ). 1 ∷ length d.bases ∷ t) (append_assoc (flat_map (to_be_bytes w32) d.bases) (to_be_bytes w16 (length d.events)) (events_bytes d.events d.causes))
+pub delta_parts : (d : Delta) → delta_bytes d ≡ byte (version_of d.events) ++ (byte (length d.bases) ++ (flat_map (to_be_bytes w32) d.bases ++ (to_be_bytes w16 (length d.events) ++ events_bytes d.events d.causes)))
+delta_parts d = ap (λ (t : List ℕ). version_of d.events ∷ length d.bases ∷ t) (append_assoc (flat_map (to_be_bytes w32) d.bases) (to_be_bytes w16 (length d.events)) (events_bytes d.events d.causes))
 
-delta_taken : (l a b c d f : Left) (version lanes count : ℕ) (delta : Delta) → Takes l (byte version) a → Takes a (byte lanes) b → Takes b (flat_map (to_be_bytes w32) delta.bases) c → Takes c (to_be_bytes w16 count) d → Takes d (events_bytes delta.events delta.causes) f → version ≡ 1 → length delta.bases ≡ lanes → length delta.events ≡ count → Takes l (delta_bytes delta) f
+delta_taken : (l a b c d f : Left) (version lanes count : ℕ) (delta : Delta) → Takes l (byte version) a → Takes a (byte lanes) b → Takes b (flat_map (to_be_bytes w32) delta.bases) c → Takes c (to_be_bytes w16 count) d → Takes d (events_bytes delta.events delta.causes) f → version ≡ version_of delta.events → length delta.bases ≡ lanes → length delta.events ≡ count → Takes l (delta_bytes delta) f
 delta_taken l a b c d f version lanes count delta first second third fourth fifth one long many =
-    let is_one : Takes l (byte 1) a = subst (λ (n : ℕ). Takes l (byte n) a) one first in
+    let is_one : Takes l (byte (version_of delta.events)) a = subst (λ (n : ℕ). Takes l (byte n) a) one first in
     let counted : Takes a (byte (length delta.bases)) b = rw long second in
     let so_many : Takes c (to_be_bytes w16 (length delta.events)) d = subst (λ (n : ℕ). Takes c (to_be_bytes w16 n) d) (sym many) fourth in
     let t = Takes-then l a f _ _ is_one (Takes-then a b f _ _ counted (Takes-then b c f _ _ third (Takes-then c d f _ _ so_many fifth))) in
     subst (λ (text : List ℕ). Takes l text f) (sym (delta_parts delta)) t
 
-delta_has : (lanes count : ℕ) (bases : List ℕ) (events : List Event) (causes : List (List Cause)) → IsBetween 1 16 lanes → length bases ≡ lanes → AreEach same (λ _ base. base ≤ greatest_base) (tt {0}) bases → IsBetween 1 4096 count → AreEventsAfter bases bases count (events, causes) → HasSpelling (record { bases = bases; events = events; causes = causes })
-delta_has lanes count bases events causes few long small some are = record {
+delta_has : (version lanes count : ℕ) (bases : List ℕ) (events : List Event) (causes : List (List Cause)) → IsBetween 1 most_lanes lanes → length bases ≡ lanes → AreEach same (λ _ base. base ≤ greatest_base) (tt {0}) bases → IsBetween 1 4096 count → AreEventsAfter bases (first_before version bases count) count (events, causes) → HasSpelling (record { bases = bases; events = events; causes = causes })
+delta_has version lanes count bases events causes few long small some are = record {
   delta = record {
     lanes = (omega (arith, few.0, long), omega (arith, few.1, long));
     bases = AreEach-to_all (λ base. base ≤ greatest_base) (tt {0}) bases small;
@@ -176,14 +193,16 @@ pub delta_spelled : IsSpelled delta_at delta_bytes HasSpelling
 unfolding delta_at
 delta_spelled = record {
   takes = λ l x bytes e.
-      let version = step (allowed_spelled wide8 (λ n. n == 1)) l _ x bytes e in
-      let lanes = step (allowed_spelled wide8 (is_between 1 16)) version.left _ x version.takes.bytes version.next in
+      let version = step (allowed_spelled wide8 (is_between 1 2)) l _ x bytes e in
+      let lanes = step (allowed_spelled wide8 (is_between 1 most_lanes)) version.left _ x version.takes.bytes version.next in
       let bases = step (bases_spelled lanes.value) lanes.left _ x lanes.takes.bytes lanes.next in
       let count = step (allowed_spelled wide16 (is_between 1 4096)) bases.left _ x bases.takes.bytes bases.next in
-      let events = step (events_spelled bases.value count.value bases.value) count.left _ x count.takes.bytes count.next in
+      let events = step (events_spelled bases.value count.value (first_before version.value bases.value count.value) (most_few version.value) refl) count.left _ x count.takes.bytes count.next in
       let d : Delta = record { bases = bases.value; events = events.value.0; causes = events.value.1 } in
-      let taken = delta_taken l version.left lanes.left bases.left count.left events.left version.value lanes.value count.value d version.takes lanes.takes bases.takes count.takes events.takes (eqb-true version.value 1 version.may) bases.may.1 events.may.long in
-      let has = delta_has lanes.value count.value bases.value events.value.0 events.value.1 (is_between-true 1 16 lanes.value lanes.may) bases.may.1 bases.may.0 (is_between-true 1 4096 count.value count.may) events.may in
+      let some = is_between-true 1 4096 count.value count.may in
+      let suits : Suits (most_kind version.value) (version.value == 2) events.value.0 = record { few = events.may.few; some = events.may.some (omega (arith, some.0)) } in
+      let taken = delta_taken l version.left lanes.left bases.left count.left events.left version.value lanes.value count.value d version.takes lanes.takes bases.takes count.takes events.takes (version_is version.value events.value.0 (is_between-true 1 2 version.value version.may) suits) bases.may.1 events.may.long in
+      let has = delta_has version.value lanes.value count.value bases.value events.value.0 events.value.1 (is_between-true 1 most_lanes lanes.value lanes.may) bases.may.1 bases.may.0 some events.may in
       is_taken delta_bytes HasSpelling l (d, events.left) x events.next (taken, has);
 }
 

@@ -5,7 +5,7 @@ use Rattle.std.specs.Int.{w64}
 use Rattle.std.specs.List.{flat_map}
 use Rattle.std.proofs.lemmas.Bool.{ltb-true, eqb-true, eqb-false}
 use Rattle.rex_event.specs.declared.event.Kind.{Kind}
-use Rattle.rex_event.specs.declared.event.Kind.TheVariants.{Begin, AcqEx, AcqSh, RelEx, RelSh, TryOk, TryBusy, Wait, Wake, Signal, Broadcast, Clock, Random, Reply}
+use Rattle.rex_event.specs.declared.event.Kind.TheVariants.{Begin, AcqEx, AcqSh, RelEx, RelSh, TryOk, TryBusy, Wait, Wake, Signal, Broadcast, Clock, Random, Reply, Down, Up}
 use Rattle.rex_wire.specs.Reading.{Left, Reading}
 use Rattle.rex_wire.specs.Spelling.{byte, signed}
 use Rattle.rex_wire.proofs.Fields.{is_taken, Takes, Takes-then, IsSpelled, IsSpelled-either, step}
@@ -153,7 +153,7 @@ at_code lanes code n {read} h e = subst (λ (k : ℕ). IsSpelled read content (I
 lock_kind : (lanes code n : ℕ) (make : ℕ → Kind) → ((lock : ℕ) → content (make lock) ≡ place_bytes lock) → ((lock : ℕ) → lock < 64 → IsKind lanes n (make lock)) → (code == n) ≡ true → IsSpelled (lock_at make) content (IsKind lanes code)
 lock_kind lanes code n make spelled is e = at_code lanes code n (lock_spelled lanes n make spelled is) e
 
-content_spelled : (lanes code : ℕ) → IsBetween 1 14 code → IsSpelled (content_at lanes code) content (IsKind lanes code)
+content_spelled : (lanes code : ℕ) → IsBetween 1 16 code → IsSpelled (content_at lanes code) content (IsKind lanes code)
 content_spelled lanes code range =
     let may = IsKind lanes code in
     IsSpelled-either (code == 1) begin_at _ content may (at_code lanes code 1 (begin_spelled lanes)) (λ n1.
@@ -169,23 +169,27 @@ content_spelled lanes code range =
     IsSpelled-either (code == 11) (broadcast_at lanes) _ content may (at_code lanes code 11 (broadcast_spelled lanes)) (λ n11.
     IsSpelled-either (code == 12) clock_at _ content may (at_code lanes code 12 (clock_spelled lanes)) (λ n12.
     IsSpelled-either (code == 13) random_at _ content may (at_code lanes code 13 (random_spelled lanes)) (λ n13.
-    let last : code ≡ 14 = omega (arith, range.0, range.1, eqb-false code 1 n1, eqb-false code 2 n2, eqb-false code 3 n3, eqb-false code 4 n4, eqb-false code 5 n5, eqb-false code 6 n6, eqb-false code 7 n7, eqb-false code 8 n8, eqb-false code 9 n9, eqb-false code 10 n10, eqb-false code 11 n11, eqb-false code 12 n12, eqb-false code 13 n13) in
-    subst (λ (k : ℕ). IsSpelled reply_at content (IsKind lanes k)) (sym last) (reply_spelled lanes))))))))))))))
+    IsSpelled-either (code == 14) reply_at _ content may (at_code lanes code 14 (reply_spelled lanes)) (λ n14.
+    IsSpelled-either (code == 15) (lock_at Down) _ content may (lock_kind lanes code 15 Down (λ semaphore. refl) (λ semaphore lt. record { fits = lt; typed = tt; code_is = refl })) (λ n15.
+    let last : code ≡ 16 = omega (arith, range.0, range.1, eqb-false code 1 n1, eqb-false code 2 n2, eqb-false code 3 n3, eqb-false code 4 n4, eqb-false code 5 n5, eqb-false code 6 n6, eqb-false code 7 n7, eqb-false code 8 n8, eqb-false code 9 n9, eqb-false code 10 n10, eqb-false code 11 n11, eqb-false code 12 n12, eqb-false code 13 n13, eqb-false code 14 n14, eqb-false code 15 n15) in
+    subst (λ (k : ℕ). IsSpelled (lock_at Up) content (IsKind lanes k)) (sym last) (lock_spelled lanes 16 Up (λ semaphore. refl) (λ semaphore lt. record { fits = lt; typed = tt; code_is = refl })))))))))))))))))
 
 abbrev pub kind_bytes : Kind → List ℕ
 kind_bytes kind = byte (code_of kind) ++ content kind
 
--- a kind in its ranges
-pub record IsKindOf (lanes : ℕ) (kind : Kind) : Type 0 where
+-- a kind in its ranges, whose number is from the least to the greatest
+pub record IsKindOf (lanes least most : ℕ) (kind : Kind) : Type 0 where
+  pub code : IsBetween least most (code_of kind)
   pub fits : KindFits lanes kind
   pub typed : IsTyped kind
 
-pub kind_spelled : (lanes : ℕ) → IsSpelled (kind_at lanes) kind_bytes (IsKindOf lanes)
+pub kind_spelled : (lanes least most : ℕ) → 1 ≤ least → most ≤ 16 → IsSpelled (kind_at lanes least most) kind_bytes (IsKindOf lanes least most)
 unfolding kind_at
-kind_spelled lanes = record {
+kind_spelled lanes least most some few = record {
   takes = λ l x bytes e.
-      let code = step (allowed_spelled wide8 (is_between 1 14)) l (λ code. content_at lanes code.0 code.1) x bytes e in
-      let t = (content_spelled lanes code.value (is_between-true 1 14 code.value code.may)).takes code.left x code.takes.bytes code.next in
+      let code = step (allowed_spelled wide8 (is_between least most)) l (λ code. content_at lanes code.0 code.1) x bytes e in
+      let range = is_between-true least most code.value code.may in
+      let t = (content_spelled lanes code.value (omega (arith, some, range.0), omega (arith, few, range.1))).takes code.left x code.takes.bytes code.next in
       let number : Takes l (byte (code_of x.0)) code.left = rw t.1.code_is code.takes in
-      (Takes-then l code.left x.1 _ _ number t.0, record { fits = t.1.fits; typed = t.1.typed });
+      (Takes-then l code.left x.1 _ _ number t.0, record { code = subst (IsBetween least most) (sym t.1.code_is) range; fits = t.1.fits; typed = t.1.typed });
 }

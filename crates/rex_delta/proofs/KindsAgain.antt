@@ -4,9 +4,10 @@ use Rattle.std.specs.Prelude.{IfSome, nat_lt}
 use Rattle.std.specs.Int.{w8, w16, w32, w64, to_be_bytes}
 use Rattle.std.specs.List.{flat_map, All}
 use Rattle.std.proofs.lemmas.Bool.{lt-ltb}
-use Rattle.std.proofs.lemmas.Nat.{pow_below}
+use Rattle.std.proofs.Math.Pow.{pow_mono}
 use Rattle.rex_event.specs.declared.event.Kind.{Kind}
-use Rattle.rex_event.specs.declared.event.Kind.TheVariants.{Begin, AcqEx, AcqSh, RelEx, RelSh, TryOk, TryBusy, Wait, Wake, Signal, Broadcast, Clock, Random, Reply}
+use Rattle.rex_event.specs.declared.event.Kind.TheVariants.{Begin, AcqEx, AcqSh, RelEx, RelSh, TryOk, TryBusy, Wait, Wake, Signal, Broadcast, Clock, Random, Reply, Down, Up}
+use Rattle.rex_event.specs.Limits.{most_lanes}
 use Rattle.rex_wire.specs.Reading.{number_at, signed_at, allowed_at}
 use Rattle.rex_wire.specs.Spelling.{byte, signed}
 use Rattle.rex_wire.proofs.Fields.{IsRead, IsRead-then, IsRead-last}
@@ -60,7 +61,7 @@ woken_between : (lanes : ℕ) (woken : Option ℕ) → IfSome woken (λ lane. la
 woken_between lanes None h = (omega arith, omega arith)
 woken_between lanes (Some lane) h = (omega arith, omega arith)
 
-signal_again : (lanes condition : ℕ) (woken : Option ℕ) → lanes ≤ 16 → condition < 64 → IfSome woken (λ lane. lane < lanes) → IsRead (signal_at lanes) (content (Signal condition woken)) (Signal condition woken)
+signal_again : (lanes condition : ℕ) (woken : Option ℕ) → lanes ≤ most_lanes → condition < 64 → IfSome woken (λ lane. lane < lanes) → IsRead (signal_at lanes) (content (Signal condition woken)) (Signal condition woken)
 unfolding signal_at
 signal_again lanes condition woken few lt there =
     let n = woken_number woken in
@@ -70,10 +71,10 @@ signal_again lanes condition woken few lt there =
     (IsRead-then place_at _ (byte (condition + 1)) (byte n) condition (Signal condition (woken_of n)) (place_again condition lt)
     (IsRead-last (allowed_at w8 (is_between 0 lanes)) (λ k. Signal condition (woken_of k)) (byte n) n number))
 
-broadcast_again : (lanes condition woken : ℕ) → lanes ≤ 16 → condition < 64 → woken < 2 ^ lanes → IsRead (broadcast_at lanes) (content (Broadcast condition woken)) (Broadcast condition woken)
+broadcast_again : (lanes condition woken : ℕ) → lanes ≤ most_lanes → condition < 64 → woken < 2 ^ lanes → IsRead (broadcast_at lanes) (content (Broadcast condition woken)) (Broadcast condition woken)
 unfolding broadcast_at
 broadcast_again lanes condition woken few lt below =
-    let wide : woken < 2 ^ 64 = omega (arith, pow_below lanes 64 (omega arith)) in
+    let wide : woken < 2 ^ 64 = omega (arith, pow_mono few) in
     IsRead-then place_at _ (byte (condition + 1)) (to_be_bytes w64 woken) condition (Broadcast condition woken) (place_again condition lt)
     (IsRead-last (allowed_at w64 (λ bits. nat_lt bits (2 ^ lanes))) (Broadcast condition) (to_be_bytes w64 woken) woken (allowed_again wide64 _ woken wide (lt-ltb woken (2 ^ lanes) below)))
 
@@ -91,7 +92,7 @@ reply_again client value clients fits =
     IsRead-then (allowed_at w16 (is_between 1 256)) _ (to_be_bytes w16 client) (signed value) client (Reply client value) (allowed_again wide16 _ client (omega (arith, clients.1)) (between-is 1 256 client clients))
     (IsRead-last signed_at (Reply client) (signed value) value (signed_again value fits))
 
-content_again : (lanes : ℕ) (kind : Kind) → lanes ≤ 16 → KindFits lanes kind → IsTyped kind → IsRead (content_at lanes (code_of kind)) (content kind) kind
+content_again : (lanes : ℕ) (kind : Kind) → lanes ≤ most_lanes → KindFits lanes kind → IsTyped kind → IsRead (content_at lanes (code_of kind)) (content kind) kind
 content_again lanes (Begin client sequence handler arguments) few fits typed = begin_again client sequence handler arguments fits.0 fits.1 fits.2 fits.3 typed
 content_again lanes (AcqEx lock) few fits typed = lock_again AcqEx lock fits
 content_again lanes (AcqSh lock) few fits typed = lock_again AcqSh lock fits
@@ -106,8 +107,10 @@ content_again lanes (Broadcast condition woken) few fits typed = broadcast_again
 content_again lanes (Clock value) few fits typed = clock_again value typed
 content_again lanes (Random value) few fits typed = random_again value typed
 content_again lanes (Reply client value) few fits typed = reply_again client value fits typed
+content_again lanes (Down semaphore) few fits typed = lock_again Down semaphore fits
+content_again lanes (Up semaphore) few fits typed = lock_again Up semaphore fits
 
-pub code_between : (kind : Kind) → IsBetween 1 14 (code_of kind)
+pub code_between : (kind : Kind) → IsBetween 1 16 (code_of kind)
 code_between (Begin client sequence handler arguments) = (omega arith, omega arith)
 code_between (AcqEx lock) = (omega arith, omega arith)
 code_between (AcqSh lock) = (omega arith, omega arith)
@@ -122,10 +125,12 @@ code_between (Broadcast condition woken) = (omega arith, omega arith)
 code_between (Clock value) = (omega arith, omega arith)
 code_between (Random value) = (omega arith, omega arith)
 code_between (Reply client value) = (omega arith, omega arith)
+code_between (Down semaphore) = (omega arith, omega arith)
+code_between (Up semaphore) = (omega arith, omega arith)
 
-pub kind_again : (lanes : ℕ) (kind : Kind) → lanes ≤ 16 → KindFits lanes kind → IsTyped kind → IsRead (kind_at lanes) (kind_bytes kind) kind
+pub kind_again : (lanes least most : ℕ) (kind : Kind) → lanes ≤ most_lanes → IsBetween least most (code_of kind) → KindFits lanes kind → IsTyped kind → IsRead (kind_at lanes least most) (kind_bytes kind) kind
 unfolding kind_at
-kind_again lanes kind few fits typed =
-    let range = code_between kind in
-    IsRead-then (allowed_at w8 (is_between 1 14)) (λ code. content_at lanes code.0 code.1) (byte (code_of kind)) (content kind) (code_of kind) kind
-    (allowed_again wide8 (is_between 1 14) (code_of kind) (omega (arith, range.1)) (between-is 1 14 (code_of kind) range)) (content_again lanes kind few fits typed)
+kind_again lanes least most kind few range fits typed =
+    let narrow : code_of kind < 256 = omega (arith, (code_between kind).1) in
+    IsRead-then (allowed_at w8 (is_between least most)) (λ code. content_at lanes code.0 code.1) (byte (code_of kind)) (content kind) (code_of kind) kind
+    (allowed_again wide8 (is_between least most) (code_of kind) narrow (between-is least most (code_of kind) range)) (content_again lanes kind few fits typed)

@@ -2,9 +2,13 @@ pub mod Allowed
 pub mod Lists
 pub mod Counting
 pub mod KindLaws
+pub mod Versions
 pub mod EventLaws
 pub mod KindsAgain
 pub mod EventsAgain
 pub mod Written
 pub mod CanWrite
 pub mod Examples
+mod Looking
+mod Passing
+mod Tallies

@@ -1,11 +1,13 @@
 -- Reading a delta from left to right, a field a line, with the first field that is absent, cut short or not allowed.
-use Rattle.std.specs.Prelude.{◌==◌, ℕ, zero, suc, ◌+◌, ◌-◌, ◌^◌, ◌&&◌, ℤ, Bool, not, nat_lt, nat_le, List, [], ◌∷◌, length, Option, Some, None, Result, Ok, if◌then◌else◌}
+use Rattle.std.specs.Prelude.{◌==◌, ℕ, zero, suc, ◌+◌, ◌-◌, ◌^◌, ◌&&◌, ℤ, Bool, not, nat_lt, nat_le, is_some, List, [], ◌∷◌, length, Option, Some, None, Result, Ok, if◌then◌else◌}
 use Rattle.std.specs.Int.{w8, w16, w32, w64}
 use Rattle.rex_event.specs.declared.event.Kind.{Kind}
-use Rattle.rex_event.specs.declared.event.Kind.TheVariants.{Begin, AcqEx, AcqSh, RelEx, RelSh, TryOk, TryBusy, Wait, Wake, Signal, Broadcast, Clock, Random, Reply}
+use Rattle.rex_event.specs.declared.event.Kind.TheVariants.{Begin, AcqEx, AcqSh, RelEx, RelSh, TryOk, TryBusy, Wait, Wake, Signal, Broadcast, Clock, Random, Reply, Down, Up}
 use Rattle.rex_event.specs.declared.event.Event.{Event}
 use Rattle.rex_event.specs.declared.delta.Cause.{Cause}
 use Rattle.rex_event.specs.declared.delta.Delta.{Delta}
+use Rattle.rex_event.specs.Limits.{most_lanes}
+use Rattle.rex_event.specs.Conflict.{named_semaphore}
 use Rattle.rex_event.specs.Cuts.{count_at, counted}
 use Rattle.rex_wire.specs.Reading.{Left, Reading, ◌>>=◌, number_at, signed_at, allowed_at, whole}
 use Rattle.rex_delta.specs.Spelling.{is_between, greatest_base, has_event, others_below}
@@ -33,7 +35,7 @@ begin_at l = do
   arguments ← arguments_at count.0 count.1
   Ok (Begin client.0 sequence.0 handler.0 arguments.0, arguments.1)
 
--- a kind of one lock
+-- a kind of one lock or semaphore
 unfoldable pub lock_at : (ℕ → Kind) → Left → Reading Kind
 lock_at make l = do
   lock ← place_at l
@@ -95,11 +97,14 @@ content_at lanes code l =
     else if code == 11 then broadcast_at lanes l
     else if code == 12 then clock_at l
     else if code == 13 then random_at l
-    else reply_at l
+    else if code == 14 then reply_at l
+    else if code == 15 then lock_at Down l
+    else lock_at Up l
 
-unfoldable pub kind_at : ℕ → Left → Reading Kind
-kind_at lanes l = do
-  code ← allowed_at w8 (is_between 1 14) l
+-- a kind whose number is from the least to the greatest
+unfoldable pub kind_at : ℕ → ℕ → ℕ → Left → Reading Kind
+kind_at lanes least most l = do
+  code ← allowed_at w8 (is_between least most) l
   content_at lanes code.0 code.1
 
 -- it is the number of another lane that has an event between the counts, and is above the one before
@@ -127,21 +132,48 @@ causes_at bases counts lane (suc n) above l = do
   others ← causes_at bases counts lane n of.0 index.1
   Ok ((record { lane = of.0 - 1; index = index.0 }) ∷ others.0, others.1)
 
--- an event and its causes, where lanes did so many events before the delta, and so many before this event
-unfoldable pub event_at : List ℕ → List ℕ → Left → Reading (Event × List Cause)
-event_at bases counts l = do
+-- an event and its causes, where lanes did so many events before the delta, and so many before this event, and its kind is in this range
+unfoldable pub event_at : List ℕ → List ℕ → ℕ → ℕ → Left → Reading (Event × List Cause)
+event_at bases counts least most l = do
   number ← allowed_at w8 (is_between 1 (length counts)) l
-  kind ← kind_at (length counts) number.1
+  kind ← kind_at (length counts) least most number.1
   count ← allowed_at w8 (λ n. nat_le n (others_below bases counts (number.0 - 1) (length counts))) kind.1
   causes ← causes_at bases counts (number.0 - 1) count.0 0 count.1
   Ok ((record { lane = number.0 - 1; index = count_at counts (number.0 - 1); kind = kind.0 }, causes.0), causes.1)
 
+-- what is known before an event: how many events each lane did, the greatest kind, whether an event on a semaphore is due, and how many events come after this one
+pub record Before : Type 0 where
+  pub counts : List ℕ
+  pub most : ℕ
+  pub due : Bool
+  pub later : ℕ
+
+-- the least kind: the last event is on a semaphore where one is due
+abbrev pub least_kind : Bool → ℕ → ℕ
+least_kind due later = if due && later == 0 then 15 else 1
+
+-- the greatest kind of a version
+abbrev pub most_kind : ℕ → ℕ
+most_kind version = if version == 2 then 16 else 14
+
+-- what is known before the first of so many events: in version 2 one on a semaphore is due
+abbrev pub first_before : ℕ → List ℕ → ℕ → Before
+first_before version bases count = record { counts = bases; most = most_kind version; due = version == 2; later = count - 1 }
+
+-- what is known after an event
+abbrev pub after_event : Before → Event → Before
+after_event b e = record { counts = counted b.counts e; most = b.most; due = b.due && not (is_some (named_semaphore e.kind)); later = b.later - 1 }
+
+-- the next event with its causes
+abbrev pub next_event_at : List ℕ → Before → Left → Reading (Event × List Cause)
+next_event_at bases b l = event_at bases b.counts (least_kind b.due b.later) b.most l
+
 -- so many events with their causes
-unfoldable pub events_at : List ℕ → List ℕ → ℕ → Left → Reading (List Event × List (List Cause))
-events_at bases counts zero l = Ok (([], []), l)
-events_at bases counts (suc n) l = do
-  first ← event_at bases counts l
-  others ← events_at bases (counted counts first.0.0) n first.1
+unfoldable pub events_at : List ℕ → Before → ℕ → Left → Reading (List Event × List (List Cause))
+events_at bases b zero l = Ok (([], []), l)
+events_at bases b (suc n) l = do
+  first ← next_event_at bases b l
+  others ← events_at bases (after_event b first.0.0) n first.1
   Ok ((first.0.0 ∷ others.0.0, first.0.1 ∷ others.0.1), others.1)
 
 -- so many bases
@@ -155,11 +187,11 @@ bases_at (suc n) l = do
 -- a delta at the front of bytes
 unfoldable pub delta_at : Left → Reading Delta
 delta_at l = do
-  version ← allowed_at w8 (λ n. n == 1) l
-  lanes ← allowed_at w8 (is_between 1 16) version.1
+  version ← allowed_at w8 (is_between 1 2) l
+  lanes ← allowed_at w8 (is_between 1 most_lanes) version.1
   bases ← bases_at lanes.0 lanes.1
   count ← allowed_at w16 (is_between 1 4096) bases.1
-  events ← events_at bases.0 bases.0 count.0 count.1
+  events ← events_at bases.0 (first_before version.0 bases.0 count.0) count.0 count.1
   Ok (record { bases = bases.0; events = events.0.0; causes = events.0.1 }, events.1)
 
 -- a delta that is all of the bytes, or the offset at which the first bad field begins; of bytes after a whole delta that is its length

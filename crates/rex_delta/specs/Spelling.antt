@@ -1,18 +1,20 @@
 -- Which deltas have a spelling, and what it is.
-use Rattle.std.specs.Prelude.{◌≡◌, ℕ, ◌+◌, ◌<◌, ◌≤◌, ◌^◌, List, [], ◌∷◌, ◌++◌, length, Option, Some, None, IfSome, FitsSigned}
-use Rattle.std.specs.List.{All, flat_map}
+use Rattle.std.specs.Prelude.{◌≡◌, ℕ, ◌+◌, ◌<◌, ◌≤◌, ◌^◌, Bool, List, [], ◌∷◌, ◌++◌, length, Option, Some, None, IfSome, is_some, FitsSigned, if◌then◌else◌}
+use Rattle.std.specs.List.{All, flat_map, list_any}
 use Rattle.std.specs.Int.{w16, w32, w64, to_be_bytes}
 use Rattle.rex_event.specs.declared.event.Kind.{Kind}
-use Rattle.rex_event.specs.declared.event.Kind.TheVariants.{Begin, AcqEx, AcqSh, RelEx, RelSh, TryOk, TryBusy, Wait, Wake, Signal, Broadcast, Clock, Random, Reply}
+use Rattle.rex_event.specs.declared.event.Kind.TheVariants.{Begin, AcqEx, AcqSh, RelEx, RelSh, TryOk, TryBusy, Wait, Wake, Signal, Broadcast, Clock, Random, Reply, Down, Up}
 use Rattle.rex_event.specs.declared.event.Event.{Event}
 use Rattle.rex_event.specs.declared.delta.Cause.{Cause}
 use Rattle.rex_event.specs.declared.delta.Delta.{Delta}
+use Rattle.rex_event.specs.Limits.{most_lanes}
+use Rattle.rex_event.specs.Conflict.{named_semaphore}
 use Rattle.rex_event.specs.Cuts.{count_at, counted}
 pub use Rattle.rex_event.specs.Pieces.{has_event, others_below, CauseFits, AreRising}
 pub use Rattle.rex_wire.specs.Ranges.{is_between, IsBetween}
 use Rattle.rex_wire.specs.Spelling.{byte, signed}
 
--- ---- spelling; lanes, handlers, locks and conditions are spelled with numbers from 1
+-- ---- spelling; lanes, handlers, locks, semaphores and conditions are spelled with numbers from 1
 
 -- the number of a kind
 abbrev pub code_of : Kind → ℕ
@@ -30,6 +32,8 @@ code_of (Broadcast condition woken) = 11
 code_of (Clock value) = 12
 code_of (Random value) = 13
 code_of (Reply client value) = 14
+code_of (Down semaphore) = 15
+code_of (Up semaphore) = 16
 
 -- the lane that a signal woke, 0 for none
 abbrev pub woken_number : Option ℕ → ℕ
@@ -52,6 +56,8 @@ content (Broadcast condition woken) = byte (condition + 1) ++ to_be_bytes w64 wo
 content (Clock value) = signed value
 content (Random value) = to_be_bytes w32 value
 content (Reply client value) = to_be_bytes w16 client ++ signed value
+content (Down semaphore) = byte (semaphore + 1)
+content (Up semaphore) = byte (semaphore + 1)
 
 abbrev pub cause_bytes : Cause → List ℕ
 cause_bytes c = byte (c.lane + 1) ++ to_be_bytes w32 c.index
@@ -66,9 +72,17 @@ events_bytes [] lists = []
 events_bytes (e ∷ es) [] = []
 events_bytes (e ∷ es) (causes ∷ lists) = event_bytes e causes ++ events_bytes es lists
 
--- version 1, the lanes with how many events each did before, and the events
+-- some event is on a semaphore
+abbrev pub has_counting : List Event → Bool
+has_counting es = list_any (λ e. is_some (named_semaphore e.kind)) es
+
+-- the version in which events are spelled: 2 where some event is on a semaphore
+abbrev pub version_of : List Event → ℕ
+version_of es = if has_counting es then 2 else 1
+
+-- the version, the lanes with how many events each did before, and the events
 abbrev pub delta_bytes : Delta → List ℕ
-delta_bytes d = byte 1 ++ byte (length d.bases) ++ flat_map (to_be_bytes w32) d.bases ++ to_be_bytes w16 (length d.events) ++ events_bytes d.events d.causes
+delta_bytes d = byte (version_of d.events) ++ byte (length d.bases) ++ flat_map (to_be_bytes w32) d.bases ++ to_be_bytes w16 (length d.events) ++ events_bytes d.events d.causes
 
 -- ---- ranges
 
@@ -92,6 +106,8 @@ KindFits lanes (Broadcast condition woken) = (condition < 64) × (woken < 2 ^ la
 KindFits lanes (Clock value) = Unit {0}
 KindFits lanes (Random value) = Unit {0}
 KindFits lanes (Reply client value) = IsBetween 1 256 client
+KindFits lanes (Down semaphore) = semaphore < 64
+KindFits lanes (Up semaphore) = semaphore < 64
 
 -- where lanes did so many events before the delta, and so many before this event
 pub record EventFits (bases counts : List ℕ) (e : Event) (causes : List Cause) : Type 0 where
@@ -111,7 +127,7 @@ EventsFit bases counts (e ∷ es) (causes ∷ lists) = EventFits bases counts e 
 
 -- a delta whose numbers are in their ranges
 pub record IsDelta (d : Delta) : Type 0 where
-  pub lanes : IsBetween 1 16 (length d.bases)
+  pub lanes : IsBetween 1 most_lanes (length d.bases)
   pub bases : All (λ base. base ≤ greatest_base) d.bases
   pub some : IsBetween 1 4096 (length d.events)
   pub events : EventsFit d.bases d.bases d.events d.causes

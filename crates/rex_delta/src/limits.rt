@@ -1,10 +1,18 @@
 //! The greatest numbers of a delta's fields.
 
-/// The version of the spelling.
-pub const VERSION: u8 = 1;
+/// The version of the spelling of events without semaphores.
+pub const PLAIN: u8 = 1;
+
+/// The version of the spelling of events of which some is on a semaphore.
+pub const COUNTING: u8 = 2;
+
+/// The greatest number of a kind in version 1, and in version 2.
+pub const PLAIN_KINDS: u8 = 14;
+
+pub const KINDS: u8 = 16;
 
 /// The most lanes.
-pub const LANES: u8 = 16;
+pub const LANES: u8 = rex_event::LANES as u8;
 
 /// The most events.
 pub const EVENTS: u16 = 4096;
@@ -12,7 +20,7 @@ pub const EVENTS: u16 = 4096;
 /// The greatest base of a lane: its count stays below 2^32 - 1 with as many events more as a delta has at most.
 pub const GREATEST_BASE: u32 = 4_294_963_199;
 
-/// The most handlers, and as many locks and conditions.
+/// The most handlers, and as many locks, semaphores and conditions.
 pub const PLACES: u8 = 64;
 
 /// The most clients.

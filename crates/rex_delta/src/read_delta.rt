@@ -6,21 +6,21 @@ ghost use Rattle.rex_wire.specs.Decoding.{ReadsOn, Gives};
 ghost use Rattle.rex_delta.specs.Spelling.{HasSpelling, delta_bytes};
 ghost use Rattle.rex_delta.specs.Reading.{delta_at, delta_in};
 
-use crate::limits::{EVENTS, LANES, VERSION};
+use crate::limits::{COUNTING, EVENTS, LANES, PLAIN};
 use crate::read_events::{bases, events};
 use rex_event::Delta;
-use rex_wire::{DecodeError, Reader, u8_between, u8_wanted, u16_between};
+use rex_wire::{DecodeError, Reader, u8_between, u16_between};
 use std::alloc::Global;
 
 #[tactic(auto, unfolding(crate::specs::Reading::delta_at))]
 fn delta(alloc: Global, reader: &mut Reader) -> Result<Delta, DecodeError>
     ensures { ReadsOn result reader.new (delta_at reader.old) }
 {
-    u8_wanted(reader, VERSION)?;
+    let version = u8_between(reader, PLAIN, COUNTING)?;
     let lanes = u8_between(reader, 1, LANES)?;
     let bases = bases(alloc, reader, lanes)?;
     let count = u16_between(reader, 1, EVENTS)?;
-    let (events, causes) = events(alloc, reader, bases.as_slice(), count)?;
+    let (events, causes) = events(alloc, reader, version, bases.as_slice(), count)?;
     Ok(Delta {
         bases,
         events,

@@ -1,8 +1,9 @@
-//! Reading what an event did.
+//! Reading what an event did. It is in line in each loop over events: one that only looks builds no kinds.
 
-ghost use Rattle.std.specs.Prelude.{◌<◌, ◌≤◌};
+ghost use Rattle.std.specs.Prelude.{◌≡◌, ◌^◌, ◌≤◌, nat_lt, IfErr};
+ghost use Rattle.rex_event.specs.Limits.{most_lanes};
 ghost use Rattle.rex_event.specs.declared.event.Kind.TheVariants.{AcqEx, AcqSh, RelEx, RelSh, TryOk, TryBusy, Wait, Wake};
-ghost use Rattle.rex_wire.specs.Decoding.{ReadsOn};
+ghost use Rattle.rex_wire.specs.Decoding.{ReadsOn, IsBad};
 ghost use Rattle.rex_delta.specs.Reading.{place_at, arguments_at, begin_at, lock_at, condition_at, signal_at, broadcast_at, clock_at, random_at, reply_at, content_at, kind_at};
 
 use crate::limits::{ARGUMENTS, CLIENTS, PLACES, SEQUENCE};
@@ -10,14 +11,16 @@ use rex_event::Kind;
 use rex_list::Arguments;
 use rex_wire::{DecodeError, Reader, u8_between, u16_between, u32_between};
 
-/// A handler, a lock or a condition, numbered from 0.
+/// A handler, a lock, a semaphore or a condition, numbered from 0.
 #[tactic(auto, unfolding(crate::specs::Reading::place_at))]
-fn place(reader: &mut Reader) -> Result<u8, DecodeError>
-    ensures { ReadsOn result reader.new (place_at reader.old) }
+pub fn place(reader: &mut Reader) -> Result<u8, DecodeError>
+    ensures read { ReadsOn result reader.new (place_at reader.old) }
+    ensures fault { IfErr result IsBad }
 {
     Ok(u8_between(reader, 1, PLACES)? - 1)
 }
 
+#[inline(never)]
 fn arguments(reader: &mut Reader, count: u8) -> Result<Arguments, DecodeError>
     requires { count ≤ 4 }
     ensures { ReadsOn result reader.new (arguments_at count reader.old) }
@@ -30,6 +33,7 @@ fn arguments(reader: &mut Reader, count: u8) -> Result<Arguments, DecodeError>
     Ok(arguments)
 }
 
+#[inline(always)]
 #[tactic(auto, unfolding(crate::specs::Reading::begin_at))]
 fn begin(reader: &mut Reader) -> Result<Kind, DecodeError>
     ensures { ReadsOn result reader.new (begin_at reader.old) }
@@ -57,15 +61,23 @@ fn signal(reader: &mut Reader, lanes: u8) -> Result<Kind, DecodeError>
     Ok(Kind::Signal { condition, woken })
 }
 
+/// Whether bits are of so many lanes.
+pub fn is_of_lanes(bits: u64, lanes: u8) -> bool
+    requires { lanes ≤ most_lanes }
+    ensures { result ≡ nat_lt bits (2 ^ lanes) }
+{
+    lanes >= 64 || bits < 1 << lanes
+}
+
 #[tactic(auto, unfolding(crate::specs::Reading::broadcast_at))]
 fn broadcast(reader: &mut Reader, lanes: u8) -> Result<Kind, DecodeError>
-    requires { lanes ≤ 16 }
+    requires { lanes ≤ most_lanes }
     ensures { ReadsOn result reader.new (broadcast_at lanes reader.old) }
 {
     let condition = place(reader)?;
     let at = reader.at();
     let woken = reader.u64()?;
-    if woken >= 1 << lanes {
+    if !is_of_lanes(woken, lanes) {
         return Err(DecodeError::Bad { at });
     }
     Ok(Kind::Broadcast { condition, woken })
@@ -87,6 +99,7 @@ fn random(reader: &mut Reader) -> Result<Kind, DecodeError>
     Ok(Kind::Random { value })
 }
 
+#[inline(always)]
 #[tactic(auto, unfolding(crate::specs::Reading::reply_at))]
 fn reply(reader: &mut Reader) -> Result<Kind, DecodeError>
     ensures { ReadsOn result reader.new (reply_at reader.old) }
@@ -115,9 +128,10 @@ fn wake(reader: &mut Reader) -> Result<Kind, DecodeError>
 }
 
 /// What follows the number of a kind.
+#[inline(always)]
 #[tactic(auto, unfolding(crate::specs::Reading::lock_at))]
 fn content(reader: &mut Reader, lanes: u8, code: u8) -> Result<Kind, DecodeError>
-    requires { lanes ≤ 16 }
+    requires { lanes ≤ most_lanes }
     ensures { ReadsOn result reader.new (content_at lanes code reader.old) }
 {
     match code {
@@ -146,16 +160,23 @@ fn content(reader: &mut Reader, lanes: u8, code: u8) -> Result<Kind, DecodeError
         11 => broadcast(reader, lanes),
         12 => clock(reader),
         13 => random(reader),
-        _ => reply(reader),
+        14 => reply(reader),
+        15 => Ok(Kind::Down {
+            semaphore: place(reader)?,
+        }),
+        _ => Ok(Kind::Up {
+            semaphore: place(reader)?,
+        }),
     }
 }
 
-/// What an event did, of so many lanes.
+/// What an event did, of so many lanes, by a kind whose number is in this range.
+#[inline(always)]
 #[tactic(auto, unfolding(crate::specs::Reading::kind_at))]
-pub fn kind(reader: &mut Reader, lanes: u8) -> Result<Kind, DecodeError>
-    requires { lanes ≤ 16 }
-    ensures { ReadsOn result reader.new (kind_at lanes reader.old) }
+pub fn kind(reader: &mut Reader, lanes: u8, least: u8, most: u8) -> Result<Kind, DecodeError>
+    requires { lanes ≤ most_lanes }
+    ensures { ReadsOn result reader.new (kind_at lanes least most reader.old) }
 {
-    let code = u8_between(reader, 1, 14)?;
+    let code = u8_between(reader, least, most)?;
     content(reader, lanes, code)
 }

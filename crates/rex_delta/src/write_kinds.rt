@@ -3,6 +3,7 @@
 ghost use Rattle.std.specs.Prelude.{◌≡◌, ◌<◌, ◌+◌, ◌++◌, OnOk, FitsSigned};
 ghost use Rattle.std.specs.List.{All, flat_map};
 ghost use Rattle.std.specs.Int.{w64};
+ghost use Rattle.rex_event.specs.Limits.{most_lanes};
 ghost use Rattle.rex_event.specs.declared.event.Kind.TheVariants.{Begin, Signal};
 ghost use Rattle.rex_wire.specs.Spelling.{byte, signed};
 ghost use Rattle.rex_delta.specs.Spelling.{code_of, content, KindFits, IsTyped};
@@ -51,7 +52,7 @@ fn condition(writer: &mut Writer, condition: u8, lock: u8) -> Result<(), AllocEr
 }
 
 fn signal(writer: &mut Writer, condition: u8, woken: Option<u8>) -> Result<(), AllocError>
-    requires { KindFits 16 (Signal condition woken) }
+    requires { KindFits most_lanes (Signal condition woken) }
     ensures { OnOk result (writer.new ≡ writer.old ++ content (Signal condition woken)) }
 {
     writer.u8(condition + 1)?;
@@ -81,12 +82,14 @@ fn code(kind: &Kind) -> u8
         Kind::Clock { .. } => 12,
         Kind::Random { .. } => 13,
         Kind::Reply { .. } => 14,
+        Kind::Down { .. } => 15,
+        Kind::Up { .. } => 16,
     }
 }
 
 /// What follows the number of a kind.
 fn kind_content(writer: &mut Writer, kind: &Kind) -> Result<(), AllocError>
-    requires { KindFits 16 kind.now }
+    requires { KindFits most_lanes kind.now }
     ensures spelled { OnOk result (writer.new ≡ writer.old ++ content kind.now) }
     ensures typed { OnOk result (IsTyped kind.now) }
 {
@@ -122,12 +125,13 @@ fn kind_content(writer: &mut Writer, kind: &Kind) -> Result<(), AllocError>
             writer.u16(*client)?;
             writer.i64(*value)
         }
+        Kind::Down { semaphore } | Kind::Up { semaphore } => writer.u8(*semaphore + 1),
     }
 }
 
 /// The number of a kind and what follows it.
 pub fn kind(writer: &mut Writer, kind: &Kind) -> Result<(), AllocError>
-    requires { KindFits 16 kind.now }
+    requires { KindFits most_lanes kind.now }
     ensures spelled { OnOk result (writer.new ≡ writer.old ++ byte (code_of kind.now) ++ content kind.now) }
     ensures typed { OnOk result (IsTyped kind.now) }
 {

@@ -1,6 +1,6 @@
 //! What a keeper's records say of a node.
 
-ghost use Rattle.std.specs.Prelude.{◌≡◌, ◌≤◌, [], List as Items, Ok, IfOk, IfErr};
+ghost use Rattle.std.specs.Prelude.{◌≡◌, ◌≤◌, [], List as Items, Ok, IfOk, OnOk, IfErr};
 ghost use Rattle.rex_ballot.specs.Proposals.{AreRising};
 ghost use Rattle.rex_durable.specs.declared.records.Rec.{Rec};
 ghost use Rattle.rex_durable.specs.Kept.{Answers, GivesAt, IsBadRecord, Spell, recovered_in};
@@ -10,7 +10,7 @@ ghost use Rattle.rex_durable.specs.Recovery.{after, recovered};
 ghost use Rattle.rex_durable.specs.Spelling.{Spells};
 
 use crate::fault::RecoverFault;
-use crate::latest::with_proposal;
+use crate::latest::put_in;
 use crate::read::decode;
 use crate::records::Rec;
 use rex_ballot::{Proposal, Value};
@@ -36,23 +36,24 @@ pub struct Recovered {
 }
 
 impl Recovered {
-    /// What is known of a node without records.
-    fn new(alloc: Global) -> Recovered
-        ensures { result ≡ recovered [] }
+    /// What is known of a node without records, with room for what so many records say: most say what was accepted for an
+    /// instance or what is known of it, half of them each.
+    fn new(alloc: Global, records: usize) -> Result<Recovered, AllocError>
+        ensures { IfOk result (λ x. x ≡ recovered []) }
     {
-        Recovered {
+        Ok(Recovered {
             promised: 0,
-            accepted: List::new(alloc),
-            known: List::new(alloc),
+            accepted: List::from_vec(Vec::with_capacity(alloc, records / 2)?),
+            known: List::from_vec(Vec::with_capacity(alloc, records / 2)?),
             base: 0,
             snapshot: None,
-        }
+        })
     }
 
-    /// What is known of the node whose next record is this one.
-    fn with_record(mut self, rec: Rec) -> Result<Recovered, AllocError>
-        requires { AreRising 0 self.accepted }
-        ensures { IfOk result (λ x. x ≡ after self rec) }
+    /// Adds what the next record says.
+    fn add(&mut self, alloc: Global, rec: Rec) -> Result<(), AllocError>
+        requires { AreRising 0 self.old.accepted }
+        ensures { OnOk result (self.new ≡ after self.old rec) }
     {
         match rec {
             Rec::Promised { ballot } => self.promised = self.promised.max(ballot),
@@ -67,7 +68,7 @@ impl Recovered {
                     value,
                 };
                 self.promised = self.promised.max(proposal.ballot);
-                self.accepted = with_proposal(self.accepted, proposal)?;
+                put_in(alloc, &mut self.accepted, proposal)?;
             }
             Rec::Known { value, .. } => self.known.push(value)?,
             Rec::Checkpoint { deltas, snapshot } => {
@@ -75,7 +76,7 @@ impl Recovered {
                 self.snapshot = Some(snapshot);
             }
         }
-        Ok(self)
+        Ok(())
     }
 }
 
@@ -102,11 +103,11 @@ pub fn recover<K: Keeper>(alloc: Global, keeper: &K) -> Result<Recovered, Recove
     ensures bad { IfErr result (IsBadRecord (K.records keeper.now)) }
     ensures exact { Answers result (recovered_in (K.records keeper.now)) }
 {
-    let mut recovered = Recovered::new(alloc);
+    let mut recovered = Recovered::new(alloc, keeper.len())?;
     for index in 0..keeper.len() {
         let count = recovered.known.len();
         let rec = read(alloc, keeper.get(index), count, index + 1)?;
-        recovered = recovered.with_record(rec)?;
+        recovered.add(alloc, rec)?;
     }
     Ok(recovered)
 }

@@ -3,7 +3,7 @@ use Rattle.std.specs.Prelude.{ℕ, ◌&&◌, ◌||◌, Bool, true, false, not, O
 use Rattle.std.specs.Int.{bit_at}
 use Rattle.rex_event.specs.declared.event.Kind.{Kind}
 use Rattle.rex_event.specs.declared.event.Event.{Event}
-use Rattle.rex_event.specs.declared.event.Kind.TheVariants.{Begin, AcqEx, AcqSh, RelEx, RelSh, TryOk, Wait, Wake, Signal, Broadcast, Reply}
+use Rattle.rex_event.specs.declared.event.Kind.TheVariants.{Begin, AcqEx, AcqSh, RelEx, RelSh, TryOk, Wait, Wake, Signal, Broadcast, Reply, Down, Up}
 
 -- the lock that an event names
 abbrev pub named_lock : Kind → Option ℕ
@@ -36,6 +36,12 @@ named_client (Begin client sequence handler arguments) = Some client
 named_client (Reply client value) = Some client
 named_client _ = None
 
+-- the semaphore whose value it changes
+abbrev pub named_semaphore : Kind → Option ℕ
+named_semaphore (Down semaphore) = Some semaphore
+named_semaphore (Up semaphore) = Some semaphore
+named_semaphore _ = None
+
 -- both name the same
 abbrev pub same_name : Option ℕ → Option ℕ → Bool
 same_name (Some a) (Some b) = nat_eq a b
@@ -62,10 +68,11 @@ is_wake_on _ other = false
 abbrev pub wakes : Event → Event → Bool
 wakes e y = woke e.kind y.lane && is_wake_on y.kind (named_condition e.kind)
 
--- the same lane; the same lock, unless both share it; the same client; or one woke the other
+-- the same lane; the same lock, unless both share it; the same client; the same semaphore; or one woke the other
 abbrev pub conflict : Event → Event → Bool
 conflict e y =
     nat_eq e.lane y.lane
     || ((same_name (named_lock e.kind) (named_lock y.kind) && not (is_sharing e.kind && is_sharing y.kind))
     || (same_name (named_client e.kind) (named_client y.kind)
-    || (wakes e y || wakes y e)))
+    || (same_name (named_semaphore e.kind) (named_semaphore y.kind)
+    || (wakes e y || wakes y e))))

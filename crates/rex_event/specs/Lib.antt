@@ -1,3 +1,4 @@
+pub mod Limits
 pub mod Conflict
 pub mod Order
 pub mod Cuts

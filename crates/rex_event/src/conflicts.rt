@@ -1,7 +1,7 @@
 ghost use Rattle.std.specs.Prelude.{◌≡◌, ◌<◌};
 ghost use Rattle.rex_event.specs.Conflict as spec;
 
-use crate::{Event, Kind};
+use crate::{Event, Kind, LANES};
 
 fn named_lock(kind: Kind) -> Option<u8>
     ensures { result ≡ spec.named_lock kind }
@@ -45,7 +45,16 @@ fn named_client(kind: Kind) -> Option<u16>
     }
 }
 
-fn same_lock(first: Option<u8>, second: Option<u8>) -> bool
+fn named_semaphore(kind: Kind) -> Option<u8>
+    ensures { result ≡ spec.named_semaphore kind }
+{
+    match kind {
+        Kind::Down { semaphore } | Kind::Up { semaphore } => Some(semaphore),
+        _ => None,
+    }
+}
+
+fn same_number(first: Option<u8>, second: Option<u8>) -> bool
     ensures { result ≡ spec.same_name first second }
 {
     match (first, second) {
@@ -73,7 +82,7 @@ fn is_that(first: Option<u8>, second: u8) -> bool
 }
 
 fn woke(kind: Kind, lane: u8) -> bool
-    requires { lane < 64 }
+    requires { lane < LANES }
     ensures { result ≡ spec.woke kind lane }
 {
     match kind {
@@ -96,24 +105,25 @@ fn is_wake_on(kind: Kind, condition: Option<u8>) -> bool
 }
 
 fn wakes(first: &Event, second: &Event) -> bool
-    requires { second.now.lane < 64 }
+    requires { second.now.lane < LANES }
     ensures { result ≡ spec.wakes first.now second.now }
 {
     woke(first.kind, second.lane) && is_wake_on(second.kind, named_condition(first.kind))
 }
 
 /// Whether one of two events of a trace has to come before the other: both are of one lane, name one lock and don't both
-/// share it, are of one client, or one is a signal or broadcast that woke the other's lane and the other is a wake on
-/// that condition.
+/// share it, are of one client, change one semaphore, or one is a signal or broadcast that woke the other's lane and the
+/// other is a wake on that condition.
 pub fn conflict(first: &Event, second: &Event) -> bool
-    requires first { first.now.lane < 64 }
-    requires second { second.now.lane < 64 }
+    requires first { first.now.lane < LANES }
+    requires second { second.now.lane < LANES }
     ensures { result ≡ spec.conflict first.now second.now }
 {
     let sharing = is_sharing(first.kind) && is_sharing(second.kind);
     first.lane == second.lane
-        || (same_lock(named_lock(first.kind), named_lock(second.kind)) && !sharing)
+        || (same_number(named_lock(first.kind), named_lock(second.kind)) && !sharing)
         || same_client(named_client(first.kind), named_client(second.kind))
+        || same_number(named_semaphore(first.kind), named_semaphore(second.kind))
         || wakes(first, second)
         || wakes(second, first)
 }

@@ -1,6 +1,9 @@
 use rex_list::Arguments;
 
-/// What a lane did. Lanes, handlers, locks and conditions are numbered from 0.
+/// The most lanes of a trace.
+pub const LANES: usize = 64;
+
+/// What a lane did. Lanes, handlers, locks, conditions and semaphores are numbered from 0.
 #[derive(Clone, Copy, PartialEq, Eq)]
 pub enum Kind {
     /// An idle lane began a client's request.
@@ -66,6 +69,14 @@ pub enum Kind {
     Reply {
         client: u16,
         value: i64,
+    },
+    /// One was taken off a semaphore's value.
+    Down {
+        semaphore: u8,
+    },
+    /// One was added to a semaphore's value.
+    Up {
+        semaphore: u8,
     },
 }
 

@@ -7,4 +7,4 @@ mod event;
 
 pub use conflicts::conflict;
 pub use delta::{Cause, Cut, Delta};
-pub use event::{Event, Kind};
+pub use event::{Event, Kind, LANES};

@@ -1,9 +1,9 @@
 -- What a history that is led comes to.
-use Rattle.std.proofs.Common.{◌≡◌, ℕ, zero, suc, ◌<◌, ◌≤◌, Bool, true, false, List, [], ◌∷◌, length, refl, sym, le-ltb, ◌∙◌, ap, subst, inl, inr, arith, eqb-true}
-use Rattle.std.specs.Prelude.{Some, ◌==◌, ◌||◌, nat_lt, if◌then◌else◌}
+use Rattle.std.proofs.Common.{◌≡◌, ℕ, zero, suc, ◌<◌, ◌≤◌, Bool, true, false, List, [], ◌∷◌, length, refl, sym, le-ltb, ◌∙◌, ap, subst, arith}
+use Rattle.std.specs.Prelude.{Some, nat_lt, if◌then◌else◌}
 use Rattle.std.specs.List.{All}
 use Rattle.std.proofs.lemmas.List.{take_all}
-use Rattle.std.proofs.lemmas.Bool.{or_cases}
+use Rattle.rex_ballot.specs.Limits.{most_nodes}
 use Rattle.rex_syntax.specs.declared.request.Request.{Request}
 use Rattle.rex_syntax.specs.declared.service.Declarations.{Declarations}
 use Rattle.rex_syntax.specs.Service.{IsService}
@@ -36,8 +36,8 @@ use Rattle.rex_lead.proofs.Blocks.{few_blocks, joined_blocks, are_blocks}
 
 -- there is a node
 some_node : (n : ℕ) → is_node_count n ≡ true → 1 ≤ n
-some_node n h =
-    elim (or_cases (n == 1) (n == 3 || n == 5) h) [ inl a ↦ omega (arith, eqb-true n 1 a) | inr b ↦ elim (or_cases (n == 3) (n == 5) b) [ inl a ↦ omega (arith, eqb-true n 3 a) | inr a ↦ omega (arith, eqb-true n 5 a) ] ]
+some_node zero h = absurd cc
+some_node (suc n) h = omega arith
 
 -- ---- what nodes agree on that all know the same
 
@@ -68,7 +68,7 @@ settled_agree n vs w some h = some_agree vs w.nodes (omega (arith, some, h.many)
     know zero l = h.leader.knows
     know (suc i) l = (h.others (suc (suc i)) (omega arith) (omega (arith, l, h.many))).knows
 
-module _ (service : Declarations) (requests : List Request) (seed n : ℕ) (blocks : List (List Event)) (state : StateValue) (some : 1 ≤ n) (few : n ≤ 9) where
+module _ (service : Declarations) (requests : List Request) (seed n : ℕ) (blocks : List (List Event)) (state : StateValue) (some : 1 ≤ n) (few : n ≤ most_nodes) where
   -- the values are those that node 1 knows, so they fit
   values_fit_all : IsSteady service requests seed n blocks state → values_fit service (values_of service blocks) ≡ true
   values_fit_all h =

@@ -2,7 +2,8 @@
 
 ghost use Rattle.std.specs.Prelude.{◌≡◌, ◌<◌, ◌≤◌, ◌+◌, ◌^◌, [], ◌∷◌, length, OnOk};
 ghost use Rattle.std.specs.List.{All};
-ghost use Rattle.rex_scenario.specs.Fits.{LineFits};
+ghost use Rattle.rex_version.specs.Versions.{has_old_form};
+ghost use Rattle.rex_scenario.specs.Fits.{LineFits, FormFits};
 ghost use Rattle.rex_scenario.specs.declared.scenario.ScheduleLine.TheVariants.{Flush};
 ghost use Rattle.rex_safety.specs.Takes.{BeginsInRange};
 ghost use Rattle.rex_safety.specs.Takes.Doing.{Does, Takes};
@@ -26,6 +27,7 @@ pub(crate) fn do_line(
 ) -> Result<(), AllocError>
     requires running { IsRunning svc.now world.old }
     requires fits { LineFits (nodes_of world.old) (length world.old.requests) svc.now.lanes line.now }
+    requires form { FormFits (has_old_form svc.now) line.now }
     requires count { world.old.done + 1 < 2 ^ 32 }
     ensures did { OnOk result (Did svc.now world.old world.new (Does line.now ∷ [])) }
     ensures done { OnOk result (world.new.done ≡ world.old.done + 1) }

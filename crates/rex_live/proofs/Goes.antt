@@ -10,7 +10,7 @@ use Rattle.rex_state.specs.Value.{StateValue}
 use Rattle.rex_state.specs.Machine.{lane_of, frame_at, enabled, after, next}
 use Rattle.rex_state.specs.Sound.{IsSound}
 use Rattle.rex_record.specs.declared.turns.Turn.{Turn}
-use Rattle.rex_record.specs.declared.turns.Turn.TheVariants.{Done, Full, Idle, Held, Unsignalled, Unfit}
+use Rattle.rex_record.specs.declared.turns.Turn.TheVariants.{Done, Full, Idle, Held, Unsignalled, Zero, Unfit}
 use Rattle.rex_record.specs.Turn.{begin_of, event_at, lane_turn}
 use Rattle.rex_record.specs.Value.{started}
 use Rattle.rex_record.proofs.Goes.{turn_goes_on}
@@ -50,6 +50,7 @@ done_of Full e h = absurd (cc)
 done_of Idle e h = absurd (cc)
 done_of (Held by) e h = absurd (cc)
 done_of Unsignalled e h = absurd (cc)
+done_of (Zero semaphore) e h = absurd (cc)
 done_of Unfit e h = absurd (cc)
 
 goes_from : (service : Declarations) (requests : List Request) (s : StateValue) (lane : ℕ) (clock : ℤ) (random : ℕ) (e : Event) (o : Option Frame) → IsService service → IsSound service s

@@ -17,6 +17,7 @@ use Rattle.rex_state.specs.Lines.{line_of}
 use Rattle.rex_state.specs.Own.{started}
 use Rattle.rex_state.specs.Machine.{frame_at, client_allows, next, run}
 use Rattle.rex_state.specs.Put.{lines_run}
+use Rattle.rex_state.specs.Semaphores.{HasSemaphore}
 use Rattle.rex_state.specs.Room.{CanApply, CanStart, HasQueue, HasEntry}
 use Rattle.rex_state.specs.Start.{start_of}
 use Rattle.rex_state.specs.Sound.{with_flows, IsSound}
@@ -111,6 +112,7 @@ module _ (service : Declarations) (good : IsService service) (out : List Bool) (
         fits = (let P : Option Frame → Type 0 = λ o. IfSome (started service e.kind o) (FitsIn service) in subst P same can.fits);
         variables = variables_kept;
         queue = subst (HasQueue e.kind) (sym lending.by.queues) can.queue;
+        semaphore = subst (HasSemaphore e.kind) (sym lending.by.semaphores) can.semaphore;
         entry = subst (HasEntry e.kind) (sym lending.by.clients) can.entry;
       }
 

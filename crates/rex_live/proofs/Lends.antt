@@ -16,6 +16,7 @@ use Rattle.rex_event.specs.declared.event.Event.{Event}
 use Rattle.rex_state.specs.declared.lane.Lane.{Lane}
 use Rattle.rex_state.specs.Value.{StateValue}
 use Rattle.rex_state.specs.Own.{started, ran as ran_lines, run_on}
+use Rattle.rex_state.specs.Semaphores.{semaphores_after}
 use Rattle.rex_state.specs.Machine.{no_lane, lane_of, frame_at, queues_after, clients_after, after}
 use Rattle.rex_state.specs.Put.{with_lane, lines_lead, lines_run}
 use Rattle.rex_state.specs.Flows.{CheckedFlows}
@@ -152,6 +153,7 @@ module _ (p : CheckedFlows) (chk : IsRight p) (out : List Bool) (kept s : StateV
       variables = ran.long ∙ lends.variables;
       lanes = length-set kept.lanes l _ ∙ lends.lanes;
       queues = lends.queues;
+      semaphores = lends.semaphores;
       clients = lends.clients;
       done = λ m. done_run m (cases_eq m l) ∙ lends.done m;
       back = λ m b. back_run m b (cases_eq m l);
@@ -280,6 +282,7 @@ module _ (p : CheckedFlows) (chk : IsRight p) (out : List Bool) (kept s : StateV
       variables = lends.variables ∙ sym does.long;
       lanes = length-set kept.lanes l _ ∙ lends.lanes ∙ sym (length-set s.lanes l _);
       queues = ap (queues_after e.kind l) lends.queues;
+      semaphores = ap (semaphores_after e.kind) lends.semaphores;
       clients = ap (clients_after e.kind) lends.clients;
       done = λ m. done_begun m (cases_eq m l);
       back = λ m b. back_begun m b (cases_eq m l);

@@ -7,3 +7,4 @@ pub mod Same
 pub mod Kept
 pub mod Once
 pub mod Opens
+pub mod Begun

@@ -110,6 +110,8 @@ module _ (p : CheckedFlows) (chk : IsRight p) (out : List Bool) (kept s : StateV
   wanted_same f clock random (line.Share lock) fits run i = refl
   wanted_same f clock random (line.Release lock) fits run i = refl
   wanted_same f clock random (line.Wait condition test) fits run i = refl
+  wanted_same f clock random (line.Down semaphore) fits run i = refl
+  wanted_same f clock random (line.Up semaphore) fits run i = refl
   wanted_same f clock random (line.Clock local) fits run i = refl
   wanted_same f clock random (line.Random local) fits run i = refl
   wanted_same f clock random _ fits run i = refl
@@ -119,7 +121,7 @@ module _ (p : CheckedFlows) (chk : IsRight p) (out : List Bool) (kept s : StateV
     event_same k = ap (λ (n : ℕ). let e : Event = record { lane = lane; index = n; kind = k } in e) (lends.done lane)
 
     turn_same : (k : Kind) → turn_for kept lane k ≡ turn_for s lane k
-    turn_same k = rw (held_by_same k, event_same k) refl
+    turn_same k = rw (held_by_same k, lends.semaphores, event_same k) refl
 
     waiting_same : (l : Line) → waiting_turn p.service kept lane l ≡ waiting_turn p.service s lane l
     waiting_same (line.Wait condition test) =

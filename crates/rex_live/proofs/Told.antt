@@ -18,7 +18,7 @@ use Rattle.rex_state.specs.Lines.{line_of}
 use Rattle.rex_state.specs.Locks.{is_free}
 use Rattle.rex_state.specs.Machine.{frame_at, queue_at, is_in, enabled}
 use Rattle.rex_record.specs.declared.turns.Turn.TheVariants.{Done, Unsignalled}
-use Rattle.rex_record.specs.Turn.{begin_of, wanted, held_by, event_at, done_unless, turn_for, waiting_turn, busy_turn}
+use Rattle.rex_record.specs.Turn.{begin_of, wanted, held_by, zero_at, event_at, done_unless, turn_for, waiting_turn, busy_turn}
 use Rattle.rex_live.specs.Floor.{FloorValue, opened, begin_at, lane_event, next_event, recorded, LeadsTo, IsMade}
 use Rattle.rex_live.specs.Laws.{IsTold, IsToldAfter}
 use Rattle.rex_live.proofs.Goes.{done_of}
@@ -44,9 +44,10 @@ leads_history service requests f g (e ∷ es) h = leads_history service requests
 
 -- ---- what it says
 
-done_kind : (o : Option ℕ) (d e : Event) → done_unless o d ≡ Done e → d ≡ e
-done_kind None d e h = cc
-done_kind (Some by) d e h = absurd (cc)
+done_kind : (o z : Option ℕ) (d e : Event) → done_unless o z d ≡ Done e → d ≡ e
+done_kind None None d e h = cc
+done_kind None (Some semaphore) d e h = absurd (cc)
+done_kind (Some by) z d e h = absurd (cc)
 
 -- a begun request was handed in
 has_cond : (test : Request → Bool) (rs : List Request) (r x : Request) (b : Bool) → (find test rs ≡ Some x → Has x rs) → (if b then Some r else find test rs) ≡ Some x → Has x (r ∷ rs)
@@ -79,6 +80,8 @@ wanted_told service requests f frame (line.Try lock busy) = tried requests f loc
 wanted_told service requests f frame (line.Wait condition test) = tt
 wanted_told service requests f frame (line.Signal condition) = tt
 wanted_told service requests f frame (line.Broadcast condition) = tt
+wanted_told service requests f frame (line.Down semaphore) = tt
+wanted_told service requests f frame (line.Up semaphore) = tt
 wanted_told service requests f frame (line.Clock local) = refl
 wanted_told service requests f frame (line.Random local) = refl
 wanted_told service requests f frame (line.Reply value) = tt
@@ -87,7 +90,7 @@ wanted_told service requests f frame _ = tt
 woken_told : (requests : List Request) (f : FloorValue) (lane condition lock : ℕ) (b : Bool) (e : Event) → (if b then Unsignalled else turn_for f.state lane (Wake condition lock)) ≡ Done e → IsTold requests f e.kind
 woken_told requests f lane condition lock true e h = absurd (cc)
 woken_told requests f lane condition lock false e h =
-    subst (λ (d : Event). IsTold requests f d.kind) (done_kind (held_by (Wake condition lock) f.state.lanes) (event_at f.state lane (Wake condition lock)) e h) tt
+    subst (λ (d : Event). IsTold requests f d.kind) (done_kind (held_by (Wake condition lock) f.state.lanes) None (event_at f.state lane (Wake condition lock)) e h) tt
 
 waiting_told : (service : Declarations) (requests : List Request) (f : FloorValue) (lane : ℕ) (l : Line) (e : Event) → waiting_turn service f.state lane l ≡ Done e → IsTold requests f e.kind
 waiting_told service requests f lane (line.Wait condition test) e h = woken_told requests f lane condition (lock_of service condition) (is_in lane (queue_at f.state.queues condition)) e h
@@ -97,7 +100,7 @@ busy_told : (service : Declarations) (requests : List Request) (f : FloorValue) 
     → busy_turn service f.state lane frame (pos (length f.history)) (pcg32 f.dice).0 b ≡ Done e → IsTold requests f e.kind
 busy_told service requests f lane frame true e h =
     let k = wanted service f.state frame (pos (length f.history)) (pcg32 f.dice).0 (line_of service frame) in
-    subst (λ (d : Event). IsTold requests f d.kind) (done_kind (held_by k f.state.lanes) (event_at f.state lane k) e h) (wanted_told service requests f frame (line_of service frame))
+    subst (λ (d : Event). IsTold requests f d.kind) (done_kind (held_by k f.state.lanes) (zero_at k f.state.semaphores) (event_at f.state lane k) e h) (wanted_told service requests f frame (line_of service frame))
 busy_told service requests f lane frame false e h = waiting_told service requests f lane (line_of service frame) e h
 
 told_at : (service : Declarations) (requests : List Request) (f : FloorValue) (lane : ℕ) (o : Option Frame) (e : Event)

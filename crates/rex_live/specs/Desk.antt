@@ -3,6 +3,7 @@ use Rattle.std.specs.Prelude.{◌≡◌, ℕ, Bool, List, length}
 use Rattle.rand_pcg.specs.Lcg.{Lcg}
 use Rattle.rex_syntax.specs.declared.request.Request.{Request}
 use Rattle.rex_syntax.specs.declared.service.Declarations.{Declarations}
+use Rattle.rex_event.specs.Limits.{most_lanes}
 use Rattle.rex_state.specs.Value.{StateValue}
 use Rattle.rex_live.specs.Floor.{FloorValue, IsMade}
 use Rattle.rex_live.specs.Lent.{IsLending}
@@ -19,6 +20,6 @@ pub record IsDesk (service : Declarations) (handed requests : List Request) (dic
   pub made : IsMade service handed dice d.floor
   pub same : requests ≡ handed
   pub counted : total ≡ length d.floor.history
-  pub lanes : length d.out ≡ 16
+  pub lanes : length d.out ≡ most_lanes
   pub lending : IsLending service d.out kept d.floor.state
   pub noted : HasPlaces service requests kept.clients places

@@ -64,11 +64,12 @@ RequestsBeginOnce =
     (service : Declarations) (requests : List Request) (dice : Lcg) (f : FloorValue) (before between rest : List Event) (e y : Event) (request : ℕ × ℕ) → IsService service → IsChecked service → IsMade service requests dice f
     → f.history ≡ before ++ e ∷ (between ++ y ∷ rest) → begun_request e.kind ≡ Some request → begun_request y.kind ≡ Some request → ⊥
 
--- what is kept says of the state: what lanes hold, the queues and the clients' entries; the values of variables whose guards no lane holds exclusively; the frame of a lane that is back, and the values of
+-- what is kept says of the state: what lanes hold, the queues, the semaphores' values and the clients' entries; the values of variables whose guards no lane holds exclusively; the frame of a lane that is back, and the values of
 -- variables whose guards it holds; and of a lane that is out, where its lines lead from what is kept
 pub record KeepsState (service : Declarations) (out : List Bool) (kept s : StateValue) : Type 0 where
   pub held : (lane : ℕ) → held_at kept lane ≡ held_at s lane
   pub queues : kept.queues ≡ s.queues
+  pub semaphores : kept.semaphores ≡ s.semaphores
   pub clients : kept.clients ≡ s.clients
   pub free : (variable : ℕ) → ((lane : ℕ) → may_write service (held_at s lane) variable ≡ false) → value_at kept.variables variable ≡ value_at s.variables variable
   pub back : (lane : ℕ) → is_out out lane ≡ false → frame_at kept lane ≡ frame_at s lane

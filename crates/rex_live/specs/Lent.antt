@@ -41,6 +41,7 @@ pub record IsLendingBy (p : CheckedFlows) (out : List Bool) (kept s : StateValue
   pub variables : length kept.variables ≡ length s.variables
   pub lanes : length kept.lanes ≡ length s.lanes
   pub queues : kept.queues ≡ s.queues
+  pub semaphores : kept.semaphores ≡ s.semaphores
   pub clients : kept.clients ≡ s.clients
   pub done : (lane : ℕ) → (lane_of kept lane).done ≡ (lane_of s lane).done
   pub back : (lane : ℕ) → is_out out lane ≡ false → frame_at kept lane ≡ frame_at s lane

@@ -92,7 +92,7 @@ impl<S: Setting> Desk<S> {
         requires dice { spec.dice_of seed ≡ S.dice }
         requires events { events.total ≡ 0 }
         ensures floor { IfOk result (λ d. d.floor ≡ spec.opened S.service S.dice) }
-        ensures out { IfOk result (λ d. d.out ≡ replicate 16 false) }
+        ensures out { IfOk result (λ d. d.out ≡ replicate LANES false) }
     {
         let kept = State::start(alloc, svc)?;
         let places = first_places(alloc, svc, &kept, requests.as_slice())?;

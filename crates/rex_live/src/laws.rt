@@ -19,9 +19,10 @@ pub fn requests_begin_once()
     ensures { RequestsBeginOnce }
 {}
 
-/// What a floor keeps while lines are out is what the history's state says: who holds which lock, who waits, what is known
-/// of clients, the values of variables that no lane holds exclusively, and the frames and guarded values of the lanes whose
-/// lines are run. The lines that are out lead from it to the frames and guarded values of the others.
+/// What a floor keeps while lines are out is what the history's state says: who holds which lock, who waits, the values of
+/// semaphores, what is known of clients, the values of variables that no lane holds exclusively, and the frames and guarded
+/// values of the lanes whose lines are run. The lines that are out lead from it to the frames and guarded values of the
+/// others.
 pub fn lending_keeps_state()
     ensures { LendingKeepsState }
 {}

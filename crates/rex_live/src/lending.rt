@@ -14,7 +14,7 @@ ghost use Rattle.rex_live.specs.Lent.{begun, IsFitting, TakesWritten};
 
 use crate::segment::Brought;
 use crate::setting::Setting;
-use rex_event::Event;
+use rex_event::{Event, LANES};
 use rex_frame::frame::Frame;
 use rex_state::start_lane;
 use rex_state::state::State;
@@ -24,7 +24,7 @@ use rex_syntax::service::Declarations;
 
 /// Does an event, and leaves its lane's lines up to the next one to be run.
 pub(crate) fn begin_event(kept: &mut State, svc: &Checked, event: &Event)
-    requires lane { event.now.lane < 16 }
+    requires lane { event.now.lane < LANES }
     requires apply { CanApply svc.now event.now.lane event.now.kind kept.old }
     ensures { kept.new ≡ begun svc.now kept.old event.now }
 {

@@ -4,9 +4,9 @@ use Rattle.std.specs.Prelude.{Option, Some, None, pos}
 use Rattle.rex_syntax.specs.declared.expr.Operand.TheVariants.{Number, Local, Variable}
 use Rattle.rex_syntax.specs.declared.expr.Expr.{Expr}
 use Rattle.rex_syntax.specs.declared.flow.CheckCode.{CheckCode}
-use Rattle.rex_syntax.specs.declared.flow.CheckCode.TheVariants.{UnguardedRead, UnguardedWrite, NotHeld, OutOfOrder, BranchesDiffer, LoopDiffers, HeldAtReply, ConditionLock, TooLong}
+use Rattle.rex_syntax.specs.declared.flow.CheckCode.TheVariants.{UnguardedRead, UnguardedWrite, NotHeld, OutOfOrder, BranchesDiffer, LoopDiffers, HeldAtReply, ConditionLock, TooLong, HeldAtDown}
 use Rattle.rex_syntax.specs.declared.line.Line.{Line}
-use Rattle.rex_syntax.specs.declared.line.Line.TheVariants.{Acquire, Share, Release, Try, Busy, EndTry, Wait, Set, Let, If, Else, EndIf, Repeat, EndRepeat, Reply}
+use Rattle.rex_syntax.specs.declared.line.Line.TheVariants.{Acquire, Share, Release, Try, Busy, EndTry, Wait, Down, Up, Set, Let, If, Else, EndIf, Repeat, EndRepeat, Reply}
 use Rattle.rex_syntax.specs.declared.service.LockKind.TheVariants.{Plain, ReadersWriter}
 use Rattle.rex_syntax.specs.declared.service.Handler.{Handler}
 use Rattle.rex_syntax.specs.declared.service.Declarations.{Declarations}
@@ -17,11 +17,12 @@ use Rattle.rex_lockset.specs.Refusal.{refusal_of}
 
 -- ---- a service
 
--- two locks, a plain one and a readers-writer one, a condition of the first, and a variable that each of them guards
+-- two locks, a plain one and a readers-writer one, a semaphore, a condition of the first lock, and a variable that each of them guards
 abbrev service_with : List Handler → Declarations
 service_with handlers = record {
   lanes = 2;
   locks = record { name = []; kind = Plain } ∷ record { name = []; kind = ReadersWriter } ∷ [];
+  semaphores = record { name = []; first = 0 } ∷ [];
   conditions = record { name = []; lock = 0 } ∷ [];
   variables = record { name = []; guard = 0; first = pos 0 } ∷ record { name = []; guard = 1; first = pos 0 } ∷ [];
   handlers = handlers;
@@ -58,6 +59,10 @@ tried = refl
 waiting : refusal_of (service_of (Acquire 0 ∷ Wait 0 (just (Variable 0)) ∷ Set 0 argument ∷ Release 0 ∷ Reply zero_value ∷ [])) ≡ None
 waiting = refl
 
+-- a semaphore is taken down while no lock is held, and put up at any time
+counted : refusal_of (service_of (Down 0 ∷ Acquire 0 ∷ Up 0 ∷ Release 0 ∷ Reply zero_value ∷ [])) ≡ None
+counted = refl
+
 -- ---- one service for each code
 
 unguarded_read : refusal_of (service_of (Let 1 (just (Variable 0)) ∷ Reply zero_value ∷ [])) ≡ refused_at 0 UnguardedRead
@@ -92,6 +97,9 @@ held_at_reply = refl
 
 condition_lock : refusal_of (service_of (Wait 0 argument ∷ Reply zero_value ∷ [])) ≡ refused_at 0 ConditionLock
 condition_lock = refl
+
+held_at_down : refusal_of (service_of (Acquire 0 ∷ Down 0 ∷ Release 0 ∷ Reply zero_value ∷ [])) ≡ refused_at 1 HeldAtDown
+held_at_down = refl
 
 -- two loops of a thousand turns, one inside the other
 abbrev long_lines : List Line

@@ -2,7 +2,7 @@
 use Rattle.std.proofs.Common.{◌≡◌, ℕ, ◌+◌, ◌-◌, ◌<◌, ◌⊎◌, List, length, get_or, arith, refl, sym, subst, Bool, true, false, Ok, Err, inl, inr}
 use Rattle.std.specs.Prelude.{Option, Some, None, IfSome, slice_get, if◌then◌else◌}
 use Rattle.rex_syntax.specs.declared.line.Line.{Line}
-use Rattle.rex_syntax.specs.declared.line.Line.TheVariants.{Acquire, Share, Release, Try, Busy, EndTry, Wait, Signal, Broadcast, Set, Let, Clock, Random, If, Else, EndIf, Repeat, EndRepeat, Reply}
+use Rattle.rex_syntax.specs.declared.line.Line.TheVariants.{Acquire, Share, Release, Try, Busy, EndTry, Wait, Signal, Broadcast, Down, Up, Set, Let, Clock, Random, If, Else, EndIf, Repeat, EndRepeat, Reply}
 use Rattle.rex_syntax.specs.declared.locks.Lockset.{Lockset}
 use Rattle.rex_syntax.specs.declared.flow.CheckCode.{CheckCode}
 use Rattle.rex_syntax.specs.declared.flow.Leads.{Leads}
@@ -43,6 +43,8 @@ has_form service (Try lock busy) held leads e = (_, only_ok _ _ _ leads e)
 has_form service (Wait condition test) held leads e = (_, both_ok _ _ _ _ _ leads e)
 has_form service (Signal condition) held leads e = (_, only_ok _ _ _ leads e)
 has_form service (Broadcast condition) held leads e = (_, only_ok _ _ _ leads e)
+has_form service (Down semaphore) held leads e = (_, only_ok _ _ _ leads e)
+has_form service (Up semaphore) held leads e = (held, cc)
 has_form service (Set variable value) held leads e = (_, both_ok _ _ _ _ _ leads e)
 has_form service (Let local value) held leads e = (_, only_ok _ _ _ leads e)
 has_form service (If test otherwise) held leads e = only_ok _ _ _ leads e

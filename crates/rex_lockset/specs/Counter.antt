@@ -31,6 +31,7 @@ abbrev pub counter : Line → Declarations
 counter first = record {
   lanes = 2;
   locks = record { name = []; kind = Plain } ∷ [];
+  semaphores = [];
   conditions = [];
   variables = record { name = []; guard = 0; first = pos 0 } ∷ [];
   handlers = adder first ∷ [];

@@ -222,6 +222,7 @@ pub fn leads_from(service: &Declarations, line: &Line, held: Lockset) -> Result<
             on(held),
             CheckCode::ConditionLock,
         ),
+        Line::Down { .. } => only_if(held.is_empty(), on(held), CheckCode::HeldAtDown),
         Line::Set { variable, value } => after_set(service, *variable, value, held),
         Line::Let { value, .. } => if_read(service, value, &held, on(held)),
         Line::If { test, otherwise } => {
@@ -229,8 +230,12 @@ pub fn leads_from(service: &Declarations, line: &Line, held: Lockset) -> Result<
         }
         Line::Else { end } | Line::Busy { end } => Ok(jump(held, *end)),
         Line::Repeat { after, .. } => Ok(fork(held, after.saturating_sub(1), held)),
-        Line::Clock { .. } | Line::Random { .. } | Line::EndIf | Line::EndTry | Line::EndRepeat =>
-            Ok(on(held)),
+        Line::Up { .. }
+        | Line::Clock { .. }
+        | Line::Random { .. }
+        | Line::EndIf
+        | Line::EndTry
+        | Line::EndRepeat => Ok(on(held)),
         Line::Reply { value } => after_reply(service, value, held),
     }
 }

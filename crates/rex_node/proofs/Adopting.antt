@@ -5,6 +5,7 @@ use Rattle.std.specs.List.{All}
 use Rattle.std.proofs.lemmas.Bool.{and_parts, le-ltb, lt-ltb}
 use Rattle.std.proofs.lemmas.Option.{same_Some}
 use Rattle.std.proofs.lemmas.List.Elements.{All-contains, Contains-append_right}
+use Rattle.rex_ballot.specs.Limits.{most_nodes}
 use Rattle.rex_ballot.specs.declared.proposal.Proposal.{Proposal as Kept}
 use Rattle.rex_ballot.specs.Ballot as ballots
 use Rattle.rex_ballot.specs.Proposals.{IsValue}
@@ -243,7 +244,7 @@ module _ {K : Type 0} (records : K → List (List ℕ)) (gives : K → List ℕ 
   down_node_kept : (y : NodeValue K) → IsSame x y → y.up ≡ false → IsNode records service y
   down_node_kept y same down = record {
     id = (subst (λ (n : ℕ). 0 < n) (sym same.id) kept_so.id.0, let least = kept_so.id.1 in let id : y.id ≡ x.id = same.id in let nodes : y.nodes ≡ x.nodes = same.nodes in omega (arith, least));
-    few = subst (λ (n : ℕ). n ≤ 9) (sym same.nodes) kept_so.few;
+    few = subst (λ (n : ℕ). n ≤ most_nodes) (sym same.nodes) kept_so.few;
     up = λ t. absurd (cc);
     rests = λ t. absurd (cc);
   }

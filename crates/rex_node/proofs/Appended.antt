@@ -17,7 +17,7 @@ use Rattle.rex_durable.specs.Spelling.{HasSpelling, IsDue, record_bytes}
 use Rattle.rex_report.specs.declared.effect.Effect.{Effect}
 use Rattle.rex_report.specs.declared.effect.Effect.TheVariants as effect
 use Rattle.rex_traits.specs.Chains.{Answer}
-use Rattle.rex_safety.specs.Records.{Rec, placed, promise, accepted, known, base}
+use Rattle.rex_safety.specs.Records.{Rec, placed, promise, accepted, known, base, has_old_base}
 use Rattle.rex_safety.specs.Records.Rec.{Promised, Accepted, Known}
 use Rattle.rex_safety.specs.Ranges.{IsBallot, IsInstance, AreRising, LogFits, RoleFits}
 use Rattle.rex_safety.specs.Node.{Message, Failure, down_node}
@@ -55,6 +55,7 @@ pub record IsLogged {K : Type 0} (service : Declarations) (x : NodeValue K) (log
   pub accepted : map proposal_in x.acceptor.accepted ≡ accepted log
   pub known : x.known ≡ known log
   pub base : x.base ≡ base log
+  pub old_base : x.old_base ≡ has_old_base log
   pub few : x.base ≤ length x.known
   pub start : run service (start_of service) (trace_of (take x.base x.known)) ≡ Some x.start
   pub short : AreShort x.acceptor.accepted
@@ -68,6 +69,7 @@ module _ {K : Type 0} (records : K → List (List ℕ)) (service : Declarations)
     accepted = u.accepted;
     known = u.known;
     base = u.base;
+    old_base = u.old_base;
     few = subst (λ (n : ℕ). n ≤ length x.known) (sym u.base) (subst (λ (vs : List Value). base (log_of service (records x.keeper)) ≤ length vs) (sym u.known) (le_trans u.replayed.based u.replayed.replayed));
     start = u.start;
     short = u.short;
@@ -91,6 +93,7 @@ module _ {K : Type 0} (records : K → List (List ℕ)) (service : Declarations)
     accepted = l.accepted;
     known = l.known;
     base = l.base;
+    old_base = l.old_base;
     start = l.start;
     replayed = record {
       based = subst (λ (n : ℕ). n ≤ x.replayed) l.base b.based;
@@ -124,6 +127,7 @@ module _ {K : Type 0} (service : Declarations) (x : NodeValue K) (log : List (Re
     accepted = h.accepted;
     known = h.known;
     base = h.base;
+    old_base = h.old_base;
     few = h.few;
     start = h.start;
     short = h.short;
@@ -138,6 +142,7 @@ module _ {K : Type 0} (service : Declarations) (x : NodeValue K) (log : List (Re
     accepted = placed_kept 0 x.acceptor.accepted p rising ∙ ap (placed (proposal_in p)) h.accepted;
     known = h.known;
     base = h.base;
+    old_base = h.old_base;
     few = h.few;
     start = h.start;
     short = All-append (λ (q : Kept). IsValue q.value) (below i x.acceptor.accepted) (p ∷ above i x.acceptor.accepted)
@@ -160,6 +165,7 @@ module _ {K : Type 0} (service : Declarations) (x : NodeValue K) (log : List (Re
     accepted = h.accepted;
     known = ap (λ (vs : List Value). vs ++ v ∷ []) h.known;
     base = h.base;
+    old_base = h.old_base;
     few = omega (arith, h.few, length_push x.known v);
     start = ap (λ (vs : List Value). run service (start_of service) (trace_of vs)) (take-append-le x.base x.known (v ∷ []) h.few) ∙ h.start;
     short = h.short;

@@ -127,7 +127,7 @@ module _ {K : Type 0} (records : K → List (List ℕ)) (gives : K → List ℕ 
         promised_here = logged_promised service x log (logged_of records service x u) b (ballot_fits b least.is)
 
         z_logged : IsLogged service z_at (log_of service (records y.keeper))
-        z_logged = subst (IsLogged service z_at) (sym log_is) (logged_as service (record x { acceptor = promising x.acceptor b }) z_at (Promised b ∷ log) refl refl refl refl promised_here)
+        z_logged = subst (IsLogged service z_at) (sym log_is) (logged_as service (record x { acceptor = promising x.acceptor b }) z_at (Promised b ∷ log) refl refl refl refl refl promised_here)
 
         -- it reports what it accepted for the instances that it doesn't know
         reports_are : map proposal_in (candidate_of x b).reported ≡ own_reports log
@@ -210,7 +210,7 @@ module _ {K : Type 0} (records : K → List (List ℕ)) (gives : K → List ℕ 
               here_is =
                   ap (λ (n : Here). record n { role = Leading (lead_of (promising x.acceptor b) (candidate_of x b) false) })
                   (follower_here records service x node up y.keeper (Promised b) (promising x.acceptor b) x.known log_is refl
-                  (record { promised = promised_here.promised; accepted = promised_here.accepted; known = promised_here.known; base = promised_here.base; few = promised_here.few; start = promised_here.start; short = promised_here.short; fits = promised_here.fits; numbers = promised_here.numbers })
+                  (record { promised = promised_here.promised; accepted = promised_here.accepted; known = promised_here.known; base = promised_here.base; old_base = promised_here.old_base; few = promised_here.few; start = promised_here.start; short = promised_here.short; fits = promised_here.fits; numbers = promised_here.numbers })
                   (le_refl _) (λ n l. refl) (map message_in before.sends.items) before.effects.items)
                   ∙ ap (λ (l : Lead Value). record (with_role Follower (logged (Promised b) None begun)).node { role = Leading l }) lead_is
 

@@ -88,7 +88,7 @@ module _ {K : Type 0} (records : K → List (List ℕ)) (gives : K → List ℕ 
       logged_here : IsLogged service (record x { keeper = y.keeper; acceptor = x.acceptor; known = x.known ++ v ∷ [] }) (Known i v ∷ log_of service (records x.keeper))
       logged_here =
           let l : IsLogged service (record x { known = x.known ++ v ∷ [] }) (Known i v ∷ log_of service (records x.keeper)) = logged_known service x (log_of service (records x.keeper)) (logged_of records service x u) i v next (instance_fits i there) fits in
-          record { promised = l.promised; accepted = l.accepted; known = l.known; base = l.base; few = l.few; start = l.start; short = l.short; fits = l.fits; numbers = l.numbers }
+          record { promised = l.promised; accepted = l.accepted; known = l.known; base = l.base; old_base = l.old_base; few = l.few; start = l.start; short = l.short; fits = l.fits; numbers = l.numbers }
 
 -- ---- what a node is asked for
 

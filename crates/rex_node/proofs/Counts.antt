@@ -314,7 +314,7 @@ module _ {K : Type 0} (records : K → List (List ℕ)) (gives : K → List ℕ 
           }
 
       z_kept : IsKept records service z_at
-      z_kept = record { id = node.id; few = node.few; up = λ t. up_of records service z_at (logged_as service x z_at (log_of service (records x.keeper)) refl refl refl refl (logged_of records service x u)) z_beside }
+      z_kept = record { id = node.id; few = node.few; up = λ t. up_of records service z_at (logged_as service x z_at (log_of service (records x.keeper)) refl refl refl refl refl (logged_of records service x u)) z_beside }
 
       -- the call counts it
       hears_is : (f : Option Failure) → whole (armed_with f begun) ≡ hear x.nodes (service_of service x.seed) x.id (lead_of x.acceptor more (is_some x.acting)) (armed_with f begun)

@@ -81,7 +81,7 @@ module _ {K : Type 0} (records : K → List (List ℕ)) (service : Declarations)
       late counts live = refusal_of_none (below (greatest_cut counts live) live)
 
       by : (w : Option ActingValue) → x.acting ≡ w → MakesPieceOf w limits result → RefusesThen None (late (counts_for service (here_of records service x) limits) (work_of x.acting).live) result
-      by None e k = subst (RefusesThen None (late (counts_for service (here_of records service x) limits) (work_of x.acting).live)) (sym k) tt
+      by None e k = absurd k
       by (Some a) e k =
           subst (λ (o : Option Refusal). RefusesThen None o result)
           (sym (ap (λ (w : Option ActingValue). late (counts_for service (here_of records service x) limits) (work_of w).live) e ∙ ap (λ (counts : List ℕ). late counts a.recorder.live) (counts_are a e limits)))

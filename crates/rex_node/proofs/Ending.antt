@@ -5,6 +5,7 @@ use Rattle.std.proofs.lemmas.Bool.{false≢true}
 use Rattle.std.proofs.lemmas.Option.{same_Some}
 use Rattle.std.proofs.lemmas.List.Sums.{fold-append}
 use Rattle.std.specs.declared.alloc.AllocError.{AllocError}
+use Rattle.rex_ballot.specs.Limits.{most_nodes}
 use Rattle.rex_msg.specs.declared.message.Message.{Message}
 use Rattle.rex_syntax.specs.declared.service.Declarations.{Declarations}
 use Rattle.rex_state.specs.Value.{StateValue}
@@ -91,7 +92,7 @@ node_with_keeper records service x k same h = record { id = h.id; few = h.few; u
         let l : IsLogged service x (log_of service (records k)) = subst (λ (kept : List (List ℕ)). IsLogged service x (log_of service kept)) (sym same) (logged_of records service x u) in
         let b : Beside records service x = beside_of records service x u in
         up_of records service (record x { keeper = k })
-        (record { promised = l.promised; accepted = l.accepted; known = l.known; base = l.base; few = l.few; start = l.start; short = l.short; fits = l.fits; numbers = l.numbers })
+        (record { promised = l.promised; accepted = l.accepted; known = l.known; base = l.base; old_base = l.old_base; few = l.few; start = l.start; short = l.short; fits = l.fits; numbers = l.numbers })
         (record { based = b.based; replayed = b.replayed; ahead = b.ahead; caught_up = b.caught_up; proposer = b.proposer; acting = b.acting; role = b.role })
 
 -- ---- the end of a public call
@@ -217,7 +218,7 @@ module _ {K : Type 0} (records : K → List (List ℕ)) (gives : K → List ℕ 
       down_kept : IsNode records service (fallen y)
       down_kept = record {
         id = subst (λ (i : ℕ). (0 < i) × (i ≤ y.nodes)) (sym s.id) (subst (λ (m : ℕ). (0 < x.id) × (x.id ≤ m)) (sym s.nodes) n.id);
-        few = subst (λ (m : ℕ). m ≤ 9) (sym s.nodes) n.few;
+        few = subst (λ (m : ℕ). m ≤ most_nodes) (sym s.nodes) n.few;
         up = λ t. absurd (false≢true t);
         rests = λ t. absurd (false≢true t);
       }

@@ -174,6 +174,7 @@ module _ {K : Type 0} (records : K → List (List ℕ)) (service : Declarations)
     accepted = u.accepted;
     known = u.known;
     base = u.base;
+    old_base = u.old_base;
     start = u.start;
     replayed = record { based = u.replayed.based; replayed = u.replayed.replayed };
     ahead = λ n. absurd (none_or_some b n);

@@ -161,7 +161,7 @@ module _ {K : Type 0} (records : K → List (List ℕ)) (service : Declarations)
       follower_up : IsUp service follower (here_of records service follower)
       follower_up =
           up_of records service follower
-          (record { promised = l.promised; accepted = l.accepted; known = l.known; base = l.base; few = l.few; start = l.start; short = l.short; fits = l.fits; numbers = l.numbers })
+          (record { promised = l.promised; accepted = l.accepted; known = l.known; base = l.base; old_base = l.old_base; few = l.few; start = l.start; short = l.short; fits = l.fits; numbers = l.numbers })
           (record {
             based = replayed_from x.acting x.base x.replayed b.based;
             replayed = le_trans to more;

@@ -45,7 +45,7 @@ module _ {V S : Type 0} where
   more (Promised b) log = begins_same (known log)
   more (Accepted b i v) log = begins_same (known log)
   more (Known i v) log = (v ∷ [], refl)
-  more (Checkpoint k s) log = begins_same (known log)
+  more (Checkpoint version k s) log = begins_same (known log)
 
   pub learns_more : (d e : Call V S) (r : Rec V S) → e.node.log ≡ r ∷ d.node.log → Learns d e
   learns_more d e r h = record { begins = subst (λ (log : List (Rec V S)). Begins (known d.node.log) (known log)) (sym h) (more r d.node.log) }

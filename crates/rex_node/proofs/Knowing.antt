@@ -4,6 +4,7 @@ use Rattle.std.specs.Prelude.{map, is_some, option_map, IfSome, IsSome, unwrap_o
 use Rattle.std.proofs.lemmas.Bool.{false≢true}
 use Rattle.std.proofs.lemmas.List.{take-append-le}
 use Rattle.std.proofs.lemmas.List.Sums.{length-filter, count_by-le-length}
+use Rattle.rex_ballot.specs.Limits.{most_nodes}
 use Rattle.rex_ballot.specs.Ballot as ballots
 use Rattle.rex_ballot.specs.Proposals.{IsValue}
 use Rattle.rex_paxos.specs.Acceptor.{AcceptorValue}
@@ -169,7 +170,7 @@ ahead_known service values v (Some a) i replayed ahead start few h e = absurd (c
 
 -- ---- a node that learns
 
-module _ {K : Type 0} (records : K → List (List ℕ)) (gives : K → List ℕ → Answer → K → Type 0) (faults : K → ℕ) (service : Declarations) (good : IsService service) (x : NodeValue K) (u : IsUp service x (here_of records service x)) (id : (0 < x.id) × (x.id ≤ x.nodes)) (few : x.nodes ≤ 9)
+module _ {K : Type 0} (records : K → List (List ℕ)) (gives : K → List ℕ → Answer → K → Type 0) (faults : K → ℕ) (service : Declarations) (good : IsService service) (x : NodeValue K) (u : IsUp service x (here_of records service x)) (id : (0 < x.id) × (x.id ≤ x.nodes)) (few : x.nodes ≤ most_nodes)
     (p : ProposerValue) (e : x.proposer ≡ Some p) (i : ℕ) (v : Value) (next : i ≡ length x.known + 1) (there : ballots.IsInstance i) (short : IsValue v) (fits : values_fit service (x.known ++ v ∷ []) ≡ true) (cut : IsOwnCut service x v) where
   abbrev log : List (Rec Value StateValue)
   log = log_of service (records x.keeper)
@@ -198,7 +199,7 @@ module _ {K : Type 0} (records : K → List (List ℕ)) (gives : K → List ℕ 
 
     z_logged : IsLogged service (z_at keeper) (log_of service (records keeper))
     z_logged = subst (IsLogged service (z_at keeper)) (sym log_is)
-        (logged_as service (record x { known = x.known ++ v ∷ [] }) (z_at keeper) (Known i v ∷ log) refl refl refl refl
+        (logged_as service (record x { known = x.known ++ v ∷ [] }) (z_at keeper) (Known i v ∷ log) refl refl refl refl refl
         (logged_known service x log (logged_of records service x u) i v place (instance_fits i there) fits))
 
     z_beside : Beside records service (z_at keeper)

@@ -55,6 +55,7 @@ module _ {K : Type 0} (records : K → List (List ℕ)) (service : Declarations)
     accepted = u.accepted;
     known = u.known;
     base = u.base;
+    old_base = u.old_base;
     start = u.start;
     replayed = record {
       based = subst (λ (b : ℕ). b ≤ replayed_left (is_some x.acting) x.base x.replayed) u.base (replayed_from x.acting x.base x.replayed based);

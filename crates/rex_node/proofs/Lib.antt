@@ -39,3 +39,6 @@ pub mod Written
 pub mod Reading
 pub mod Held
 pub mod Saved
+pub mod OldBase
+pub mod SavedAgain
+pub mod Alone

@@ -5,6 +5,7 @@ use Rattle.std.proofs.lemmas.Bool.{false≢true}
 use Rattle.std.proofs.lemmas.Option.{same_Some}
 use Rattle.std.proofs.lemmas.List.{length-map}
 use Rattle.std.specs.declared.alloc.AllocError.{AllocError}
+use Rattle.rex_ballot.specs.Limits.{most_nodes}
 use Rattle.rex_ballot.specs.declared.proposal.Proposal.{Proposal as Kept}
 use Rattle.rex_ballot.specs.Ballot as ballots
 use Rattle.rex_ballot.specs.Proposals.{IsValue, proposal_for}
@@ -176,7 +177,7 @@ module _ {K : Type 0} (records : K → List (List ℕ)) (gives : K → List ℕ 
         (leads_fell records gives faults whole (λ d. decide x.nodes sv x.id d l i v rest) x.id x.keeper x.keeper z.keeper (so_far records service x before) (so_far records service x before) (so_far records service z mid) leads_decide o.0, o.1),
         record {
           id = (subst (λ (n : ℕ). 0 < n) (sym same.id) node.id.0, let least = node.id.1 in let a : z.id ≡ x.id = same.id in let b : z.nodes ≡ x.nodes = same.nodes in omega (arith, least));
-          few = subst (λ (n : ℕ). n ≤ 9) (sym same.nodes) node.few;
+          few = subst (λ (n : ℕ). n ≤ most_nodes) (sym same.nodes) node.few;
           up = λ t. absurd (false≢true (sym down ∙ t));
           rests = λ t. absurd (false≢true (sym down ∙ t));
         },

@@ -1,6 +1,7 @@
 -- A node that leads proposes a value: it accepts the value itself and counts that.
 use Rattle.std.proofs.Common.{◌≡◌, ℕ, suc, ◌+◌, ◌<◌, ◌≤◌, Bool, true, false, cond, List, [], ◌∷◌, ◌++◌, length, Option, Some, None, refl, sym, ap, subst, ◌∙◌, arith}
 use Rattle.std.specs.Prelude.{map, max, take, is_some, option_map, IfSome, IsSome, unwrap_or}
+use Rattle.rex_ballot.specs.Limits.{most_nodes}
 use Rattle.rex_ballot.specs.declared.proposal.Proposal.{Proposal as Kept}
 use Rattle.rex_ballot.specs.Ballot as ballots
 use Rattle.rex_ballot.specs.Proposals.{IsValue, proposal_for}
@@ -44,12 +45,13 @@ use Rattle.rex_node.proofs.GoingLemmas.{leads_same, leads_then}
 use Rattle.rex_node.proofs.Written.{appends_as, call_is, log_written, stuck_written, written_on, written_down}
 
 -- the parts that a node has of its records don't know its role
-pub logged_as : {K : Type 0} (service : Declarations) (x y : NodeValue K) (log : List (Rec Value StateValue)) → y.acceptor ≡ x.acceptor → y.known ≡ x.known → y.base ≡ x.base → y.start ≡ x.start → IsLogged service x log → IsLogged service y log
-logged_as service x y log a k b s h = record {
+pub logged_as : {K : Type 0} (service : Declarations) (x y : NodeValue K) (log : List (Rec Value StateValue)) → y.acceptor ≡ x.acceptor → y.known ≡ x.known → y.base ≡ x.base → y.old_base ≡ x.old_base → y.start ≡ x.start → IsLogged service x log → IsLogged service y log
+logged_as service x y log a k b o s h = record {
   promised = ap (λ (v : AcceptorValue). v.promised) a ∙ h.promised;
   accepted = ap (λ (v : AcceptorValue). map proposal_in v.accepted) a ∙ h.accepted;
   known = k ∙ h.known;
   base = b ∙ h.base;
+  old_base = o ∙ h.old_base;
   few = subst (λ (n : ℕ). n ≤ length y.known) (sym b) (subst (λ (vs : List Value). x.base ≤ length vs) (sym k) h.few);
   start = ap (λ (n : ℕ). run service (start_of service) (trace_of (take n y.known))) b ∙ ap (λ (vs : List Value). run service (start_of service) (trace_of (take x.base vs))) k ∙ h.start ∙ ap (λ (t : StateValue). Some t) (sym s);
   short = subst (λ (v : AcceptorValue). AreShort v.accepted) (sym a) h.short;
@@ -145,7 +147,7 @@ some_of (Some x) h = (x, refl)
 
 -- ---- a node that proposes
 
-module _ {K : Type 0} (records : K → List (List ℕ)) (gives : K → List ℕ → Answer → K → Type 0) (faults : K → ℕ) (service : Declarations) (x : NodeValue K) (u : IsUp service x (here_of records service x)) (id : (0 < x.id) × (x.id ≤ x.nodes)) (few : x.nodes ≤ 9)
+module _ {K : Type 0} (records : K → List (List ℕ)) (gives : K → List ℕ → Answer → K → Type 0) (faults : K → ℕ) (service : Declarations) (x : NodeValue K) (u : IsUp service x (here_of records service x)) (id : (0 < x.id) × (x.id ≤ x.nodes)) (few : x.nodes ≤ most_nodes)
     (p : ProposerValue) (e : x.proposer ≡ Some p) (i : ℕ) (v : Value) (next : i ≡ length x.known + 1) (there : ballots.IsInstance i) (short : IsValue v) (cut : IsOwnCut service x v) where
   abbrev r : Rec Value StateValue
   r = Accepted p.ballot i v
@@ -174,7 +176,7 @@ module _ {K : Type 0} (records : K → List (List ℕ)) (gives : K → List ℕ 
 
     z_logged : IsLogged service z (log_of service (records keeper))
     z_logged = subst (IsLogged service z) (sym log_is)
-        (logged_as service (record x { acceptor = accepting x.acceptor (own p i v) }) z (r ∷ log) refl refl refl refl
+        (logged_as service (record x { acceptor = accepting x.acceptor (own p i v) }) z (r ∷ log) refl refl refl refl refl
         (logged_accepted service x log (logged_of records service x u) p.ballot i v lead_fits.ballot (instance_fits i there) short))
 
     z_beside : Beside records service z

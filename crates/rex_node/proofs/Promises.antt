@@ -141,7 +141,7 @@ module _ {K : Type 0} (records : K → List (List ℕ)) (gives : K → List ℕ 
           logged_here : IsLogged service (record x { keeper = y.keeper; acceptor = promising x.acceptor b; known = x.known }) (Promised b ∷ log_of service (records x.keeper))
           logged_here =
               let l : IsLogged service (record x { acceptor = promising x.acceptor b }) (Promised b ∷ log_of service (records x.keeper)) = logged_promised service x (log_of service (records x.keeper)) (logged_of records service x u) b (ballot_fits b ballot) in
-              record { promised = l.promised; accepted = l.accepted; known = l.known; base = l.base; few = l.few; start = l.start; short = l.short; fits = l.fits; numbers = l.numbers }
+              record { promised = l.promised; accepted = l.accepted; known = l.known; base = l.base; old_base = l.old_base; few = l.few; start = l.start; short = l.short; fits = l.fits; numbers = l.numbers }
 
   -- ---- an Accept
 
@@ -219,4 +219,4 @@ module _ {K : Type 0} (records : K → List (List ℕ)) (gives : K → List ℕ 
           logged_here =
               let l : IsLogged service (record x { acceptor = accepting x.acceptor (record { instance = i; ballot = b; value = v }) }) (Accepted b i v ∷ log_of service (records x.keeper)) =
               logged_accepted service x (log_of service (records x.keeper)) (logged_of records service x u) b i v (ballot_fits b ballot) (instance_fits i there) short in
-              record { promised = l.promised; accepted = l.accepted; known = l.known; base = l.base; few = l.few; start = l.start; short = l.short; fits = l.fits; numbers = l.numbers }
+              record { promised = l.promised; accepted = l.accepted; known = l.known; base = l.base; old_base = l.old_base; few = l.few; start = l.start; short = l.short; fits = l.fits; numbers = l.numbers }

@@ -132,6 +132,7 @@ module _ (service : Declarations) (good : IsService service) (values : List Valu
   cut_turned turn.Full queue dice k = record { consistent = c.consistent; within = c.within; events = c.events; others = c.others }
   cut_turned turn.Idle queue dice k = record { consistent = c.consistent; within = c.within; events = c.events; others = c.others }
   cut_turned (turn.Held by) queue dice k = record { consistent = c.consistent; within = c.within; events = c.events; others = c.others }
+  cut_turned (turn.Zero semaphore) queue dice k = record { consistent = c.consistent; within = c.within; events = c.events; others = c.others }
   cut_turned turn.Unsignalled queue dice k = record { consistent = c.consistent; within = c.within; events = c.events; others = c.others }
   cut_turned turn.Unfit queue dice k = record { consistent = c.consistent; within = c.within; events = c.events; others = c.others }
 

@@ -2,6 +2,7 @@
 use Rattle.std.proofs.Common.{◌≡◌, ℕ, suc, ◌+◌, ◌*◌, ◌<◌, ◌≤◌, Bool, true, false, not, List, [], ◌∷◌, ◌++◌, length, Result, Option, Some, None, Ok, Err, refl, sym, ap, subst, ◌∙◌, arith, append_assoc}
 use Rattle.std.specs.Prelude.{IfOk, OnErr, is_some, option_map}
 use Rattle.std.proofs.lemmas.Bool.{false≢true}
+use Rattle.rex_ballot.specs.Limits.{most_nodes}
 use Rattle.rex_paxos.specs.Acceptor.{AcceptorValue, accepting}
 use Rattle.rex_paxos.specs.Counting as counting
 use Rattle.rex_paxos.specs.Proposer.{ProposerValue, is_candidate, proposed, closed}
@@ -61,7 +62,7 @@ module _ {K : Type 0} (records : K → List (List ℕ)) (gives : K → List ℕ 
   down_kept : (x y : NodeValue K) → IsNode records service x → IsSame x y → y.up ≡ false → IsNode records service y
   down_kept x y node same down = record {
     id = subst (λ (n : ℕ). (0 < n) × (n ≤ y.nodes)) (sym same.id) (subst (λ (n : ℕ). (0 < x.id) × (x.id ≤ n)) (sym same.nodes) node.id);
-    few = subst (λ (n : ℕ). n ≤ 9) (sym same.nodes) node.few;
+    few = subst (λ (n : ℕ). n ≤ most_nodes) (sym same.nodes) node.few;
     up = λ t. absurd (false_or_true y.up t down);
     rests = λ t. absurd (false_or_true y.up t down);
   }

@@ -5,6 +5,7 @@ use Rattle.std.proofs.lemmas.Bool.{and_parts}
 use Rattle.std.proofs.lemmas.List.{length-map}
 use Rattle.rex_syntax.specs.declared.service.Declarations.{Declarations}
 use Rattle.rex_syntax.specs.Service.{IsService}
+use Rattle.rex_event.specs.Limits.{most_lanes}
 use Rattle.rex_event.specs.declared.event.Event.{Event}
 use Rattle.rex_event.specs.Cuts.{IsConsistent, IsWithin, below, beyond}
 use Rattle.rex_cut.specs.Delta.{delta_at}
@@ -63,7 +64,7 @@ module _ (service : Declarations) (a : ActingValue) (h : IsRecorder service a.re
       let live = counts_live limits many in
       record {
         bases = counts_of a.recorder.start;
-        few = subst (λ (n : ℕ). n ≤ 16) (sym (counts_long limits many)) good.lanes;
+        few = subst (λ (n : ℕ). n ≤ most_lanes) (sym (counts_long limits many)) good.lanes;
         long = sym live.long;
         numbered = c.numbered;
         from = live.from;

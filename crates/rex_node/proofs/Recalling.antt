@@ -1,6 +1,6 @@
 -- What was recovered from a node's records is what they say.
 use Rattle.std.proofs.Common.{◌≡◌, ℕ, zero, suc, ◌+◌, ◌<◌, ◌≤◌, List, [], ◌∷◌, ◌++◌, length, get_or, take, Result, Ok, Err, Some, None, ◌⊎◌, inl, inr, refl, sym, ap, subst, ◌∙◌, arith}
-use Rattle.std.specs.Prelude.{map, max, is_ok, if◌then◌else◌}
+use Rattle.std.specs.Prelude.{map, max, false, is_ok, if◌then◌else◌}
 use Rattle.std.proofs.lemmas.Option.{same_Some}
 use Rattle.std.proofs.lemmas.List.{take_all, take_more, map-append}
 use Rattle.rex_syntax.specs.declared.service.Declarations.{Declarations}
@@ -14,9 +14,11 @@ use Rattle.rex_durable.specs.Recovery.{after, recovered}
 use Rattle.rex_durable.specs.Spelling.{AreRecords, HasSpelling, IsDue, record_bytes}
 use Rattle.rex_durable.specs.Kept.{Spell}
 use Rattle.rex_durable.proofs.OneMore.{one_more, accepted_rises}
-use Rattle.rex_safety.specs.Records.{Rec, Proposal, promise, accepted, known, base, placed, HasAccepted, HasBallot}
+use Rattle.rex_safety.specs.Records.{Rec, Proposal, promise, accepted, known, base, is_old, has_old_base, placed, HasAccepted, HasBallot}
 use Rattle.rex_safety.specs.Records.Rec.{Checkpoint}
 use Rattle.rex_safety.specs.Agreed.{base_state}
+use Rattle.rex_version.specs.declared.version.Version.{Version}
+use Rattle.rex_snapshot.specs.Allowed.{version_in}
 use Rattle.rex_snapshot.specs.Reading.{state_in}
 use Rattle.rex_safety.specs.Values.{Value}
 use Rattle.rex_safety.specs.Ranges.{IsBallot, IsInstance}
@@ -32,8 +34,8 @@ pub record Says (service : Declarations) (x : Recovered) (log : List (Rec Value 
   pub promised : x.promised ≡ promise log
   pub accepted : map proposal_in x.accepted ≡ accepted log
   pub known : x.known ≡ known log
-  pub none : x.snapshot ≡ None → (x.base ≡ base log) × (base_state log ≡ None)
-  pub some : (bytes : List ℕ) (s : StateValue) → x.snapshot ≡ Some bytes → state_in service bytes ≡ Ok s → (x.base ≡ base log) × (base_state log ≡ Some s)
+  pub none : x.snapshot ≡ None → (x.base ≡ base log) × (base_state log ≡ None) × (has_old_base log ≡ false)
+  pub some : (bytes : List ℕ) (s : StateValue) → x.snapshot ≡ Some bytes → state_in service bytes ≡ Ok s → (x.base ≡ base log) × (base_state log ≡ Some s) × (has_old_base log ≡ is_old (version_in bytes))
   pub ballots : (b : ℕ) → HasBallot b log → IsBallot b
   pub instances : (b i : ℕ) (v : Value) → HasAccepted b i v log → IsInstance i
 
@@ -59,8 +61,8 @@ same_Ok : (s t : StateValue) → ◌≡◌ {A = Result StateValue ℕ} (Ok s) (O
 same_Ok s t e = cc
 
 -- a checkpoint more, where its state was read
-abbrev with_state : Declarations → ℕ → List (Rec Value StateValue) → Result StateValue ℕ → List (Rec Value StateValue)
-with_state service k log q = if is_ok q then Checkpoint k (read_state service q) ∷ log else log
+abbrev with_state : Declarations → Version → ℕ → List (Rec Value StateValue) → Result StateValue ℕ → List (Rec Value StateValue)
+with_state service version k log q = if is_ok q then Checkpoint version k (read_state service q) ∷ log else log
 
 says_more : (service : Declarations) (x : Recovered) (log : List (Rec Value StateValue)) (r : KeptRec) → AreRising 0 x.accepted → HasSpelling r → Says service x log → Says service (after x r) (log_with service log (Ok r))
 says_more service x log (rec.Promised b) rising s h = record {
@@ -97,20 +99,20 @@ says_more service x log (rec.Checkpoint k bytes) rising s h = by (state_in servi
     there : (t : StateValue) → state_in service bytes ≡ Ok t → (others : List ℕ) (u : StateValue) → Some bytes ≡ Some others → state_in service others ≡ Ok u → u ≡ t
     there t e others u f g = same_Ok u t (sym g ∙ ap (state_in service) (sym (same_Some bytes others f)) ∙ e)
 
-    by : (q : Result StateValue ℕ) → state_in service bytes ≡ q → Says service (after x (rec.Checkpoint k bytes)) (with_state service k log (state_in service bytes))
+    by : (q : Result StateValue ℕ) → state_in service bytes ≡ q → Says service (after x (rec.Checkpoint k bytes)) (with_state service (version_in bytes) k log (state_in service bytes))
     by (Ok t) e =
-        subst (λ (q : Result StateValue ℕ). Says service (after x (rec.Checkpoint k bytes)) (with_state service k log q)) (sym e)
+        subst (λ (q : Result StateValue ℕ). Says service (after x (rec.Checkpoint k bytes)) (with_state service (version_in bytes) k log q)) (sym e)
         (record {
           promised = h.promised;
           accepted = h.accepted;
           known = h.known;
           none = λ f. absurd (some_none bytes f);
-          some = λ others u f g. (refl, ap Some (sym (there t e others u f g)));
+          some = λ others u f g. (refl, ap Some (sym (there t e others u f g)), ap (λ (bs : List ℕ). is_old (version_in bs)) (same_Some bytes others f));
           ballots = h.ballots;
           instances = h.instances;
         })
     by (Err at) e =
-        subst (λ (q : Result StateValue ℕ). Says service (after x (rec.Checkpoint k bytes)) (with_state service k log q)) (sym e)
+        subst (λ (q : Result StateValue ℕ). Says service (after x (rec.Checkpoint k bytes)) (with_state service (version_in bytes) k log q)) (sym e)
         (record {
           promised = h.promised;
           accepted = h.accepted;
@@ -128,7 +130,7 @@ nothing_says service = record {
   promised = refl;
   accepted = refl;
   known = refl;
-  none = λ e. (refl, refl);
+  none = λ e. (refl, refl, refl);
   some = λ bytes s e f. absurd (some_none bytes (sym e));
   ballots = λ b h. absurd h;
   instances = λ b i v h. absurd h;

@@ -117,7 +117,7 @@ module _ {K : Type 0} (records : K → List (List ℕ)) (gives : K → List ℕ 
 
       up_after : IsUp service after_replay (here_of records service after_replay)
       up_after = up_of records service after_replay
-          (record { promised = l.promised; accepted = l.accepted; known = l.known; base = l.base; few = l.few; start = l.start; short = l.short; fits = l.fits; numbers = l.numbers })
+          (record { promised = l.promised; accepted = l.accepted; known = l.known; base = l.base; old_base = l.old_base; few = l.few; start = l.start; short = l.short; fits = l.fits; numbers = l.numbers })
           (record {
             based = subst (λ (k : ℕ). x.base ≤ k) (sym n_is) l.few;
             replayed = subst (λ (k : ℕ). k ≤ length x.known) (sym n_is) (le_refl (length x.known));

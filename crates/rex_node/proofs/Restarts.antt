@@ -1,8 +1,9 @@
 -- A node comes up with what its records say.
-use Rattle.std.proofs.Common.{◌≡◌, ℕ, ◌<◌, ◌≤◌, true, List, ◌++◌, length, take, drop, Option, Some, None, refl, sym, ap, subst, ◌∙◌, arith, take-append-drop}
+use Rattle.std.proofs.Common.{◌≡◌, ℕ, ◌<◌, ◌≤◌, Bool, true, List, ◌++◌, length, take, drop, Option, Some, None, refl, sym, ap, subst, ◌∙◌, arith, take-append-drop}
 use Rattle.std.specs.List.{All}
 use Rattle.std.proofs.lemmas.Bool.{false≢true}
 use Rattle.std.proofs.lemmas.List.Elements.{All-weaker}
+use Rattle.rex_ballot.specs.Limits.{most_nodes}
 use Rattle.rex_syntax.specs.declared.service.Declarations.{Declarations}
 use Rattle.rex_ballot.specs.declared.proposal.Proposal.{Proposal as Kept}
 use Rattle.rex_ballot.specs.Proposals.{IsValue}
@@ -12,11 +13,11 @@ use Rattle.rex_state.specs.Machine.{run}
 use Rattle.rex_paxos.specs.Acceptor.{AcceptorValue}
 use Rattle.rex_durable.specs.declared.recovery.Recovered.{Recovered}
 use Rattle.rex_durable.specs.Laws.{HasSnapshot, MayBeAccepted}
-use Rattle.rex_safety.specs.Records.{base, known}
+use Rattle.rex_safety.specs.Records.{base, known, has_old_base}
 use Rattle.rex_safety.specs.Values.{Value, state_after, trace_of, values_fit}
 use Rattle.rex_safety.proofs.Replies.{trace_both, fits_run, run_split, state_is}
 use Rattle.rex_node.specs.Parts.{NodeValue, IsUp, IsNode, here_of, log_of}
-use Rattle.rex_node.specs.Restarting.{CameUp, HasRightBase, IsFound, IsRecalled, IsSaved}
+use Rattle.rex_node.specs.Restarting.{CameUp, HasRightBase, IsFound, IsRecalled, IsSaved, is_saved_old}
 use Rattle.rex_node.proofs.Recalling.{Says, recovered_says}
 
 -- what was found of a node is what its records say
@@ -31,7 +32,7 @@ front_runs service n vs h =
     let q = run_split service (start_of service) r.0 (trace_of (take n vs)) (trace_of (drop n vs)) (ap (run service (start_of service)) (sym parts) ∙ r.1) in
     (q.0, q.1)
 
-module _ (service : Declarations) (lists : List (List ℕ)) (x : Recovered) (start : StateValue) (h : IsRecalled service lists x start) where
+module _ (service : Declarations) (lists : List (List ℕ)) (x : Recovered) (start : StateValue) (old : Bool) (h : IsRecalled service lists x start old) where
   says : Says service x (log_of service lists)
   says = found_says service lists x h.found
 
@@ -42,6 +43,14 @@ module _ (service : Declarations) (lists : List (List ℕ)) (x : Recovered) (sta
       by : (snapshot : Option (List ℕ)) → x.snapshot ≡ snapshot → IsSaved service snapshot start → x.base ≡ base (log_of service lists)
       by None e s = (says.none e).0
       by (Some bytes) e s = (says.some bytes start e s).0
+
+  -- the last checkpoint is in the old version where the records say so
+  pub old_base_is : old ≡ has_old_base (log_of service lists)
+  old_base_is = h.old_is ∙ by x.snapshot refl h.start_is
+    where
+      by : (snapshot : Option (List ℕ)) → x.snapshot ≡ snapshot → IsSaved service snapshot start → is_saved_old snapshot ≡ has_old_base (log_of service lists)
+      by None e s = sym (says.none e).2
+      by (Some bytes) e s = sym (says.some bytes start e s).2
 
   -- and the state that of the values up to it, where the records have that state
   pub start_runs : values_fit service x.known ≡ true → HasRightBase service (log_of service lists) → run service (start_of service) (trace_of (take x.base x.known)) ≡ Some start
@@ -62,12 +71,12 @@ module _ (service : Declarations) (lists : List (List ℕ)) (x : Recovered) (sta
 short_values : (promised : ℕ) (ps : List Kept) → All (MayBeAccepted promised) ps → All (λ (p : Kept). IsValue p.value) ps
 short_values promised ps h = All-weaker (MayBeAccepted promised) (λ (p : Kept). IsValue p.value) (λ p k. k.proposal.value) ps h
 
-module _ {K : Type 0} (records : K → List (List ℕ)) (service : Declarations) (id nodes seed : ℕ) (keeper : K) (x : Recovered) (start : StateValue) (h : IsRecalled service (records keeper) x start) where
+module _ {K : Type 0} (records : K → List (List ℕ)) (service : Declarations) (id nodes seed : ℕ) (keeper : K) (x : Recovered) (start : StateValue) (old : Bool) (h : IsRecalled service (records keeper) x start old) where
   said : Says service x (log_of service (records keeper))
   said = found_says service (records keeper) x h.found
 
   based : x.base ≡ base (log_of service (records keeper))
-  based = base_is service (records keeper) x start h
+  based = base_is service (records keeper) x start old h
 
   abbrev node_with : AcceptorValue → List Value → NodeValue K
   node_with acceptor values = record {
@@ -79,6 +88,7 @@ module _ {K : Type 0} (records : K → List (List ℕ)) (service : Declarations)
     acceptor = acceptor;
     known = values;
     base = x.base;
+    old_base = old;
     start = start;
     replayed = x.base;
     ahead = None;
@@ -90,7 +100,7 @@ module _ {K : Type 0} (records : K → List (List ℕ)) (service : Declarations)
   acceptor_is = record { promised = x.promised; accepted = x.accepted }
 
   runs_there : values_fit service (known (log_of service (records keeper))) ≡ true → HasRightBase service (log_of service (records keeper)) → run service (start_of service) (trace_of (take x.base x.known)) ≡ Some start
-  runs_there fit = start_runs service (records keeper) x start h (subst (λ (vs : List Value). values_fit service vs ≡ true) (sym said.known) fit)
+  runs_there fit = start_runs service (records keeper) x start old h (subst (λ (vs : List Value). values_fit service vs ≡ true) (sym said.known) fit)
 
   node_up : values_fit service (known (log_of service (records keeper))) ≡ true → HasRightBase service (log_of service (records keeper)) → IsUp service (node_with acceptor_is x.known) (here_of records service (node_with acceptor_is x.known))
   node_up fit right = record {
@@ -98,6 +108,7 @@ module _ {K : Type 0} (records : K → List (List ℕ)) (service : Declarations)
     accepted = said.accepted;
     known = said.known;
     base = based;
+    old_base = old_base_is service (records keeper) x start old h;
     start = runs_there fit right;
     replayed = record {
       based = subst (λ (n : ℕ). n ≤ x.base) based (omega arith);
@@ -136,7 +147,7 @@ module _ {K : Type 0} (records : K → List (List ℕ)) (service : Declarations)
       node = ap (λ (n : ℕ). record (here_of records service (node_with acceptor values)) { replayed = n }) based;
     }
 
-    pub is_node : (0 < id) × (id ≤ nodes) → nodes ≤ 9 → values_fit service (known (log_of service (records keeper))) ≡ true → HasRightBase service (log_of service (records keeper)) → IsNode records service (node_with acceptor values)
+    pub is_node : (0 < id) × (id ≤ nodes) → nodes ≤ most_nodes → values_fit service (known (log_of service (records keeper))) ≡ true → HasRightBase service (log_of service (records keeper)) → IsNode records service (node_with acceptor values)
     is_node there few fit right =
         subst (λ (y : NodeValue K). IsNode records service y) parts_are
         (record { id = there; few = few; up = λ _. node_up fit right; rests = λ _. tt })

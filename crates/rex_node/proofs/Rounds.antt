@@ -192,7 +192,7 @@ module _ {K : Type 0} (records : K → List (List ℕ)) (gives : K → List ℕ 
           let b = beside_of records service x u in
           let g = logged_of records service x u in
           up_of records service z_at
-          (logged_as service x z_at (log_of service (records x.keeper)) refl refl refl refl g)
+          (logged_as service x z_at (log_of service (records x.keeper)) refl refl refl refl refl g)
           (record {
             based = g.few;
             replayed = le_refl (length x.known);

@@ -21,6 +21,8 @@ use Rattle.rex_state.specs.declared.lane.Lane.{Lane}
 use Rattle.rex_report.specs.declared.effect.Effect.{Effect}
 use Rattle.rex_report.specs.declared.effect.Effect.TheVariants as effect
 use Rattle.rex_traits.specs.Chains.{Answer}
+use Rattle.rex_version.specs.declared.version.Version.{Version}
+use Rattle.rex_snapshot.specs.Allowed.{version_in}
 use Rattle.rex_safety.specs.Records.{Rec, known, base}
 use Rattle.rex_safety.specs.Records.Rec.{Checkpoint}
 use Rattle.rex_safety.specs.Node.{Failure, down_node}
@@ -67,9 +69,20 @@ front_fits service n vs h =
     let q = and_parts (list_all (spells service) vs) (runs service (trace_of vs)) h in
     and_from _ _ (spelled_first (spells service) n vs q.0) (ap (λ (o : Option StateValue). is_some o) (front_runs service n vs h).1)
 
+-- the state after the first values is within the limits
+pub front_limited : {K : Type 0} (records : K → List (List ℕ)) (service : Declarations) (x : NodeValue K) → IsUp service x (here_of records service x) → IsService service → IsChecked service → (n : ℕ) → n ≤ length x.known → (s : StateValue)
+    → run service (start_of service) (trace_of (take n x.known)) ≡ Some s → IsLimited s
+front_limited records service x u good checked n le s runs =
+    let l = values_limited service (take n x.known) s good checked (front_fits service n x.known u.fits) (omega (arith, le, (logged_of records service x u).numbers.few, ap length u.known, length-take-le n x.known le)) runs in
+    record {
+      lanes = All-weaker (λ (lane : Lane). lane.done ≤ 268431360) HasFewEvents (λ lane h. record { few = h }) s.lanes l.lanes;
+      nobody = l.nobody;
+      entries = All-weaker (λ (e : Entry). (e.sequence ≤ 1000000) × (e.sequence ≡ 0 → e.reply ≡ None)) EntryFits (λ e h. record { few = h.0; none = h.1 }) s.clients l.entries;
+    }
+
 -- ---- refusals
 
-refused_none : (up : Bool) (o : Option Refusal) → if_up up o ≡ None → (up ≡ true) × (o ≡ None)
+pub refused_none : (up : Bool) (o : Option Refusal) → if_up up o ≡ None → (up ≡ true) × (o ≡ None)
 refused_none true o e = (refl, e)
 refused_none false o e = absurd (cc)
 
@@ -108,19 +121,12 @@ module _ {K : Type 0} (records : K → List (List ℕ)) (service : Declarations)
   replayed_sound_now = run_keeps service (start_of service) s (trace_of (take x.replayed x.known)) good (start_keeps service good checked) runs_now
 
   pub replayed_limited : IsLimited s
-  replayed_limited =
-      let b = beside_of records service x up_now in
-      let l = values_limited service (take x.replayed x.known) s good checked (front_fits service x.replayed x.known up_now.fits) (omega (arith, b.replayed, (logged_of records service x up_now).numbers.few, ap length up_now.known, length-take-le x.replayed x.known b.replayed)) runs_now in
-      record {
-        lanes = All-weaker (λ (lane : Lane). lane.done ≤ 268431360) HasFewEvents (λ lane h. record { few = h }) s.lanes l.lanes;
-        nobody = l.nobody;
-        entries = All-weaker (λ (e : Entry). (e.sequence ≤ 1000000) × (e.sequence ≡ 0 → e.reply ≡ None)) EntryFits (λ e h. record { few = h.0; none = h.1 }) s.clients l.entries;
-      }
+  replayed_limited = front_limited records service x up_now good checked x.replayed (beside_of records service x up_now).replayed s runs_now
 
 -- ---- the call
 
 module _ {K : Type 0} (records : K → List (List ℕ)) (gives : K → List ℕ → Answer → K → Type 0) (faults : K → ℕ) (service : Declarations) (x : NodeValue K) (node : IsNode records service x) (due : refusal_of_checkpoint (here_of records service x) ≡ None)
-    (s : StateValue) (s_is : s ≡ replayed_state x) (r : KeptRec) (rec : IsCheckpoint service x.replayed s r) where
+    (version : Version) (s : StateValue) (s_is : s ≡ replayed_state x) (r : KeptRec) (rec : IsCheckpoint service version x.replayed s r) where
   abbrev h : Here
   h = here_of records service x
 
@@ -128,10 +134,10 @@ module _ {K : Type 0} (records : K → List (List ℕ)) (gives : K → List ℕ 
   log = log_of service (records x.keeper)
 
   abbrev call : CallHere → CallHere
-  call = checkpoint (service_of service x.seed) x.id
+  call = checkpoint version (service_of service x.seed) x.id
 
   abbrev said : Rec Value StateValue
-  said = Checkpoint x.replayed s
+  said = Checkpoint version x.replayed s
 
   f : IsFree h
   f = free h due
@@ -158,7 +164,9 @@ module _ {K : Type 0} (records : K → List (List ℕ)) (gives : K → List ℕ 
   says = ap (says_something service) rec.is ∙ ap (λ (q : Result StateValue ℕ). is_ok q) rec.spells
 
   rec_is : rec_of service r ≡ said
-  rec_is = ap (rec_of service) rec.is ∙ ap (λ (q : Result StateValue ℕ). Checkpoint x.replayed (read_state service q)) rec.spells
+  rec_is =
+      ap (rec_of service) rec.is ∙ ap (λ (q : Result StateValue ℕ). Checkpoint (version_in rec.snapshot) x.replayed (read_state service q)) rec.spells
+      ∙ ap (λ (v : Version). Checkpoint v x.replayed s) rec.version_is
 
   log_saved : (lists : List (List ℕ)) → lists ≡ records x.keeper ++ record_bytes r ∷ [] → log_of service lists ≡ said ∷ log
   log_saved lists e = ap (log_of service) e ∙ log_more service (records x.keeper) r spelling is_due says ∙ ap (λ (m : Rec Value StateValue). m ∷ log) rec_is
@@ -179,11 +187,11 @@ module _ {K : Type 0} (records : K → List (List ℕ)) (gives : K → List ℕ 
       checkpoint_if a b t =
           if a then say effect.Nothing (armed_with g (begin h))
           else if b then say (effect.Live (length h.work.live)) (armed_with g (begin h))
-          else append g x.id (Checkpoint x.replayed t) (armed_with g (begin h)) (say (effect.Checkpointed x.id x.replayed))
+          else append g x.id (Checkpoint version x.replayed t) (armed_with g (begin h)) (say (effect.Checkpointed x.id x.replayed))
 
   module _ (y : NodeValue K) (step : Step) (sends : step.sends ≡ []) where
     -- it is kept
-    module _ (k : Saves records faults gives x y s (record_bytes r)) (effects : step.effects ≡ effect.Checkpointed x.id x.replayed ∷ []) where
+    module _ (k : Saves records faults gives version x y s (record_bytes r)) (effects : step.effects ≡ effect.Checkpointed x.id x.replayed ∷ []) where
       log_is : log_of service (records y.keeper) ≡ said ∷ log
       log_is = log_saved (records y.keeper) k.records_are
 
@@ -216,20 +224,21 @@ module _ {K : Type 0} (records : K → List (List ℕ)) (gives : K → List ℕ 
           other e = cc
 
       z : NodeValue K
-      z = record (rebased x s) { keeper = y.keeper }
+      z = record (rebased version x s) { keeper = y.keeper }
 
-      z_up : IsUp service (record (rebased x s) { keeper = y.keeper }) (here_of records service (record (rebased x s) { keeper = y.keeper }))
+      z_up : IsUp service (record (rebased version x s) { keeper = y.keeper }) (here_of records service (record (rebased version x s) { keeper = y.keeper }))
       z_up =
           let l = logged_of records service x u in
           let b = beside_of records service x u in
           let runs : run service (start_of service) (trace_of (take x.replayed x.known)) ≡ Some s = replayed_runs records service x u ∙ ap Some (sym s_is) in
-          up_of records service (record (rebased x s) { keeper = y.keeper })
-          (subst (IsLogged service (record (rebased x s) { keeper = y.keeper })) (sym log_is)
+          up_of records service (record (rebased version x s) { keeper = y.keeper })
+          (subst (IsLogged service (record (rebased version x s) { keeper = y.keeper })) (sym log_is)
           (record {
             promised = l.promised;
             accepted = l.accepted;
             known = l.known;
             base = refl;
+            old_base = refl;
             few = few;
             start = runs;
             short = l.short;

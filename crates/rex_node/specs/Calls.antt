@@ -12,7 +12,7 @@ use Rattle.rex_record.specs.declared.turns.Turn.{Turn}
 use Rattle.rex_record.specs.Turn.{turn_of}
 use Rattle.rex_report.specs.declared.effect.Effect.{Effect}
 use Rattle.rex_report.specs.declared.effect.Effect.TheVariants as effect
-use Rattle.rex_safety.specs.Records.{Rec, Proposal, promise, known, base}
+use Rattle.rex_safety.specs.Records.{Rec, Proposal, promise, known, base, has_old_base}
 use Rattle.rex_safety.specs.Quorum.{ballot_above, round_of}
 use Rattle.rex_traits.specs.Chains.{Answer, AppendsInTurn}
 use Rattle.rex_traits.specs.declared.keeper.KeepFault.TheVariants.{Failed}
@@ -124,6 +124,10 @@ refusal_of_replay h = if_up h.up (if is_active h.role then Some why.UpToDate els
 -- of a checkpoint: there is nothing to write down, or events are live
 abbrev pub refusal_of_checkpoint : Here → Option Refusal
 refusal_of_checkpoint h = if_up h.up (if h.replayed == base h.log then Some why.Nothing else if nat_lt 0 (length h.work.live) then Some (why.Live (length h.work.live)) else None)
+
+-- of writing down again: the last checkpoint isn't in the old version, or there is none
+abbrev pub refusal_of_migrate : Here → Option Refusal
+refusal_of_migrate h = if_up h.up (if has_old_base h.log then None else Some why.Nothing)
 
 -- of a cut, from a node's role and how many values it knows: a proposal is open, or no instance is left
 abbrev pub refusal_of_open : Option (Proposal Value) → ℕ → Option Refusal

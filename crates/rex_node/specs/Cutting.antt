@@ -49,7 +49,7 @@ MakesPiece a cut (Err refusal) = ⊥
 
 -- the same, where something is executed
 abbrev pub MakesPieceOf : Option ActingValue → Option (List ℕ) → Result Piece Refusal → Type 0
-MakesPieceOf None limits result = result ≡ Err why.OutOfMemory
+MakesPieceOf None limits result = ⊥
 MakesPieceOf (Some a) limits result = MakesPiece a (cut_in a limits) result
 
 -- the delta of the cut has a spelling, where something is executed

@@ -1,6 +1,7 @@
 -- A node's parts, and the node of the cluster's model that they are.
-use Rattle.std.specs.Prelude.{◌≡◌, ℕ, ◌<◌, ◌≤◌, ◌||◌, not, ℤ, Bool, true, false, List, [], ◌∷◌, ◌++◌, length, map, take, fold, is_some, Result, Ok, Err, Option, Some, None, option_map, is_ok, if◌then◌else◌}
+use Rattle.std.specs.Prelude.{◌≡◌, ℕ, ◌<◌, ◌≤◌, ◌||◌, not, Bool, true, false, List, [], ◌∷◌, ◌++◌, length, map, take, fold, is_some, Result, Ok, Err, Option, Some, None, option_map, is_ok, if◌then◌else◌}
 use Rattle.std.specs.List.{All}
+use Rattle.rex_ballot.specs.Limits.{most_nodes}
 use Rattle.rand_pcg.specs.Lcg.{Lcg}
 use Rattle.rex_ballot.specs.declared.proposal.Proposal.{Proposal as Kept}
 use Rattle.rex_ballot.specs.Ballot.{node_of}
@@ -18,9 +19,10 @@ use Rattle.rex_paxos.specs.Proposer.{ProposerValue, CountsOnce, is_candidate}
 use Rattle.rex_durable.specs.declared.records.Rec.{Rec as KeptRec}
 use Rattle.rex_durable.specs.declared.records.Rec.TheVariants as kept
 use Rattle.rex_durable.specs.Reading.{record_in}
+use Rattle.rex_snapshot.specs.Allowed.{version_in}
 use Rattle.rex_snapshot.specs.Reading.{state_in}
 use Rattle.rex_scenario.specs.Fits.{RequestFits}
-use Rattle.rex_safety.specs.Records.{Rec, Proposal, proposal_of, promise, accepted, known, base}
+use Rattle.rex_safety.specs.Records.{Rec, Proposal, proposal_of, promise, accepted, known, base, has_old_base}
 use Rattle.rex_safety.specs.Records.Rec.{Promised, Accepted, Known, Checkpoint}
 use Rattle.rex_safety.specs.Node.{Lead, Role, Work, no_work}
 use Rattle.rex_safety.specs.Node.Role.{Follower, Leads}
@@ -43,7 +45,7 @@ pub record ActingValue : Type 0 where
   pub proposed : List ℕ
   pub answers : List Entry
 
--- the node's number and how many there are; the seed; its keeper; whether it is up; its acceptor; the values that it knows; how many its last checkpoint is after, and the state then; how many it has replayed, and the state then where that is another one and the node isn't active; its proposer where it has asked to lead; and what it executes where it is active
+-- the node's number and how many there are; the seed; its keeper; whether it is up; its acceptor; the values that it knows; how many its last checkpoint is after, whether that is in the old version, and the state then; how many it has replayed, and the state then where that is another one and the node isn't active; its proposer where it has asked to lead; and what it executes where it is active
 pub record NodeValue (K : Type 0) : Type 0 where
   pub id : ℕ
   pub nodes : ℕ
@@ -53,6 +55,7 @@ pub record NodeValue (K : Type 0) : Type 0 where
   pub acceptor : AcceptorValue
   pub known : List Value
   pub base : ℕ
+  pub old_base : Bool
   pub start : StateValue
   pub replayed : ℕ
   pub ahead : Option StateValue
@@ -66,12 +69,12 @@ abbrev pub read_state : Declarations → Result StateValue ℕ → StateValue
 read_state service (Ok s) = s
 read_state service (Err at) = start_of service
 
--- what a record that was read says: a checkpoint, that its bytes spell a state
+-- what a record that was read says: a checkpoint, that its bytes spell a state in a version
 abbrev pub rec_of : Declarations → KeptRec → Rec Value StateValue
 rec_of service (kept.Promised b) = Promised b
 rec_of service (kept.Accepted b i v) = Accepted b i v
 rec_of service (kept.Known i v) = Known i v
-rec_of service (kept.Checkpoint k bytes) = Checkpoint k (read_state service (state_in service bytes))
+rec_of service (kept.Checkpoint k bytes) = Checkpoint (version_in bytes) k (read_state service (state_in service bytes))
 
 -- a record says something, unless it is a checkpoint whose bytes spell no state
 abbrev pub says_something : Declarations → KeptRec → Bool
@@ -144,12 +147,12 @@ abbrev pub state_of : {K : Type 0} → NodeValue K → StateValue
 state_of x = ahead_of x.ahead x.start
 
 -- the values of the variables in the state that is executed, or else in the one that was replayed
-abbrev pub variables_with : Option ActingValue → StateValue → List ℤ
-variables_with None s = s.variables
-variables_with (Some a) s = a.recorder.state.variables
+abbrev pub shown_with : Option ActingValue → StateValue → StateValue
+shown_with None s = s
+shown_with (Some a) s = a.recorder.state
 
-abbrev pub variables_of : {K : Type 0} → NodeValue K → List ℤ
-variables_of x = variables_with x.acting (state_of x)
+abbrev pub shown_of : {K : Type 0} → NodeValue K → StateValue
+shown_of x = shown_with x.acting (state_of x)
 
 -- the recorder begins at the state after what the node knows, could begin each of its requests, whose numbers are in their ranges, and what is known of the clients is what that state says of them
 pub record Executes (service : Declarations) (values : List Value) (a : ActingValue) : Type 0 where
@@ -208,6 +211,7 @@ pub record IsUp {K : Type 0} (service : Declarations) (x : NodeValue K) (h : Her
   pub accepted : map proposal_in x.acceptor.accepted ≡ accepted h.log
   pub known : x.known ≡ known h.log
   pub base : x.base ≡ base h.log
+  pub old_base : x.old_base ≡ has_old_base h.log
   pub start : run service (start_of service) (trace_of (take x.base x.known)) ≡ Some x.start
   pub replayed : IsReplayed h
   pub ahead : x.acting ≡ None → run service (start_of service) (trace_of (take x.replayed x.known)) ≡ Some (state_of x)
@@ -221,7 +225,7 @@ pub record IsUp {K : Type 0} (service : Declarations) (x : NodeValue K) (h : Her
 -- what is kept of a node also within a call
 pub record IsKept {K : Type 0} (records : K → List (List ℕ)) (service : Declarations) (x : NodeValue K) : Type 0 where
   pub id : (0 < x.id) × (x.id ≤ x.nodes)
-  pub few : x.nodes ≤ 9
+  pub few : x.nodes ≤ most_nodes
   pub up : x.up ≡ true → IsUp service x (here_of records service x)
 
 -- a node that leads has gone on as far as it can: where a majority promised, it is active or has an open proposal
@@ -232,7 +236,7 @@ HasGoneOn (Some p) active = is_candidate p ≡ not (active || is_some p.open_ins
 -- what is kept of a node between calls
 pub record IsNode {K : Type 0} (records : K → List (List ℕ)) (service : Declarations) (x : NodeValue K) : Type 0 where
   pub id : (0 < x.id) × (x.id ≤ x.nodes)
-  pub few : x.nodes ≤ 9
+  pub few : x.nodes ≤ most_nodes
   pub up : x.up ≡ true → IsUp service x (here_of records service x)
   pub rests : x.up ≡ true → HasGoneOn x.proposer (is_some x.acting)
 

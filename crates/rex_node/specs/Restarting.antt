@@ -2,6 +2,7 @@
 use Rattle.std.specs.Prelude.{◌≡◌, ◌⊎◌, ◌==◌, ℕ, suc, ◌+◌, ◌≤◌, ◌-◌, ◌^◌, min, Bool, true, false, take, length, List, [], ◌∷◌, Option, Some, None, Result, Ok, Err, if◌then◌else◌}
 use Rattle.rex_syntax.specs.declared.service.Declarations.{Declarations}
 use Rattle.rex_delta.specs.Reading.{delta_in}
+use Rattle.rex_snapshot.specs.Allowed.{version_in}
 use Rattle.rex_snapshot.specs.Reading.{state_in}
 use Rattle.rex_state.specs.Value.{StateValue}
 use Rattle.rex_state.specs.Start.{start_of}
@@ -11,10 +12,10 @@ use Rattle.rex_durable.specs.declared.recovery.Recovered.{Recovered}
 use Rattle.rex_durable.specs.Recovery.{recovered}
 use Rattle.rex_durable.specs.Laws.{IsRecovered}
 use Rattle.rex_durable.specs.Kept.{Spell, recovered_in}
-use Rattle.rex_safety.specs.Records.{Rec as ModelRec, base, known}
+use Rattle.rex_safety.specs.Records.{Rec as ModelRec, base, known, is_old}
 use Rattle.rex_safety.specs.Agreed.{base_state}
 use Rattle.rex_safety.specs.Node.{down_node}
-use Rattle.rex_safety.specs.Calls.{begin, start}
+use Rattle.rex_safety.specs.Calls.{begin, restart}
 use Rattle.rex_safety.specs.Values.{Value, state_after, trace_of}
 use Rattle.rex_node.specs.declared.contents.Place.{Place}
 use Rattle.rex_node.specs.declared.restart.RestartFault.{RestartFault}
@@ -86,10 +87,16 @@ abbrev pub IsSaved : Declarations → Option (List ℕ) → StateValue → Type 
 IsSaved service None s = s ≡ start_of service
 IsSaved service (Some snapshot) s = state_in service snapshot ≡ Ok s
 
--- so it is, and this is the state at the base
-pub record IsRecalled (service : Declarations) (kept : List (List ℕ)) (x : Recovered) (start : StateValue) : Type 0 where
+-- the snapshot, if there is one, is in the old version
+abbrev pub is_saved_old : Option (List ℕ) → Bool
+is_saved_old None = false
+is_saved_old (Some snapshot) = is_old (version_in snapshot)
+
+-- so it is, this is the state at the base, and the last checkpoint is in the old version or isn't
+pub record IsRecalled (service : Declarations) (kept : List (List ℕ)) (x : Recovered) (start : StateValue) (old : Bool) : Type 0 where
   pub found : IsFound service kept x
   pub start_is : IsSaved service x.snapshot start
+  pub old_is : old ≡ is_saved_old x.snapshot
 
 -- the last checkpoint, if there is one, is of known deltas, and of the state to which these run
 abbrev pub HasRightBase : Declarations → List (ModelRec Value StateValue) → Type 0
@@ -102,4 +109,4 @@ pub record CameUp {K : Type 0} (records : K → List (List ℕ)) (service : Decl
   pub seed_is : x.seed ≡ seed
   pub keeper_is : x.keeper ≡ keeper
   pub good : HasFirstBad service (records keeper) None
-  pub node : here_of records service x ≡ (start id (begin (down_node (log_of service (records keeper)) None))).node
+  pub node : here_of records service x ≡ (restart id (begin (down_node (log_of service (records keeper)) None))).node

@@ -60,6 +60,13 @@ impl Acting {
         self.recorder.state().variables()
     }
 
+    /// The values of the semaphores in the live state.
+    pub fn semaphores(&self) -> &[u32]
+        ensures { result.now ≡ self.now.recorder.state.semaphores }
+    {
+        self.recorder.state().semaphores()
+    }
+
     // The answer to a request.
     fn answer(&self, request: &Request) -> Answer
         ensures { result ≡ answer_in self.now request.now }

@@ -1,8 +1,11 @@
 //! How a node writes down the state that it has replayed.
 
-ghost use Rattle.std.specs.Prelude.{◌≡◌, ◌<◌, ◌-◌, ◌^◌, ◌==◌, ◌∷◌, [], nat_lt, Some, None, IfOk, if◌then◌else◌};
+ghost use Rattle.std.specs.Prelude.{◌≡◌, ◌<◌, ◌≤◌, ◌-◌, ◌^◌, ◌==◌, ◌∷◌, [], true, length, nat_lt, Ok, Some, None, IfOk, if◌then◌else◌};
+ghost use Rattle.rex_version.specs.declared.version.Version.TheVariants.{One, Two};
+ghost use Rattle.rex_version.specs.Versions.{has_old_form, has_version};
 ghost use Rattle.rex_durable.specs.Spelling.{HasSpelling, record_bytes};
 ghost use Rattle.rex_state.specs.Sound.{IsSound};
+ghost use Rattle.rex_snapshot.specs.Allowed.{version_in};
 ghost use Rattle.rex_snapshot.specs.Reading.{state_in};
 ghost use Rattle.rex_snapshot.specs.Spelling.{IsLimited};
 ghost use Rattle.rex_safety.specs.Calls as calls;
@@ -10,6 +13,7 @@ ghost use Rattle.rex_safety.specs.Values.{service_of};
 ghost use Rattle.rex_node.specs.declared.refusal.Refusal.TheVariants as why;
 ghost use Rattle.rex_node.specs.Calls.{Does, EndsDown, IsSpared, Leaves, Refuses, refusal_of_checkpoint};
 ghost use Rattle.rex_node.specs.Checkpointing.{IsCheckpoint, SavesOr, rebased, replayed_state};
+ghost use Rattle.rex_safety.specs.Records.{is_old};
 ghost use Rattle.rex_node.specs.Parts.{IsNode, StaysNode, here_of};
 
 use crate::node::Node;
@@ -20,14 +24,15 @@ use rex_durable::Rec;
 use rex_event::{Event, Kind};
 use rex_list::List;
 use rex_report::Effect;
-use rex_snapshot::encode;
+use rex_snapshot::{encode, encode_old};
 use rex_state::state::State;
 use rex_syntax::checked::Checked;
 use rex_traits::{KeepFault, Keeper};
+use rex_version::Version;
 use std::alloc::{AllocError, Global};
 
-// One effect.
-fn only(alloc: Global, effect: Effect) -> Result<List<Effect>, AllocError>
+/// One effect.
+pub(crate) fn only(alloc: Global, effect: Effect) -> Result<List<Effect>, AllocError>
     ensures { IfOk result (λ effects. effects ≡ effect ∷ []) }
 {
     let _event: Option<(Event, Kind)> = None;
@@ -36,13 +41,50 @@ fn only(alloc: Global, effect: Effect) -> Result<List<Effect>, AllocError>
     Ok(effects)
 }
 
-// The record of a state after so many values.
-fn record_of(alloc: Global, svc: &Checked, deltas: u32, state: &State) -> Result<Rec, AllocError>
+/// Whether a version is the old one.
+pub(crate) fn is_old(version: Version) -> bool
+    ensures { result ≡ is_old version }
+{
+    match version {
+        Version::One => true,
+        Version::Two => false,
+    }
+}
+
+// The snapshot of a state in a version.
+fn snapshot_of(
+    alloc: Global,
+    svc: &Checked,
+    version: Version,
+    state: &State,
+) -> Result<Vec<u8>, AllocError>
+    requires has { has_version svc.now version ≡ true }
     requires sound { IsSound svc.now state.now }
     requires limited { IsLimited state.now }
-    ensures { IfOk result (IsCheckpoint svc.now deltas state.now) }
+    ensures spells { IfOk result (λ v. state_in svc.now v.items ≡ Ok state.now) }
+    ensures version { IfOk result (λ v. version_in v.items ≡ version) }
+    ensures short { IfOk result (λ v. length v.items ≤ 65536) }
 {
-    let snapshot = List::from_vec(encode(alloc, svc, state)?);
+    match version {
+        Version::One => encode_old(alloc, svc, state),
+        Version::Two => encode(alloc, svc, state),
+    }
+}
+
+/// The record of a state after so many values, in a version.
+pub(crate) fn record_of(
+    alloc: Global,
+    svc: &Checked,
+    version: Version,
+    deltas: u32,
+    state: &State,
+) -> Result<Rec, AllocError>
+    requires has { has_version svc.now version ≡ true }
+    requires sound { IsSound svc.now state.now }
+    requires limited { IsLimited state.now }
+    ensures { IfOk result (IsCheckpoint svc.now version deltas state.now) }
+{
+    let snapshot = List::from_vec(snapshot_of(alloc, svc, version, state)?);
     Ok(Rec::Checkpoint { deltas, snapshot })
 }
 
@@ -82,26 +124,27 @@ impl<K: Keeper> Node<K> {
         }
     }
 
-    // The last checkpoint is of what the node has replayed, which is this state.
-    fn rebase(&mut self, state: State)
-        ensures { self.new ≡ rebased self.old state }
+    // The last checkpoint is of what the node has replayed, which is this state, in a version.
+    fn rebase(&mut self, version: Version, state: State)
+        ensures { self.new ≡ rebased version self.old state }
     {
         self.base = self.replayed;
+        self.old_base = is_old(version);
         self.start = state;
         self.ahead = None;
     }
 
-    // Appends the record of the state that the node has replayed. Where the keeper fails the node is down, and its base is
+    // Appends the record of the state that the node has replayed, in a version. Where the keeper fails the node is down, and its base is
     // that of the records that the keeper has then.
-    fn save(&mut self, rec: &Rec, state: State) -> Result<(), KeepFault>
+    fn save(&mut self, version: Version, rec: &Rec, state: State) -> Result<(), KeepFault>
         requires count { K.faults self.old.keeper < 2 ^ 64 - 1 }
         requires spelling { HasSpelling rec.now }
-        ensures { SavesOr K.records K.faults K.append_gives self.old self.new state (record_bytes rec.now) result }
+        ensures { SavesOr K.records K.faults K.append_gives version self.old self.new state (record_bytes rec.now) result }
     {
         let before = self.keeper.len();
         let written = rex_durable::append(self.alloc, &mut self.keeper, rec);
         match written {
-            Ok(()) => self.rebase(state),
+            Ok(()) => self.rebase(version, state),
             Err(KeepFault::Failed) => {
                 if self.keeper.len() > before {
                     self.base = self.replayed;
@@ -119,7 +162,37 @@ impl<K: Keeper> Node<K> {
         requires node { IsNode K.records svc.now self.old }
         requires count { K.faults self.old.keeper < 2 ^ 64 - 1 }
         ensures refused { Refuses (refusal_of_checkpoint (here_of K.records svc.now self.old)) result }
-        ensures told { IfOk result (Does K.records K.append_gives K.faults svc.now (calls.checkpoint (service_of svc.now self.old.seed) self.old.id) self.old self.new) }
+        ensures told { IfOk result (Does K.records K.append_gives K.faults svc.now (calls.checkpoint Two (service_of svc.now self.old.seed) self.old.id) self.old self.new) }
+        ensures down { IfOk result (EndsDown self.old.id (K.faults self.old.keeper) (K.faults self.new.keeper)) }
+        ensures left { Leaves result (here_of K.records svc.now self.old) (here_of K.records svc.now self.new) }
+        ensures same { IsSpared result self.old self.new }
+        ensures kept { StaysNode K.records svc.now self.old self.new }
+    {
+        self.checkpoint_in(svc, Version::Two)
+    }
+
+    /// The same in the old version, for a service of at most 16 lanes and 256 variables.
+    pub fn checkpoint_old(&mut self, svc: &Checked) -> Result<Step, Refusal>
+        requires old { has_old_form svc.now ≡ true }
+        requires node { IsNode K.records svc.now self.old }
+        requires count { K.faults self.old.keeper < 2 ^ 64 - 1 }
+        ensures refused { Refuses (refusal_of_checkpoint (here_of K.records svc.now self.old)) result }
+        ensures told { IfOk result (Does K.records K.append_gives K.faults svc.now (calls.checkpoint One (service_of svc.now self.old.seed) self.old.id) self.old self.new) }
+        ensures down { IfOk result (EndsDown self.old.id (K.faults self.old.keeper) (K.faults self.new.keeper)) }
+        ensures left { Leaves result (here_of K.records svc.now self.old) (here_of K.records svc.now self.new) }
+        ensures same { IsSpared result self.old self.new }
+        ensures kept { StaysNode K.records svc.now self.old self.new }
+    {
+        self.checkpoint_in(svc, Version::One)
+    }
+
+    /// The same in a version that the service's states have.
+    pub fn checkpoint_in(&mut self, svc: &Checked, version: Version) -> Result<Step, Refusal>
+        requires has { has_version svc.now version ≡ true }
+        requires node { IsNode K.records svc.now self.old }
+        requires count { K.faults self.old.keeper < 2 ^ 64 - 1 }
+        ensures refused { Refuses (refusal_of_checkpoint (here_of K.records svc.now self.old)) result }
+        ensures told { IfOk result (Does K.records K.append_gives K.faults svc.now (calls.checkpoint version (service_of svc.now self.old.seed) self.old.id) self.old self.new) }
         ensures down { IfOk result (EndsDown self.old.id (K.faults self.old.keeper) (K.faults self.new.keeper)) }
         ensures left { Leaves result (here_of K.records svc.now self.old) (here_of K.records svc.now self.new) }
         ensures same { IsSpared result self.old self.new }
@@ -132,11 +205,11 @@ impl<K: Keeper> Node<K> {
         let node = self.id;
         let deltas = self.replayed;
         let state = self.state_to_save().copy(self.alloc)?;
-        let rec = record_of(self.alloc, svc, deltas, &state)?;
+        let rec = record_of(self.alloc, svc, version, deltas, &state)?;
         let saved = only(self.alloc, Effect::Checkpointed { node, deltas })?;
         let down = only(self.alloc, Effect::Down { node })?;
         let sends = List::new(self.alloc);
-        match self.save(&rec, state) {
+        match self.save(version, &rec, state) {
             Ok(()) => Ok(Step {
                 effects: saved,
                 sends,

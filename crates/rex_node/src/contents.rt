@@ -48,13 +48,12 @@ fn held_in(bytes: &[u8]) -> &[u8]
 }
 
 // Where a record is bad that holds this value.
-fn bad_in_value(alloc: Global, value: &[u8]) -> Result<Option<usize>, AllocError>
-    ensures { IfOk result (λ bad. bad ≡ spec.bad_at (delta_in value.now)) }
+fn bad_in_value(value: &[u8]) -> Option<usize>
+    ensures { result ≡ spec.bad_at (delta_in value.now) }
 {
-    match rex_delta::decode(alloc, value) {
-        Ok(_) => Ok(None),
-        Err(DecodeError::Bad { at }) => Ok(Some(at.saturating_add(HEAD))),
-        Err(DecodeError::OutOfMemory) => Err(AllocError),
+    match rex_delta::check(value) {
+        Ok(_) => None,
+        Err(at) => Some(at.saturating_add(HEAD)),
     }
 }
 
@@ -85,7 +84,7 @@ fn bad_in(
     let held = held_in(bytes);
     let kind = kind_of(bytes);
     if kind == KNOWN {
-        return bad_in_value(alloc, held);
+        return Ok(bad_in_value(held));
     }
     if kind == CHECKPOINT && !later {
         return bad_in_snapshot(alloc, svc, held);

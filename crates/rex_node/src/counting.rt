@@ -211,7 +211,7 @@ impl<K: Keeper> Node<K> {
     {
         let _service = svc.declarations();
         let Some(value) = self.own_value(instance)? else {
-            return Err(AllocError);
+            unreachable!()
         };
         let turns = self.turns() - 1;
         match self.learn(svc, draft, instance, value.as_slice())? {

@@ -31,7 +31,8 @@ use std::mem::replace;
 impl<K: Keeper> Node<K> {
     // Why the node doesn't cut, before it makes the cut.
     fn cut_refusal(&self) -> Option<Refusal>
-        ensures { result ≡ if_up self.now.up (if_active (role_of self.now.acceptor self.now.proposer (is_some self.now.acting)) (refusal_of_lead (role_of self.now.acceptor self.now.proposer (is_some self.now.acting)) (length self.now.known))) }
+        ensures why { result ≡ if_up self.now.up (if_active (role_of self.now.acceptor self.now.proposer (is_some self.now.acting)) (refusal_of_lead (role_of self.now.acceptor self.now.proposer (is_some self.now.acting)) (length self.now.known))) }
+        ensures acts { result ≡ None → IsSome self.now.acting }
     {
         if let Some(refusal) = self.active_refusal() {
             return Some(refusal);
@@ -44,15 +45,16 @@ impl<K: Keeper> Node<K> {
 
     // The piece of what is executed.
     fn own_piece(&self, svc: &Checked, limits: Option<&[u32]>) -> Result<Piece, Refusal>
+        requires acts { IsSome self.now.acting }
         requires recorder { IfSome self.now.acting (λ (a : ActingValue). IsRecorder svc.now a.recorder) }
         requires limits { AreLimits svc.now (option_copied limits) }
         requires spelling { IfSome self.now.acting (CanMakePiece (option_copied limits)) }
         ensures { MakesPieceOf self.now.acting (option_copied limits.entry) result }
     {
-        match &self.acting {
-            None => Err(Refusal::OutOfMemory),
-            Some(acting) => acting.piece(self.alloc, svc, limits),
-        }
+        let Some(acting) = &self.acting else {
+            unreachable!()
+        };
+        acting.piece(self.alloc, svc, limits)
     }
 
     // The piece that the node can propose, or why there is none.

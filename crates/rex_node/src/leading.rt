@@ -24,7 +24,7 @@ use crate::step::Draft;
 use crate::values::copied;
 use rand_pcg::Lcg64Xsh32;
 use rex_ballot::Value;
-use rex_delta::{DecodeError, decode};
+use rex_delta::check;
 use rex_durable::Rec;
 use rex_event::Cut;
 use rex_gate::Answers;
@@ -39,14 +39,10 @@ use rex_traits::Keeper;
 use std::alloc::{AllocError, Global};
 
 // How many events the delta has that a value spells; 0 where it spells none.
-fn events_in(alloc: Global, value: &[u8]) -> Result<u32, AllocError>
-    ensures { IfOk result (λ n. n ≡ length (events_of value.now)) }
+fn events_in(value: &[u8]) -> u32
+    ensures { result ≡ length (events_of value.now) }
 {
-    match decode(alloc, value) {
-        Ok(delta) => Ok(delta.events.len() as u32),
-        Err(DecodeError::OutOfMemory) => Err(AllocError),
-        Err(DecodeError::Bad { .. }) => Ok(0),
-    }
+    check(value).unwrap_or(0)
 }
 
 impl<K: Keeper> Node<K> {
@@ -112,6 +108,7 @@ impl<K: Keeper> Node<K> {
         instance: u32,
         value: &[u8],
     ) -> Result<(), AllocError>
+        requires leads { IsSome self.old.proposer }
         ensures opened { OnOk result (self.new ≡ opened self.old instance value.now) }
         ensures effects { OnOk result (draft.new.effects.items ≡ draft.old.effects.items ++ told ∷ []) }
         ensures sends { OnOk result (FromLead self.old (λ l. map message_in draft.new.sends.items ≡ map message_in draft.old.sends.items ++ calls.others self.old.nodes self.old.id (content_in (sent.Accept l.ballot instance value.now)))) }
@@ -120,7 +117,7 @@ impl<K: Keeper> Node<K> {
         ensures same { IsSame self.old self.new }
     {
         let Some(proposer) = &mut self.proposer else {
-            return Err(AllocError);
+            unreachable!()
         };
         let ballot = proposer.ballot();
         self.acceptor.set_accepted(ballot, instance, value)?;
@@ -253,7 +250,7 @@ impl<K: Keeper> Node<K> {
     {
         let _service = svc.declarations();
         let node = self.id;
-        let events = events_in(self.alloc, value)?;
+        let events = events_in(value);
         let told = Effect::Adopts {
             node,
             instance,

@@ -14,6 +14,7 @@ mod electing;
 mod going;
 mod leading;
 mod messages;
+mod migrating;
 mod node;
 mod pieces;
 mod promising;

@@ -1,6 +1,6 @@
 //! A node, and what its clients and lanes get of it.
 
-ghost use Rattle.std.specs.Prelude.{◌≡◌, ◌<◌, ◌+◌, ◌^◌, ◌∷◌, [], false, Some, None, is_some, option_map, IfOk, OnOk, OnErr};
+ghost use Rattle.std.specs.Prelude.{◌≡◌, ◌<◌, ◌+◌, ◌^◌, ◌∷◌, [], false, Some, None, is_some, option_map, IsSome, IfOk, OnOk, OnErr};
 ghost use Rattle.std.specs.Option.{option_copied};
 ghost use Rattle.rex_state.specs.Machine.{lane_of};
 ghost use Rattle.rex_scenario.specs.Fits.{RequestFits};
@@ -43,6 +43,8 @@ pub struct Node<K: Keeper> {
     /// How many values the last checkpoint is after, and the state then.
     pub(crate) base: u32,
     pub(crate) start: State,
+    /// Whether the last checkpoint is in the old version.
+    pub(crate) old_base: bool,
     /// How many values were replayed, and the state then, unless that is the one of the checkpoint or what is executed has it.
     pub(crate) replayed: u32,
     pub(crate) ahead: Option<State>,
@@ -66,6 +68,7 @@ impl<K: Keeper> Model for Node<K> {
       acceptor = n.acceptor;
       known = n.known.items;
       base = n.base;
+      old_base = n.old_base;
       start = n.start;
       replayed = n.replayed;
       ahead = n.ahead;
@@ -103,6 +106,13 @@ impl<K: Keeper> Node<K> {
         &self.known
     }
 
+    /// Whether the last checkpoint is in the old version.
+    pub fn has_old_base(&self) -> bool
+        ensures { result ≡ self.now.old_base }
+    {
+        self.old_base
+    }
+
     /// What the node does in its cluster.
     pub fn role(&self) -> Role
         ensures { result ≡ role_name (role_of self.now.acceptor self.now.proposer (is_some self.now.acting)) }
@@ -122,7 +132,8 @@ impl<K: Keeper> Node<K> {
 
     // Why the node doesn't do what only an active node does.
     pub(crate) fn active_refusal(&self) -> Option<Refusal>
-        ensures { result ≡ if_up self.now.up (if_active (role_of self.now.acceptor self.now.proposer (is_some self.now.acting)) None) }
+        ensures why { result ≡ if_up self.now.up (if_active (role_of self.now.acceptor self.now.proposer (is_some self.now.acting)) None) }
+        ensures acts { result ≡ None → IsSome self.now.acting }
     {
         if !self.up {
             return Some(Refusal::Down);
@@ -149,14 +160,11 @@ impl<K: Keeper> Node<K> {
         if let Some(refusal) = self.active_refusal() {
             return Err(refusal);
         }
-        match self.acting.take() {
-            None => Err(Refusal::OutOfMemory),
-            Some(mut acting) => {
-                let answer = acting.submit(svc, request);
-                self.acting = Some(acting);
-                Ok(answer?)
-            }
-        }
+        let Some(acting) = &mut self.acting else {
+            unreachable!()
+        };
+        let answer = acting.submit(svc, request)?;
+        Ok(answer)
     }
 
     /// A lane's turn, where the clock reads this: the next event of the lane, or why it makes none.
@@ -175,14 +183,11 @@ impl<K: Keeper> Node<K> {
         if let Some(refusal) = self.active_refusal() {
             return Err(refusal);
         }
-        match self.acting.take() {
-            None => Err(Refusal::OutOfMemory),
-            Some(mut acting) => {
-                let turn = acting.lane(svc, lane, now);
-                self.acting = Some(acting);
-                Ok(turn?)
-            }
-        }
+        let Some(acting) = &mut self.acting else {
+            unreachable!()
+        };
+        let turn = acting.lane(svc, lane, now)?;
+        Ok(turn)
     }
 
     /// Takes an event that was made elsewhere among the live ones, where it is the next one of its lane: `Done`, `Full` or
@@ -201,14 +206,11 @@ impl<K: Keeper> Node<K> {
         if let Some(refusal) = self.active_refusal() {
             return Err(refusal);
         }
-        match self.acting.take() {
-            None => Err(Refusal::OutOfMemory),
-            Some(mut acting) => {
-                let turn = acting.take_event(svc, event);
-                self.acting = Some(acting);
-                Ok(turn?)
-            }
-        }
+        let Some(acting) = &mut self.acting else {
+            unreachable!()
+        };
+        let turn = acting.take_event(svc, event)?;
+        Ok(turn)
     }
 }
 

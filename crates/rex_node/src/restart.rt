@@ -2,19 +2,21 @@
 
 ghost use Rattle.std.specs.Prelude.{◌≡◌, ◌<◌, ◌≤◌, ℕ, List, true, Some, IfOk, IfErr, IsOk};
 ghost use Rattle.std.specs.List.{list_all};
+ghost use Rattle.rex_ballot.specs.Limits.{most_nodes};
 ghost use Rattle.rex_snapshot.specs.Reading.{state_in};
 ghost use Rattle.rex_safety.specs.Records.{known};
 ghost use Rattle.rex_safety.specs.Values.{spells, values_fit};
 ghost use Rattle.rex_node.specs.Parts.{AreRead, IsNode, log_of};
 ghost use Rattle.rex_node.specs.declared.restart.RestartFault.TheVariants.{OutOfMemory};
-ghost use Rattle.rex_node.specs.Restarting.{CameUp, HasRightBase, IsFound, IsRecalled, IsRestartFault, IsSaved};
+ghost use Rattle.rex_node.specs.Restarting.{CameUp, HasRightBase, IsFound, IsRecalled, IsRestartFault, IsSaved, is_saved_old};
 
+use crate::checkpointing::is_old;
 use crate::contents::{Place, first_bad};
 use crate::node::Node;
 use rex_ballot::Proposals;
 use rex_durable::{RecoverFault, Recovered, recover};
 use rex_paxos::Acceptor;
-use rex_snapshot::{DecodeError, decode};
+use rex_snapshot::{DecodeError, decode, version_in};
 use rex_state::state::State;
 use rex_syntax::checked::Checked;
 use rex_traits::Keeper;
@@ -49,6 +51,8 @@ pub struct NotStarted<K> {
 struct Recalled {
     recovered: Recovered,
     start: State,
+    /// Whether the last checkpoint is in the old version.
+    old_base: bool,
 }
 
 impl<K: Keeper> Node<K> {
@@ -65,7 +69,7 @@ impl<K: Keeper> Node<K> {
         keeper: K,
     ) -> Result<Node<K>, NotStarted<K>>
         requires there { (0 < id) × (id ≤ nodes) }
-        requires few { nodes ≤ 9 }
+        requires few { nodes ≤ most_nodes }
         ensures up { IfOk result (CameUp K.records svc.now id nodes seed keeper) }
         ensures kept { values_fit svc.now (known (log_of svc.now (K.records keeper))) ≡ true → HasRightBase svc.now (log_of svc.now (K.records keeper)) → IfOk result (IsNode K.records svc.now) }
         ensures back { IfErr result (λ e. e.keeper ≡ keeper) }
@@ -74,7 +78,13 @@ impl<K: Keeper> Node<K> {
     {
         match recall(alloc, svc, &keeper) {
             Err(fault) => Err(NotStarted { keeper, fault }),
-            Ok(Recalled { recovered, start }) => Ok(Node {
+            Ok(
+                Recalled {
+                    recovered,
+                    start,
+                    old_base,
+                },
+            ) => Ok(Node {
                 alloc,
                 id,
                 nodes,
@@ -88,6 +98,7 @@ impl<K: Keeper> Node<K> {
                 known: recovered.known.into_vec(),
                 base: recovered.base,
                 start,
+                old_base,
                 replayed: recovered.base,
                 ahead: None,
                 proposer: None,
@@ -99,12 +110,17 @@ impl<K: Keeper> Node<K> {
 
 // What a keeper's records say of its node, with the state at its last checkpoint.
 fn recall<K: Keeper>(alloc: Global, svc: &Checked, keeper: &K) -> Result<Recalled, RestartFault>
-    ensures recalled { IfOk result (λ r. IsRecalled svc.now (K.records keeper.now) r.recovered r.start) }
+    ensures recalled { IfOk result (λ r. IsRecalled svc.now (K.records keeper.now) r.recovered r.start r.old_base) }
     ensures fault { IfErr result (IsRestartFault svc.now (K.records keeper.now)) }
 {
     let recovered = read(alloc, svc, keeper)?;
     let start = saved_state(alloc, svc, &recovered)?;
-    Ok(Recalled { recovered, start })
+    let old_base = is_saved_old(&recovered);
+    Ok(Recalled {
+        recovered,
+        start,
+        old_base,
+    })
 }
 
 // What a keeper's records say of its node, where none is bad.
@@ -119,6 +135,16 @@ fn read<K: Keeper>(alloc: Global, svc: &Checked, keeper: &K) -> Result<Recovered
         },
         Err(RecoverFault::BadRecord { number, at }) => Err(RestartFault::BadRecord { number, at }),
         Err(RecoverFault::OutOfMemory) => Err(RestartFault::OutOfMemory),
+    }
+}
+
+// Whether the last checkpoint, if there is one, is in the old version.
+fn is_saved_old(recovered: &Recovered) -> bool
+    ensures { result ≡ is_saved_old recovered.now.snapshot }
+{
+    match &recovered.snapshot {
+        None => false,
+        Some(snapshot) => is_old(version_in(snapshot.as_slice())),
     }
 }
 

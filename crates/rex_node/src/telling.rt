@@ -1,7 +1,7 @@
 //! What a node tells of itself.
 
 ghost use Rattle.std.specs.Prelude.{◌≡◌, ◌≤◌, length};
-ghost use Rattle.rex_node.specs.Parts.{state_of, variables_of, work_of};
+ghost use Rattle.rex_node.specs.Parts.{state_of, shown_of, work_of};
 
 use crate::node::Node;
 use rex_traits::Keeper;
@@ -34,7 +34,7 @@ impl<K: Keeper> Node<K> {
 
     /// The values of the variables in the state that it executes, or where it isn't active in the one that it has replayed.
     pub fn variables(&self) -> &[i64]
-        ensures { result.now ≡ variables_of self.now }
+        ensures { result.now ≡ (shown_of self.now).variables }
     {
         match &self.acting {
             None => match &self.ahead {
@@ -42,6 +42,19 @@ impl<K: Keeper> Node<K> {
                 Some(state) => state.variables(),
             },
             Some(acting) => acting.variables(),
+        }
+    }
+
+    /// The values of the semaphores in the same state.
+    pub fn semaphores(&self) -> &[u32]
+        ensures { result.now ≡ (shown_of self.now).semaphores }
+    {
+        match &self.acting {
+            None => match &self.ahead {
+                None => self.start.semaphores(),
+                Some(state) => state.semaphores(),
+            },
+            Some(acting) => acting.semaphores(),
         }
     }
 }

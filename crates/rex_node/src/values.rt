@@ -7,8 +7,8 @@ ghost use Rattle.rex_state.specs.Sound.{IsSound};
 ghost use Rattle.rex_safety.specs.Values.{events_of, trace_of};
 
 use rex_ballot::Value;
-use rex_delta::{DecodeError, decode};
-use rex_event::{Event, Kind};
+use rex_delta::{DecodeError, decode_events};
+use rex_event::Event;
 use rex_list::List;
 use rex_replay::Replayer;
 use rex_state::state::State;
@@ -41,7 +41,7 @@ fn joined(alloc: Global, values: &[Value]) -> Result<Vec<Event>, AllocError>
     let mut events = Vec::new(alloc);
     for value in values {
         let more = events_in(alloc, value.as_slice())?;
-        append_events(&mut events, more.as_slice())?;
+        events.append(&mut more.into_vec())?;
     }
     Ok(events)
 }
@@ -51,21 +51,11 @@ fn events_in(alloc: Global, value: &[u8]) -> Result<List<Event>, AllocError>
     ensures events { IfOk result (λ es. es ≡ events_of value.now) }
     ensures counted { IfOk result AreCounted }
 {
-    match decode(alloc, value) {
-        Ok(delta) => Ok(delta.events),
+    match decode_events(alloc, value) {
+        Ok(events) => Ok(events),
         Err(DecodeError::OutOfMemory) => Err(AllocError),
         Err(DecodeError::Bad { .. }) => Ok(List::new(alloc)),
     }
-}
-
-fn append_events(events: &mut Vec<Event>, more: &[Event]) -> Result<(), AllocError>
-    ensures { OnOk result (events.new.items ≡ events.old.items ++ more.now) }
-{
-    let _kind: Option<Kind> = None;
-    for event in more {
-        events.push(*event)?;
-    }
-    Ok(())
 }
 
 /// The same value.

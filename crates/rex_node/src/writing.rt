@@ -15,8 +15,8 @@ use rex_traits::{KeepFault, Keeper};
 use std::alloc::AllocError;
 
 impl<K: Keeper> Node<K> {
-    // Appends a record. Where the keeper fails the node is down.
-    fn write(&mut self, rec: &Rec) -> Result<(), KeepFault>
+    /// Appends a record. Where the keeper fails the node is down.
+    pub(crate) fn write(&mut self, rec: &Rec) -> Result<(), KeepFault>
         requires count { K.faults self.old.keeper < 2 ^ 64 - 1 }
         requires spelling { HasSpelling rec.now }
         ensures { Writes K.records K.faults K.append_gives self.old self.new (record_bytes rec.now) result }

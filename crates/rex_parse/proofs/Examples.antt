@@ -8,7 +8,7 @@ use Rattle.rex_syntax.specs.declared.line.Line.TheVariants as line
 use Rattle.rex_syntax.specs.declared.service.LockKind.TheVariants.{Plain, ReadersWriter}
 use Rattle.rex_syntax.specs.declared.service.Declarations.{Declarations}
 use Rattle.rex_parse.specs.Words.{is_name}
-use Rattle.rex_parse.specs.Table.{expr_code, new_code, lock_code, lock_of_code, condition_code, variable_code, local_code, number_code}
+use Rattle.rex_parse.specs.Table.{expr_code, new_code, lock_code, lock_of_code, semaphore_code, condition_code, variable_code, local_code, number_code}
 use Rattle.rex_parse.specs.After.{service_of}
 use Rattle.rex_parse.specs.Reading.{answer_from, answer_of}
 use Rattle.rex_parse.specs.declared.language.Above.{Above}
@@ -28,6 +28,7 @@ counter : Declarations
 counter = record {
   lanes = 2;
   locks = (record { name = codes "L"; kind = Plain }) ∷ [];
+  semaphores = [];
   conditions = [];
   variables = (record { name = codes "a"; guard = 0; first = pos 0 }) ∷ [];
   handlers = (record {
@@ -52,7 +53,7 @@ declared (Err e) = None
 
 -- the counter's text declares the counter
 counter_is_read : declared (answer_of counter_text) ≡ Some counter
-unfolding counter_text counter answer_from is_name expr_code new_code lock_code lock_of_code condition_code variable_code local_code number_code digits
+unfolding counter_text counter answer_from is_name expr_code new_code lock_code lock_of_code semaphore_code condition_code variable_code local_code number_code digits
 counter_is_read = refl
 
 -- ---- blocks
@@ -67,6 +68,7 @@ branches : Declarations
 branches = record {
   lanes = 2;
   locks = [];
+  semaphores = [];
   conditions = [];
   variables = [];
   handlers = (record {
@@ -90,7 +92,7 @@ branches = record {
 }
 
 branches_are_read : declared (answer_of branches_text) ≡ Some branches
-unfolding branches_text branches answer_from is_name expr_code new_code lock_code lock_of_code condition_code variable_code local_code number_code digits
+unfolding branches_text branches answer_from is_name expr_code new_code lock_code lock_of_code semaphore_code condition_code variable_code local_code number_code digits
 branches_are_read = refl
 
 -- a lock that is tried
@@ -103,6 +105,7 @@ tries : Declarations
 tries = record {
   lanes = 1;
   locks = (record { name = codes "L"; kind = Plain }) ∷ [];
+  semaphores = [];
   conditions = [];
   variables = (record { name = codes "a"; guard = 0; first = negsuc 0 }) ∷ [];
   handlers = (record {
@@ -124,7 +127,7 @@ tries = record {
 }
 
 tries_are_read : declared (answer_of tries_text) ≡ Some tries
-unfolding tries_text tries answer_from is_name expr_code new_code lock_code lock_of_code condition_code variable_code local_code number_code digits
+unfolding tries_text tries answer_from is_name expr_code new_code lock_code lock_of_code semaphore_code condition_code variable_code local_code number_code digits
 tries_are_read = refl
 
 -- ---- conditions and readers
@@ -138,6 +141,7 @@ waits : Declarations
 waits = record {
   lanes = 2;
   locks = (record { name = codes "L"; kind = Plain }) ∷ [];
+  semaphores = [];
   conditions = (record { name = codes "C"; lock = 0 }) ∷ (record { name = codes "D"; lock = 0 }) ∷ [];
   variables = (record { name = codes "n"; guard = 0; first = pos 0 }) ∷ [];
   handlers = (record {
@@ -159,7 +163,7 @@ waits = record {
 }
 
 waits_are_read : declared (answer_of waits_text) ≡ Some waits
-unfolding waits_text waits answer_from is_name expr_code new_code lock_code lock_of_code condition_code variable_code local_code number_code digits
+unfolding waits_text waits answer_from is_name expr_code new_code lock_code lock_of_code semaphore_code condition_code variable_code local_code number_code digits
 waits_are_read = refl
 
 -- a share of a readers-writer lock
@@ -171,6 +175,7 @@ shares : Declarations
 shares = record {
   lanes = 2;
   locks = (record { name = codes "L"; kind = Plain }) ∷ (record { name = codes "R"; kind = ReadersWriter }) ∷ [];
+  semaphores = [];
   conditions = [];
   variables = (record { name = codes "a"; guard = 1; first = pos 7 }) ∷ [];
   handlers = (record {
@@ -190,122 +195,167 @@ shares = record {
 }
 
 shares_are_read : declared (answer_of shares_text) ≡ Some shares
-unfolding shares_text shares answer_from is_name expr_code new_code lock_code lock_of_code condition_code variable_code local_code number_code digits
+unfolding shares_text shares answer_from is_name expr_code new_code lock_code lock_of_code semaphore_code condition_code variable_code local_code number_code digits
 shares_are_read = refl
+
+-- ---- semaphores
+
+-- two lanes that pass one a token
+tokens_text : List ℕ
+tokens_text =
+    text_of (codes "lanes 2" ∷ codes "sem S = 0" ∷ codes "sem T = 1000000" ∷ codes "handler take" ∷ codes "down S" ∷ codes "reply 1" ∷ codes "handler give" ∷ codes "up S" ∷ codes "up T" ∷ codes "reply 2" ∷ [])
+
+tokens : Declarations
+tokens = record {
+  lanes = 2;
+  locks = [];
+  semaphores = (record { name = codes "S"; first = 0 }) ∷ (record { name = codes "T"; first = 1000000 }) ∷ [];
+  conditions = [];
+  variables = [];
+  handlers = (record {
+    name = codes "take";
+    line_number = 4;
+    parameters = 0;
+    locals = 0;
+    lines = line.Down 0 ∷ line.Reply (record { first = Number (pos 1); rest = [] }) ∷ [];
+    line_numbers = 5 ∷ 6 ∷ [];
+  }) ∷ (record {
+    name = codes "give";
+    line_number = 7;
+    parameters = 0;
+    locals = 0;
+    lines = line.Up 0 ∷ line.Up 1 ∷ line.Reply (record { first = Number (pos 2); rest = [] }) ∷ [];
+    line_numbers = 8 ∷ 9 ∷ 10 ∷ [];
+  }) ∷ [];
+}
+
+tokens_are_read : declared (answer_of tokens_text) ≡ Some tokens
+unfolding tokens_text tokens answer_from is_name expr_code new_code lock_code lock_of_code semaphore_code condition_code variable_code local_code number_code digits
+tokens_are_read = refl
 
 -- ---- refusals
 
 -- a comment's bytes must be allowed, too
 bad_byte : answer_of (text_of (codes "lanes 1" ∷ (35 ∷ 127 ∷ []) ∷ [])) ≡ Err (2, BadByte)
-unfolding answer_from is_name expr_code new_code lock_code lock_of_code condition_code variable_code local_code number_code digits
+unfolding answer_from is_name expr_code new_code lock_code lock_of_code semaphore_code condition_code variable_code local_code number_code digits
 bad_byte = refl
 
 -- `set` may not stand outside a handler
 misplaced : answer_of (text_of (codes "lanes 1" ∷ codes "lock L" ∷ codes "var a on L = 0" ∷ codes "set a = 1" ∷ [])) ≡ Err (4, Misplaced)
-unfolding answer_from is_name expr_code new_code lock_code lock_of_code condition_code variable_code local_code number_code digits
+unfolding answer_from is_name expr_code new_code lock_code lock_of_code semaphore_code condition_code variable_code local_code number_code digits
 misplaced = refl
 
 -- a variable has a guard
 bad_form : answer_of (text_of (codes "lanes 1" ∷ codes "lock L" ∷ codes "var a on L" ∷ [])) ≡ Err (3, BadForm)
-unfolding answer_from is_name expr_code new_code lock_code lock_of_code condition_code variable_code local_code number_code digits
+unfolding answer_from is_name expr_code new_code lock_code lock_of_code semaphore_code condition_code variable_code local_code number_code digits
 bad_form = refl
 
 -- a word of the language names nothing
 no_name : answer_of (text_of (codes "lanes 1" ∷ codes "lock set" ∷ [])) ≡ Err (2, NoName)
-unfolding answer_from is_name expr_code new_code lock_code lock_of_code condition_code variable_code local_code number_code digits
+unfolding answer_from is_name expr_code new_code lock_code lock_of_code semaphore_code condition_code variable_code local_code number_code digits
 no_name = refl
 
--- there are at most 16 lanes
-no_number : answer_of (text_of (codes "lanes 17" ∷ [])) ≡ Err (1, NoNumber)
-unfolding answer_from is_name expr_code new_code lock_code lock_of_code condition_code variable_code local_code number_code digits
+-- there are at most 64 lanes
+no_number : answer_of (text_of (codes "lanes 65" ∷ [])) ≡ Err (1, NoNumber)
+unfolding answer_from is_name expr_code new_code lock_code lock_of_code semaphore_code condition_code variable_code local_code number_code digits
 no_number = refl
 
 -- operands stand with an operator between each two
 bad_expression : answer_of (text_of (codes "lanes 1" ∷ codes "handler h" ∷ codes "reply 5 6" ∷ [])) ≡ Err (3, BadExpression)
-unfolding answer_from is_name expr_code new_code lock_code lock_of_code condition_code variable_code local_code number_code digits
+unfolding answer_from is_name expr_code new_code lock_code lock_of_code semaphore_code condition_code variable_code local_code number_code digits
 bad_expression = refl
 
 -- a local is new on the line after the one that makes it
 undeclared : answer_of (text_of (codes "lanes 1" ∷ codes "handler h" ∷ codes "let x = x" ∷ [])) ≡ Err (3, Undeclared)
-unfolding answer_from is_name expr_code new_code lock_code lock_of_code condition_code variable_code local_code number_code digits
+unfolding answer_from is_name expr_code new_code lock_code lock_of_code semaphore_code condition_code variable_code local_code number_code digits
 undeclared = refl
 
 -- a lock is no variable
 wrong_kind : answer_of (text_of (codes "lanes 1" ∷ codes "lock L" ∷ codes "handler h" ∷ codes "reply L" ∷ [])) ≡ Err (4, WrongKind)
-unfolding answer_from is_name expr_code new_code lock_code lock_of_code condition_code variable_code local_code number_code digits
+unfolding answer_from is_name expr_code new_code lock_code lock_of_code semaphore_code condition_code variable_code local_code number_code digits
 wrong_kind = refl
 
 -- a handler's parameter doesn't have its name
 taken : answer_of (text_of (codes "lanes 1" ∷ codes "handler h h" ∷ [])) ≡ Err (2, Taken)
-unfolding answer_from is_name expr_code new_code lock_code lock_of_code condition_code variable_code local_code number_code digits
+unfolding answer_from is_name expr_code new_code lock_code lock_of_code semaphore_code condition_code variable_code local_code number_code digits
 taken = refl
 
 -- there are at most 16 parameters and locals
 too_many : answer_of (text_of (codes "lanes 1" ∷ codes "handler own a b c d" ∷ codes "let e = 0" ∷ codes "let f = 0" ∷ codes "let g = 0" ∷ codes "let h = 0" ∷ codes "let i = 0" ∷ codes "let j = 0" ∷ codes "let k = 0" ∷ codes "let l = 0" ∷ codes "let m = 0" ∷ codes "let n = 0" ∷ codes "let o = 0" ∷ codes "let p = 0" ∷ codes "let q = 0" ∷ [])) ≡ Err (15, TooMany)
-unfolding answer_from is_name expr_code new_code lock_code lock_of_code condition_code variable_code local_code number_code digits
+unfolding answer_from is_name expr_code new_code lock_code lock_of_code semaphore_code condition_code variable_code local_code number_code digits
 too_many = refl
 
 -- `lanes` comes once
 lanes_again : answer_of (text_of (codes "lanes 1" ∷ codes "lanes 1" ∷ [])) ≡ Err (2, LanesFirst)
-unfolding answer_from is_name expr_code new_code lock_code lock_of_code condition_code variable_code local_code number_code digits
+unfolding answer_from is_name expr_code new_code lock_code lock_of_code semaphore_code condition_code variable_code local_code number_code digits
 lanes_again = refl
 
 -- `lanes` comes first
 lanes_first : answer_of (text_of (codes "lock L" ∷ [])) ≡ Err (1, LanesFirst)
-unfolding answer_from is_name expr_code new_code lock_code lock_of_code condition_code variable_code local_code number_code digits
+unfolding answer_from is_name expr_code new_code lock_code lock_of_code semaphore_code condition_code variable_code local_code number_code digits
 lanes_first = refl
 
 -- a text ends after a handler
 unended : answer_of (text_of (codes "lanes 1" ∷ codes "handler h" ∷ [])) ≡ Err (3, Unended)
-unfolding answer_from is_name expr_code new_code lock_code lock_of_code condition_code variable_code local_code number_code digits
+unfolding answer_from is_name expr_code new_code lock_code lock_of_code semaphore_code condition_code variable_code local_code number_code digits
 unended = refl
 
 -- a word closes the innermost open block alone
 closes_another : answer_of (text_of (codes "lanes 1" ∷ codes "handler h" ∷ codes "if 1" ∷ codes "repeat 2" ∷ codes "endif" ∷ [])) ≡ Err (5, Misplaced)
-unfolding answer_from is_name expr_code new_code lock_code lock_of_code condition_code variable_code local_code number_code digits
+unfolding answer_from is_name expr_code new_code lock_code lock_of_code semaphore_code condition_code variable_code local_code number_code digits
 closes_another = refl
 
 -- a second `else` divides nothing
 second_else : answer_of (text_of (codes "lanes 1" ∷ codes "handler h" ∷ codes "if 1" ∷ codes "else" ∷ codes "else" ∷ [])) ≡ Err (5, Misplaced)
-unfolding answer_from is_name expr_code new_code lock_code lock_of_code condition_code variable_code local_code number_code digits
+unfolding answer_from is_name expr_code new_code lock_code lock_of_code semaphore_code condition_code variable_code local_code number_code digits
 second_else = refl
 
 -- a `try` has a `busy`
 endtry_first : answer_of (text_of (codes "lanes 1" ∷ codes "lock L" ∷ codes "handler h" ∷ codes "try L" ∷ codes "endtry" ∷ [])) ≡ Err (5, Misplaced)
-unfolding answer_from is_name expr_code new_code lock_code lock_of_code condition_code variable_code local_code number_code digits
+unfolding answer_from is_name expr_code new_code lock_code lock_of_code semaphore_code condition_code variable_code local_code number_code digits
 endtry_first = refl
 
 -- outside all blocks nothing is divided
 busy_alone : answer_of (text_of (codes "lanes 1" ∷ codes "handler h" ∷ codes "busy" ∷ [])) ≡ Err (3, Misplaced)
-unfolding answer_from is_name expr_code new_code lock_code lock_of_code condition_code variable_code local_code number_code digits
+unfolding answer_from is_name expr_code new_code lock_code lock_of_code semaphore_code condition_code variable_code local_code number_code digits
 busy_alone = refl
 
 -- a fifth loop is too deep, also inside a branch
 too_deep : answer_of (text_of (codes "lanes 1" ∷ codes "handler h" ∷ codes "repeat 1" ∷ codes "repeat 1" ∷ codes "repeat 1" ∷ codes "repeat 1" ∷ codes "if 1" ∷ codes "repeat 1" ∷ [])) ≡ Err (8, TooDeep)
-unfolding answer_from is_name expr_code new_code lock_code lock_of_code condition_code variable_code local_code number_code digits
+unfolding answer_from is_name expr_code new_code lock_code lock_of_code semaphore_code condition_code variable_code local_code number_code digits
 too_deep = refl
 
 -- a `reply` stands outside all blocks
 reply_in_block : answer_of (text_of (codes "lanes 1" ∷ codes "handler h" ∷ codes "if 1" ∷ codes "reply 0" ∷ [])) ≡ Err (4, ReplyInBlock)
-unfolding answer_from is_name expr_code new_code lock_code lock_of_code condition_code variable_code local_code number_code digits
+unfolding answer_from is_name expr_code new_code lock_code lock_of_code semaphore_code condition_code variable_code local_code number_code digits
 reply_in_block = refl
 
 -- a plain lock has no shares
 plain_share : answer_of (text_of (codes "lanes 1" ∷ codes "lock L" ∷ codes "handler h" ∷ codes "share L" ∷ [])) ≡ Err (4, WrongKind)
-unfolding answer_from is_name expr_code new_code lock_code lock_of_code condition_code variable_code local_code number_code digits
+unfolding answer_from is_name expr_code new_code lock_code lock_of_code semaphore_code condition_code variable_code local_code number_code digits
 plain_share = refl
 
 -- a readers-writer lock isn't tried
 try_readers : answer_of (text_of (codes "lanes 1" ∷ codes "rwlock R" ∷ codes "handler h" ∷ codes "try R" ∷ [])) ≡ Err (4, WrongKind)
-unfolding answer_from is_name expr_code new_code lock_code lock_of_code condition_code variable_code local_code number_code digits
+unfolding answer_from is_name expr_code new_code lock_code lock_of_code semaphore_code condition_code variable_code local_code number_code digits
 try_readers = refl
 
 -- a condition isn't declared above itself
 condition_of_itself : answer_of (text_of (codes "lanes 1" ∷ codes "cond C on C" ∷ [])) ≡ Err (2, Undeclared)
-unfolding answer_from is_name expr_code new_code lock_code lock_of_code condition_code variable_code local_code number_code digits
+unfolding answer_from is_name expr_code new_code lock_code lock_of_code semaphore_code condition_code variable_code local_code number_code digits
 condition_of_itself = refl
 
 -- a loop has 1 to 1,000 turns
 no_turns : answer_of (text_of (codes "lanes 1" ∷ codes "handler h" ∷ codes "repeat 1001" ∷ [])) ≡ Err (3, NoNumber)
-unfolding answer_from is_name expr_code new_code lock_code lock_of_code condition_code variable_code local_code number_code digits
+unfolding answer_from is_name expr_code new_code lock_code lock_of_code semaphore_code condition_code variable_code local_code number_code digits
 no_turns = refl
+
+-- a semaphore's first value is at most 1,000,000
+first_too_great : answer_of (text_of (codes "lanes 1" ∷ codes "sem S = 1000001" ∷ [])) ≡ Err (2, NoNumber)
+unfolding answer_from is_name expr_code new_code lock_code lock_of_code semaphore_code condition_code variable_code local_code number_code digits
+first_too_great = refl
+
+-- a lock is no semaphore
+lock_down : answer_of (text_of (codes "lanes 1" ∷ codes "lock L" ∷ codes "handler h" ∷ codes "down L" ∷ [])) ≡ Err (4, WrongKind)
+unfolding answer_from is_name expr_code new_code lock_code lock_of_code semaphore_code condition_code variable_code local_code number_code digits
+lock_down = refl

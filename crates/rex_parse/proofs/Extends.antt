@@ -8,7 +8,7 @@ use Rattle.rex_syntax.specs.declared.expr.Operand.TheVariants.{Number, Local, Va
 use Rattle.rex_syntax.specs.declared.expr.Term.{Term}
 use Rattle.rex_syntax.specs.declared.expr.Expr.{Expr}
 use Rattle.rex_syntax.specs.declared.line.Line.{Line}
-use Rattle.rex_syntax.specs.declared.line.Line.TheVariants.{Acquire, Share, Release, Try, Busy, EndTry, Wait, Signal, Broadcast, Set, Let, Clock, Random, If, Else, EndIf, Repeat, EndRepeat, Reply}
+use Rattle.rex_syntax.specs.declared.line.Line.TheVariants.{Acquire, Share, Release, Try, Busy, EndTry, Wait, Signal, Broadcast, Down, Up, Set, Let, Clock, Random, If, Else, EndIf, Repeat, EndRepeat, Reply}
 use Rattle.rex_syntax.specs.declared.service.Lock.{Lock}
 use Rattle.rex_syntax.specs.declared.service.LockKind.{LockKind}
 use Rattle.rex_syntax.specs.declared.service.Handler.{Handler}
@@ -16,10 +16,11 @@ use Rattle.rex_syntax.specs.declared.service.Declarations.{Declarations}
 use Rattle.rex_syntax.specs.Expr.{OperandFits, ExprFits}
 use Rattle.rex_syntax.specs.Service.{IsLock, LineNames, IsHandler}
 
--- the locks of one are the first of the other, which has as many conditions and variables at least
+-- the locks of one are the first of the other, which has as many semaphores, conditions and variables at least
 pub record Extends (old new : Declarations) : Type 0 where
   pub locks : (n : ℕ) (l : Lock) → slice_get old.locks n ≡ Some l → slice_get new.locks n ≡ Some l
   pub more_locks : length old.locks ≤ length new.locks
+  pub more_semaphores : length old.semaphores ≤ length new.semaphores
   pub more_conditions : length old.conditions ≤ length new.conditions
   pub more_variables : length old.variables ≤ length new.variables
 
@@ -50,6 +51,8 @@ line_more old new x l m few EndTry h = tt
 line_more old new x l m few (Wait condition test) h = (omega (arith, x.more_conditions, h.0), expr_more l m _ _ few x.more_variables test h.1)
 line_more old new x l m few (Signal condition) h = omega (arith, x.more_conditions)
 line_more old new x l m few (Broadcast condition) h = omega (arith, x.more_conditions)
+line_more old new x l m few (Down semaphore) h = omega (arith, x.more_semaphores)
+line_more old new x l m few (Up semaphore) h = omega (arith, x.more_semaphores)
 line_more old new x l m few (Set variable value) h = (omega (arith, x.more_variables, h.0), expr_more l m _ _ few x.more_variables value h.1)
 line_more old new x l m few (Let local value) h = (omega (arith, h.0), expr_more l m _ _ few x.more_variables value h.1)
 line_more old new x l m few (Clock local) h = omega arith

@@ -3,6 +3,7 @@ use Rattle.std.proofs.Common.{◌≡◌, ℕ, ◌<◌, ◌≤◌, Bool, true, fa
 use Rattle.std.proofs.lemmas.Bool.{leb-false}
 use Rattle.std.specs.Borrow.{Bor}
 use Rattle.rex_text.specs.Text.{Word}
+use Rattle.rex_syntax.specs.Limits.{most_variables}
 use Rattle.rex_parse.specs.Answers.{texts}
 use Rattle.rex_parse.specs.Words.{least, fits}
 use Rattle.rex_parse.specs.Above.{is_open, innermost}
@@ -54,8 +55,8 @@ below limit n c e = leb-false limit n (fits_not (leb limit n) c e)
 pub lock_room : (a : Above) (ws : List Word) → form_code a form.Lock ws ≡ None → length a.locks < 64
 lock_room a ws e = below 64 (length a.locks) _ (fine_line a form.Lock ws e).limits
 
-pub variable_room : (a : Above) (ws : List Word) → form_code a form.Var ws ≡ None → length a.variables < 256
-variable_room a ws e = below 256 (length a.variables) _ (fine_line a form.Var ws e).limits
+pub variable_room : (a : Above) (ws : List Word) → form_code a form.Var ws ≡ None → length a.variables < most_variables
+variable_room a ws e = below most_variables (length a.variables) _ (fine_line a form.Var ws e).limits
 
 pub handler_room : (a : Above) (ws : List Word) → form_code a form.Handler ws ≡ None → length a.handlers < 64
 handler_room a ws e = below 64 (length a.handlers) _ (fine_line a form.Handler ws e).limits

@@ -4,7 +4,7 @@ use Rattle.std.specs.Prelude.{slice_get, slice_set, slice_index}
 use Rattle.std.proofs.lemmas.List.{length-set, set-append_left}
 use Rattle.std.proofs.lemmas.Option.{same_Some, slice_get_within}
 use Rattle.rex_syntax.specs.declared.line.Line.{Line}
-use Rattle.rex_syntax.specs.declared.line.Line.TheVariants.{Acquire, Share, Release, Try, Busy, EndTry, Wait, Signal, Broadcast, Set, Let, Clock, Random, If, Else, EndIf, Repeat, EndRepeat, Reply}
+use Rattle.rex_syntax.specs.declared.line.Line.TheVariants.{Acquire, Share, Release, Try, Busy, EndTry, Wait, Signal, Broadcast, Down, Up, Set, Let, Clock, Random, If, Else, EndIf, Repeat, EndRepeat, Reply}
 use Rattle.rex_syntax.specs.declared.service.Declarations.{Declarations}
 use Rattle.rex_syntax.specs.Service.{LineNames}
 use Rattle.rex_syntax.specs.Blocks.{Block, blocks_after, is_reply_line}
@@ -131,6 +131,8 @@ module _ (old new : List Line) (on : GoesOn old new) where
   repeat_stays i (Some (Wait condition test)) e known = absurd (omega arith)
   repeat_stays i (Some (Signal condition)) e known = absurd (omega arith)
   repeat_stays i (Some (Broadcast condition)) e known = absurd (omega arith)
+  repeat_stays i (Some (Down semaphore)) e known = absurd (omega arith)
+  repeat_stays i (Some (Up semaphore)) e known = absurd (omega arith)
   repeat_stays i (Some (Set variable value)) e known = absurd (omega arith)
   repeat_stays i (Some (Let local value)) e known = absurd (omega arith)
   repeat_stays i (Some (Clock local)) e known = absurd (omega arith)
@@ -178,6 +180,8 @@ module _ (old new : List Line) (on : GoesOn old new) where
   leads_on place (Wait condition test) lt h = omega (arith, on.longer)
   leads_on place (Signal condition) lt h = omega (arith, on.longer)
   leads_on place (Broadcast condition) lt h = omega (arith, on.longer)
+  leads_on place (Down semaphore) lt h = omega (arith, on.longer)
+  leads_on place (Up semaphore) lt h = omega (arith, on.longer)
   leads_on place (Set variable value) lt h = omega (arith, on.longer)
   leads_on place (Let local value) lt h = omega (arith, on.longer)
   leads_on place (Clock local) lt h = omega (arith, on.longer)

@@ -7,11 +7,13 @@ use Rattle.rex_text.specs.Numbers.{u64_at}
 use Rattle.rex_text.specs.Text.{Word, words_of, is_skipped, is_allowed}
 use Rattle.rex_syntax.specs.declared.line.Line.TheVariants as line
 use Rattle.rex_syntax.specs.declared.service.LockKind.TheVariants.{Plain, ReadersWriter}
+use Rattle.rex_event.specs.Limits.{most_lanes}
+use Rattle.rex_syntax.specs.Limits.{most_first}
 use Rattle.rex_syntax.specs.Service.{IsService}
 use Rattle.rex_parse.specs.Words.{least, fits}
 use Rattle.rex_parse.specs.Above.{nothing, meaning_of, is_open, local_place, blocks_in, blocks_of}
 use Rattle.rex_parse.specs.Table.{form_of, found_code, line_code, full_code, lines_of_open, locals_code, whole_expr_code, is_loop, loops_code, inside_code, in_range, count_of, count_code}
-use Rattle.rex_parse.specs.After.{service_of, lock_number, condition_number, variable_number, with_open, opening, with_line, with_local, expr_of, after_form, after_found, after}
+use Rattle.rex_parse.specs.After.{service_of, lock_number, semaphore_number, first_of, condition_number, variable_number, with_open, opening, with_line, with_local, expr_of, after_form, after_found, after}
 use Rattle.rex_parse.specs.Reading.{raw_code, raw_after, end_code}
 use Rattle.rex_parse.specs.Good.{IsOpen, IsGood}
 use Rattle.rex_parse.specs.Answers.{Takes}
@@ -25,8 +27,8 @@ use Rattle.rex_parse.specs.declared.language.ServiceCode.{ServiceCode}
 use Rattle.rex_parse.specs.declared.language.ServiceCode.TheVariants.{BadByte, TooMany, Unended}
 use Rattle.rex_parse.proofs.Fine.{IsFine, fine_line, fits_not, least_both}
 use Rattle.rex_parse.proofs.Extends.{expr_more}
-use Rattle.rex_parse.proofs.Named.{lock_there, lock_of_there, condition_there, variable_there, made_there, whole_expr_fits}
-use Rattle.rex_parse.proofs.Keeps.{began, closed_by, good_lanes, good_lock, good_cond, good_var, good_heading}
+use Rattle.rex_parse.proofs.Named.{lock_there, lock_of_there, semaphore_there, condition_there, variable_there, made_there, whole_expr_fits}
+use Rattle.rex_parse.proofs.Keeps.{began, closed_by, good_lanes, good_lock, good_sem, good_cond, good_var, good_heading}
 use Rattle.rex_parse.proofs.KeepsLines.{LeavesRest, good_line, good_local, good_opening, good_dividing, good_closing, good_loop_end, good_reply}
 use Rattle.rex_parse.proofs.LineRoles.{if_opens, try_opens, repeat_opens, else_suits, busy_suits, endif_suits, endtry_suits}
 use Rattle.rex_parse.proofs.Nesting.{loops_counted}
@@ -98,6 +100,20 @@ good_repeat a number w ws fine good =
     good_opening a block.Loop number (line.Repeat (unwrap_or (count_of 1 1000 w) 0) 0) (repeat_opens (unwrap_or (count_of 1 1000 w) 0) turns.0) (omega (arith, few_loops a limits.0)) turns limits.1
     (began a form.Repeat refl fine.order) good
 
+-- ---- first values
+
+first_by : (n : ℕ) (b : Bool) → in_range 0 most_first n ≡ b → unwrap_or (cond b (Some n) None) 0 ≤ most_first
+first_by n true is = leb-true n most_first (and_parts (leb 0 n) (leb n most_first) is).1
+first_by n false is = omega arith
+
+first_found : (o : Option ℕ) → unwrap_or (option_and_then (λ n. cond (in_range 0 most_first n) (Some n) None) o) 0 ≤ most_first
+first_found None = omega arith
+first_found (Some n) = first_by n (in_range 0 most_first n) refl
+
+-- a first value is within its range
+first_fits : (w : Word) → first_of w ≤ most_first
+first_fits w = first_found (u64_at w)
+
 -- ---- each form
 
 good_form : (a : Above) (number : ℕ) (f : Form) (ws : List Word) → IsFine a f ws → IsGood a → IsGood (after_form a number f ws)
@@ -107,6 +123,10 @@ good_form a number form.Lock [] fine good = good
 good_form a number form.Lock (w ∷ ws) fine good = good_lock a Plain w (closed_by _ fine.placed) fine.limits (began a form.Lock refl fine.order) good
 good_form a number form.RwLock [] fine good = good
 good_form a number form.RwLock (w ∷ ws) fine good = good_lock a ReadersWriter w (closed_by _ fine.placed) fine.limits (began a form.RwLock refl fine.order) good
+good_form a number form.Sem [] fine good = good
+good_form a number form.Sem (w ∷ []) fine good = good
+good_form a number form.Sem (w ∷ e ∷ []) fine good = good
+good_form a number form.Sem (w ∷ e ∷ v ∷ ws) fine good = good_sem a w (first_of v) (w ∷ e ∷ v ∷ ws) fine (first_fits v) good
 good_form a number form.Cond [] fine good = good
 good_form a number form.Cond (w ∷ []) fine good = good
 good_form a number form.Cond (w ∷ o ∷ []) fine good = good
@@ -151,6 +171,12 @@ good_form a number form.Signal (w ∷ ws) fine good =
 good_form a number form.Broadcast [] fine good = good
 good_form a number form.Broadcast (w ∷ ws) fine good =
     good_line a number (line.Broadcast (condition_number (meaning_of a w))) refl (condition_there a w good (least_both _ _ fine.places).0) fine.limits (began a form.Broadcast refl fine.order) good
+good_form a number form.Down [] fine good = good
+good_form a number form.Down (w ∷ ws) fine good =
+    good_line a number (line.Down (semaphore_number (meaning_of a w))) refl (semaphore_there a w good (least_both _ _ fine.places).0) fine.limits (began a form.Down refl fine.order) good
+good_form a number form.Up [] fine good = good
+good_form a number form.Up (w ∷ ws) fine good =
+    good_line a number (line.Up (semaphore_number (meaning_of a w))) refl (semaphore_there a w good (least_both _ _ fine.places).0) fine.limits (began a form.Up refl fine.order) good
 good_form a number form.Set [] fine good = good
 good_form a number form.Set (w ∷ []) fine good = good
 good_form a number form.Set (w ∷ e ∷ []) fine good = absurd (unshaped _ fine.shaped)
@@ -207,14 +233,14 @@ taken_good old inside new number line (Err e) same takes good = tt
 
 -- ---- the end
 
-lanes_by : (o : Option ℕ) (P : Type 0) → MatchOption o P (λ n. (0 < n) × (n ≤ 16)) → unwrap_or o 0 ≤ 16
+lanes_by : (o : Option ℕ) (P : Type 0) → MatchOption o P (λ n. (0 < n) × (n ≤ most_lanes)) → unwrap_or o 0 ≤ most_lanes
 lanes_by None P h = omega arith
 lanes_by (Some n) P h = h.1
 
-pub few_lanes : (a : Above) → IsGood a → unwrap_or a.lanes 0 ≤ 16
+pub few_lanes : (a : Above) → IsGood a → unwrap_or a.lanes 0 ≤ most_lanes
 few_lanes a good = lanes_by a.lanes (a ≡ nothing) good.begun
 
-some_by : (o : Option ℕ) (P : Type 0) → (P → ⊥) → MatchOption o P (λ n. (0 < n) × (n ≤ 16)) → 0 < unwrap_or o 0
+some_by : (o : Option ℕ) (P : Type 0) → (P → ⊥) → MatchOption o P (λ n. (0 < n) × (n ≤ most_lanes)) → 0 < unwrap_or o 0
 some_by None P stop h = absurd (stop h)
 some_by (Some n) P stop h = h.0
 
@@ -233,10 +259,12 @@ ends_in_service a good e =
       some_lanes = some_by a.lanes (a ≡ nothing) (λ (q : a ≡ nothing). let none : length a.handlers ≡ 0 = ap (λ (b : Above). length b.handlers) q in omega arith) good.begun;
       lanes = few_lanes a good;
       locks = good.locks;
+      few_semaphores = good.few_semaphores;
       few_conditions = good.few_conditions;
       few_variables = good.few_variables;
       few_handlers = good.few_handlers;
       some_handlers = some;
+      semaphores = good.semaphores;
       conditions = good.conditions;
       variables = good.variables;
       handlers = good.handlers;

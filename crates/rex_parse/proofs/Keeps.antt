@@ -8,13 +8,16 @@ use Rattle.rex_text.specs.Numbers.{u64_at}
 use Rattle.rex_syntax.specs.declared.line.Line.{Line}
 use Rattle.rex_syntax.specs.declared.service.LockKind.{LockKind}
 use Rattle.rex_syntax.specs.declared.service.LockKind.TheVariants.{Plain}
+use Rattle.rex_event.specs.Limits.{most_lanes}
+use Rattle.rex_syntax.specs.Limits.{most_variables, most_first}
+use Rattle.rex_syntax.specs.declared.service.Semaphore.{Semaphore}
 use Rattle.rex_syntax.specs.declared.service.Condition.{Condition}
 use Rattle.rex_syntax.specs.declared.service.Variable.{Variable}
 use Rattle.rex_syntax.specs.Service.{IsLock, LineNames, IsHandler}
 use Rattle.rex_parse.specs.Words.{fits}
 use Rattle.rex_parse.specs.Above.{nothing, is_open}
 use Rattle.rex_parse.specs.Table.{count_of, in_range, order_code, is_lanes, same}
-use Rattle.rex_parse.specs.After.{service_of, with_lock, with_condition, with_variable, with_heading}
+use Rattle.rex_parse.specs.After.{service_of, with_lock, with_semaphore, with_condition, with_variable, with_heading}
 use Rattle.rex_parse.specs.Growing.{IsGrowing}
 use Rattle.rex_parse.specs.Good.{MeaningFits, IsOpen, IsGood}
 use Rattle.rex_parse.specs.declared.language.Above.{Above}
@@ -52,18 +55,22 @@ no_open (Some h) P e = absurd cc
 
 -- ---- names
 
-pub names_more : (a b : Above) → length a.locks ≤ length b.locks → length a.conditions ≤ length b.conditions → length a.variables ≤ length b.variables → length a.handlers ≤ length b.handlers
+pub names_more : (a b : Above) → length a.locks ≤ length b.locks → length a.semaphores ≤ length b.semaphores → length a.conditions ≤ length b.conditions → length a.variables ≤ length b.variables → length a.handlers ≤ length b.handlers
     → (m : Meaning) → MeaningFits a m → MeaningFits b m
-names_more a b locks conditions variables handlers (meaning.Lock n) h = omega arith
-names_more a b locks conditions variables handlers (meaning.Condition n) h = omega arith
-names_more a b locks conditions variables handlers (meaning.Variable n) h = omega arith
-names_more a b locks conditions variables handlers (meaning.Handler n) h = omega arith
+names_more a b locks semaphores conditions variables handlers (meaning.Lock n) h = omega arith
+names_more a b locks semaphores conditions variables handlers (meaning.Semaphore n) h = omega arith
+names_more a b locks semaphores conditions variables handlers (meaning.Condition n) h = omega arith
+names_more a b locks semaphores conditions variables handlers (meaning.Variable n) h = omega arith
+names_more a b locks semaphores conditions variables handlers (meaning.Handler n) h = omega arith
 
 abbrev Fit : Above → Entry → Type 0
 Fit a e = MeaningFits a e.meaning
 
 abbrev Guarded : Above → Variable → Type 0
 Guarded a v = v.guard < length a.locks
+
+abbrev pub IsSmall : Semaphore → Type 0
+IsSmall x = x.first ≤ most_first
 
 abbrev OfPlain : Above → Condition → Type 0
 OfPlain a c = IsLock (service_of a) Plain c.lock
@@ -74,6 +81,7 @@ lock_extends : (a : Above) (kind : LockKind) (w : Word) → Extends (service_of 
 lock_extends a kind w = record {
   locks = λ n l e. slice_get-push a.locks _ n l e;
   more_locks = omega (arith, length-append a.locks ((record { name = w; kind = kind }) ∷ []));
+  more_semaphores = omega arith;
   more_conditions = omega arith;
   more_variables = omega arith;
 }
@@ -87,11 +95,13 @@ good_lock a kind w outside limits begun good =
     record {
       begun = still a.lanes (a ≡ nothing) (b ≡ nothing) _ begun good.begun;
       locks = omega (arith, room, more);
+      few_semaphores = good.few_semaphores;
       few_conditions = good.few_conditions;
       few_variables = good.few_variables;
       few_handlers = good.few_handlers;
       locals = good.locals;
-      names = All-push (Fit b) a.names _ (All-weaker (Fit a) (Fit b) (λ e q. names_more a b x.more_locks x.more_conditions x.more_variables (omega arith) e.meaning q) a.names good.names) (omega (arith, more));
+      names = All-push (Fit b) a.names _ (All-weaker (Fit a) (Fit b) (λ e q. names_more a b x.more_locks x.more_semaphores x.more_conditions x.more_variables (omega arith) e.meaning q) a.names good.names) (omega (arith, more));
+      semaphores = good.semaphores;
       conditions = All-weaker (OfPlain a) (OfPlain b) (λ c q. IsLock-more _ _ x Plain c.lock q) a.conditions good.conditions;
       variables = All-weaker (Guarded a) (Guarded b) (λ v q. omega (arith, q, more)) a.variables good.variables;
       handlers = All-weaker (IsHandler (service_of a)) (IsHandler (service_of b)) (λ h q. handler_more _ _ x h q) a.handlers good.handlers;
@@ -113,41 +123,43 @@ both_true true true e = (refl, refl)
 both_true true false e = absurd cc
 both_true false c e = absurd cc
 
-count_by : (n : ℕ) (b : Bool) (P : Type 0) → in_range 1 16 n ≡ b → is_some (cond b (Some n) None) ≡ true → MatchOption (cond b (Some n) None) P (λ m. (0 < m) × (m ≤ 16))
-count_by n true P is e = let both = both_true (leb 1 n) (leb n 16) is in (omega (arith, leb-true 1 n both.0), leb-true n 16 both.1)
+count_by : (n : ℕ) (b : Bool) (P : Type 0) → in_range 1 most_lanes n ≡ b → is_some (cond b (Some n) None) ≡ true → MatchOption (cond b (Some n) None) P (λ m. (0 < m) × (m ≤ most_lanes))
+count_by n true P is e = let both = both_true (leb 1 n) (leb n most_lanes) is in (omega (arith, leb-true 1 n both.0), leb-true n most_lanes both.1)
 count_by n false P is e = absurd cc
 
-count_fits : (o : Option ℕ) (P : Type 0) → is_some (option_and_then (λ n. cond (in_range 1 16 n) (Some n) None) o) ≡ true
-    → MatchOption (option_and_then (λ n. cond (in_range 1 16 n) (Some n) None) o) P (λ m. (0 < m) × (m ≤ 16))
+count_fits : (o : Option ℕ) (P : Type 0) → is_some (option_and_then (λ n. cond (in_range 1 most_lanes n) (Some n) None) o) ≡ true
+    → MatchOption (option_and_then (λ n. cond (in_range 1 most_lanes n) (Some n) None) o) P (λ m. (0 < m) × (m ≤ most_lanes))
 count_fits None P e = absurd cc
-count_fits (Some n) P e = count_by n (in_range 1 16 n) P refl e
+count_fits (Some n) P e = count_by n (in_range 1 most_lanes n) P refl e
 
 not_false : (b : Bool) → not b ≡ false → b ≡ true
 not_false true e = refl
 not_false false e = absurd cc
 
-first_lanes : (w : Word) → is_some (count_of 1 16 w) ≡ true → IsGood (record nothing { lanes = count_of 1 16 w })
+first_lanes : (w : Word) → is_some (count_of 1 most_lanes w) ≡ true → IsGood (record nothing { lanes = count_of 1 most_lanes w })
 first_lanes w some =
-    let b : Above = record nothing { lanes = count_of 1 16 w } in
+    let b : Above = record nothing { lanes = count_of 1 most_lanes w } in
     record {
       begun = count_fits (u64_at w) (b ≡ nothing) some;
       locks = omega arith;
+      few_semaphores = omega arith;
       few_conditions = omega arith;
       few_variables = omega arith;
       few_handlers = omega arith;
       locals = omega arith;
       names = All-nil (Fit b);
+      semaphores = All-nil IsSmall;
       conditions = All-nil (OfPlain b);
       variables = All-nil (Guarded b);
       handlers = All-nil (IsHandler (service_of b));
       opened = tt;
     }
 
-pub good_lanes : (a : Above) (w : Word) (ws : List Word) → IsFine a form.Lanes (w ∷ ws) → IsGood a → IsGood (record a { lanes = count_of 1 16 w })
+pub good_lanes : (a : Above) (w : Word) (ws : List Word) → IsFine a form.Lanes (w ∷ ws) → IsGood a → IsGood (record a { lanes = count_of 1 most_lanes w })
 good_lanes a w ws fine good =
     let none : a ≡ nothing = unset a.lanes (a ≡ nothing) _ (unset_by (is_some a.lanes) (fits_not _ _ fine.order)) good.begun in
-    let some : is_some (count_of 1 16 w) ≡ true = not_false (is_some (count_of 1 16 w)) (fits_not _ _ (least_both _ _ fine.places).0) in
-    let P : Above → Type 0 = λ b. IsGood (record b { lanes = count_of 1 16 w }) in
+    let some : is_some (count_of 1 most_lanes w) ≡ true = not_false (is_some (count_of 1 most_lanes w)) (fits_not _ _ (least_both _ _ fine.places).0) in
+    let P : Above → Type 0 = λ b. IsGood (record b { lanes = count_of 1 most_lanes w }) in
     subst P (sym none) (first_lanes w some)
 
 -- ---- `var`
@@ -156,6 +168,7 @@ variable_extends : (a : Above) (w : Word) (guard : ℕ) (first : ℤ) → Extend
 variable_extends a w guard first = record {
   locks = λ n l e. e;
   more_locks = omega arith;
+  more_semaphores = omega arith;
   more_conditions = omega arith;
   more_variables = omega (arith, length-append a.variables ((record { name = w; guard = guard; first = first }) ∷ []));
 }
@@ -164,18 +177,53 @@ pub good_var : (a : Above) (w : Word) (guard : ℕ) (first : ℤ) (ws : List Wor
 good_var a w guard first ws fine there good =
     let b : Above = with_variable a w guard first in
     let x : Extends (service_of a) (service_of b) = variable_extends a w guard first in
-    let room : length a.variables < 256 = leb-false 256 (length a.variables) (fits_not _ _ fine.limits) in
+    let room : length a.variables < most_variables = leb-false most_variables (length a.variables) (fits_not _ _ fine.limits) in
     let more : length b.variables ≡ length a.variables + 1 = length-append a.variables ((record { name = w; guard = guard; first = first }) ∷ []) in
     record {
       begun = still a.lanes (a ≡ nothing) (b ≡ nothing) _ (began a form.Var refl fine.order) good.begun;
       locks = good.locks;
+      few_semaphores = good.few_semaphores;
       few_conditions = good.few_conditions;
       few_variables = omega (arith, room, more);
       few_handlers = good.few_handlers;
       locals = good.locals;
-      names = All-push (Fit b) a.names _ (All-weaker (Fit a) (Fit b) (λ e q. names_more a b x.more_locks x.more_conditions x.more_variables (omega arith) e.meaning q) a.names good.names) (omega (arith, more));
+      names = All-push (Fit b) a.names _ (All-weaker (Fit a) (Fit b) (λ e q. names_more a b x.more_locks x.more_semaphores x.more_conditions x.more_variables (omega arith) e.meaning q) a.names good.names) (omega (arith, more));
+      semaphores = good.semaphores;
       conditions = All-weaker (OfPlain a) (OfPlain b) (λ c q. IsLock-more _ _ x Plain c.lock q) a.conditions good.conditions;
       variables = All-push (Guarded b) a.variables _ (All-weaker (Guarded a) (Guarded b) (λ v q. q) a.variables good.variables) there;
+      handlers = All-weaker (IsHandler (service_of a)) (IsHandler (service_of b)) (λ h q. handler_more _ _ x h q) a.handlers good.handlers;
+      opened = no_open a.open_handler _ (closed_by _ fine.placed);
+    }
+
+-- ---- `sem`
+
+semaphore_extends : (a : Above) (w : Word) (first : ℕ) → Extends (service_of a) (service_of (with_semaphore a w first))
+semaphore_extends a w first = record {
+  locks = λ n l e. e;
+  more_locks = omega arith;
+  more_semaphores = omega (arith, length-append a.semaphores ((record { name = w; first = first }) ∷ []));
+  more_conditions = omega arith;
+  more_variables = omega arith;
+}
+
+pub good_sem : (a : Above) (w : Word) (first : ℕ) (ws : List Word) → IsFine a form.Sem ws → first ≤ most_first → IsGood a → IsGood (with_semaphore a w first)
+good_sem a w first ws fine few good =
+    let b : Above = with_semaphore a w first in
+    let x : Extends (service_of a) (service_of b) = semaphore_extends a w first in
+    let room : length a.semaphores < 64 = leb-false 64 (length a.semaphores) (fits_not _ _ fine.limits) in
+    let more : length b.semaphores ≡ length a.semaphores + 1 = length-append a.semaphores ((record { name = w; first = first }) ∷ []) in
+    record {
+      begun = still a.lanes (a ≡ nothing) (b ≡ nothing) _ (began a form.Sem refl fine.order) good.begun;
+      locks = good.locks;
+      few_semaphores = omega (arith, room, more);
+      few_conditions = good.few_conditions;
+      few_variables = good.few_variables;
+      few_handlers = good.few_handlers;
+      locals = good.locals;
+      names = All-push (Fit b) a.names _ (All-weaker (Fit a) (Fit b) (λ e q. names_more a b x.more_locks x.more_semaphores x.more_conditions x.more_variables (omega arith) e.meaning q) a.names good.names) (omega (arith, more));
+      semaphores = All-push IsSmall a.semaphores _ good.semaphores few;
+      conditions = All-weaker (OfPlain a) (OfPlain b) (λ c q. IsLock-more _ _ x Plain c.lock q) a.conditions good.conditions;
+      variables = good.variables;
       handlers = All-weaker (IsHandler (service_of a)) (IsHandler (service_of b)) (λ h q. handler_more _ _ x h q) a.handlers good.handlers;
       opened = no_open a.open_handler _ (closed_by _ fine.placed);
     }
@@ -186,6 +234,7 @@ condition_extends : (a : Above) (w : Word) (lock : ℕ) → Extends (service_of 
 condition_extends a w lock = record {
   locks = λ n l e. e;
   more_locks = omega arith;
+  more_semaphores = omega arith;
   more_conditions = omega (arith, length-append a.conditions ((record { name = w; lock = lock }) ∷ []));
   more_variables = omega arith;
 }
@@ -199,11 +248,13 @@ good_cond a w lock ws fine there good =
     record {
       begun = still a.lanes (a ≡ nothing) (b ≡ nothing) _ (began a form.Cond refl fine.order) good.begun;
       locks = good.locks;
+      few_semaphores = good.few_semaphores;
       few_conditions = omega (arith, room, more);
       few_variables = good.few_variables;
       few_handlers = good.few_handlers;
       locals = good.locals;
-      names = All-push (Fit b) a.names _ (All-weaker (Fit a) (Fit b) (λ e q. names_more a b x.more_locks x.more_conditions x.more_variables (omega arith) e.meaning q) a.names good.names) (omega (arith, more));
+      names = All-push (Fit b) a.names _ (All-weaker (Fit a) (Fit b) (λ e q. names_more a b x.more_locks x.more_semaphores x.more_conditions x.more_variables (omega arith) e.meaning q) a.names good.names) (omega (arith, more));
+      semaphores = good.semaphores;
       conditions = All-push (OfPlain b) a.conditions _ (All-weaker (OfPlain a) (OfPlain b) (λ c q. IsLock-more _ _ x Plain c.lock q) a.conditions good.conditions) (IsLock-more _ _ x Plain lock there);
       variables = good.variables;
       handlers = All-weaker (IsHandler (service_of a)) (IsHandler (service_of b)) (λ h q. handler_more _ _ x h q) a.handlers good.handlers;
@@ -244,11 +295,13 @@ good_heading a number w ws fine good =
     record {
       begun = still a.lanes (a ≡ nothing) (b ≡ nothing) _ (began a form.Handler refl fine.order) good.begun;
       locks = good.locks;
+      few_semaphores = good.few_semaphores;
       few_conditions = good.few_conditions;
       few_variables = good.few_variables;
       few_handlers = good.few_handlers;
       locals = omega arith;
-      names = All-push (Fit b) a.names _ (All-weaker (Fit a) (Fit b) (λ e q. names_more a b (omega arith) (omega arith) (omega arith) (omega arith) e.meaning q) a.names good.names) (omega arith);
+      names = All-push (Fit b) a.names _ (All-weaker (Fit a) (Fit b) (λ e q. names_more a b (omega arith) (omega arith) (omega arith) (omega arith) (omega arith) e.meaning q) a.names good.names) (omega arith);
+      semaphores = good.semaphores;
       conditions = good.conditions;
       variables = good.variables;
       handlers = good.handlers;

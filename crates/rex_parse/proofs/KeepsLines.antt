@@ -47,11 +47,13 @@ good_change a change keep begun good =
     record {
       begun = still a.lanes (a ≡ nothing) (b ≡ nothing) _ begun good.begun;
       locks = good.locks;
+      few_semaphores = good.few_semaphores;
       few_conditions = good.few_conditions;
       few_variables = good.few_variables;
       few_handlers = good.few_handlers;
       locals = good.locals;
-      names = All-weaker (λ (e : Entry). MeaningFits a e.meaning) (λ (e : Entry). MeaningFits b e.meaning) (λ e q. names_more a b (omega arith) (omega arith) (omega arith) (omega arith) e.meaning q) a.names good.names;
+      names = All-weaker (λ (e : Entry). MeaningFits a e.meaning) (λ (e : Entry). MeaningFits b e.meaning) (λ e q. names_more a b (omega arith) (omega arith) (omega arith) (omega arith) (omega arith) e.meaning q) a.names good.names;
+      semaphores = good.semaphores;
       conditions = good.conditions;
       variables = good.variables;
       handlers = good.handlers;
@@ -132,7 +134,7 @@ opened_local s old new (Some open_handler) x more h = record {
 }
 
 pub itself : (s : Declarations) → Extends s s
-itself s = record { locks = λ n l e. e; more_locks = omega arith; more_conditions = omega arith; more_variables = omega arith }
+itself s = record { locks = λ n l e. e; more_locks = omega arith; more_semaphores = omega arith; more_conditions = omega arith; more_variables = omega arith }
 
 with_more : (a : Above) (w : Word) → length a.locals < 16 → is_some a.lanes ≡ true → IsGood a → IsGood (record a { locals = a.locals ++ w ∷ [] })
 with_more a w room begun good =
@@ -141,11 +143,13 @@ with_more a w room begun good =
     record {
       begun = still a.lanes (a ≡ nothing) (b ≡ nothing) _ begun good.begun;
       locks = good.locks;
+      few_semaphores = good.few_semaphores;
       few_conditions = good.few_conditions;
       few_variables = good.few_variables;
       few_handlers = good.few_handlers;
       locals = omega (arith, room, more);
-      names = All-weaker (λ (e : Entry). MeaningFits a e.meaning) (λ (e : Entry). MeaningFits b e.meaning) (λ e q. names_more a b (omega arith) (omega arith) (omega arith) (omega arith) e.meaning q) a.names good.names;
+      names = All-weaker (λ (e : Entry). MeaningFits a e.meaning) (λ (e : Entry). MeaningFits b e.meaning) (λ e q. names_more a b (omega arith) (omega arith) (omega arith) (omega arith) (omega arith) e.meaning q) a.names good.names;
+      semaphores = good.semaphores;
       conditions = good.conditions;
       variables = good.variables;
       handlers = good.handlers;
@@ -191,7 +195,7 @@ handler_is a number value h none locals few names open_handler =
     }
 
 handler_extends : (a : Above) (h : Handler) → Extends (service_of a) (service_of (record a { handlers = a.handlers ++ h ∷ []; locals = []; open_handler = None }))
-handler_extends a h = record { locks = λ n l e. e; more_locks = omega arith; more_conditions = omega arith; more_variables = omega arith }
+handler_extends a h = record { locks = λ n l e. e; more_locks = omega arith; more_semaphores = omega arith; more_conditions = omega arith; more_variables = omega arith }
 
 good_ended : (a : Above) (h : Handler) → IsHandler (service_of a) h → length a.handlers < 64 → is_some a.lanes ≡ true → IsGood a → IsGood (record a { handlers = a.handlers ++ h ∷ []; locals = []; open_handler = None })
 good_ended a h is room begun good =
@@ -201,11 +205,13 @@ good_ended a h is room begun good =
     record {
       begun = still a.lanes (a ≡ nothing) (b ≡ nothing) _ begun good.begun;
       locks = good.locks;
+      few_semaphores = good.few_semaphores;
       few_conditions = good.few_conditions;
       few_variables = good.few_variables;
       few_handlers = omega (arith, room, more);
       locals = omega arith;
-      names = All-weaker (λ (e : Entry). MeaningFits a e.meaning) (λ (e : Entry). MeaningFits b e.meaning) (λ e q. names_more a b (omega arith) (omega arith) (omega arith) (omega (arith, more)) e.meaning q) a.names good.names;
+      names = All-weaker (λ (e : Entry). MeaningFits a e.meaning) (λ (e : Entry). MeaningFits b e.meaning) (λ e q. names_more a b (omega arith) (omega arith) (omega arith) (omega arith) (omega (arith, more)) e.meaning q) a.names good.names;
+      semaphores = good.semaphores;
       conditions = All-weaker (λ (c : Condition). IsLock (service_of a) Plain c.lock) (λ (c : Condition). IsLock (service_of b) Plain c.lock) (λ c q. IsLock-more _ _ x Plain c.lock q) a.conditions good.conditions;
       variables = good.variables;
       handlers = All-push (IsHandler (service_of b)) a.handlers h (All-weaker (IsHandler (service_of a)) (IsHandler (service_of b)) (λ g q. handler_more _ _ x g q) a.handlers good.handlers) (handler_more _ _ x h is);

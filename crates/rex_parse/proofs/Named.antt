@@ -17,8 +17,8 @@ use Rattle.rex_syntax.specs.Service.{IsLock}
 use Rattle.rex_syntax.specs.Expr.{OperandFits, ExprFits}
 use Rattle.rex_parse.specs.Words.{is_name, least}
 use Rattle.rex_parse.specs.Above.{meaning_in, meaning_of, is_local, local_place}
-use Rattle.rex_parse.specs.Table.{lock_kind_code, lock_code, is_same_kind, is_of_kind, lock_of_kind_code, lock_of_code, condition_kind_code, condition_code, variable_kind_code, variable_code, begins_number, number_code, operand_code, operator_code, expr_code, whole_expr_code}
-use Rattle.rex_parse.specs.After.{service_of, lock_number, condition_number, variable_number, operand_of, terms_of, expr_of, with_local}
+use Rattle.rex_parse.specs.Table.{lock_kind_code, lock_code, semaphore_kind_code, semaphore_code, is_same_kind, is_of_kind, lock_of_kind_code, lock_of_code, condition_kind_code, condition_code, variable_kind_code, variable_code, begins_number, number_code, operand_code, operator_code, expr_code, whole_expr_code}
+use Rattle.rex_parse.specs.After.{service_of, lock_number, semaphore_number, condition_number, variable_number, operand_of, terms_of, expr_of, with_local}
 use Rattle.rex_parse.specs.Good.{MeaningFits, IsGood}
 use Rattle.rex_parse.specs.declared.language.Above.{Above}
 use Rattle.rex_parse.specs.declared.language.Entry.{Entry}
@@ -47,6 +47,7 @@ meaning_fits a w m good is = found_fits (MeaningFits a) (λ (e : Entry). bytes_e
 lock_at : (a : Above) (o : Option Meaning) → ((m : Meaning) → o ≡ Some m → MeaningFits a m) → lock_kind_code o ≡ None → lock_number o < length a.locks
 lock_at a None fits e = absurd cc
 lock_at a (Some (meaning.Lock n)) fits e = fits (meaning.Lock n) refl
+lock_at a (Some (meaning.Semaphore n)) fits e = absurd cc
 lock_at a (Some (meaning.Condition n)) fits e = absurd cc
 lock_at a (Some (meaning.Variable n)) fits e = absurd cc
 lock_at a (Some (meaning.Handler n)) fits e = absurd cc
@@ -54,13 +55,23 @@ lock_at a (Some (meaning.Handler n)) fits e = absurd cc
 variable_at : (a : Above) (o : Option Meaning) → ((m : Meaning) → o ≡ Some m → MeaningFits a m) → variable_kind_code o ≡ None → variable_number o < length a.variables
 variable_at a None fits e = absurd cc
 variable_at a (Some (meaning.Variable n)) fits e = fits (meaning.Variable n) refl
+variable_at a (Some (meaning.Semaphore n)) fits e = absurd cc
 variable_at a (Some (meaning.Condition n)) fits e = absurd cc
 variable_at a (Some (meaning.Lock n)) fits e = absurd cc
 variable_at a (Some (meaning.Handler n)) fits e = absurd cc
 
+semaphore_at : (a : Above) (o : Option Meaning) → ((m : Meaning) → o ≡ Some m → MeaningFits a m) → semaphore_kind_code o ≡ None → semaphore_number o < length a.semaphores
+semaphore_at a None fits e = absurd cc
+semaphore_at a (Some (meaning.Semaphore n)) fits e = fits (meaning.Semaphore n) refl
+semaphore_at a (Some (meaning.Lock n)) fits e = absurd cc
+semaphore_at a (Some (meaning.Condition n)) fits e = absurd cc
+semaphore_at a (Some (meaning.Variable n)) fits e = absurd cc
+semaphore_at a (Some (meaning.Handler n)) fits e = absurd cc
+
 condition_at : (a : Above) (o : Option Meaning) → ((m : Meaning) → o ≡ Some m → MeaningFits a m) → condition_kind_code o ≡ None → condition_number o < length a.conditions
 condition_at a None fits e = absurd cc
 condition_at a (Some (meaning.Condition n)) fits e = fits (meaning.Condition n) refl
+condition_at a (Some (meaning.Semaphore n)) fits e = absurd cc
 condition_at a (Some (meaning.Lock n)) fits e = absurd cc
 condition_at a (Some (meaning.Variable n)) fits e = absurd cc
 condition_at a (Some (meaning.Handler n)) fits e = absurd cc
@@ -78,6 +89,7 @@ of_kind a kind n (Some l) at e = record { found = l; there = at; kind_is = same_
 lock_of_at : (a : Above) (kind : LockKind) (o : Option Meaning) → lock_of_kind_code a kind o ≡ None → IsLock (service_of a) kind (lock_number o)
 lock_of_at a kind None e = absurd cc
 lock_of_at a kind (Some (meaning.Lock n)) e = of_kind a kind n (slice_get a.locks n) refl (not-false (is_of_kind kind (slice_get a.locks n)) (fits_not _ _ e))
+lock_of_at a kind (Some (meaning.Semaphore n)) e = absurd cc
 lock_of_at a kind (Some (meaning.Condition n)) e = absurd cc
 lock_of_at a kind (Some (meaning.Variable n)) e = absurd cc
 lock_of_at a kind (Some (meaning.Handler n)) e = absurd cc
@@ -97,6 +109,10 @@ variable_fits a w good e = variable_at a (meaning_of a w) (λ m is. meaning_fits
 pub variable_there : (a : Above) (w : Word) → IsGood a → variable_code a w ≡ None → variable_number (meaning_of a w) < length a.variables
 unfolding variable_code
 variable_there a w good e = variable_fits a w good (by_kind (is_name w) (is_local a w) (variable_kind_code (meaning_of a w)) e)
+
+pub semaphore_there : (a : Above) (w : Word) → IsGood a → semaphore_code a w ≡ None → semaphore_number (meaning_of a w) < length a.semaphores
+unfolding semaphore_code
+semaphore_there a w good e = semaphore_at a (meaning_of a w) (λ m is. meaning_fits a w m good is) (by_kind (is_name w) (is_local a w) (semaphore_kind_code (meaning_of a w)) e)
 
 pub condition_there : (a : Above) (w : Word) → IsGood a → condition_code a w ≡ None → condition_number (meaning_of a w) < length a.conditions
 unfolding condition_code

@@ -38,6 +38,15 @@ var_shape (w ∷ o ∷ l ∷ []) lt = or_true _
 var_shape (w ∷ o ∷ l ∷ e ∷ []) lt = or_or_true _ _
 var_shape (w ∷ o ∷ l ∷ e ∷ v ∷ ws) lt = absurd (omega arith)
 
+sem_shape : (ws : List (Bor Word)) → length ws < 3 → is_misshapen (slots form.Sem) (texts ws) ≡ true
+sem_shape [] lt = refl
+sem_shape (w ∷ []) lt = refl
+sem_shape (w ∷ e ∷ []) lt = or_true _
+sem_shape (w ∷ e ∷ v ∷ ws) lt = absurd (omega arith)
+
+pub sem_words : (a : Above) (ws : List (Bor Word)) → length ws < 3 → form_code a form.Sem (texts ws) ≡ None → ⊥
+sem_words a ws lt e = let h : is_misshapen (slots form.Sem) (texts ws) ≡ false = (fine_line a form.Sem (texts ws) e).shaped in let k = sem_shape ws lt in cc
+
 pub set_words : (a : Above) (ws : List (Bor Word)) → length ws < 2 → form_code a form.Set (texts ws) ≡ None → ⊥
 set_words a ws lt e = let h : is_misshapen (slots form.Set) (texts ws) ≡ false = (fine_line a form.Set (texts ws) e).shaped in let k = set_shape ws lt in cc
 

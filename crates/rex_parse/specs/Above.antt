@@ -12,7 +12,7 @@ use Rattle.rex_parse.specs.declared.blocks.OpenBlock.{OpenBlock}
 
 -- before the first line
 abbrev pub nothing : Above
-nothing = record { lanes = None; names = []; locks = []; conditions = []; variables = []; handlers = []; locals = []; open_handler = None }
+nothing = record { lanes = None; names = []; locks = []; semaphores = []; conditions = []; variables = []; handlers = []; locals = []; open_handler = None }
 
 -- what the name of an entry stands for
 abbrev pub meaning_in : Entry → Meaning

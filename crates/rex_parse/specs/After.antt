@@ -13,6 +13,8 @@ use Rattle.rex_syntax.specs.declared.service.LockKind.{LockKind}
 use Rattle.rex_syntax.specs.declared.service.LockKind.TheVariants.{Plain, ReadersWriter}
 use Rattle.rex_syntax.specs.declared.service.Handler.{Handler}
 use Rattle.rex_syntax.specs.declared.service.Declarations.{Declarations}
+use Rattle.rex_event.specs.Limits.{most_lanes}
+use Rattle.rex_syntax.specs.Limits.{most_first}
 use Rattle.rex_parse.specs.Above.{meaning_of, is_local, local_place}
 use Rattle.rex_parse.specs.Table.{form_of, count_of, begins_number, operator_of}
 use Rattle.rex_parse.specs.declared.language.Above.{Above}
@@ -29,6 +31,15 @@ use Rattle.rex_parse.specs.declared.language.Meaning.TheVariants as meaning
 abbrev pub lock_number : Option Meaning → ℕ
 lock_number (Some (meaning.Lock n)) = n
 lock_number _ = 0
+
+-- the number of a semaphore
+abbrev pub semaphore_number : Option Meaning → ℕ
+semaphore_number (Some (meaning.Semaphore n)) = n
+semaphore_number _ = 0
+
+-- the first value that a word gives a semaphore
+abbrev pub first_of : Word → ℕ
+first_of w = unwrap_or (count_of 0 most_first w) 0
 
 -- the number of a condition
 abbrev pub condition_number : Option Meaning → ℕ
@@ -133,6 +144,10 @@ with_name a w m = record a { names = a.names ++ (record { name = w; meaning = m 
 abbrev pub with_lock : Above → LockKind → Word → Above
 with_lock a kind w = record (with_name a w (meaning.Lock (length a.locks))) { locks = a.locks ++ (record { name = w; kind = kind }) ∷ [] }
 
+-- a further semaphore, with its first value
+abbrev pub with_semaphore : Above → Word → ℕ → Above
+with_semaphore a w first = record (with_name a w (meaning.Semaphore (length a.semaphores))) { semaphores = a.semaphores ++ (record { name = w; first = first }) ∷ [] }
+
 -- a further condition, with its lock
 abbrev pub with_condition : Above → Word → ℕ → Above
 with_condition a w lock = record (with_name a w (meaning.Condition (length a.conditions))) { conditions = a.conditions ++ (record { name = w; lock = lock }) ∷ [] }
@@ -152,9 +167,10 @@ with_heading a number w ws =
 
 -- what is declared after a good line of a form, which has this number in its text
 abbrev pub after_form : Above → ℕ → Form → List Word → Above
-after_form a number form.Lanes (w ∷ ws) = record a { lanes = count_of 1 16 w }
+after_form a number form.Lanes (w ∷ ws) = record a { lanes = count_of 1 most_lanes w }
 after_form a number form.Lock (w ∷ ws) = with_lock a Plain w
 after_form a number form.RwLock (w ∷ ws) = with_lock a ReadersWriter w
+after_form a number form.Sem (w ∷ e ∷ v ∷ ws) = with_semaphore a w (first_of v)
 after_form a number form.Cond (w ∷ o ∷ l ∷ ws) = with_condition a w (lock_number (meaning_of a l))
 after_form a number form.Var (w ∷ o ∷ l ∷ e ∷ v ∷ ws) = with_variable a w (lock_number (meaning_of a l)) (unwrap_or (i64_at v) (pos 0))
 after_form a number form.Handler (w ∷ ws) = with_heading a number w ws
@@ -167,6 +183,8 @@ after_form a number form.EndTry [] = with_open a (closing 0 number line.EndTry)
 after_form a number form.Wait (w ∷ e ∷ ws) = with_line a number (line.Wait (condition_number (meaning_of a w)) (expr_of a ws))
 after_form a number form.Signal (w ∷ ws) = with_line a number (line.Signal (condition_number (meaning_of a w)))
 after_form a number form.Broadcast (w ∷ ws) = with_line a number (line.Broadcast (condition_number (meaning_of a w)))
+after_form a number form.Down (w ∷ ws) = with_line a number (line.Down (semaphore_number (meaning_of a w)))
+after_form a number form.Up (w ∷ ws) = with_line a number (line.Up (semaphore_number (meaning_of a w)))
 after_form a number form.Set (w ∷ e ∷ ws) = with_line a number (line.Set (variable_number (meaning_of a w)) (expr_of a ws))
 after_form a number form.Let (w ∷ e ∷ ws) = with_line (with_local a w) number (line.Let (local_place (with_local a w) w) (expr_of a ws))
 after_form a number form.Clock (w ∷ ws) = with_line (with_local a w) number (line.Clock (local_place (with_local a w) w))
@@ -191,4 +209,4 @@ after a number (w ∷ ws) = after_found a number (form_of w) ws
 
 -- the service that a good text declares
 abbrev pub service_of : Above → Declarations
-service_of a = record { lanes = unwrap_or a.lanes 0; locks = a.locks; conditions = a.conditions; variables = a.variables; handlers = a.handlers }
+service_of a = record { lanes = unwrap_or a.lanes 0; locks = a.locks; semaphores = a.semaphores; conditions = a.conditions; variables = a.variables; handlers = a.handlers }

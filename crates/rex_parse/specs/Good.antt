@@ -2,6 +2,9 @@
 use Rattle.std.specs.Prelude.{◌≡◌, ℕ, ◌<◌, ◌≤◌, length, IfSome, MatchOption}
 use Rattle.std.specs.List.{All}
 use Rattle.rex_syntax.specs.declared.service.LockKind.TheVariants.{Plain}
+use Rattle.rex_event.specs.Limits.{most_lanes}
+use Rattle.rex_syntax.specs.Limits.{most_variables, most_first}
+use Rattle.rex_syntax.specs.declared.service.Semaphore.{Semaphore}
 use Rattle.rex_syntax.specs.declared.service.Condition.{Condition}
 use Rattle.rex_syntax.specs.declared.service.Variable.{Variable}
 use Rattle.rex_syntax.specs.declared.service.Declarations.{Declarations}
@@ -18,6 +21,7 @@ use Rattle.rex_parse.specs.declared.language.Meaning.TheVariants as meaning
 -- what a name stands for is there, where a handler's name may be that of the open one
 abbrev pub MeaningFits : Above → Meaning → Type 0
 MeaningFits a (meaning.Lock n) = n < length a.locks
+MeaningFits a (meaning.Semaphore n) = n < length a.semaphores
 MeaningFits a (meaning.Condition n) = n < length a.conditions
 MeaningFits a (meaning.Variable n) = n < length a.variables
 MeaningFits a (meaning.Handler n) = n ≤ length a.handlers
@@ -34,13 +38,15 @@ pub record IsOpen (service : Declarations) (locals : ℕ) (h : OpenHandler) : Ty
 
 -- nothing is declared, or `lanes` came first; counts are within their limits, names stand for what is there, and each handler is one
 pub record IsGood (a : Above) : Type 0 where
-  pub begun : MatchOption a.lanes (a ≡ nothing) (λ n. (0 < n) × (n ≤ 16))
+  pub begun : MatchOption a.lanes (a ≡ nothing) (λ n. (0 < n) × (n ≤ most_lanes))
   pub locks : length a.locks ≤ 64
+  pub few_semaphores : length a.semaphores ≤ 64
   pub few_conditions : length a.conditions ≤ 64
-  pub few_variables : length a.variables ≤ 256
+  pub few_variables : length a.variables ≤ most_variables
   pub few_handlers : length a.handlers ≤ 64
   pub locals : length a.locals ≤ 16
   pub names : All (λ (e : Entry). MeaningFits a e.meaning) a.names
+  pub semaphores : All (λ (x : Semaphore). x.first ≤ most_first) a.semaphores
   pub conditions : All (λ (c : Condition). IsLock (service_of a) Plain c.lock) a.conditions
   pub variables : All (λ (v : Variable). v.guard < length a.locks) a.variables
   pub handlers : All (IsHandler (service_of a)) a.handlers

@@ -9,6 +9,8 @@ use Rattle.rex_syntax.specs.declared.expr.Operator.TheVariants.{Add, Sub, Mul, D
 use Rattle.rex_syntax.specs.declared.service.Lock.{Lock}
 use Rattle.rex_syntax.specs.declared.service.LockKind.{LockKind}
 use Rattle.rex_syntax.specs.declared.service.LockKind.TheVariants.{Plain, ReadersWriter}
+use Rattle.rex_event.specs.Limits.{most_lanes}
+use Rattle.rex_syntax.specs.Limits.{most_variables, most_first}
 use Rattle.rex_parse.specs.Words.{is_name, is_digit, least, fits}
 use Rattle.rex_parse.specs.Above.{meaning_of, is_declared, is_local, is_open, blocks_of, innermost}
 use Rattle.rex_parse.specs.declared.language.Above.{Above}
@@ -26,10 +28,11 @@ use Rattle.rex_parse.specs.declared.language.Meaning.TheVariants as meaning
 -- the first words of lines
 abbrev pub forms : List (Word × Form)
 forms =
-    (codes "lanes", form.Lanes) ∷ (codes "lock", form.Lock) ∷ (codes "rwlock", form.RwLock) ∷ (codes "cond", form.Cond) ∷ (codes "var", form.Var) ∷ (codes "handler", form.Handler)
+    (codes "lanes", form.Lanes) ∷ (codes "lock", form.Lock) ∷ (codes "rwlock", form.RwLock) ∷ (codes "sem", form.Sem) ∷ (codes "cond", form.Cond) ∷ (codes "var", form.Var) ∷ (codes "handler", form.Handler)
     ∷ (codes "acquire", form.Acquire) ∷ (codes "share", form.Share) ∷ (codes "release", form.Release)
     ∷ (codes "try", form.Try) ∷ (codes "busy", form.Busy) ∷ (codes "endtry", form.EndTry)
     ∷ (codes "wait", form.Wait) ∷ (codes "signal", form.Signal) ∷ (codes "broadcast", form.Broadcast)
+    ∷ (codes "down", form.Down) ∷ (codes "up", form.Up)
     ∷ (codes "set", form.Set) ∷ (codes "let", form.Let) ∷ (codes "clock", form.Clock) ∷ (codes "random", form.Random)
     ∷ (codes "if", form.If) ∷ (codes "else", form.Else) ∷ (codes "endif", form.EndIf)
     ∷ (codes "repeat", form.Repeat) ∷ (codes "endrepeat", form.EndRepeat) ∷ (codes "reply", form.Reply) ∷ []
@@ -43,6 +46,7 @@ abbrev pub is_inside : Form → Bool
 is_inside form.Lanes = false
 is_inside form.Lock = false
 is_inside form.RwLock = false
+is_inside form.Sem = false
 is_inside form.Cond = false
 is_inside form.Var = false
 is_inside form.Handler = false
@@ -79,6 +83,8 @@ pub data Slot : Type 0 where
   LockName : Slot
   -- a lock of this kind
   LockOf : LockKind → Slot
+  -- a semaphore
+  SemaphoreName : Slot
   -- a condition
   ConditionName : Slot
   -- a variable
@@ -90,9 +96,10 @@ pub data Slot : Type 0 where
 
 -- the places of a line after its first word
 abbrev pub slots : Form → List Slot
-slots form.Lanes = Count 1 16 ∷ []
+slots form.Lanes = Count 1 most_lanes ∷ []
 slots form.Lock = New ∷ []
 slots form.RwLock = New ∷ []
+slots form.Sem = New ∷ Fixed (codes "=") ∷ Count 0 most_first ∷ []
 slots form.Cond = New ∷ Fixed (codes "on") ∷ LockOf Plain ∷ []
 slots form.Var = New ∷ Fixed (codes "on") ∷ LockName ∷ Fixed (codes "=") ∷ Number ∷ []
 slots form.Handler = Heading ∷ []
@@ -105,6 +112,8 @@ slots form.EndTry = []
 slots form.Wait = ConditionName ∷ Fixed (codes "while") ∷ Expression ∷ []
 slots form.Signal = ConditionName ∷ []
 slots form.Broadcast = ConditionName ∷ []
+slots form.Down = SemaphoreName ∷ []
+slots form.Up = SemaphoreName ∷ []
 slots form.Set = VariableName ∷ Fixed (codes "=") ∷ Expression ∷ []
 slots form.Let = LocalName ∷ Fixed (codes "=") ∷ Expression ∷ []
 slots form.Clock = LocalName ∷ []
@@ -129,6 +138,7 @@ is_misshapen (Number ∷ ss) (w ∷ ws) = is_misshapen ss ws
 is_misshapen (New ∷ ss) (w ∷ ws) = is_misshapen ss ws
 is_misshapen (LockName ∷ ss) (w ∷ ws) = is_misshapen ss ws
 is_misshapen (LockOf kind ∷ ss) (w ∷ ws) = is_misshapen ss ws
+is_misshapen (SemaphoreName ∷ ss) (w ∷ ws) = is_misshapen ss ws
 is_misshapen (ConditionName ∷ ss) (w ∷ ws) = is_misshapen ss ws
 is_misshapen (VariableName ∷ ss) (w ∷ ws) = is_misshapen ss ws
 is_misshapen (LocalName ∷ ss) (w ∷ ws) = is_misshapen ss ws
@@ -166,6 +176,7 @@ heading_code a w ws = least (new_code a w) (parameters_code a (w ∷ []) ws)
 abbrev pub lock_kind_code : Option Meaning → Option ServiceCode
 lock_kind_code None = Some Undeclared
 lock_kind_code (Some (meaning.Lock n)) = None
+lock_kind_code (Some (meaning.Semaphore n)) = Some WrongKind
 lock_kind_code (Some (meaning.Condition n)) = Some WrongKind
 lock_kind_code (Some (meaning.Variable n)) = Some WrongKind
 lock_kind_code (Some (meaning.Handler n)) = Some WrongKind
@@ -189,6 +200,7 @@ is_of_kind kind (Some l) = is_same_kind kind l.kind
 abbrev pub lock_of_kind_code : Above → LockKind → Option Meaning → Option ServiceCode
 lock_of_kind_code a kind None = Some Undeclared
 lock_of_kind_code a kind (Some (meaning.Lock n)) = fits (not (is_of_kind kind (slice_get a.locks n))) WrongKind
+lock_of_kind_code a kind (Some (meaning.Semaphore n)) = Some WrongKind
 lock_of_kind_code a kind (Some (meaning.Condition n)) = Some WrongKind
 lock_of_kind_code a kind (Some (meaning.Variable n)) = Some WrongKind
 lock_of_kind_code a kind (Some (meaning.Handler n)) = Some WrongKind
@@ -197,10 +209,24 @@ lock_of_kind_code a kind (Some (meaning.Handler n)) = Some WrongKind
 unfoldable pub lock_of_code : Above → LockKind → Word → Option ServiceCode
 lock_of_code a kind w = if is_name w then (if is_local a w then Some WrongKind else lock_of_kind_code a kind (meaning_of a w)) else Some NoName
 
+-- a name that is due to stand for a semaphore stands for this
+abbrev pub semaphore_kind_code : Option Meaning → Option ServiceCode
+semaphore_kind_code None = Some Undeclared
+semaphore_kind_code (Some (meaning.Semaphore n)) = None
+semaphore_kind_code (Some (meaning.Lock n)) = Some WrongKind
+semaphore_kind_code (Some (meaning.Condition n)) = Some WrongKind
+semaphore_kind_code (Some (meaning.Variable n)) = Some WrongKind
+semaphore_kind_code (Some (meaning.Handler n)) = Some WrongKind
+
+-- a semaphore's name
+unfoldable pub semaphore_code : Above → Word → Option ServiceCode
+semaphore_code a w = if is_name w then (if is_local a w then Some WrongKind else semaphore_kind_code (meaning_of a w)) else Some NoName
+
 -- a name that is due to stand for a condition stands for this
 abbrev pub condition_kind_code : Option Meaning → Option ServiceCode
 condition_kind_code None = Some Undeclared
 condition_kind_code (Some (meaning.Condition n)) = None
+condition_kind_code (Some (meaning.Semaphore n)) = Some WrongKind
 condition_kind_code (Some (meaning.Lock n)) = Some WrongKind
 condition_kind_code (Some (meaning.Variable n)) = Some WrongKind
 condition_kind_code (Some (meaning.Handler n)) = Some WrongKind
@@ -213,6 +239,7 @@ condition_code a w = if is_name w then (if is_local a w then Some WrongKind else
 abbrev pub variable_kind_code : Option Meaning → Option ServiceCode
 variable_kind_code None = Some Undeclared
 variable_kind_code (Some (meaning.Variable n)) = None
+variable_kind_code (Some (meaning.Semaphore n)) = Some WrongKind
 variable_kind_code (Some (meaning.Lock n)) = Some WrongKind
 variable_kind_code (Some (meaning.Condition n)) = Some WrongKind
 variable_kind_code (Some (meaning.Handler n)) = Some WrongKind
@@ -275,6 +302,7 @@ slot_code a New w ws = new_code a w
 slot_code a Heading w ws = heading_code a w ws
 slot_code a LockName w ws = lock_code a w
 slot_code a (LockOf kind) w ws = lock_of_code a kind w
+slot_code a SemaphoreName w ws = semaphore_code a w
 slot_code a ConditionName w ws = condition_code a w
 slot_code a VariableName w ws = variable_code a w
 slot_code a LocalName w ws = local_code a w
@@ -322,8 +350,9 @@ abbrev pub limit_code : Above → Form → List Word → Option ServiceCode
 limit_code a form.Lanes ws = None
 limit_code a form.Lock ws = fits (nat_le 64 (length a.locks)) TooMany
 limit_code a form.RwLock ws = fits (nat_le 64 (length a.locks)) TooMany
+limit_code a form.Sem ws = fits (nat_le 64 (length a.semaphores)) TooMany
 limit_code a form.Cond ws = fits (nat_le 64 (length a.conditions)) TooMany
-limit_code a form.Var ws = fits (nat_le 256 (length a.variables)) TooMany
+limit_code a form.Var ws = fits (nat_le most_variables (length a.variables)) TooMany
 limit_code a form.Handler ws = fits (nat_le 64 (length a.handlers)) TooMany
 limit_code a form.Let ws = least (locals_code a ws) (full_code a)
 limit_code a form.Clock ws = least (locals_code a ws) (full_code a)

@@ -26,8 +26,8 @@ is_name_byte b = is_letter b || (is_digit b || b == 95)
 -- the words of the language, which name nothing
 abbrev pub reserved : List Word
 reserved =
-    codes "lanes" ∷ codes "lock" ∷ codes "rwlock" ∷ codes "cond" ∷ codes "on" ∷ codes "var" ∷ codes "handler" ∷ codes "acquire" ∷ codes "share" ∷ codes "release"
-    ∷ codes "try" ∷ codes "busy" ∷ codes "endtry" ∷ codes "wait" ∷ codes "while" ∷ codes "signal" ∷ codes "broadcast" ∷ codes "set" ∷ codes "let" ∷ codes "clock" ∷ codes "random"
+    codes "lanes" ∷ codes "lock" ∷ codes "rwlock" ∷ codes "sem" ∷ codes "cond" ∷ codes "on" ∷ codes "var" ∷ codes "handler" ∷ codes "acquire" ∷ codes "share" ∷ codes "release"
+    ∷ codes "try" ∷ codes "busy" ∷ codes "endtry" ∷ codes "wait" ∷ codes "while" ∷ codes "signal" ∷ codes "broadcast" ∷ codes "down" ∷ codes "up" ∷ codes "set" ∷ codes "let" ∷ codes "clock" ∷ codes "random"
     ∷ codes "if" ∷ codes "else" ∷ codes "endif" ∷ codes "repeat" ∷ codes "endrepeat" ∷ codes "reply" ∷ []
 
 -- one of the words of the language

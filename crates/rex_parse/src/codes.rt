@@ -82,6 +82,24 @@ impl Above {
         }
     }
 
+    /// Of a semaphore's name.
+    #[tactic(auto, unfolding(crate::specs::Table::semaphore_code))]
+    pub(crate) fn semaphore_code(&self, word: &[u8]) -> Option<ServiceCode>
+        ensures { result ≡ table.semaphore_code self.now word.now }
+    {
+        if !is_name(word) {
+            return Some(ServiceCode::NoName);
+        }
+        if self.is_local(word) {
+            return Some(ServiceCode::WrongKind);
+        }
+        match self.meaning_of(word) {
+            None => Some(ServiceCode::Undeclared),
+            Some(Meaning::Semaphore(_)) => None,
+            Some(_) => Some(ServiceCode::WrongKind),
+        }
+    }
+
     /// Of a condition's name.
     #[tactic(auto, unfolding(crate::specs::Table::condition_code))]
     pub(crate) fn condition_code(&self, word: &[u8]) -> Option<ServiceCode>

@@ -30,6 +30,16 @@ impl Above {
         }
     }
 
+    /// The number of a semaphore.
+    pub(crate) fn semaphore_number(&self, word: &[u8]) -> u8
+        ensures { result ≡ after.semaphore_number (meaning_of self.now word.now) }
+    {
+        match self.meaning_of(word) {
+            Some(Meaning::Semaphore(number)) => number,
+            _ => 0,
+        }
+    }
+
     /// The number of a condition.
     pub(crate) fn condition_number(&self, word: &[u8]) -> u8
         ensures { result ≡ after.condition_number (meaning_of self.now word.now) }

@@ -8,7 +8,7 @@ ghost use Rattle.rex_parse.specs.Answers.{texts};
 use crate::codes::{count_code, number_code};
 use crate::language::{Above, Form, ServiceCode};
 use crate::least::{fits, least};
-use rex_syntax::service::LockKind;
+use rex_syntax::service::{LANES, LockKind, MOST_FIRST, SEMAPHORES, VARIABLES};
 
 impl Above {
     // `lanes N`
@@ -21,7 +21,10 @@ impl Above {
         let [count] = words else {
             return Some(ServiceCode::BadForm);
         };
-        least(count_code(1, 16, count), self.order_code(Form::Lanes))
+        least(
+            count_code(1, LANES as u64, count),
+            self.order_code(Form::Lanes),
+        )
     }
 
     // `lock NAME`, `rwlock NAME`
@@ -38,6 +41,27 @@ impl Above {
         least(
             self.new_code(name),
             least(full, self.order_code(Form::Lock)),
+        )
+    }
+
+    // `sem NAME = NUMBER`
+    pub(crate) fn sem_code(&self, words: &[&[u8]]) -> Option<ServiceCode>
+        ensures { result ≡ table.form_code self.now form.Sem (texts words.now) }
+    {
+        if self.is_open() {
+            return Some(ServiceCode::Misplaced);
+        }
+        let [name, equals, first] = words else {
+            return Some(ServiceCode::BadForm);
+        };
+        if *equals != b"=".as_slice() {
+            return Some(ServiceCode::BadForm);
+        }
+        let full = fits(self.semaphores.len() >= SEMAPHORES, ServiceCode::TooMany);
+        let first = count_code(0, MOST_FIRST as u64, first);
+        least(
+            least(self.new_code(name), first),
+            least(full, self.order_code(Form::Sem)),
         )
     }
 
@@ -75,7 +99,7 @@ impl Above {
         if *on != b"on".as_slice() || *equals != b"=".as_slice() {
             return Some(ServiceCode::BadForm);
         }
-        let full = fits(self.variables.len() >= 256, ServiceCode::TooMany);
+        let full = fits(self.variables.len() >= VARIABLES, ServiceCode::TooMany);
         let guard = least(self.lock_code(lock), number_code(number));
         least(
             least(self.new_code(name), guard),

@@ -4,7 +4,7 @@ use crate::blocks::Blocks;
 use crate::name_table::NameTable;
 use rex_list::List;
 use rex_syntax::line::Line;
-use rex_syntax::service::{Condition, Handler, Lock, Variable};
+use rex_syntax::service::{Condition, Handler, Lock, Semaphore, Variable};
 use std::alloc::AllocError;
 
 /// Why a line of a service is refused.
@@ -46,6 +46,7 @@ pub enum Form {
     Lanes,
     Lock,
     RwLock,
+    Sem,
     Cond,
     Var,
     Handler,
@@ -58,6 +59,8 @@ pub enum Form {
     Wait,
     Signal,
     Broadcast,
+    Down,
+    Up,
     Set,
     Let,
     Clock,
@@ -74,6 +77,7 @@ pub enum Form {
 #[derive(Clone, Copy, Debug, PartialEq, Eq)]
 pub enum Meaning {
     Lock(u8),
+    Semaphore(u8),
     Condition(u8),
     Variable(u16),
     Handler(u8),
@@ -106,6 +110,7 @@ pub struct Above {
     /// What each declared name stands for, in order of declaration.
     pub names: NameTable,
     pub locks: List<Lock>,
+    pub semaphores: List<Semaphore>,
     pub conditions: List<Condition>,
     pub variables: List<Variable>,
     pub handlers: List<Handler>,

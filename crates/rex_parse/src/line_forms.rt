@@ -80,6 +80,22 @@ impl Above {
         )
     }
 
+    // `down SEM`, `up SEM`
+    pub(crate) fn down_code(&self, words: &[&[u8]]) -> Option<ServiceCode>
+        ensures { result ≡ table.form_code self.now form.Down (texts words.now) }
+    {
+        if !self.is_open() {
+            return Some(ServiceCode::Misplaced);
+        }
+        let [semaphore] = words else {
+            return Some(ServiceCode::BadForm);
+        };
+        least(
+            self.semaphore_code(semaphore),
+            least(self.full_code(), self.order_code(Form::Down)),
+        )
+    }
+
     // `set VAR = EXPR`, where this is the expression's code
     pub(crate) fn set_code(
         &self,

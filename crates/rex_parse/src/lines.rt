@@ -8,9 +8,9 @@ ghost use Rattle.rex_parse.specs.Answers.{texts, Takes};
 
 use crate::exprs::ReadExpr;
 use crate::language::{Above, Fault};
-use crate::words::count_of;
+use crate::words::{count_of, first_of};
 use rex_syntax::line::Line;
-use rex_syntax::service::LockKind;
+use rex_syntax::service::{LANES, LockKind};
 use rex_text::read_i64;
 use std::alloc::Global;
 
@@ -35,7 +35,7 @@ impl Above {
             return Err(Fault::Refused(code));
         }
         if let [count, ..] = words {
-            self.lanes = count_of(1, 16, count);
+            self.lanes = count_of(1, LANES as u64, count);
         }
         Ok(())
     }
@@ -76,6 +76,26 @@ impl Above {
         }
         if let [name, ..] = words {
             self.add_lock(alloc, LockKind::ReadersWriter, name)?;
+        }
+        Ok(())
+    }
+
+    // `sem NAME = NUMBER`
+    pub(crate) fn sem_line(
+        &mut self,
+        alloc: Global,
+        number: u32,
+        words: &[&[u8]],
+    ) -> Result<(), Fault>
+        ensures takes { Takes result (form_code self.old form.Sem (texts words.now))
+            (after_form self.old number form.Sem (texts words.now)) self.new }
+        ensures locals { self.new.locals ≡ self.old.locals }
+    {
+        if let Some(code) = self.sem_code(words) {
+            return Err(Fault::Refused(code));
+        }
+        if let [name, _, first, ..] = words {
+            self.add_semaphore(alloc, name, first_of(first))?;
         }
         Ok(())
     }
@@ -247,6 +267,38 @@ impl Above {
         if let [condition, ..] = words {
             let condition = self.condition_number(condition);
             self.push_line(number, Line::Broadcast { condition })?;
+        }
+        Ok(())
+    }
+
+    // `down SEM`
+    pub(crate) fn down_line(&mut self, number: u32, words: &[&[u8]]) -> Result<(), Fault>
+        ensures takes { Takes result (form_code self.old form.Down (texts words.now))
+            (after_form self.old number form.Down (texts words.now)) self.new }
+        ensures locals { self.new.locals ≡ self.old.locals }
+    {
+        if let Some(code) = self.down_code(words) {
+            return Err(Fault::Refused(code));
+        }
+        if let [semaphore, ..] = words {
+            let semaphore = self.semaphore_number(semaphore);
+            self.push_line(number, Line::Down { semaphore })?;
+        }
+        Ok(())
+    }
+
+    // `up SEM`
+    pub(crate) fn up_line(&mut self, number: u32, words: &[&[u8]]) -> Result<(), Fault>
+        ensures takes { Takes result (form_code self.old form.Up (texts words.now))
+            (after_form self.old number form.Up (texts words.now)) self.new }
+        ensures locals { self.new.locals ≡ self.old.locals }
+    {
+        if let Some(code) = self.down_code(words) {
+            return Err(Fault::Refused(code));
+        }
+        if let [semaphore, ..] = words {
+            let semaphore = self.semaphore_number(semaphore);
+            self.push_line(number, Line::Up { semaphore })?;
         }
         Ok(())
     }

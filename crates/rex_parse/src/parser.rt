@@ -2,6 +2,7 @@
 
 ghost use Rattle.std.specs.Prelude.{◌≡◌, ◌≤◌, length, None, IfOk, unwrap_or};
 ghost use Rattle.std.specs.List.{list_all};
+ghost use Rattle.rex_event.specs.Limits.{most_lanes};
 ghost use Rattle.rex_text.specs.Text.{words_of, is_allowed};
 ghost use Rattle.rex_text.specs.Text as text;
 ghost use Rattle.rex_parse.specs.Above.{nothing};
@@ -27,6 +28,7 @@ impl Above {
             lanes: None,
             names: NameTable::new(alloc),
             locks: List::new(alloc),
+            semaphores: List::new(alloc),
             conditions: List::new(alloc),
             variables: List::new(alloc),
             handlers: List::new(alloc),
@@ -49,6 +51,7 @@ impl Above {
             Some(Form::Lanes) => self.lanes_line(number, rest),
             Some(Form::Lock) => self.lock_line(alloc, number, rest),
             Some(Form::RwLock) => self.rwlock_line(alloc, number, rest),
+            Some(Form::Sem) => self.sem_line(alloc, number, rest),
             Some(Form::Cond) => self.cond_line(alloc, number, rest),
             Some(Form::Var) => self.var_line(alloc, number, rest),
             Some(Form::Handler) => self.handler_line(alloc, number, rest),
@@ -61,6 +64,8 @@ impl Above {
             Some(Form::Wait) => self.wait_line(alloc, number, rest),
             Some(Form::Signal) => self.signal_line(number, rest),
             Some(Form::Broadcast) => self.broadcast_line(number, rest),
+            Some(Form::Down) => self.down_line(number, rest),
+            Some(Form::Up) => self.up_line(number, rest),
             Some(Form::Set) => self.set_line(alloc, number, rest),
             Some(Form::Let) => self.let_line(alloc, number, rest),
             Some(Form::Clock) => self.clock_line(alloc, number, rest),
@@ -91,12 +96,13 @@ impl Above {
     }
 
     fn declarations(self) -> Declarations
-        requires { unwrap_or self.lanes 0 ≤ 16 }
+        requires { unwrap_or self.lanes 0 ≤ most_lanes }
         ensures { result ≡ service_of self }
     {
         Declarations {
             lanes: self.lanes.unwrap_or(0) as u8,
             locks: self.locks,
+            semaphores: self.semaphores,
             conditions: self.conditions,
             variables: self.variables,
             handlers: self.handlers,

@@ -27,7 +27,7 @@ fn is_inside(form: Form) -> bool
 {
     !matches!(
         form,
-        Form::Lanes | Form::Lock | Form::RwLock | Form::Cond | Form::Var | Form::Handler
+        Form::Lanes | Form::Lock | Form::RwLock | Form::Sem | Form::Cond | Form::Var | Form::Handler
     )
 }
 

@@ -1,6 +1,7 @@
 //! What a good line declares.
 
 ghost use Rattle.std.specs.Prelude.{◌≡◌, ◌≤◌, ◌<◌, ◌∷◌, [], length, OnOk, None};
+ghost use Rattle.rex_syntax.specs.Limits.{most_variables};
 ghost use Rattle.rex_parse.specs.Table as table;
 ghost use Rattle.rex_parse.specs.After as after;
 ghost use Rattle.rex_parse.specs.Answers.{texts};
@@ -10,7 +11,7 @@ use crate::copying::{own_word, own_words};
 use crate::language::{Above, Meaning, OpenHandler};
 use rex_list::List;
 use rex_syntax::line::Line;
-use rex_syntax::service::{Condition, Handler, Lock, LockKind, Variable};
+use rex_syntax::service::{Condition, Handler, Lock, LockKind, Semaphore, Variable};
 use std::alloc::{AllocError, Global};
 
 impl OpenHandler {
@@ -62,6 +63,26 @@ impl Above {
         self.locks.push(lock)
     }
 
+    pub(crate) fn add_semaphore(
+        &mut self,
+        alloc: Global,
+        name: &[u8],
+        first: u32,
+    ) -> Result<(), AllocError>
+        requires room { length self.old.semaphores < 64 }
+        requires new { table.new_code self.old name.now ≡ None }
+        ensures taken { OnOk result (self.new ≡ after.with_semaphore self.old name.now first) }
+        ensures locals { self.new.locals ≡ self.old.locals }
+    {
+        let meaning = Meaning::Semaphore(self.semaphores.len() as u8);
+        let semaphore = Semaphore {
+            name: own_word(alloc, name)?,
+            first,
+        };
+        self.declare(name, meaning)?;
+        self.semaphores.push(semaphore)
+    }
+
     pub(crate) fn add_condition(
         &mut self,
         alloc: Global,
@@ -89,7 +110,7 @@ impl Above {
         guard: u8,
         first: i64,
     ) -> Result<(), AllocError>
-        requires room { length self.old.variables < 256 }
+        requires room { length self.old.variables < most_variables }
         requires new { table.new_code self.old name.now ≡ None }
         ensures taken { OnOk result (self.new ≡ after.with_variable self.old name.now guard first) }
         ensures locals { self.new.locals ≡ self.old.locals }

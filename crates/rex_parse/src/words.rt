@@ -6,9 +6,11 @@ ghost use Rattle.std.specs.Str.{bytes_eq};
 ghost use Rattle.rex_parse.specs.Answers.{texts, rows};
 ghost use Rattle.rex_parse.specs.Words as spec;
 ghost use Rattle.rex_parse.specs.Table as table;
+ghost use Rattle.rex_parse.specs.After as after;
 
 use crate::language::Form;
 use rex_syntax::expr::Operator;
+use rex_syntax::service::MOST_FIRST;
 use rex_text::read_u64;
 
 /// What stands beside a word in a table of words.
@@ -23,10 +25,11 @@ fn entry_of<T: Copy>(table: &[(&[u8], T)], word: &[u8]) -> Option<T>
     None
 }
 
-const FORMS: [(&[u8], Form); 25] = [
+const FORMS: [(&[u8], Form); 28] = [
     (b"lanes", Form::Lanes),
     (b"lock", Form::Lock),
     (b"rwlock", Form::RwLock),
+    (b"sem", Form::Sem),
     (b"cond", Form::Cond),
     (b"var", Form::Var),
     (b"handler", Form::Handler),
@@ -39,6 +42,8 @@ const FORMS: [(&[u8], Form); 25] = [
     (b"wait", Form::Wait),
     (b"signal", Form::Signal),
     (b"broadcast", Form::Broadcast),
+    (b"down", Form::Down),
+    (b"up", Form::Up),
     (b"set", Form::Set),
     (b"let", Form::Let),
     (b"clock", Form::Clock),
@@ -151,10 +156,11 @@ pub(crate) fn is_among(words: &[&[u8]], word: &[u8]) -> bool
     false
 }
 
-const RESERVED: [&[u8]; 27] = [
+const RESERVED: [&[u8]; 30] = [
     b"lanes",
     b"lock",
     b"rwlock",
+    b"sem",
     b"cond",
     b"on",
     b"var",
@@ -169,6 +175,8 @@ const RESERVED: [&[u8]; 27] = [
     b"while",
     b"signal",
     b"broadcast",
+    b"down",
+    b"up",
     b"set",
     b"let",
     b"clock",
@@ -199,6 +207,17 @@ pub(crate) fn count_of(least: u64, most: u64, word: &[u8]) -> Option<u64>
     match read_u64(word) {
         Some(count) if least <= count && count <= most => Some(count),
         _ => None,
+    }
+}
+
+/// The first value that a word gives a semaphore.
+pub(crate) fn first_of(word: &[u8]) -> u32
+    ensures first { result ≡ after.first_of word.now }
+    ensures few { result ≤ MOST_FIRST }
+{
+    match count_of(0, MOST_FIRST as u64, word) {
+        None => 0,
+        Some(first) => first as u32,
     }
 }
 

@@ -1,5 +1,6 @@
 -- What a proposer counts, and what it answers.
 use Rattle.std.specs.Prelude.{ℕ, ◌+◌, ◌-◌, ◌≤◌, ◌==◌, Bool, false, not, List, [], ◌∷◌, ◌++◌, length, take, Option, Some, None, unwrap_or, if◌then◌else◌}
+use Rattle.rex_ballot.specs.Limits.{most_nodes}
 use Rattle.rex_ballot.specs.Ballot.{node_of}
 use Rattle.rex_ballot.specs.declared.proposal.Proposal.{Proposal}
 use Rattle.rex_paxos.specs.declared.answers.Vote.{Vote}
@@ -25,7 +26,7 @@ pub record ProposerValue : Type 0 where
 
 -- the ballot is of one of so many nodes, and these are at most 9
 pub record IsOwnBallot (nodes ballot : ℕ) : Type 0 where
-  pub few : nodes ≤ 9
+  pub few : nodes ≤ most_nodes
   pub own : IsOneOf nodes (node_of ballot)
 
 -- the ballot is of one of the nodes, and no node is counted twice

@@ -5,7 +5,7 @@ use Rattle.rex_event.specs.declared.event.Event.{Event}
 use Rattle.rex_event.specs.Conflict.{conflict}
 use Rattle.rex_event.specs.Order.{Has, Precedes, ConflictsBefore, Chain, IsOrdered}
 use Rattle.rex_event.specs.Cuts.{count_at, AreNumbered}
-use Rattle.rex_clocks.specs.declared.clock.TheConstants.{LANES}
+use Rattle.rex_event.specs.declared.event.TheConstants.{LANES}
 use Rattle.rex_clocks.specs.Counts.{merged}
 use Rattle.rex_clocks.specs.Clocks.{clock_before}
 use Rattle.rex_clocks.proofs.Counts.{count_none, count_merged}

@@ -5,8 +5,8 @@ use Rattle.std.proofs.lemmas.Bool.{cases_eq, eq-eqb, ne_eqb}
 use Rattle.rex_event.specs.declared.event.Event.{Event}
 use Rattle.rex_event.specs.declared.event.Kind.{Kind}
 use Rattle.rex_event.specs.declared.event.Kind.TheVariants.{Wake}
-use Rattle.rex_event.specs.Conflict.{named_lock, is_sharing, named_condition, named_client, same_name, is_that, woke, is_wake_on, wakes, conflict}
-use Rattle.rex_clocks.specs.declared.clock.TheConstants.{LANES}
+use Rattle.rex_event.specs.Conflict.{named_lock, is_sharing, named_condition, named_client, named_semaphore, same_name, is_that, woke, is_wake_on, wakes, conflict}
+use Rattle.rex_event.specs.declared.event.TheConstants.{LANES}
 use Rattle.rex_reduce.specs.Names.{exclusive_lock, shared_lock, waking, slot_of, wake_slot, waker_slot, is_waker_at}
 
 -- ---- names
@@ -117,21 +117,23 @@ waker_is d e h = waker_by d.kind (waking e.kind) e.lane h ∙ ap (λ (x : Bool).
 
 -- ---- conflicts
 
-or_six : (a b c f g h : Bool) → (((((a || b) || c) || f) || g) || h) ≡ (a || ((b || c) || (f || (g || h))))
-or_six true b c f g h = refl
-or_six false true c f g h = refl
-or_six false false true f g h = refl
-or_six false false false true g h = refl
-or_six false false false false true h = refl
-or_six false false false false false h = refl
+or_seven : (a b c f m g h : Bool) → ((((((a || b) || c) || f) || m) || g) || h) ≡ (a || ((b || c) || (f || (m || (g || h)))))
+or_seven true b c f m g h = refl
+or_seven false true c f m g h = refl
+or_seven false false true f m g h = refl
+or_seven false false false true m g h = refl
+or_seven false false false false true g h = refl
+or_seven false false false false false true h = refl
+or_seven false false false false false false h = refl
 
 -- places at which both stand
 abbrev pub meets : Event → Event → Bool
 meets d e =
-    ((((nat_eq d.lane e.lane
+    (((((nat_eq d.lane e.lane
     || same_name (exclusive_lock d.kind) (named_lock e.kind))
     || same_name (shared_lock d.kind) (exclusive_lock e.kind))
     || same_name (named_client d.kind) (named_client e.kind))
+    || same_name (named_semaphore d.kind) (named_semaphore e.kind))
     || is_waker_at d.kind (wake_slot e) LANES)
     || is_waker_at e.kind (wake_slot d) LANES
 
@@ -140,7 +142,10 @@ meets_is d e h k =
     let l = lock_by (is_sharing d.kind) (is_sharing e.kind) (named_lock d.kind) (named_lock e.kind) in
     let a = waker_is d e k in
     let b = waker_is e d h in
-    or_six (nat_eq d.lane e.lane) (same_name (exclusive_lock d.kind) (named_lock e.kind)) (same_name (shared_lock d.kind) (exclusive_lock e.kind)) (same_name (named_client d.kind) (named_client e.kind)) (is_waker_at d.kind (wake_slot e) LANES) (is_waker_at e.kind (wake_slot d) LANES)
-    ∙ ap (λ (x : Bool). nat_eq d.lane e.lane || (x || (same_name (named_client d.kind) (named_client e.kind) || (is_waker_at d.kind (wake_slot e) LANES || is_waker_at e.kind (wake_slot d) LANES)))) l
-    ∙ ap (λ (x : Bool). nat_eq d.lane e.lane || ((same_name (named_lock d.kind) (named_lock e.kind) && not (is_sharing d.kind && is_sharing e.kind)) || (same_name (named_client d.kind) (named_client e.kind) || (x || is_waker_at e.kind (wake_slot d) LANES)))) a
-    ∙ ap (λ (x : Bool). nat_eq d.lane e.lane || ((same_name (named_lock d.kind) (named_lock e.kind) && not (is_sharing d.kind && is_sharing e.kind)) || (same_name (named_client d.kind) (named_client e.kind) || (wakes d e || x)))) b
+    let locks : Bool = same_name (named_lock d.kind) (named_lock e.kind) && not (is_sharing d.kind && is_sharing e.kind) in
+    let clients : Bool = same_name (named_client d.kind) (named_client e.kind) in
+    let semaphores : Bool = same_name (named_semaphore d.kind) (named_semaphore e.kind) in
+    or_seven (nat_eq d.lane e.lane) (same_name (exclusive_lock d.kind) (named_lock e.kind)) (same_name (shared_lock d.kind) (exclusive_lock e.kind)) clients semaphores (is_waker_at d.kind (wake_slot e) LANES) (is_waker_at e.kind (wake_slot d) LANES)
+    ∙ ap (λ (x : Bool). nat_eq d.lane e.lane || (x || (clients || (semaphores || (is_waker_at d.kind (wake_slot e) LANES || is_waker_at e.kind (wake_slot d) LANES))))) l
+    ∙ ap (λ (x : Bool). nat_eq d.lane e.lane || (locks || (clients || (semaphores || (x || is_waker_at e.kind (wake_slot d) LANES))))) a
+    ∙ ap (λ (x : Bool). nat_eq d.lane e.lane || (locks || (clients || (semaphores || (wakes d e || x))))) b

@@ -16,7 +16,7 @@ use Rattle.rex_clocks.proofs.Order.{same_lane}
 use Rattle.rex_reduce.specs.Clocks.{clock_beneath}
 use Rattle.rex_reduce.specs.Direct.{IsDirect, IsFrom}
 use Rattle.rex_reduce.specs.Reduction.{last_covered, uncovered, reduced_causes}
-use Rattle.rex_clocks.specs.declared.clock.TheConstants.{LANES}
+use Rattle.rex_event.specs.declared.event.TheConstants.{LANES}
 use Rattle.rex_reduce.proofs.Beneath.{Stands, before_all, before_only, beneath_all, beneath_only}
 
 -- ---- what is ordered is there

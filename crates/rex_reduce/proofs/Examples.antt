@@ -7,7 +7,7 @@ use Rattle.std.proofs.lemmas.List.Elements.{All-nil, All-cons}
 use Rattle.rex_event.specs.declared.event.Event.{Event}
 use Rattle.rex_event.specs.declared.delta.Cause.{Cause}
 use Rattle.rex_event.specs.Cuts.{count_at, counted, AreNumbered}
-use Rattle.rex_clocks.specs.declared.clock.TheConstants.{LANES}
+use Rattle.rex_event.specs.declared.event.TheConstants.{LANES}
 use Rattle.rex_reduce.specs.Reduced.{IsTrace, HasNext}
 use Rattle.rex_reduce.specs.Reduction.{reduced}
 use Rattle.rex_reduce.specs.Traces.{in_turn, shared, tried, signalled, handed}

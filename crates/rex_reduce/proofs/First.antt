@@ -6,7 +6,7 @@ use Rattle.rex_event.specs.declared.event.Event.{Event}
 use Rattle.rex_event.specs.Order.{Has}
 use Rattle.rex_event.specs.Cuts.{count_at, counted, AreNumbered}
 use Rattle.rex_clocks.proofs.Numbered.{counted_same, counted_other, counted_long}
-use Rattle.rex_clocks.specs.declared.clock.TheConstants.{LANES}
+use Rattle.rex_event.specs.declared.event.TheConstants.{LANES}
 use Rattle.rex_reduce.specs.Reduction.{first_indices}
 
 pub first_long : (es : List Event) → length (first_indices es) ≡ LANES

@@ -13,7 +13,7 @@ use Rattle.rex_clocks.proofs.Past.{reverse_more, has_reverse, before_is_past, co
 use Rattle.rex_clocks.proofs.Order.{last_step}
 use Rattle.rex_reduce.specs.Reduction.{reduced_causes, reduced_from}
 use Rattle.rex_reduce.proofs.Beneath.{Stands, stands}
-use Rattle.rex_clocks.specs.declared.clock.TheConstants.{LANES}
+use Rattle.rex_event.specs.declared.event.TheConstants.{LANES}
 use Rattle.rex_reduce.proofs.Direct.{ordered_first, cause_direct, causes_rising}
 
 -- ---- what has to come before an event is in its past

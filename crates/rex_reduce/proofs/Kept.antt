@@ -3,7 +3,7 @@ use Rattle.std.proofs.Common.{◌≡◌, ℕ, zero, suc, ◌<◌, Bool, true, fa
 use Rattle.std.specs.Prelude.{nat_eq, Option, Some, None}
 use Rattle.rex_event.specs.declared.event.Event.{Event}
 use Rattle.rex_event.specs.declared.event.Kind.{Kind}
-use Rattle.rex_event.specs.Conflict.{named_lock, named_client, same_name, conflict}
+use Rattle.rex_event.specs.Conflict.{named_lock, named_client, named_semaphore, same_name, conflict}
 use Rattle.rex_event.specs.Order.{Has}
 use Rattle.rex_clocks.specs.Clocks.{clock_before, clock_of}
 use Rattle.rex_reduce.specs.declared.summary.Summary.{Summary}
@@ -13,7 +13,7 @@ use Rattle.rex_reduce.specs.Names.{exclusive_lock, shared_lock, wake_slot, waker
 use Rattle.rex_reduce.specs.Tables.{at, with_at, with_woken, AreAddedAt}
 use Rattle.rex_reduce.specs.Uses.{met, AreAdded, AreEmpty}
 use Rattle.rex_reduce.proofs.Joined.{joined_comm, summary_or, summary_agree}
-use Rattle.rex_clocks.specs.declared.clock.TheConstants.{LANES}
+use Rattle.rex_event.specs.declared.event.TheConstants.{LANES}
 use Rattle.rex_reduce.proofs.Conflicts.{same_none, same_comm, or_false, or_assoc, waker_none, meets, meets_is}
 
 -- at each place a table keeps the summary of those events of a past that stand there
@@ -47,6 +47,7 @@ pub record KeepAll (past : List Event) (u : Uses) : Type 0 where
   pub exclusive : Keeps (λ (d : Event) (place : Option ℕ). same_name (exclusive_lock d.kind) place) past u.exclusive.items
   pub shared : Keeps (λ (d : Event) (place : Option ℕ). same_name (shared_lock d.kind) place) past u.shared.items
   pub clients : Keeps (λ (d : Event) (place : Option ℕ). same_name (named_client d.kind) place) past u.clients.items
+  pub semaphores : Keeps (λ (d : Event) (place : Option ℕ). same_name (named_semaphore d.kind) place) past u.semaphores.items
   pub wakers : Keeps (λ (d : Event) (place : Option ℕ). is_waker_at d.kind place LANES) past u.wakers.items
   pub wakes : Keeps by_wake past u.wakes.items
 
@@ -57,18 +58,22 @@ met_is past u e k l lanes =
     let p2 = λ (d : Event). nat_eq d.lane e.lane || same_name (exclusive_lock d.kind) (named_lock e.kind) in
     let p3 = λ (d : Event). (nat_eq d.lane e.lane || same_name (exclusive_lock d.kind) (named_lock e.kind)) || same_name (shared_lock d.kind) (exclusive_lock e.kind) in
     let p4 = λ (d : Event). ((nat_eq d.lane e.lane || same_name (exclusive_lock d.kind) (named_lock e.kind)) || same_name (shared_lock d.kind) (exclusive_lock e.kind)) || same_name (named_client d.kind) (named_client e.kind) in
-    let p5 = λ (d : Event). (((nat_eq d.lane e.lane || same_name (exclusive_lock d.kind) (named_lock e.kind)) || same_name (shared_lock d.kind) (exclusive_lock e.kind)) || same_name (named_client d.kind) (named_client e.kind)) || is_waker_at d.kind (wake_slot e) LANES in
+    let p5 = λ (d : Event). (((nat_eq d.lane e.lane || same_name (exclusive_lock d.kind) (named_lock e.kind)) || same_name (shared_lock d.kind) (exclusive_lock e.kind)) || same_name (named_client d.kind) (named_client e.kind)) || same_name (named_semaphore d.kind) (named_semaphore e.kind) in
+    let p6 = λ (d : Event). ((((nat_eq d.lane e.lane || same_name (exclusive_lock d.kind) (named_lock e.kind)) || same_name (shared_lock d.kind) (exclusive_lock e.kind)) || same_name (named_client d.kind) (named_client e.kind)) || same_name (named_semaphore d.kind) (named_semaphore e.kind)) || is_waker_at d.kind (wake_slot e) LANES in
     let a1 = with_is (λ (d : Event) (place : Option ℕ). same_name (exclusive_lock d.kind) place) p1 past u.exclusive.items (named_lock e.kind) (λ d. same_none (exclusive_lock d.kind)) k.exclusive in
     let a2 = with_is (λ (d : Event) (place : Option ℕ). same_name (shared_lock d.kind) place) p2 past u.shared.items (exclusive_lock e.kind) (λ d. same_none (shared_lock d.kind)) k.shared in
     let a3 = with_is (λ (d : Event) (place : Option ℕ). same_name (named_client d.kind) place) p3 past u.clients.items (named_client e.kind) (λ d. same_none (named_client d.kind)) k.clients in
-    let a4 = with_is (λ (d : Event) (place : Option ℕ). is_waker_at d.kind place LANES) p4 past u.wakers.items (wake_slot e) (λ d. waker_none d.kind LANES) k.wakers in
-    let a5 = woken_is p5 past u.wakes.items e.kind LANES k.wakes in
-    ap (λ (x : Summary). with_woken (with_at (with_at (with_at (with_at x u.exclusive.items (named_lock e.kind)) u.shared.items (exclusive_lock e.kind)) u.clients.items (named_client e.kind)) u.wakers.items (wake_slot e)) u.wakes.items e.kind LANES) (k.lanes.each e.lane)
-    ∙ ap (λ (x : Summary). with_woken (with_at (with_at (with_at x u.shared.items (exclusive_lock e.kind)) u.clients.items (named_client e.kind)) u.wakers.items (wake_slot e)) u.wakes.items e.kind LANES) a1
-    ∙ ap (λ (x : Summary). with_woken (with_at (with_at x u.clients.items (named_client e.kind)) u.wakers.items (wake_slot e)) u.wakes.items e.kind LANES) a2
-    ∙ ap (λ (x : Summary). with_woken (with_at x u.wakers.items (wake_slot e)) u.wakes.items e.kind LANES) a3
-    ∙ ap (λ (x : Summary). with_woken x u.wakes.items e.kind LANES) a4
-    ∙ a5
+    let a4 = with_is (λ (d : Event) (place : Option ℕ). same_name (named_semaphore d.kind) place) p4 past u.semaphores.items (named_semaphore e.kind) (λ d. same_none (named_semaphore d.kind)) k.semaphores in
+    let a5 = with_is (λ (d : Event) (place : Option ℕ). is_waker_at d.kind place LANES) p5 past u.wakers.items (wake_slot e) (λ d. waker_none d.kind LANES) k.wakers in
+    let a6 = woken_is p6 past u.wakes.items e.kind LANES k.wakes in
+    let last : Summary → Summary = λ x. with_woken (with_at x u.wakers.items (wake_slot e)) u.wakes.items e.kind LANES in
+    ap (λ (x : Summary). last (with_at (with_at (with_at (with_at x u.exclusive.items (named_lock e.kind)) u.shared.items (exclusive_lock e.kind)) u.clients.items (named_client e.kind)) u.semaphores.items (named_semaphore e.kind))) (k.lanes.each e.lane)
+    ∙ ap (λ (x : Summary). last (with_at (with_at (with_at x u.shared.items (exclusive_lock e.kind)) u.clients.items (named_client e.kind)) u.semaphores.items (named_semaphore e.kind))) a1
+    ∙ ap (λ (x : Summary). last (with_at (with_at x u.clients.items (named_client e.kind)) u.semaphores.items (named_semaphore e.kind))) a2
+    ∙ ap (λ (x : Summary). last (with_at x u.semaphores.items (named_semaphore e.kind))) a3
+    ∙ ap last a4
+    ∙ ap (λ (x : Summary). with_woken x u.wakes.items e.kind LANES) a5
+    ∙ a6
     ∙ summary_agree (λ (d : Event). meets d e) (λ (d : Event). conflict d e) past (λ d h. meets_is d e (lanes d h) l)
 
 -- ---- adding
@@ -82,6 +87,7 @@ empty_all u e = record {
   exclusive = empty_keeps (λ (d : Event) (place : Option ℕ). same_name (exclusive_lock d.kind) place) u.exclusive.items e.exclusive;
   shared = empty_keeps (λ (d : Event) (place : Option ℕ). same_name (shared_lock d.kind) place) u.shared.items e.shared;
   clients = empty_keeps (λ (d : Event) (place : Option ℕ). same_name (named_client d.kind) place) u.clients.items e.clients;
+  semaphores = empty_keeps (λ (d : Event) (place : Option ℕ). same_name (named_semaphore d.kind) place) u.semaphores.items e.semaphores;
   wakers = empty_keeps (λ (d : Event) (place : Option ℕ). is_waker_at d.kind place LANES) u.wakers.items e.wakers;
   wakes = empty_keeps by_wake u.wakes.items e.wakes;
 }
@@ -116,6 +122,7 @@ more_all past e own u more q k a = record {
   exclusive = added_keeps (λ (d : Event). exclusive_lock d.kind) past e own u.exclusive.items more.exclusive.items (exclusive_lock e.kind) q refl k.exclusive a.exclusive;
   shared = added_keeps (λ (d : Event). shared_lock d.kind) past e own u.shared.items more.shared.items (shared_lock e.kind) q refl k.shared a.shared;
   clients = added_keeps (λ (d : Event). named_client d.kind) past e own u.clients.items more.clients.items (named_client e.kind) q refl k.clients a.clients;
+  semaphores = added_keeps (λ (d : Event). named_semaphore d.kind) past e own u.semaphores.items more.semaphores.items (named_semaphore e.kind) q refl k.semaphores a.semaphores;
   wakers = more_keeps (λ (d : Event) (place : Option ℕ). is_waker_at d.kind place LANES) past e own u.wakers.items more.wakers.items q k.wakers a.wakers;
   wakes = added_keeps (λ (d : Event). wake_slot d) past e own u.wakes.items more.wakes.items (wake_slot e) q refl k.wakes a.wakes;
 }

@@ -12,7 +12,7 @@ use Rattle.rex_clocks.proofs.Past.{reverse_more}
 use Rattle.rex_reduce.specs.Reduced.{AreAmong, RiseByLane}
 use Rattle.rex_reduce.specs.Reduction.{reduced_causes, reduced_from}
 use Rattle.rex_reduce.proofs.Beneath.{stands}
-use Rattle.rex_clocks.specs.declared.clock.TheConstants.{LANES}
+use Rattle.rex_event.specs.declared.event.TheConstants.{LANES}
 use Rattle.rex_reduce.specs.Direct.{IsDirect}
 use Rattle.rex_reduce.proofs.Direct.{cause_direct, causes_rising}
 

@@ -1,3 +1,4 @@
+pub mod Beyond
 pub mod Joined
 pub mod Conflicts
 pub mod Kept
@@ -10,4 +11,6 @@ pub mod Fits
 pub mod Once
 pub mod Reduced
 mod Steps
+mod NoWakers
+mod Covers
 pub mod Examples

@@ -14,7 +14,7 @@ use Rattle.rex_reduce.proofs.Beneath.{stands}
 use Rattle.rex_reduce.proofs.Direct.{Lies, IsEnd, ordered_first, lies_or_end, cause_direct, end_cause}
 use Rattle.rex_reduce.proofs.Right.{placed_from, reduced_right}
 use Rattle.rex_reduce.proofs.Least.{reduced_among, reduced_rising}
-use Rattle.rex_clocks.specs.declared.clock.TheConstants.{LANES}
+use Rattle.rex_event.specs.declared.event.TheConstants.{LANES}
 use Rattle.rex_reduce.proofs.Fits.{reduced_fit}
 
 pub reduced_least : (es : List Event) → IsTrace es → AreLeast es (reduced es)

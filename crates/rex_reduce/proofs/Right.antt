@@ -15,7 +15,7 @@ use Rattle.rex_clocks.proofs.Order.{same_lane}
 use Rattle.rex_reduce.specs.Clocks.{clock_beneath}
 use Rattle.rex_reduce.specs.Reduction.{reduced_causes, reduced_from}
 use Rattle.rex_reduce.proofs.Beneath.{stands}
-use Rattle.rex_clocks.specs.declared.clock.TheConstants.{LANES}
+use Rattle.rex_event.specs.declared.event.TheConstants.{LANES}
 use Rattle.rex_reduce.proofs.Direct.{ordered_first, by_index, IsEnd, Lies, lies_or_end, cause_direct, end_cause}
 
 -- ---- the causes at an event's place

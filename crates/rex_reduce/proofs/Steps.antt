@@ -30,7 +30,7 @@ use Rattle.rex_reduce.proofs.Joined.{joined_twice}
 use Rattle.rex_reduce.proofs.Conflicts.{or_false}
 use Rattle.rex_reduce.proofs.Kept.{KeepAll, met_is, more_all}
 use Rattle.rex_reduce.proofs.Beneath.{stands}
-use Rattle.rex_clocks.specs.declared.clock.TheConstants.{LANES}
+use Rattle.rex_event.specs.declared.event.TheConstants.{LANES}
 use Rattle.rex_reduce.proofs.First.{first_long, numbered_first}
 
 -- ---- adding at the places of a signal

@@ -6,7 +6,7 @@ use Rattle.rex_event.specs.declared.delta.Cause.{Cause}
 use Rattle.rex_event.specs.Order.{Has}
 use Rattle.rex_event.specs.Cuts.{AreNumbered}
 use Rattle.rex_event.specs.Causes.{AreRight}
-use Rattle.rex_clocks.specs.declared.clock.TheConstants.{LANES}
+use Rattle.rex_event.specs.declared.event.TheConstants.{LANES}
 use Rattle.rex_event.specs.Pieces.{AreRising, AllCausesFit}
 
 -- each of these causes is one of those

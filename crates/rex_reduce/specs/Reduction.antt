@@ -3,7 +3,7 @@ use Rattle.std.specs.Prelude.{ℕ, zero, suc, ◌+◌, ◌-◌, ◌&&◌, not, n
 use Rattle.rex_event.specs.declared.event.Event.{Event}
 use Rattle.rex_event.specs.declared.delta.Cause.{Cause}
 use Rattle.rex_event.specs.Cuts.{count_at}
-use Rattle.rex_clocks.specs.declared.clock.TheConstants.{LANES}
+use Rattle.rex_event.specs.declared.event.TheConstants.{LANES}
 use Rattle.rex_clocks.specs.Counts.{none}
 use Rattle.rex_clocks.specs.Clocks.{clock_before}
 use Rattle.rex_reduce.specs.Clocks.{clock_beneath}

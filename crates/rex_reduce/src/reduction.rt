@@ -8,8 +8,7 @@ ghost use Rattle.rex_reduce.specs.Reduction.{reduced};
 
 use crate::summary::Summary;
 use crate::uses::Uses;
-use rex_clocks::LANES;
-use rex_event::{Cause, Event};
+use rex_event::{Cause, Event, LANES};
 use rex_list::List;
 use std::alloc::{AllocError, Global};
 
@@ -40,7 +39,7 @@ fn causes_of(
     ensures { IfOk result (λ causes. causes ≡ spec.uncovered first.now met.now.clocks met.now.befores own LANES) }
 {
     let mut causes = List::new(alloc);
-    for lane in 0..LANES as u8 {
+    for lane in 0..met.clocks.lanes() {
         let count = met.clocks.count(lane);
         if met.befores.count(lane) < count && lane != own {
             let index = first[lane as usize] + (count - 1);

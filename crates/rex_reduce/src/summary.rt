@@ -2,7 +2,8 @@ ghost use Rattle.std.specs.Prelude.{◌≡◌, ◌<◌};
 ghost use Rattle.rex_event.specs.Cuts.{count_at};
 ghost use Rattle.rex_reduce.specs.Summaries as spec;
 
-use rex_clocks::{Clock, LANES};
+use rex_clocks::Clock;
+use rex_event::LANES;
 
 /// What is kept of some events of a trace.
 #[derive(Clone, Copy)]

@@ -1,12 +1,11 @@
 //! Tables of summaries, by the place that events name. What stands past the end of a table is of no events.
 
 ghost use Rattle.std.specs.Prelude.{◌≡◌, ℕ, ◌<◌, ◌≤◌, length, Some, OnOk};
-ghost use Rattle.rex_reduce.specs.Tables.{at, with_at, with_woken, AreAddedAt, AreAddedWoken};
+ghost use Rattle.rex_reduce.specs.Tables.{at, with_at, with_woken, Covers, AreAddedAt, AreAddedWoken};
 
-use crate::names::waker_slot;
+use crate::names::{is_waker, waker_slot};
 use crate::summary::Summary;
-use rex_clocks::LANES;
-use rex_event::Event;
+use rex_event::{Event, LANES};
 use std::alloc::AllocError;
 
 pub(crate) fn summary_at(rows: &[Summary], place: u32) -> Summary
@@ -18,17 +17,30 @@ pub(crate) fn summary_at(rows: &[Summary], place: u32) -> Summary
     }
 }
 
-/// Merges what stands at a place, if there is one.
+/// Merges what stands at a place, if there is one. A row is merged where it stands: a copy of it would cost more than that.
 pub(crate) fn merge_at(met: &mut Summary, rows: &[Summary], place: Option<u32>)
     ensures { met.new ≡ with_at met.old rows.now place }
 {
-    if let Some(place) = place {
-        met.merge(&summary_at(rows, place));
+    let Some(place) = place else {
+        return;
+    };
+    match rows.get(place as usize) {
+        Some(summary) => met.merge(summary),
+        None => met.merge(&Summary::new()),
     }
 }
 
 /// Merges what stands at the places of a signal or broadcast.
 pub(crate) fn merge_woken(met: &mut Summary, rows: &[Summary], event: &Event)
+    ensures { met.new ≡ with_woken met.old rows.now event.now.kind LANES }
+{
+    if is_waker(event) {
+        merge_each_woken(met, rows, event);
+    }
+}
+
+/// The same, a lane after the other.
+fn merge_each_woken(met: &mut Summary, rows: &[Summary], event: &Event)
     ensures { met.new ≡ with_woken met.old rows.now event.now.kind LANES }
 {
     for lane in 0..LANES as u8 {
@@ -70,12 +82,47 @@ pub(crate) fn add_at(
     Ok(())
 }
 
+/// Adds an event whose summary covers what stands at a place.
+pub(crate) fn put(rows: &mut Vec<Summary>, place: u32, own: &Summary) -> Result<(), AllocError>
+    requires { Covers own.now rows.old.items (Some place) }
+    ensures { OnOk result (AreAddedAt rows.old.items (Some place) own.now rows.new.items) }
+{
+    stretch(rows, place as usize + 1)?;
+    rows[place as usize] = *own;
+    Ok(())
+}
+
+/// The same, if there is a place.
+pub(crate) fn put_at(
+    rows: &mut Vec<Summary>,
+    place: Option<u32>,
+    own: &Summary,
+) -> Result<(), AllocError>
+    requires { Covers own.now rows.old.items place }
+    ensures { OnOk result (AreAddedAt rows.old.items place own.now rows.new.items) }
+{
+    if let Some(place) = place {
+        put(rows, place, own)?;
+    }
+    Ok(())
+}
+
 /// Adds an event at the places of a signal or broadcast.
 pub(crate) fn add_woken(
     rows: &mut Vec<Summary>,
     event: &Event,
     own: &Summary,
 ) -> Result<(), AllocError>
+    ensures { OnOk result (AreAddedWoken rows.old.items event.now.kind own.now LANES rows.new.items) }
+{
+    if is_waker(event) {
+        add_each_woken(rows, event, own)?;
+    }
+    Ok(())
+}
+
+/// The same, a lane after the other.
+fn add_each_woken(rows: &mut Vec<Summary>, event: &Event, own: &Summary) -> Result<(), AllocError>
     ensures { OnOk result (AreAddedWoken rows.old.items event.now.kind own.now LANES rows.new.items) }
 {
     for lane in 0..LANES as u8 {

@@ -11,7 +11,7 @@ mod trace;
 mod words;
 
 pub use effect::{Effect, MessageKind, Role};
-pub use ends::{End, UpEnd, push_end, push_variables};
+pub use ends::{End, UpEnd, push_end, push_semaphores, push_variables};
 pub use events::push_event;
 pub use pieces::{Piece, push_pieces};
 pub use rows::push_row;

@@ -12,6 +12,7 @@ use Rattle.rex_syntax.specs.declared.request.Request.{Request}
 use Rattle.rex_syntax.specs.declared.service.Declarations.{Declarations}
 use Rattle.rex_syntax.specs.Service.{IsService}
 use Rattle.rex_syntax.specs.Check.{IsChecked}
+use Rattle.rex_event.specs.Limits.{most_lanes}
 use Rattle.rex_event.specs.declared.event.Event.{Event}
 use Rattle.rex_event.specs.Order.{Has}
 use Rattle.rex_event.specs.Cuts.{count_at, is_below, below, beyond, IsWithin}
@@ -265,6 +266,7 @@ module _ (service : Declarations) (good : IsService service) (checked : IsChecke
     turned_acting lane clock random dice turn.Full l h = record { start = a.start; state = a.state; known_runs = a.known_runs; recorder = a.recorder; goes_on = a.goes_on; requests = a.requests; clients = a.clients; unused = a.unused }
     turned_acting lane clock random dice turn.Idle l h = record { start = a.start; state = a.state; known_runs = a.known_runs; recorder = a.recorder; goes_on = a.goes_on; requests = a.requests; clients = a.clients; unused = a.unused }
     turned_acting lane clock random dice (turn.Held by) l h = record { start = a.start; state = a.state; known_runs = a.known_runs; recorder = a.recorder; goes_on = a.goes_on; requests = a.requests; clients = a.clients; unused = a.unused }
+    turned_acting lane clock random dice (turn.Zero semaphore) l h = record { start = a.start; state = a.state; known_runs = a.known_runs; recorder = a.recorder; goes_on = a.goes_on; requests = a.requests; clients = a.clients; unused = a.unused }
     turned_acting lane clock random dice turn.Unsignalled l h = record { start = a.start; state = a.state; known_runs = a.known_runs; recorder = a.recorder; goes_on = a.goes_on; requests = a.requests; clients = a.clients; unused = a.unused }
     turned_acting lane clock random dice turn.Unfit l h = record { start = a.start; state = a.state; known_runs = a.known_runs; recorder = a.recorder; goes_on = a.goes_on; requests = a.requests; clients = a.clients; unused = a.unused }
 
@@ -282,7 +284,7 @@ module _ (service : Declarations) (good : IsService service) (checked : IsChecke
         let c : CountsOn a.start w.live a.state = runs_count_on service a.start a.state w.live a.recorder.runs in
         record {
           bases = counts_of a.start;
-          few = subst (λ (n : ℕ). n ≤ 16) (sym (h.long ∙ firsts_long)) good.lanes;
+          few = subst (λ (n : ℕ). n ≤ most_lanes) (sym (h.long ∙ firsts_long)) good.lanes;
           long = sym h.long;
           numbered = c.numbered;
           from = h.from;

@@ -1,6 +1,7 @@
 -- Each step keeps what active nodes work with.
 use Rattle.std.proofs.Common.{◌≡◌, ℕ, zero, suc, ◌<◌, ◌≤◌, Bool, true, false, cond, ◌⊎◌, List, [], ◌∷◌, length, Option, Some, None, eqb, refl, sym, ◌∙◌, ap, subst, inl, inr, arith, le_refl}
 use Rattle.std.specs.Prelude.{map, slice_get, nat_le}
+use Rattle.rex_ballot.specs.Limits.{most_nodes}
 use Rattle.rex_syntax.specs.declared.request.Request.{Request}
 use Rattle.rex_syntax.specs.declared.service.Declarations.{Declarations}
 use Rattle.rex_event.specs.declared.event.Event.{Event}
@@ -37,7 +38,7 @@ use Rattle.rex_safety.proofs.Worlds.{IsWorld, node_or_not, node_of_lead}
 use Rattle.rex_safety.proofs.Moments.{known_run}
 use Rattle.rex_safety.proofs.Steps.{step_ok, row_ok, beginning_ok, reached_ok}
 use Rattle.rex_safety.proofs.Acting.{acting_new, acting_known, acting_answered, acting_turned, acting_proposed, IsLiveCut, live_cut, firsts_long, rises, known_is, live_is, live_runs}
-use Rattle.rex_safety.proofs.Working.{Works, passive, if_works, propose_works, settle_works, elect_works, receive_works, replay_works, checkpoint_works}
+use Rattle.rex_safety.proofs.Working.{Works, passive, if_works, propose_works, settle_works, elect_works, receive_works, replay_works, checkpoint_works, start_works}
 
 -- ---- limits between two lists of counts
 
@@ -144,7 +145,7 @@ module _ (service : Declarations) (good : IsService service) (checked : IsChecke
 
 -- ---- worlds
 
-module _ (service : Declarations) (good : IsService service) (checked : IsChecked service) (requests : List Request) (fit : All (RequestFits service) requests) (seed n : ℕ) (few : n ≤ 9) where
+module _ (service : Declarations) (good : IsService service) (checked : IsChecked service) (requests : List Request) (fit : All (RequestFits service) requests) (seed n : ℕ) (few : n ≤ most_nodes) where
   abbrev sv : Service Value StateValue
   sv = service_of service seed
 
@@ -176,9 +177,9 @@ module _ (service : Declarations) (good : IsService service) (checked : IsChecke
       at_node_work (with_handed w number) many h y.to (receive n sv y.to y.from y.content)
       (λ d k. receive_works n sv y.to (IsActing service) (acting_new service good checked) (acting_known service good checked seed) y.from y.content d k)
 
-  start_work : (w : World) → length w.nodes ≡ n → AllWork w → (m : ℕ) (t : Bool) → AllWork (start_if t w m).world
+  start_work : (w : World) → length w.nodes ≡ n → AllWork w → (m : ℕ) (t : Bool) → AllWork (start_if sv t w m).world
   start_work w many h m true = h
-  start_work w many h m false = after_work w many h m (start m (begin (node_at w.nodes m))) (passive n sv m (IsActing service) (acting_new service good checked) (acting_known service good checked seed) _ refl)
+  start_work w many h m false = after_work w many h m (start sv m (begin (node_at w.nodes m))) (start_works n sv m (IsActing service) (acting_new service good checked) (acting_known service good checked seed) (begin (node_at w.nodes m)))
 
   pub step_work : (w : World) → length w.nodes ≡ n → AllWork w → (x : ScheduleLine) → HasLane service x → AllWork (step service requests seed n w x).world
   step_work w many h (line.Elect m) l = at_node_work w many h m (elect n sv m) (λ d k. elect_works n sv m (IsActing service) (acting_new service good checked) (acting_known service good checked seed) d k)
@@ -192,7 +193,7 @@ module _ (service : Declarations) (good : IsService service) (checked : IsChecke
   step_work w many h (line.Ask m other) l = at_node_work w many h m (ask m other) (λ d k. record { each = k.each })
   step_work w many h (line.Stop m) l = at_node_work w many h m (stop m) (λ d k. passive n sv m (IsActing service) (acting_new service good checked) (acting_known service good checked seed) _ refl)
   step_work w many h (line.Start m) l = start_work w many h m (node_at w.nodes m).up
-  step_work w many h (line.Checkpoint m) l = at_node_work w many h m (checkpoint sv m) (λ d k. checkpoint_works n sv m (IsActing service) (acting_new service good checked) (acting_known service good checked seed) d k)
+  step_work w many h (line.Checkpoint m version) l = at_node_work w many h m (checkpoint version sv m) (λ d k. checkpoint_works n sv m (IsActing service) (acting_new service good checked) (acting_known service good checked seed) version d k)
   step_work w many h (line.KeepFail m kept) l = after_work w many h m (arm m kept (begin (node_at w.nodes m))) (record { each = (h m).each })
 
   -- the steps of a line name lanes that are there
@@ -220,7 +221,7 @@ module _ (service : Declarations) (good : IsService service) (checked : IsChecke
   steps_lanes w (line.Ask m other) l = (l, tt)
   steps_lanes w (line.Stop m) l = (l, tt)
   steps_lanes w (line.Start m) l = (l, tt)
-  steps_lanes w (line.Checkpoint m) l = (l, tt)
+  steps_lanes w (line.Checkpoint m version) l = (l, tt)
   steps_lanes w (line.KeepFail m kept) l = (l, tt)
 
   steps_work : (w : World) (xs : List ScheduleLine) → IsWorld n sv w → AllWork w → HaveLanes xs → AllWork (steps service requests seed n w xs).world

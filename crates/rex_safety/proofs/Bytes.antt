@@ -10,13 +10,15 @@ use Rattle.std.proofs.lemmas.List.Elements.{All-head, All-tail}
 use Rattle.std.proofs.lemmas.List.Folds.{list_all-append}
 use Rattle.rex_event.specs.declared.event.Event.{Event}
 use Rattle.rex_event.specs.declared.event.Kind.{Kind}
-use Rattle.rex_event.specs.declared.event.Kind.TheVariants.{Begin, AcqEx, AcqSh, RelEx, RelSh, TryOk, TryBusy, Wait, Wake, Signal, Broadcast, Clock, Random, Reply}
+use Rattle.rex_event.specs.declared.event.Kind.TheVariants.{Begin, AcqEx, AcqSh, RelEx, RelSh, TryOk, TryBusy, Wait, Wake, Signal, Broadcast, Clock, Random, Reply, Down, Up}
 use Rattle.rex_event.specs.declared.delta.Cause.{Cause}
 use Rattle.rex_event.specs.declared.delta.Delta.{Delta}
+use Rattle.rex_event.specs.Limits.{most_lanes}
 use Rattle.rex_event.specs.Cuts.{counted}
 use Rattle.rex_clocks.proofs.Numbered.{counted_long}
-use Rattle.rex_delta.specs.Spelling.{woken_number, code_of, content, cause_bytes, event_bytes, events_bytes, delta_bytes, KindFits, EventFits, EventsFit, IsDelta, HasSpelling}
+use Rattle.rex_delta.specs.Spelling.{woken_number, code_of, content, cause_bytes, event_bytes, events_bytes, version_of, delta_bytes, KindFits, EventFits, EventsFit, IsDelta, HasSpelling}
 use Rattle.rex_delta.proofs.Counting.{others_few}
+use Rattle.rex_delta.proofs.Versions.{version_between}
 use Rattle.rex_delta.proofs.EventLaws.{event_parts, delta_parts, delta_found}
 use Rattle.rex_delta.specs.Reading.{delta_in}
 use Rattle.rex_syntax.specs.declared.service.Declarations.{Declarations}
@@ -73,11 +75,11 @@ place n l = one (n + 1) (omega arith)
 two_places : (a b : ℕ) → a < 64 → b < 64 → AreBytes 2 (((a + 1) ∷ []) ++ ((b + 1) ∷ []))
 two_places a b l k = both 1 1 ((a + 1) ∷ []) ((b + 1) ∷ []) (place a l) (place b k)
 
-woken_small : (lanes : ℕ) (woken : Option ℕ) → lanes ≤ 16 → IfSome woken (λ lane. lane < lanes) → woken_number woken < 256
+woken_small : (lanes : ℕ) (woken : Option ℕ) → lanes ≤ most_lanes → IfSome woken (λ lane. lane < lanes) → woken_number woken < 256
 woken_small lanes None few h = omega arith
 woken_small lanes (Some lane) few h = omega arith
 
-content_bytes : (lanes : ℕ) (kind : Kind) → lanes ≤ 16 → KindFits lanes kind → AreBytes 40 (content kind)
+content_bytes : (lanes : ℕ) (kind : Kind) → lanes ≤ most_lanes → KindFits lanes kind → AreBytes 40 (content kind)
 content_bytes lanes (Begin client sequence handler arguments) few h =
     more (2 + (4 + (1 + (1 + 8 * length arguments)))) 40 (content (Begin client sequence handler arguments)) (omega (arith, h.3))
     (both 2 (4 + (1 + (1 + 8 * length arguments))) (to_be_bytes w16 client) _ (number16 client)
@@ -98,6 +100,8 @@ content_bytes lanes (Signal condition woken) few h =
     (both 1 1 ((condition + 1) ∷ []) (woken_number woken ∷ []) (place condition h.0) (one (woken_number woken) (woken_small lanes woken few h.1)))
 content_bytes lanes (Broadcast condition woken) few h =
     more 9 40 (content (Broadcast condition woken)) (omega arith) (both 1 8 ((condition + 1) ∷ []) (to_be_bytes w64 woken) (place condition h.0) (number64 woken))
+content_bytes lanes (Down semaphore) few h = more 1 40 (content (Down semaphore)) (omega arith) (place semaphore h)
+content_bytes lanes (Up semaphore) few h = more 1 40 (content (Up semaphore)) (omega arith) (place semaphore h)
 content_bytes lanes (Clock value) few h = more 8 40 (content (Clock value)) (omega arith) (signed64 value)
 content_bytes lanes (Random value) few h = more 4 40 (content (Random value)) (omega arith) (number32 value)
 content_bytes lanes (Reply client value) few h =
@@ -118,15 +122,17 @@ code_small (Broadcast condition woken) = omega arith
 code_small (Clock value) = omega arith
 code_small (Random value) = omega arith
 code_small (Reply client value) = omega arith
+code_small (Down semaphore) = omega arith
+code_small (Up semaphore) = omega arith
 
 -- ---- events
 
-cause_are : (counts : List ℕ) (c : Cause) → c.lane < length counts → length counts ≤ 16 → AreBytes 5 (cause_bytes c)
+cause_are : (counts : List ℕ) (c : Cause) → c.lane < length counts → length counts ≤ most_lanes → AreBytes 5 (cause_bytes c)
 cause_are counts c there few = both 1 4 ((c.lane + 1) ∷ []) (to_be_bytes w32 c.index) (one (c.lane + 1) (omega arith)) (number32 c.index)
 
-event_are : (bases counts : List ℕ) (e : Event) (causes : List Cause) → length counts ≤ 16 → EventFits bases counts e causes → AreBytes 123 (event_bytes e causes)
+event_are : (bases counts : List ℕ) (e : Event) (causes : List Cause) → length counts ≤ most_lanes → EventFits bases counts e causes → AreBytes 363 (event_bytes e causes)
 event_are bases counts e causes few h =
-    more (1 + (1 + (40 + (1 + 5 * length causes)))) 123 (event_bytes e causes) (omega (arith, many))
+    more (1 + (1 + (40 + (1 + 5 * length causes)))) 363 (event_bytes e causes) (omega (arith, many))
     (subst (AreBytes (1 + (1 + (40 + (1 + 5 * length causes))))) (sym (event_parts e causes))
     (both 1 (1 + (40 + (1 + 5 * length causes))) ((e.lane + 1) ∷ []) _ (one (e.lane + 1) (omega (arith, h.lane)))
     (both 1 (40 + (1 + 5 * length causes)) (code_of e.kind ∷ []) _ (one (code_of e.kind) (code_small e.kind))
@@ -134,27 +140,27 @@ event_are bases counts e causes few h =
     (both 1 (5 * length causes) (length causes ∷ []) _ (one (length causes) (omega (arith, many)))
     (each_piece cause_bytes 5 causes (λ k d l. cause_are counts (get_or causes k d) (h.each k d l).there few)))))))
   where
-    many : length causes ≤ 16
+    many : length causes ≤ most_lanes
     many = omega (arith, h.few, others_few bases counts e.lane (length counts))
 
-events_are_bytes : (bases counts : List ℕ) (es : List Event) (lists : List (List Cause)) → length counts ≤ 16 → EventsFit bases counts es lists → AreBytes (123 * length es) (events_bytes es lists)
+events_are_bytes : (bases counts : List ℕ) (es : List Event) (lists : List (List Cause)) → length counts ≤ most_lanes → EventsFit bases counts es lists → AreBytes (363 * length es) (events_bytes es lists)
 events_are_bytes bases counts [] lists few h = record { each = refl; few = omega arith }
 events_are_bytes bases counts (e ∷ es) [] few h = absurd h
 events_are_bytes bases counts (e ∷ es) (causes ∷ lists) few h =
-    more (123 + 123 * length es) (123 * suc (length es)) (events_bytes (e ∷ es) (causes ∷ lists)) (omega arith)
-    (both 123 (123 * length es) (event_bytes e causes) (events_bytes es lists) (event_are bases counts e causes few h.0)
+    more (363 + 363 * length es) (363 * suc (length es)) (events_bytes (e ∷ es) (causes ∷ lists)) (omega arith)
+    (both 363 (363 * length es) (event_bytes e causes) (events_bytes es lists) (event_are bases counts e causes few h.0)
     (events_are_bytes bases (counted counts e) es lists (omega (arith, counted_long counts e)) h.1))
 
 -- ---- the delta
 
 pub delta_bytes_are : (d : Delta) → IsDelta d → AreBytes 4194304 (delta_bytes d)
 delta_bytes_are d h =
-    more (1 + (1 + (4 * length d.bases + (2 + 123 * length d.events)))) 4194304 (delta_bytes d) (omega (arith, h.lanes.1, h.some.1))
-    (subst (AreBytes (1 + (1 + (4 * length d.bases + (2 + 123 * length d.events))))) (sym (delta_parts d))
-    (both 1 (1 + (4 * length d.bases + (2 + 123 * length d.events))) (1 ∷ []) _ (one 1 (omega arith))
-    (both 1 (4 * length d.bases + (2 + 123 * length d.events)) (length d.bases ∷ []) _ (one (length d.bases) (omega (arith, h.lanes.1)))
-    (both (4 * length d.bases) (2 + 123 * length d.events) (flat_map (to_be_bytes w32) d.bases) _ (each_piece (to_be_bytes w32) 4 d.bases (λ k x l. number32 (get_or d.bases k x)))
-    (both 2 (123 * length d.events) (to_be_bytes w16 (length d.events)) (events_bytes d.events d.causes) (number16 (length d.events))
+    more (1 + (1 + (4 * length d.bases + (2 + 363 * length d.events)))) 4194304 (delta_bytes d) (omega (arith, h.lanes.1, h.some.1))
+    (subst (AreBytes (1 + (1 + (4 * length d.bases + (2 + 363 * length d.events))))) (sym (delta_parts d))
+    (both 1 (1 + (4 * length d.bases + (2 + 363 * length d.events))) (version_of d.events ∷ []) _ (one (version_of d.events) (omega (arith, (version_between d.events).1)))
+    (both 1 (4 * length d.bases + (2 + 363 * length d.events)) (length d.bases ∷ []) _ (one (length d.bases) (omega (arith, h.lanes.1)))
+    (both (4 * length d.bases) (2 + 363 * length d.events) (flat_map (to_be_bytes w32) d.bases) _ (each_piece (to_be_bytes w32) 4 d.bases (λ k x l. number32 (get_or d.bases k x)))
+    (both 2 (363 * length d.events) (to_be_bytes w16 (length d.events)) (events_bytes d.events d.causes) (number16 (length d.events))
     (events_are_bytes d.bases d.bases d.events d.causes h.lanes.1 h.events))))))
 
 -- ---- values that spell a delta

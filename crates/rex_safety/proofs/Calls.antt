@@ -2,16 +2,20 @@
 use Rattle.std.proofs.Common.{◌≡◌, ℕ, zero, suc, ◌+◌, ◌-◌, ◌*◌, ◌/◌, ◌<◌, ◌≤◌, ◌≢◌, Bool, true, false, cond, ◌||◌, ◌⊎◌, List, [], ◌∷◌, ◌++◌, length, Option, Some, None, eqb, ltb, leb, refl, sym, ◌∙◌, ap, subst, inl, inr, arith, le_trans, le_refl, le_of_eq, suc-le-suc, eqb-true, eq-eqb, ltb-true, ltb-false}
 use Rattle.std.specs.Prelude.{take, ◌==◌, nat_lt}
 use Rattle.std.proofs.lemmas.Bool.{cases_lt, eqb-false, false≢true}
+use Rattle.rex_ballot.specs.Limits.{most_nodes}
 use Rattle.rex_report.specs.declared.effect.Effect.{Effect}
 use Rattle.rex_report.specs.declared.effect.Effect.TheVariants as effect
-use Rattle.rex_safety.specs.Records.{Rec, Proposal, promise, accepted, from_on, known, base, HasAccepted, HasBallot}
+use Rattle.rex_version.specs.declared.version.Version.{Version}
+use Rattle.rex_version.specs.declared.version.Version.TheVariants.{Two}
+use Rattle.rex_safety.specs.Records.{Rec, Proposal, promise, accepted, from_on, known, base, HasAccepted, HasBallot, has_old_base}
 use Rattle.rex_safety.specs.Records.Rec.{Promised, Accepted, Known, Checkpoint}
 use Rattle.rex_safety.specs.Quorum.{IsNode, Logs, Chosen, AllChosen, AllChosenBy, node_of, round_of, ballot_above, is_in, is_majority}
 use Rattle.rex_safety.specs.Node.{Service, Content, Message, Lead, Role, Node, is_active}
 use Rattle.rex_safety.specs.Node.Content.{Prepare, Promise, Accept, Accepted as Voted, Chosen as Chose, Nack, Ask}
 use Rattle.rex_safety.specs.Node.Role.{Follower, Leads}
-use Rattle.rex_safety.specs.Invariant.{IsIn, IsOpen, with_log, Grows, HasHeard, WasReported, Open, IsRightOpen, IsAgainst, LeadsRightly, IsRightRole, IsReplayed, IsJustified, AreJustified, KeepsAll}
-use Rattle.rex_safety.specs.Calls.{Call, say, send, others, answer, append, replayed_left, with_role, follow, led, propose, settle, enough, own_reports, candidacy, stand, elect, promised, on_prepare, heard, hear, on_own_promise, on_promise, has_last, on_accept, voted, count_vote, on_own_vote, on_voted, on_chosen, on_nack, tell, receive, ask, replay, checkpoint, stop, start, arm}
+use Rattle.rex_safety.specs.Invariant.{AreRecords, IsIn, IsOpen, with_log, Grows, HasHeard, WasReported, Open, IsRightOpen, IsAgainst, LeadsRightly, IsRightRole, IsReplayed, IsJustified, AreJustified, KeepsAll}
+use Rattle.rex_safety.proofs.Migrated.{old_some}
+use Rattle.rex_safety.specs.Calls.{Call, say, send, others, answer, append, replayed_left, with_role, follow, led, propose, settle, enough, own_reports, candidacy, stand, elect, promised, on_prepare, heard, hear, on_own_promise, on_promise, has_last, on_accept, voted, count_vote, on_own_vote, on_voted, on_chosen, on_nack, tell, receive, ask, replay, checkpoint, migrate, restart, stop, start, arm}
 use Rattle.rex_safety.proofs.Quorums.{quorum_map}
 use Rattle.rex_safety.proofs.Grow.{begins_length, Allowed}
 use Rattle.rex_safety.proofs.Step.{acc_below}
@@ -60,19 +64,19 @@ module _ {V : Type 0} where
       go false x false y h ih = let r = ih h in (r.0, inr r.1, r.2, r.3)
 
 module _ {V S : Type 0} where
-  checkpoint_open : (n : ℕ) (M : Logs V S) (log : List (Rec V S)) (k : ℕ) (st : S) (b : ℕ) (acks : List ℕ) (o : Option (Proposal V)) → IsRightOpen n M log b acks o → IsRightOpen n M (Checkpoint k st ∷ log) b acks o
-  checkpoint_open n M log k st b acks None h = tt
-  checkpoint_open n M log k st b acks (Some p) h = record { next = h.next; own = h.own; acked = h.acked }
+  checkpoint_open : (version : Version) (n : ℕ) (M : Logs V S) (log : List (Rec V S)) (k : ℕ) (st : S) (b : ℕ) (acks : List ℕ) (o : Option (Proposal V)) → IsRightOpen n M log b acks o → IsRightOpen n M (Checkpoint version k st ∷ log) b acks o
+  checkpoint_open version n M log k st b acks None h = tt
+  checkpoint_open version n M log k st b acks (Some p) h = record { next = h.next; own = h.own; acked = h.acked }
 
-  checkpoint_role : (n : ℕ) (M : Logs V S) (log : List (Rec V S)) (k : ℕ) (st : S) (m : ℕ) (r : Role V) → IsRightRole n M log m r → IsRightRole n M (Checkpoint k st ∷ log) m r
-  checkpoint_role n M log k st m Follower h = tt
-  checkpoint_role n M log k st m (Leads l) h = record {
+  checkpoint_role : (version : Version) (n : ℕ) (M : Logs V S) (log : List (Rec V S)) (k : ℕ) (st : S) (m : ℕ) (r : Role V) → IsRightRole n M log m r → IsRightRole n M (Checkpoint version k st ∷ log) m r
+  checkpoint_role version n M log k st m Follower h = tt
+  checkpoint_role version n M log k st m (Leads l) h = record {
     promised = h.promised;
     owned = h.owned;
     past = h.past;
     heard = h.heard;
     said = h.said;
-    pending = checkpoint_open n M log k st l.ballot l.accepted_by l.proposal h.pending;
+    pending = checkpoint_open version n M log k st l.ballot l.accepted_by l.proposal h.pending;
     knows = h.knows;
     counted = h.counted;
     ready = h.ready;
@@ -110,7 +114,7 @@ module _ {V S : Type 0} where
       go (inl x) ih = inr (ih (omega arith) l)
       go (inr x) ih = inl (omega arith)
   has_promise b (Known j w ∷ log) e l = has_promise b log e l
-  has_promise b (Checkpoint k st ∷ log) e l = has_promise b log e l
+  has_promise b (Checkpoint version k st ∷ log) e l = has_promise b log e l
 
   -- leaving a role keeps what was replayed between the base and what is known
   left_ok : (x : Node V S) → IsReplayed x → (t : Bool) → (base x.log ≤ replayed_left t (base x.log) x.replayed) × (replayed_left t (base x.log) x.replayed ≤ length (known x.log))
@@ -205,7 +209,7 @@ module _ {V S : Type 0} where
           ready = λ t. absurd (false≢true t);
         }
 
-    pub elect_good : n ≤ 9 → (d : Call V S) → G d → G (elect n sv m d)
+    pub elect_good : n ≤ most_nodes → (d : Call V S) → G d → G (elect n sv m d)
     elect_good few d good =
         if_good G (nat_lt 4294967296 (round_of (ballot_above m (promise d.node.log)))) (λ _. say_good (effect.Spent m) d good)
         (λ _. stand_good d good (ballot_above m (promise d.node.log)) (above_promise m (promise d.node.log)) (above_owned m (promise d.node.log) (omega (arith, min.1))))
@@ -219,22 +223,22 @@ module _ {V S : Type 0} where
         (record { values = known d.node.log; place = refl; chosen = at_most n sv (K d) d.node.log m l good.safe ok r.majority; fits = y })
         (settle f n sv m) (settle_good n sv L R ms m min f)
 
-    pub checkpoint_good : (d : Call V S) → G d → G (checkpoint sv m d)
-    checkpoint_good d good =
+    pub checkpoint_good : (version : Version) (d : Call V S) → G d → G (checkpoint version sv m d)
+    checkpoint_good version d good =
         if_good G (d.node.replayed == base d.node.log) (λ _. say_good effect.Nothing d good) (λ e.
         if_good G (nat_lt 0 (length d.node.work.live)) (λ _. say_good (effect.Live (length d.node.work.live)) d good) (λ _. new (eqb-false d.node.replayed (base d.node.log) e)))
       where
         st : S
         st = sv.state (take d.node.replayed (known d.node.log))
 
-        new : d.node.replayed ≢ base d.node.log → G (append d.node.armed m (Checkpoint d.node.replayed st) d (say (effect.Checkpointed m d.node.replayed)))
+        new : d.node.replayed ≢ base d.node.log → G (append d.node.armed m (Checkpoint version d.node.replayed st) d (say (effect.Checkpointed m d.node.replayed)))
         new ne =
-            let allowed : Allowed n sv (K d) d.node.log m (Checkpoint d.node.replayed st) = (omega (arith, ne, good.here.based), good.here.replayed, refl) in
-            append_good n sv L R ms m d min good (Checkpoint d.node.replayed st) allowed d.node.armed (say (effect.Checkpointed m d.node.replayed))
-            (λ a. next_good n sv L R ms m d min good (Checkpoint d.node.replayed st) allowed (record d.node { armed = a }) d.sends _
-            (checkpoint_role n _ d.node.log d.node.replayed st m d.node.role (role_grows (grown n sv L R ms m d min good (Checkpoint d.node.replayed st) allowed) n d.node.log m d.node.role good.role))
+            let allowed : Allowed n sv (K d) d.node.log m (Checkpoint version d.node.replayed st) = (omega (arith, ne, good.here.based), good.here.replayed, refl) in
+            append_good n sv L R ms m d min good (Checkpoint version d.node.replayed st) allowed d.node.armed (say (effect.Checkpointed m d.node.replayed))
+            (λ a. next_good n sv L R ms m d min good (Checkpoint version d.node.replayed st) allowed (record d.node { armed = a }) d.sends _
+            (checkpoint_role version n _ d.node.log d.node.replayed st m d.node.role (role_grows (grown n sv L R ms m d min good (Checkpoint version d.node.replayed st) allowed) n d.node.log m d.node.role good.role))
             (record { based = le_refl _; replayed = good.here.replayed })
-            (out_grows n sv L R ms m d min good (Checkpoint d.node.replayed st) allowed))
+            (out_grows n sv L R ms m d min good (Checkpoint version d.node.replayed st) allowed))
 
     reply_good : (d : Call V S) → G d → (from b first : ℕ) → HasBallot b d.node.log → promise d.node.log ≤ b → first ≤ suc (length (known (K d (node_of b)))) → G (promised m from b first d)
     reply_good d good from b first has low fits =
@@ -464,8 +468,34 @@ module _ {V S : Type 0} where
     pub stop_good : (d : Call V S) → G d → G (stop m d)
     stop_good d good = down_good d good (stop m d).node (stop m d).effects refl refl
 
-    pub start_good : (d : Call V S) → G d → G (start m d)
-    start_good d good = down_good d good (start m d).node (start m d).effects refl refl
+    restart_good : (d : Call V S) → G d → G (restart m d)
+    restart_good d good = down_good d good (restart m d).node (restart m d).effects refl refl
+
+    -- the state at the base is written down again, and nothing has changed but the log
+    migrated_good : (d : Call V S) → G d → G (migrate sv m d)
+    migrated_good d good =
+        if_good G (has_old_base d.node.log) new (λ _. good_with d good d.node d.effects good.role (record { based = good.here.based; replayed = good.here.replayed }))
+      where
+        k : ℕ
+        k = base d.node.log
+
+        r : Rec V S
+        r = Checkpoint Two k (sv.state (take k (known d.node.log)))
+
+        rs : AreRecords sv d.node.log
+        rs = records_here n sv L R ms m d min good
+
+        new : has_old_base d.node.log ≡ true → G (append d.node.armed m r d (say (effect.Migrated m k)))
+        new e =
+            let allowed : Allowed n sv (K d) d.node.log m r = (old_some sv d.node.log rs e, base_low sv d.node.log rs, refl) in
+            append_good n sv L R ms m d min good r allowed d.node.armed (say (effect.Migrated m k))
+            (λ a. next_good n sv L R ms m d min good r allowed (record d.node { armed = a }) d.sends _
+            (checkpoint_role Two n _ d.node.log k (sv.state (take k (known d.node.log))) m d.node.role (role_grows (grown n sv L R ms m d min good r allowed) n d.node.log m d.node.role good.role))
+            (record { based = good.here.based; replayed = good.here.replayed })
+            (out_grows n sv L R ms m d min good r allowed))
+
+    pub start_good : (d : Call V S) → G d → G (start sv m d)
+    start_good d good = migrated_good (restart m d) (restart_good d good)
 
     pub arm_good : (kept : Bool) (d : Call V S) → G d → G (arm m kept d)
     arm_good kept d good = good_with d good (arm m kept d).node (arm m kept d).effects good.role (record { based = good.here.based; replayed = good.here.replayed })

@@ -4,6 +4,7 @@ use Rattle.std.specs.Prelude.{Result, Ok, Err, take}
 use Rattle.std.specs.List.{list_all}
 use Rattle.std.proofs.lemmas.Bool.{and_parts, false≢true}
 use Rattle.std.proofs.lemmas.List.{length-map}
+use Rattle.rex_ballot.specs.Limits.{most_nodes}
 use Rattle.rex_syntax.specs.declared.request.Request.{Request}
 use Rattle.rex_syntax.specs.declared.service.Declarations.{Declarations}
 use Rattle.rex_syntax.specs.Service.{IsService}
@@ -12,7 +13,7 @@ use Rattle.rex_event.specs.declared.delta.Delta.{Delta}
 use Rattle.rex_event.specs.Cuts.{AreNumbered, IsConsistent}
 use Rattle.rex_state.specs.Commute.{GoesFirst}
 use Rattle.rex_state.proofs.Cuts.{cuts_go_first}
-use Rattle.rex_clocks.specs.declared.clock.TheConstants.{LANES}
+use Rattle.rex_event.specs.declared.event.TheConstants.{LANES}
 use Rattle.rex_reduce.specs.Reduced.{AreLeast}
 use Rattle.rex_reduce.specs.Reduction.{reduced}
 use Rattle.rex_reduce.proofs.Reduced.{reduced_least}
@@ -74,7 +75,7 @@ whole : (vs : List Value) → take (length vs) vs ≡ vs
 whole [] = refl
 whole (v ∷ vs) = ap (λ xs. v ∷ xs) (whole vs)
 
-pub agreed_least : (service : Declarations) (requests : List Request) (seed n : ℕ) (lines : List ScheduleLine) → n ≤ 9 → IsService service → IsChecked service → (v : Value) → IsIn v (agreed (world_after service requests seed n lines)) → AreLeast (delta_of v).events (delta_of v).causes
+pub agreed_least : (service : Declarations) (requests : List Request) (seed n : ℕ) (lines : List ScheduleLine) → n ≤ most_nodes → IsService service → IsChecked service → (v : Value) → IsIn v (agreed (world_after service requests seed n lines)) → AreLeast (delta_of v).events (delta_of v).causes
 agreed_least service requests seed n lines few good checked =
     values_least service good checked (agreed (world_after service requests seed n lines))
     (subst (λ vs. values_fit service vs ≡ true) (whole (agreed (world_after service requests seed n lines)))
@@ -82,7 +83,7 @@ agreed_least service requests seed n lines few good checked =
 
 -- ---- cuts
 
-pub agreed_cuts : (service : Declarations) (requests : List Request) (seed n : ℕ) (lines : List ScheduleLine) → n ≤ 9 → IsService service → IsChecked service → (k : ℕ) (cut : List ℕ) → IsConsistent (trace_at (world_after service requests seed n lines) k) cut
+pub agreed_cuts : (service : Declarations) (requests : List Request) (seed n : ℕ) (lines : List ScheduleLine) → n ≤ most_nodes → IsService service → IsChecked service → (k : ℕ) (cut : List ℕ) → IsConsistent (trace_at (world_after service requests seed n lines) k) cut
     → (s : StateValue) × (run service (start_of service) (trace_at (world_after service requests seed n lines) k) ≡ Some s) × GoesFirst service (start_of service) s cut (trace_at (world_after service requests seed n lines) k)
 agreed_cuts service requests seed n lines few good checked k cut closed =
     let r = fits_run service (take k (agreed (world_after service requests seed n lines))) (agreed_fits n (service_of service seed) (world_after service requests seed n lines) (reached_ok service requests seed n few lines) refl k) in

@@ -1,6 +1,7 @@
 -- What holds after schedule lines and events that nodes are handed.
 use Rattle.std.proofs.Common.{◌≡◌, ℕ, ◌+◌, ◌≤◌, ◌⊎◌, List, [], ◌∷◌, ◌++◌, refl, sym, subst}
 use Rattle.std.specs.List.{All}
+use Rattle.rex_ballot.specs.Limits.{most_nodes}
 use Rattle.rex_syntax.specs.declared.request.Request.{Request}
 use Rattle.rex_syntax.specs.declared.service.Declarations.{Declarations}
 use Rattle.rex_syntax.specs.Service.{IsService}
@@ -25,7 +26,7 @@ use Rattle.rex_safety.proofs.Steps.{row_ok, beginning_ok}
 use Rattle.rex_safety.proofs.Takes.{take_ok}
 use Rattle.rex_safety.proofs.Worlds.{GoesOnTo, row_same}
 
-module _ (service : Declarations) (requests : List Request) (seed n : ℕ) (few : n ≤ 9) where
+module _ (service : Declarations) (requests : List Request) (seed n : ℕ) (few : n ≤ most_nodes) where
   abbrev sv : Service Value StateValue
   sv = service_of service seed
 
@@ -50,7 +51,7 @@ after_both : (service : Declarations) (requests : List Request) (seed n : ℕ) (
 after_both service requests seed n w [] more = refl
 after_both service requests seed n w (x ∷ doings) more = after_both service requests seed n (does service requests seed n w x) doings more
 
-module _ (service : Declarations) (requests : List Request) (seed n : ℕ) (doings more : List Doing) (few : n ≤ 9) where
+module _ (service : Declarations) (requests : List Request) (seed n : ℕ) (doings more : List Doing) (few : n ≤ most_nodes) where
   abbrev earlier : World
   earlier = world_after_doings service requests seed n doings
 
@@ -70,7 +71,7 @@ module _ (service : Declarations) (requests : List Request) (seed n : ℕ) (doin
 
 -- ---- replies
 
-module _ (service : Declarations) (good : IsService service) (checked : IsChecked service) (requests : List Request) (fit : All (RequestFits service) requests) (seed n : ℕ) (few : n ≤ 9) where
+module _ (service : Declarations) (good : IsService service) (checked : IsChecked service) (requests : List Request) (fit : All (RequestFits service) requests) (seed n : ℕ) (few : n ≤ most_nodes) where
   doing_moments_are : (w : World) (xs : List Doing) → IsWorld n (service_of service seed) w → AreMoments service good checked requests fit seed n few (logs w) (moments_of_doings service requests seed n w xs)
   doing_moments_are w [] ok = tt
   doing_moments_are w (Does line ∷ xs) ok =

@@ -4,6 +4,7 @@ use Rattle.std.proofs.lemmas.List.{length-replicate}
 use Rattle.std.specs.Prelude.{is_some, replicate}
 use Rattle.std.specs.List.{All}
 use Rattle.std.proofs.lemmas.List.Elements.{All-nil}
+use Rattle.rex_ballot.specs.Limits.{most_nodes}
 use Rattle.rex_syntax.specs.declared.request.Request.{Request}
 use Rattle.rex_syntax.specs.declared.service.Declarations.{Declarations}
 use Rattle.rex_syntax.specs.Service.{IsService}
@@ -43,7 +44,7 @@ has_lane service nodes requests (line.Replay m) l = tt
 has_lane service nodes requests (line.Ask m other) l = tt
 has_lane service nodes requests (line.Stop m) l = tt
 has_lane service nodes requests (line.Start m) l = tt
-has_lane service nodes requests (line.Checkpoint m) l = tt
+has_lane service nodes requests (line.Checkpoint m version) l = tt
 has_lane service nodes requests (line.KeepFail m kept) l = tt
 
 -- ---- the messages that were handed over
@@ -62,9 +63,9 @@ deliver_told : (service : Declarations) (seed n : ℕ) (w : World) (number : ℕ
 deliver_told service seed n w number None h = h
 deliver_told service seed n w number (Some y) h = if_up_told (node_at w.nodes y.to).up (with_handed w number) y.to _ (length-set w.handed (number - 1) true ∙ h)
 
-start_told : (w : World) (m : ℕ) (t : Bool) → AreTold w → AreTold (start_if t w m).world
-start_told w m true h = h
-start_told w m false h = after_told w m (start m (begin (node_at w.nodes m))) h
+start_told : (sv : Service Value StateValue) (w : World) (m : ℕ) (t : Bool) → AreTold w → AreTold (start_if sv t w m).world
+start_told sv w m true h = h
+start_told sv w m false h = after_told w m (start sv m (begin (node_at w.nodes m))) h
 
 step_told : (service : Declarations) (requests : List Request) (seed n : ℕ) (w : World) (x : ScheduleLine) → AreTold w → AreTold (step service requests seed n w x).world
 step_told service requests seed n w (line.Elect m) h = if_up_told (node_at w.nodes m).up w m _ h
@@ -77,13 +78,13 @@ step_told service requests seed n w line.Flush h = h
 step_told service requests seed n w (line.Replay m) h = if_up_told (node_at w.nodes m).up w m _ h
 step_told service requests seed n w (line.Ask m other) h = if_up_told (node_at w.nodes m).up w m _ h
 step_told service requests seed n w (line.Stop m) h = if_up_told (node_at w.nodes m).up w m _ h
-step_told service requests seed n w (line.Start m) h = start_told w m (node_at w.nodes m).up h
-step_told service requests seed n w (line.Checkpoint m) h = if_up_told (node_at w.nodes m).up w m _ h
+step_told service requests seed n w (line.Start m) h = start_told (service_of service seed) w m (node_at w.nodes m).up h
+step_told service requests seed n w (line.Checkpoint m version) h = if_up_told (node_at w.nodes m).up w m _ h
 step_told service requests seed n w (line.KeepFail m kept) h = after_told w m (arm m kept (begin (node_at w.nodes m))) h
 
 -- ---- steps
 
-module _ (service : Declarations) (good : IsService service) (checked : IsChecked service) (requests : List Request) (fit : All (RequestFits service) requests) (seed n : ℕ) (few : n ≤ 9) where
+module _ (service : Declarations) (good : IsService service) (checked : IsChecked service) (requests : List Request) (fit : All (RequestFits service) requests) (seed n : ℕ) (few : n ≤ most_nodes) where
   abbrev sv : Service Value StateValue
   sv = service_of service seed
 

@@ -5,6 +5,7 @@ pub mod Step
 pub mod Lists
 pub mod Roles
 pub mod Settle
+pub mod Migrated
 pub mod Calls
 pub mod Nodes
 pub mod Worlds

@@ -2,6 +2,7 @@
 use Rattle.std.proofs.Common.{◌≡◌, ℕ, zero, suc, ◌+◌, ◌<◌, ◌≤◌, Bool, true, false, cond, ◌⊎◌, List, [], ◌∷◌, ◌++◌, length, Option, Some, None, refl, sym, ◌∙◌, ap, subst, inl, inr, arith, eq-eqb}
 use Rattle.std.specs.Prelude.{take, slice_get}
 use Rattle.std.proofs.lemmas.Bool.{cases_lt, false≢true}
+use Rattle.rex_ballot.specs.Limits.{most_nodes}
 use Rattle.rex_syntax.specs.declared.request.Request.{Request}
 use Rattle.rex_syntax.specs.declared.service.Declarations.{Declarations}
 use Rattle.rex_state.specs.Value.{StateValue}
@@ -38,7 +39,7 @@ use Rattle.rex_safety.proofs.Leaders.{later_knows, earlier_knows}
 use Rattle.rex_safety.proofs.Nodes.{node_put, none_down}
 use Rattle.rex_safety.proofs.Worlds.{IsWorld, node_or_not, node_of_lead}
 use Rattle.rex_safety.proofs.Steps.{step_ok, row_ok, beginning_ok}
-use Rattle.rex_safety.proofs.Saying.{Quiet, quiet_one, quiet_none, elect_says, receive_says, replay_says, checkpoint_says, stop_says}
+use Rattle.rex_safety.proofs.Saying.{Quiet, quiet_one, quiet_none, start_quiet, elect_says, receive_says, replay_says, checkpoint_says, stop_says}
 use Rattle.rex_safety.proofs.Replies.{trace_both, StandsIn, replies_stand, SaysHere, quietly, submit_says, turn_says, cut_tells}
 
 -- ---- a step
@@ -81,9 +82,9 @@ module _ (service : Declarations) (good : IsService service) (checked : IsChecke
       (at_node_true (with_handed w number) many y.to (receive n (service_of service seed) y.to y.from y.content)
       (λ d q. receive_says n (service_of service seed) y.to (StandsIn service good checked) (replies_stand service good checked) y.from y.content d q))
 
-  start_true : (w : World) (m : ℕ) (t : Bool) → IsTrue service good checked n m (start_if t w m).world (start_if t w m).effects
+  start_true : (w : World) (m : ℕ) (t : Bool) → IsTrue service good checked n m (start_if (service_of service seed) t w m).world (start_if (service_of service seed) t w m).effects
   start_true w m true = quiet_true m w (effect.IsUp m ∷ []) (quiet_one (effect.IsUp m) (λ c s x e. cc))
-  start_true w m false = quiet_true m (start_if false w m).world (start_if false w m).effects (quiet_one _ (λ c s x e. cc))
+  start_true w m false = quiet_true m (start_if (service_of service seed) false w m).world (start_if (service_of service seed) false w m).effects (start_quiet (service_of service seed) m (begin (node_at w.nodes m)) quiet_none)
 
   pub step_true : (requests : List Request) → All (RequestFits service) requests → (w : World) → length w.nodes ≡ n → (x : ScheduleLine) → IsTrue service good checked n (node_in w x) (step service requests seed n w x).world (step service requests seed n w x).effects
   step_true requests fit w many (line.Elect m) = at_node_true w many m (elect n (service_of service seed) m) (λ d q. elect_says n (service_of service seed) m (StandsIn service good checked) (replies_stand service good checked) d q)
@@ -97,12 +98,12 @@ module _ (service : Declarations) (good : IsService service) (checked : IsChecke
   step_true requests fit w many (line.Ask m other) = at_node_true w many m (ask m other) (λ d q. quietly service good checked seed n m (ask m other d) q)
   step_true requests fit w many (line.Stop m) = at_node_true w many m (stop m) (λ d q. stop_says n (service_of service seed) m (StandsIn service good checked) (replies_stand service good checked) d q)
   step_true requests fit w many (line.Start m) = start_true w m (node_at w.nodes m).up
-  step_true requests fit w many (line.Checkpoint m) = at_node_true w many m (checkpoint (service_of service seed) m) (λ d q. checkpoint_says n (service_of service seed) m (StandsIn service good checked) (replies_stand service good checked) d q)
+  step_true requests fit w many (line.Checkpoint m version) = at_node_true w many m (checkpoint version (service_of service seed) m) (λ d q. checkpoint_says n (service_of service seed) m (StandsIn service good checked) (replies_stand service good checked) version d q)
   step_true requests fit w many (line.KeepFail m kept) = quiet_true m (step service requests seed n w (line.KeepFail m kept)).world (step service requests seed n w (line.KeepFail m kept)).effects (quiet_one _ (λ c s x e. cc))
 
 -- ---- the moments of a run
 
-module _ (service : Declarations) (good : IsService service) (checked : IsChecked service) (requests : List Request) (fit : All (RequestFits service) requests) (seed n : ℕ) (few : n ≤ 9) where
+module _ (service : Declarations) (good : IsService service) (checked : IsChecked service) (requests : List Request) (fit : All (RequestFits service) requests) (seed n : ℕ) (few : n ≤ most_nodes) where
   abbrev sv : Service Value StateValue
   sv = service_of service seed
 

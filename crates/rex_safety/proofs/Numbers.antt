@@ -2,6 +2,7 @@
 use Rattle.std.proofs.Common.{◌≡◌, ℕ, zero, suc, ◌<◌, ◌≤◌, Bool, true, false, cond, ◌⊎◌, List, [], ◌∷◌, ◌++◌, length, Option, Some, None, eqb, refl, sym, ◌∙◌, ap, subst, inl, inr, arith, append-nil}
 use Rattle.std.specs.Prelude.{map, slice_get, nat_le}
 use Rattle.std.proofs.lemmas.Bool.{false≢true}
+use Rattle.rex_ballot.specs.Limits.{most_nodes}
 use Rattle.rex_syntax.specs.declared.request.Request.{Request}
 use Rattle.rex_syntax.specs.declared.service.Declarations.{Declarations}
 use Rattle.rex_event.specs.declared.event.Event.{Event}
@@ -10,11 +11,11 @@ use Rattle.rex_cut.specs.Greatest.{greatest_cut}
 use Rattle.rex_state.specs.Value.{StateValue}
 use Rattle.rex_scenario.specs.declared.scenario.ScheduleLine.{ScheduleLine}
 use Rattle.rex_scenario.specs.declared.scenario.ScheduleLine.TheVariants as line
-use Rattle.rex_safety.specs.Records.{Proposal, known}
+use Rattle.rex_safety.specs.Records.{Proposal, known, base, has_old_base}
 use Rattle.rex_safety.specs.Quorum.{IsNode}
 use Rattle.rex_safety.specs.Node.{Service, Message, Lead, Role, is_active}
 use Rattle.rex_safety.specs.Node.Role.{Follower, Leads}
-use Rattle.rex_safety.specs.Calls.{begin, enough, elect, receive, ask, replay, checkpoint, stop, start, arm}
+use Rattle.rex_safety.specs.Calls.{begin, enough, elect, receive, ask, replay, checkpoint, restart, stop, start, arm}
 use Rattle.rex_safety.specs.Values.{Value, service_of}
 use Rattle.rex_safety.specs.Lanes.{Here, CallHere, active_only, submit_request, lane_turn, cut_live, cut_lead, cut_role, cut, value_at, no_limits, with_limits}
 use Rattle.rex_safety.specs.World.{World, node_at, put, beginning, after, if_up, at_node, start_if, with_handed, deliver_found, message_at, step, waiting_from, flush_steps, steps_of, steps, row, after_lines}
@@ -31,9 +32,10 @@ use Rattle.rex_safety.proofs.Lists.{in_cases}
 use Rattle.rex_safety.proofs.Nodes.{node_put, put_none, none_down, IsFresh, fresh_at}
 use Rattle.rex_safety.proofs.Worlds.{IsWorld, nth_in, node_or_not}
 use Rattle.rex_safety.proofs.Steps.{step_ok, row_ok, beginning_ok}
-use Rattle.rex_safety.proofs.Ranged.{Fits, if_fits, elect_fits, receive_fits, ask_fits, replay_fits, checkpoint_fits, proposed_fits}
+use Rattle.rex_safety.proofs.Ranged.{Fits, if_fits, elect_fits, receive_fits, ask_fits, replay_fits, checkpoint_fits, migrated_fits, proposed_fits}
+use Rattle.rex_safety.proofs.Migrated.{migrated_sends}
 
-module _ (service : Declarations) (requests : List Request) (seed n : ℕ) (few : n ≤ 9) where
+module _ (service : Declarations) (requests : List Request) (seed n : ℕ) (few : n ≤ most_nodes) where
   abbrev sv : Service Value StateValue
   sv = service_of service seed
 
@@ -130,13 +132,15 @@ module _ (service : Declarations) (requests : List Request) (seed n : ℕ) (few 
     sends = λ x i. absurd (subst (IsIn x) s i);
   }
 
-  start_fits : (w : World) → length w.nodes ≡ n → AllFit w → (m : ℕ) (t : Bool) → AllFit (start_if t w m).world
+  start_fits : (w : World) → length w.nodes ≡ n → AllFit w → (m : ℕ) (t : Bool) → AllFit (start_if sv t w m).world
   start_fits w many h m true = record { nodes = h.nodes; messages = h.messages }
   start_fits w many h m false = go (node_or_not n m)
     where
-      go : IsNode n m ⊎ (IsNode n m → ⊥) → AllFit (after w m (start m (begin (node_at w.nodes m)))).world
-      go (inl min) = after_fits w many h m min (start m (begin (node_at w.nodes m))) (down_fits w h m min (start m (begin (node_at w.nodes m))) refl refl refl)
-      go (inr none) = none_fits w many h m none (start m (begin (node_at w.nodes m))) refl
+      go : IsNode n m ⊎ (IsNode n m → ⊥) → AllFit (after w m (start sv m (begin (node_at w.nodes m)))).world
+      go (inl min) =
+          let d = restart m (begin (node_at w.nodes m)) in
+          after_fits w many h m min (start sv m (begin (node_at w.nodes m))) (migrated_fits n few sv m min d (down_fits w h m min d refl refl refl))
+      go (inr none) = none_fits w many h m none (start sv m (begin (node_at w.nodes m))) (migrated_sends (has_old_base (node_at w.nodes m).log) m (restart m (begin (node_at w.nodes m))) (base (node_at w.nodes m).log) _ refl)
 
   arm_fits : (w : World) → length w.nodes ≡ n → AllFit w → (m : ℕ) (kept : Bool) → AllFit (after w m (arm m kept (begin (node_at w.nodes m)))).world
   arm_fits w many h m kept = go (node_or_not n m)
@@ -157,7 +161,7 @@ module _ (service : Declarations) (requests : List Request) (seed n : ℕ) (few 
   step_fits w many h (line.Ask m other) l = any_fits w many h m (ask m other) (λ min d k. ask_fits n few sv m min other l.1.0 l.1.1 d k)
   step_fits w many h (line.Stop m) l = any_fits w many h m (stop m) (λ min d k. record { log = k.log; role = tt; sends = k.sends })
   step_fits w many h (line.Start m) l = start_fits w many h m (node_at w.nodes m).up
-  step_fits w many h (line.Checkpoint m) l = any_fits w many h m (checkpoint sv m) (λ min d k. checkpoint_fits n few sv m min d k)
+  step_fits w many h (line.Checkpoint m version) l = any_fits w many h m (checkpoint version sv m) (λ min d k. checkpoint_fits n few sv m min version d k)
   step_fits w many h (line.KeepFail m kept) l = arm_fits w many h m kept
 
   -- ---- lines
@@ -187,7 +191,7 @@ module _ (service : Declarations) (requests : List Request) (seed n : ℕ) (few 
   steps_fit w (line.Ask m other) l = (l, tt)
   steps_fit w (line.Stop m) l = (l, tt)
   steps_fit w (line.Start m) l = (l, tt)
-  steps_fit w (line.Checkpoint m) l = (l, tt)
+  steps_fit w (line.Checkpoint m version) l = (l, tt)
   steps_fit w (line.KeepFail m kept) l = (l, tt)
 
   all_steps_fit : (w : World) (xs : List ScheduleLine) → IsWorld n sv w → AllFit w → AllLinesFit xs → AllFit (steps service requests seed n w xs).world

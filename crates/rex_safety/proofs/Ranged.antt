@@ -2,9 +2,12 @@
 use Rattle.std.proofs.Common.{◌≡◌, ℕ, zero, suc, ◌+◌, ◌-◌, ◌*◌, ◌/◌, ◌<◌, ◌≤◌, ◌≢◌, Bool, true, false, cond, ◌||◌, ◌⊎◌, List, [], ◌∷◌, ◌++◌, length, Option, Some, None, eqb, ltb, leb, refl, sym, subst, inl, inr, arith, le_trans, le_refl, eqb-true, ltb-true, ltb-false}
 use Rattle.std.specs.Prelude.{take, ◌==◌, nat_lt}
 use Rattle.std.proofs.lemmas.Bool.{eqb-false}
+use Rattle.rex_ballot.specs.Limits.{most_nodes}
 use Rattle.rex_report.specs.declared.effect.Effect.{Effect}
 use Rattle.rex_report.specs.declared.effect.Effect.TheVariants as effect
-use Rattle.rex_safety.specs.Records.{Rec, Proposal, proposal_of, promise, placed, accepted, from_on, known, base, HasAccepted, HasBallot}
+use Rattle.rex_version.specs.declared.version.Version.{Version}
+use Rattle.rex_version.specs.declared.version.Version.TheVariants.{Two}
+use Rattle.rex_safety.specs.Records.{Rec, Proposal, proposal_of, promise, placed, accepted, from_on, known, base, HasAccepted, HasBallot, has_old_base}
 use Rattle.rex_safety.specs.Records.Rec.{Promised, Accepted, Known, Checkpoint}
 use Rattle.rex_safety.specs.Quorum.{IsNode, round_of, ballot_above, is_in, is_majority}
 use Rattle.rex_safety.specs.Node.{Service, Content, Message, Lead, Role, is_active, Failure}
@@ -12,7 +15,7 @@ use Rattle.rex_safety.specs.Node.Failure.{After}
 use Rattle.rex_safety.specs.Node.Content.{Prepare, Promise, Accept, Accepted as Voted, Chosen as Chose, Nack, Ask}
 use Rattle.rex_safety.specs.Node.Role.{Follower, Leads}
 use Rattle.rex_safety.specs.Invariant.{IsIn}
-use Rattle.rex_safety.specs.Calls.{Call, send, others, answer, append, follow, propose, decide, best, choose, lead, turn, settle, enough, stand, elect, promised, on_prepare, heard, on_own_promise, on_promise, has_last, on_accept, voted, on_own_vote, on_voted, on_chosen, on_nack, tell, receive, ask, replay, checkpoint, logged, own_reports}
+use Rattle.rex_safety.specs.Calls.{Call, send, others, answer, append, follow, propose, decide, best, choose, lead, turn, settle, enough, stand, elect, promised, on_prepare, heard, on_own_promise, on_promise, has_last, on_accept, voted, on_own_vote, on_voted, on_chosen, on_nack, tell, receive, ask, replay, checkpoint, migrate, logged, own_reports}
 use Rattle.std.proofs.lemmas.Option.{same_Some}
 use Rattle.rex_safety.specs.Ranges.{IsBallot, IsInstance, IsFirst, AreRising, ProposalFits, ContentFits, MessageFits, LogFits, LeadFits, RoleFits}
 use Rattle.rex_safety.proofs.Lists.{length_push, in_cases, in_from_on, accepted_real, BestOk, best_ok}
@@ -51,14 +54,14 @@ module _ {V S : Type 0} where
   has_of b i v (Accepted c j w ∷ log) (inl e) = inl e.0
   has_of b i v (Accepted c j w ∷ log) (inr h) = inr (has_of b i v log h)
   has_of b i v (Known j w ∷ log) h = has_of b i v log h
-  has_of b i v (Checkpoint k st ∷ log) h = has_of b i v log h
+  has_of b i v (Checkpoint version k st ∷ log) h = has_of b i v log h
 
   pub accepted_rising : (log : List (Rec V S)) → ((b i : ℕ) (v : V) → HasAccepted b i v log → IsInstance i) → AreRising 0 (accepted log)
   accepted_rising [] h = tt
   accepted_rising (Promised c ∷ log) h = accepted_rising log h
   accepted_rising (Accepted c j w ∷ log) h = placed_rising 0 (proposal_of c j w) (accepted log) (h c j w (inl (refl, refl, refl))).0 (accepted_rising log (λ b i v x. h b i v (inr x)))
   accepted_rising (Known j w ∷ log) h = accepted_rising log h
-  accepted_rising (Checkpoint k st ∷ log) h = accepted_rising log h
+  accepted_rising (Checkpoint version k st ∷ log) h = accepted_rising log h
 
   pub accepted_fit : (log : List (Rec V S)) → LogFits log → (p : Proposal V) → IsIn p (accepted log) → ProposalFits p
   accepted_fit log f p h = let a = accepted_real log p h in record { ballot = f.ballots p.ballot (has_of p.ballot p.instance p.value log a); instance = f.instances p.ballot p.instance p.value a }
@@ -76,12 +79,12 @@ module _ {V S : Type 0} where
   pub log_known : (log : List (Rec V S)) (i : ℕ) (v : V) → i ≡ suc (length (known log)) → IsInstance i → LogFits log → LogFits (Known i v ∷ log)
   log_known log i v e k f = record { ballots = f.ballots; instances = f.instances; few = omega (arith, length_push (known log) v, k.1, e) }
 
-  pub log_checkpoint : (log : List (Rec V S)) (k : ℕ) (st : S) → LogFits log → LogFits (Checkpoint k st ∷ log)
-  log_checkpoint log k st f = record { ballots = f.ballots; instances = f.instances; few = f.few }
+  pub log_checkpoint : (version : Version) (log : List (Rec V S)) (k : ℕ) (st : S) → LogFits log → LogFits (Checkpoint version k st ∷ log)
+  log_checkpoint version log k st f = record { ballots = f.ballots; instances = f.instances; few = f.few }
 
 -- ---- calls
 
-module _ {V S : Type 0} (n : ℕ) (few : n ≤ 9) (sv : Service V S) (me : ℕ) (min : IsNode n me) where
+module _ {V S : Type 0} (n : ℕ) (few : n ≤ most_nodes) (sv : Service V S) (me : ℕ) (min : IsNode n me) where
   -- the node's numbers and those of what it sends are in their ranges
   pub record Fits (d : Call V S) : Type 0 where
     pub log : LogFits d.node.log
@@ -294,11 +297,17 @@ module _ {V S : Type 0} (n : ℕ) (few : n ≤ 9) (sv : Service V S) (me : ℕ) 
   pub replay_fits : (d : Call V S) → Fits d → Fits (replay me d)
   replay_fits d h = if_fits (is_active d.node.role || d.node.replayed == length (known d.node.log)) (λ _. record { log = h.log; role = h.role; sends = h.sends }) (λ _. record { log = h.log; role = h.role; sends = h.sends })
 
-  pub checkpoint_fits : (d : Call V S) → Fits d → Fits (checkpoint sv me d)
-  checkpoint_fits d h =
+  pub checkpoint_fits : (version : Version) (d : Call V S) → Fits d → Fits (checkpoint version sv me d)
+  checkpoint_fits version d h =
       if_fits (d.node.replayed == base d.node.log) (λ _. record { log = h.log; role = h.role; sends = h.sends }) (λ _. if_fits (nat_lt 0 (length d.node.work.live)) (λ _. record { log = h.log; role = h.role; sends = h.sends }) (λ _.
-      append_fits d.node.armed (Checkpoint d.node.replayed (sv.state (take d.node.replayed (known d.node.log)))) d _ h (log_checkpoint d.node.log d.node.replayed _ h.log)
-      (λ b. record { log = log_checkpoint d.node.log d.node.replayed _ h.log; role = h.role; sends = h.sends })))
+      append_fits d.node.armed (Checkpoint version d.node.replayed (sv.state (take d.node.replayed (known d.node.log)))) d _ h (log_checkpoint version d.node.log d.node.replayed _ h.log)
+      (λ b. record { log = log_checkpoint version d.node.log d.node.replayed _ h.log; role = h.role; sends = h.sends })))
+
+  pub migrated_fits : (d : Call V S) → Fits d → Fits (migrate sv me d)
+  migrated_fits d h =
+      if_fits (has_old_base d.node.log) (λ _.
+      append_fits d.node.armed (Checkpoint Two (base d.node.log) (sv.state (take (base d.node.log) (known d.node.log)))) d _ h (log_checkpoint Two d.node.log (base d.node.log) _ h.log)
+      (λ b. record { log = log_checkpoint Two d.node.log (base d.node.log) _ h.log; role = h.role; sends = h.sends })) (λ _. record { log = h.log; role = h.role; sends = h.sends })
 
   -- an active node that proposes where an instance is left
   pub proposed_fits : (told : Effect) (d : Call V S) (l : Lead V) (v : V) (f : ℕ) → Fits d → LeadFits (length (known d.node.log)) l → length (known d.node.log) < 65535 → Fits (propose n me told d l (suc (length (known d.node.log))) v (settle f n sv me))

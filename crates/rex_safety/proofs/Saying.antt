@@ -4,14 +4,16 @@ use Rattle.std.specs.Prelude.{take, ◌==◌, nat_lt}
 use Rattle.std.proofs.lemmas.Bool.{false≢true}
 use Rattle.rex_report.specs.declared.effect.Effect.{Effect}
 use Rattle.rex_report.specs.declared.effect.Effect.TheVariants as effect
-use Rattle.rex_safety.specs.Records.{Rec, Proposal, promise, accepted, known, base}
+use Rattle.rex_version.specs.declared.version.Version.{Version}
+use Rattle.rex_version.specs.declared.version.Version.TheVariants.{Two}
+use Rattle.rex_safety.specs.Records.{Rec, Proposal, promise, accepted, known, base, has_old_base}
 use Rattle.rex_safety.specs.Records.Rec.{Promised, Accepted, Known, Checkpoint}
 use Rattle.rex_safety.specs.Quorum.{round_of, ballot_above, is_in, is_majority}
 use Rattle.rex_safety.specs.Node.{Service, Content, Lead, Role, is_active, Failure}
 use Rattle.rex_safety.specs.Node.Failure.{After}
 use Rattle.rex_safety.specs.Node.Content.{Prepare, Promise, Accept, Accepted as Voted, Chosen as Chose, Nack, Ask}
 use Rattle.rex_safety.specs.Node.Role.{Follower, Leads}
-use Rattle.rex_safety.specs.Calls.{Call, say, send, others, append, followed, follow, led, propose, released, learned, decide, activate, best, choose, lead, turn, settle, enough, elect, on_prepare, heard, on_own_promise, on_promise, has_last, on_accept, voted, on_own_vote, on_voted, on_chosen, on_nack, receive, replay, checkpoint, stop, logged, own_reports}
+use Rattle.rex_safety.specs.Calls.{Call, say, send, others, append, followed, follow, led, propose, released, learned, decide, activate, best, choose, lead, turn, settle, enough, elect, on_prepare, heard, on_own_promise, on_promise, has_last, on_accept, voted, on_own_vote, on_voted, on_chosen, on_nack, receive, replay, checkpoint, restart, start, stop, logged, own_reports}
 use Rattle.std.specs.Prelude.{ℤ}
 use Rattle.rex_safety.specs.Releases.{IsAmong}
 
@@ -54,6 +56,21 @@ quiet_none c s x h = h
 quiet_followed : {V : Type 0} (me : ℕ) (r : Role V) → Quiet (followed me r)
 quiet_followed me Follower = quiet_none
 quiet_followed me (Leads l) = quiet_one (effect.Followed me) (λ c s x e. cc)
+
+-- ---- a node that comes back
+
+module _ {V S : Type 0} (sv : Service V S) (me : ℕ) where
+  migrated_quiet : (t : Bool) (d : Call V S) (k : ℕ) (r : Rec V S) → Quiet d.effects → Quiet (cond t (append d.node.armed me r d (say (effect.Migrated me k))) d).effects
+  migrated_quiet false d k r q = q
+  migrated_quiet true d k r q = by d.node.armed
+    where
+      by : (a : Option Failure) → Quiet (append a me r d (say (effect.Migrated me k))).effects
+      by None = quiet_push d.effects (effect.Migrated me k) q (λ c s x e. cc)
+      by (Some (After (suc before) kept)) = quiet_push d.effects (effect.Migrated me k) q (λ c s x e. cc)
+      by (Some (After zero kept)) = quiet_push d.effects (effect.Down me) q (λ c s x e. cc)
+
+  pub start_quiet : (d : Call V S) → Quiet d.effects → Quiet (start sv me d).effects
+  start_quiet d q = migrated_quiet (has_old_base d.node.log) (restart me d) (base d.node.log) (Checkpoint Two (base d.node.log) (sv.state (take (base d.node.log) (known d.node.log)))) (quiet_push d.effects _ q (λ c s x e. cc))
 
 -- ---- calls
 
@@ -207,11 +224,11 @@ module _ {V S : Type 0} (n : ℕ) (sv : Service V S) (me : ℕ) (St : List V →
   pub replay_says : (d : Call V S) → Quiet d.effects → Says (replay me d)
   replay_says d q = if_says (is_active d.node.role || d.node.replayed == length (known d.node.log)) (say_says (effect.UpToDate me) d q (λ c s x e. cc)) (hush (quiet_push d.effects _ q (λ c s x e. cc)))
 
-  pub checkpoint_says : (d : Call V S) → Quiet d.effects → Says (checkpoint sv me d)
-  checkpoint_says d q =
+  pub checkpoint_says : (version : Version) (d : Call V S) → Quiet d.effects → Says (checkpoint version sv me d)
+  checkpoint_says version d q =
       if_says (d.node.replayed == base d.node.log) (say_says effect.Nothing d q (λ c s x e. cc))
       (if_says (nat_lt 0 (length d.node.work.live)) (say_says (effect.Live (length d.node.work.live)) d q (λ c s x e. cc))
-      (append_says d.node.armed (Checkpoint d.node.replayed (sv.state (take d.node.replayed (known d.node.log)))) d _ q (λ a. say_says (effect.Checkpointed me d.node.replayed) _ q (λ c s x e. cc))))
+      (append_says d.node.armed (Checkpoint version d.node.replayed (sv.state (take d.node.replayed (known d.node.log)))) d _ q (λ a. say_says (effect.Checkpointed me d.node.replayed) _ q (λ c s x e. cc))))
 
   pub stop_says : (d : Call V S) → Quiet d.effects → Says (stop me d)
   stop_says d q = hush (quiet_push d.effects (effect.Stopped me) q (λ c s x e. cc))

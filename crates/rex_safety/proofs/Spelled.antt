@@ -11,8 +11,9 @@ use Rattle.rex_syntax.specs.Service.{IsService}
 use Rattle.rex_syntax.specs.Check.{IsChecked}
 use Rattle.rex_event.specs.declared.event.Event.{Event}
 use Rattle.rex_event.specs.declared.event.Kind.{Kind}
-use Rattle.rex_event.specs.declared.event.Kind.TheVariants.{Begin, AcqEx, AcqSh, RelEx, RelSh, TryOk, TryBusy, Wait, Wake, Signal, Broadcast, Clock, Random, Reply}
+use Rattle.rex_event.specs.declared.event.Kind.TheVariants.{Begin, AcqEx, AcqSh, RelEx, RelSh, TryOk, TryBusy, Wait, Wake, Signal, Broadcast, Clock, Random, Reply, Down, Up}
 use Rattle.rex_event.specs.declared.delta.Cause.{Cause}
+use Rattle.rex_event.specs.Limits.{most_lanes}
 use Rattle.rex_event.specs.Cuts.{counted, AreNumbered, is_below, below}
 use Rattle.rex_event.specs.Pieces.{AllCausesFit}
 use Rattle.rex_cut.specs.Greatest.{greatest_cut, IsCutOf}
@@ -75,6 +76,8 @@ kind_fits service (Broadcast condition woken) good n c = (lt_of_lt_of_le n.0 goo
 kind_fits service (Clock value) good n c = tt
 kind_fits service (Random value) good n c = tt
 kind_fits service (Reply client value) good n c = c
+kind_fits service (Down semaphore) good n c = lt_of_lt_of_le n good.few_semaphores
+kind_fits service (Up semaphore) good n c = lt_of_lt_of_le n good.few_semaphores
 
 -- what the event names is in its range, where there are so many lanes
 record HasKind (lanes : ℕ) (e : Event) : Type 0 where
@@ -149,7 +152,7 @@ module _ (service : Declarations) (good : IsService service) (checked : IsChecke
 
     pub delta_fits : 0 < length (below cut w.live) → IsDelta (delta_at cut w.live)
     delta_fits some = record {
-      lanes = subst (λ (n : ℕ). (1 ≤ n) × (n ≤ 16)) (sym lanes_are) (good.some_lanes, good.lanes);
+      lanes = subst (λ (n : ℕ). (1 ≤ n) × (n ≤ most_lanes)) (sym lanes_are) (good.some_lanes, good.lanes);
       bases = small_bases;
       some = (some, few_below cut);
       events =

@@ -3,6 +3,7 @@ use Rattle.std.proofs.Common.{◌≡◌, ℕ, ◌+◌, ◌<◌, ◌≤◌, ◌^�
 use Rattle.std.specs.List.{All, list_all}
 use Rattle.std.proofs.lemmas.Bool.{and_parts}
 use Rattle.std.proofs.lemmas.List.Elements.{All-push, All-head, All-tail}
+use Rattle.rex_ballot.specs.Limits.{most_nodes}
 use Rattle.rex_syntax.specs.declared.request.Request.{Request}
 use Rattle.rex_syntax.specs.declared.service.Declarations.{Declarations}
 use Rattle.rex_syntax.specs.Service.{IsService}
@@ -86,6 +87,7 @@ module _ (service : Declarations) (good : IsService service) (checked : IsChecke
   taken_acting e range turn.Full h = record { start = a.start; state = a.state; known_runs = a.known_runs; recorder = a.recorder; goes_on = a.goes_on; requests = a.requests; clients = a.clients; unused = a.unused }
   taken_acting e range turn.Idle h = record { start = a.start; state = a.state; known_runs = a.known_runs; recorder = a.recorder; goes_on = a.goes_on; requests = a.requests; clients = a.clients; unused = a.unused }
   taken_acting e range (turn.Held by) h = record { start = a.start; state = a.state; known_runs = a.known_runs; recorder = a.recorder; goes_on = a.goes_on; requests = a.requests; clients = a.clients; unused = a.unused }
+  taken_acting e range (turn.Zero semaphore) h = record { start = a.start; state = a.state; known_runs = a.known_runs; recorder = a.recorder; goes_on = a.goes_on; requests = a.requests; clients = a.clients; unused = a.unused }
   taken_acting e range turn.Unsignalled h = record { start = a.start; state = a.state; known_runs = a.known_runs; recorder = a.recorder; goes_on = a.goes_on; requests = a.requests; clients = a.clients; unused = a.unused }
   taken_acting e range turn.Unfit h = record { start = a.start; state = a.state; known_runs = a.known_runs; recorder = a.recorder; goes_on = a.goes_on; requests = a.requests; clients = a.clients; unused = a.unused }
 
@@ -103,7 +105,7 @@ take_ok service seed n w m e ok =
 
 -- ---- kept worlds
 
-module _ (service : Declarations) (good : IsService service) (checked : IsChecked service) (requests : List Request) (fit : All (RequestFits service) requests) (seed n : ℕ) (few : n ≤ 9) where
+module _ (service : Declarations) (good : IsService service) (checked : IsChecked service) (requests : List Request) (fit : All (RequestFits service) requests) (seed n : ℕ) (few : n ≤ most_nodes) where
   module _ (w : World) (k : IsKept service seed n w) (m : ℕ) (min : IsNode n m) (e : Event) (range : BeginsInRange e) where
     -- the call of the node
     call : CallHere

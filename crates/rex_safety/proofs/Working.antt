@@ -4,14 +4,16 @@ use Rattle.std.specs.Prelude.{take, ◌==◌, nat_lt}
 use Rattle.std.proofs.lemmas.Bool.{false≢true}
 use Rattle.rex_report.specs.declared.effect.Effect.{Effect}
 use Rattle.rex_report.specs.declared.effect.Effect.TheVariants as effect
-use Rattle.rex_safety.specs.Records.{Rec, Proposal, proposal_of, promise, accepted, known, base}
+use Rattle.rex_version.specs.declared.version.Version.{Version}
+use Rattle.rex_version.specs.declared.version.Version.TheVariants.{Two}
+use Rattle.rex_safety.specs.Records.{Rec, Proposal, proposal_of, promise, accepted, known, base, has_old_base}
 use Rattle.rex_safety.specs.Records.Rec.{Promised, Accepted, Known, Checkpoint}
 use Rattle.rex_safety.specs.Quorum.{round_of, ballot_above, is_in, is_majority}
 use Rattle.rex_safety.specs.Node.{Service, Content, Lead, Role, Work, is_active, Failure}
 use Rattle.rex_safety.specs.Node.Failure.{After}
 use Rattle.rex_safety.specs.Node.Content.{Prepare, Promise, Accept, Accepted as Voted, Chosen as Chose, Nack, Ask}
 use Rattle.rex_safety.specs.Node.Role.{Follower, Leads}
-use Rattle.rex_safety.specs.Calls.{Call, append, led, propose, work_known, decide, activate, best, choose, lead, turn, settle, enough, elect, on_prepare, heard, on_own_promise, on_promise, has_last, on_accept, voted, on_own_vote, on_voted, on_chosen, on_nack, receive, replay, checkpoint, logged, own_reports}
+use Rattle.rex_safety.specs.Calls.{Call, append, led, propose, work_known, decide, activate, best, choose, lead, turn, settle, enough, elect, on_prepare, heard, on_own_promise, on_promise, has_last, on_accept, voted, on_own_vote, on_voted, on_chosen, on_nack, receive, replay, checkpoint, restart, start, logged, own_reports}
 use Rattle.rand_pcg.specs.Lcg.{Lcg}
 
 -- the work of a node that becomes active
@@ -153,8 +155,12 @@ module _ {V S : Type 0} (n : ℕ) (sv : Service V S) (me : ℕ) (A : List V → 
   pub replay_works : (d : Call V S) → Works d → Works (replay me d)
   replay_works d w = if_works (is_active d.node.role || d.node.replayed == length (known d.node.log)) (λ _. record { each = w.each }) (λ _. same_works d _ refl refl refl w)
 
-  pub checkpoint_works : (d : Call V S) → Works d → Works (checkpoint sv me d)
-  checkpoint_works d w =
+  pub checkpoint_works : (version : Version) (d : Call V S) → Works d → Works (checkpoint version sv me d)
+  checkpoint_works version d w =
       if_works (d.node.replayed == base d.node.log) (λ _. record { each = w.each }) (λ _. if_works (nat_lt 0 (length d.node.work.live)) (λ _. record { each = w.each }) (λ _.
-      append_works d.node.armed (Checkpoint d.node.replayed (sv.state (take d.node.replayed (known d.node.log)))) d _
+      append_works d.node.armed (Checkpoint version d.node.replayed (sv.state (take d.node.replayed (known d.node.log)))) d _
       (λ b. same_works d _ refl refl refl w)))
+
+  pub start_works : (d : Call V S) → Works (start sv me d)
+  start_works d =
+      if_works (has_old_base d.node.log) (λ _. append_works d.node.armed (Checkpoint Two (base d.node.log) (sv.state (take (base d.node.log) (known d.node.log)))) (restart me d) _ (λ b. idle refl)) (λ _. idle refl)

@@ -2,7 +2,9 @@
 use Rattle.std.specs.Prelude.{◌==◌, ℕ, zero, suc, ◌+◌, ◌*◌, ◌||◌, Bool, true, false, nat_lt, nat_le, List, [], ◌∷◌, ◌++◌, length, take, Option, Some, None, if◌then◌else◌}
 use Rattle.rex_report.specs.declared.effect.Effect.{Effect}
 use Rattle.rex_report.specs.declared.effect.Effect.TheVariants as effect
-use Rattle.rex_safety.specs.Records.{Rec, Proposal, proposal_of, promise, accepted, from_on, known, base}
+use Rattle.rex_version.specs.declared.version.Version.{Version}
+use Rattle.rex_version.specs.declared.version.Version.TheVariants.{Two}
+use Rattle.rex_safety.specs.Records.{Rec, Proposal, proposal_of, promise, accepted, from_on, known, base, has_old_base}
 use Rattle.rex_safety.specs.Records.Rec.{Promised, Accepted, Known, Checkpoint}
 use Rattle.rex_safety.specs.Quorum.{is_in, is_majority, ballot_above, round_of}
 use Rattle.rex_safety.specs.Node.{Service, Content, Message, Lead, Role, Work, Failure, Node, no_work, down_node, is_active}
@@ -316,24 +318,35 @@ replay me d =
       effects = d.effects ++ effect.Replayed me (length (known d.node.log)) ∷ [];
     }
 
--- it writes down the state after what it has replayed, where no event is live
-abbrev pub checkpoint : {V S : Type 0} → Service V S → ℕ → Call V S → Call V S
-checkpoint sv me d =
+-- it writes down the state after what it has replayed, in a version, where no event is live
+abbrev pub checkpoint : {V S : Type 0} → Version → Service V S → ℕ → Call V S → Call V S
+checkpoint version sv me d =
     if d.node.replayed == base d.node.log then say effect.Nothing d
     else if nat_lt 0 (length d.node.work.live) then say (effect.Live (length d.node.work.live)) d
-    else append d.node.armed me (Checkpoint d.node.replayed (sv.state (take d.node.replayed (known d.node.log)))) d
+    else append d.node.armed me (Checkpoint version d.node.replayed (sv.state (take d.node.replayed (known d.node.log)))) d
     (say (effect.Checkpointed me d.node.replayed))
 
 -- it forgets all but its records
 abbrev pub stop : {V S : Type 0} → ℕ → Call V S → Call V S
 stop me d = record d { node = down_node d.node.log d.node.armed; effects = d.effects ++ effect.Stopped me ∷ [] }
 
+-- where its last checkpoint is in the old version it writes down the state there again, in the new one
+abbrev pub migrate : {V S : Type 0} → Service V S → ℕ → Call V S → Call V S
+migrate sv me d =
+    if has_old_base d.node.log then append d.node.armed me (Checkpoint Two (base d.node.log) (sv.state (take (base d.node.log) (known d.node.log)))) d
+    (say (effect.Migrated me (base d.node.log)))
+    else d
+
 -- a node that is down comes back with its records; what it has replayed is the base
-abbrev pub start : {V S : Type 0} → ℕ → Call V S → Call V S
-start me d = record d {
+abbrev pub restart : {V S : Type 0} → ℕ → Call V S → Call V S
+restart me d = record d {
   node = record (down_node d.node.log d.node.armed) { up = true };
   effects = d.effects ++ effect.Started me (promise d.node.log) (length (known d.node.log)) (base d.node.log) ∷ [];
 }
+
+-- it comes back, and has its checkpoint in the new version from then on
+abbrev pub start : {V S : Type 0} → Service V S → ℕ → Call V S → Call V S
+start sv me d = migrate sv me (restart me d)
 
 -- the next append fails, and keeps or loses its record
 abbrev pub arm : {V S : Type 0} → ℕ → Bool → Call V S → Call V S

@@ -1,6 +1,7 @@
 -- What holds of every world to which schedule lines and events that nodes are handed lead.
 use Rattle.std.specs.Prelude.{ℕ, ◌+◌, ◌≤◌, List, [], ◌∷◌, ◌++◌, length}
 use Rattle.std.specs.List.{All}
+use Rattle.rex_ballot.specs.Limits.{most_nodes}
 use Rattle.rex_syntax.specs.declared.request.Request.{Request}
 use Rattle.rex_syntax.specs.declared.service.Declarations.{Declarations}
 use Rattle.rex_syntax.specs.Service.{IsService}
@@ -26,25 +27,25 @@ world_after_doings service requests seed n doings = after_doings service request
 -- a kept world of which a node is handed an event is kept
 abbrev pub TakesAreKept : Type 0
 TakesAreKept =
-    (service : Declarations) (seed n : ℕ) (w : World) (m : ℕ) (e : Event) → n ≤ 9 → IsService service → IsChecked service → IsNode n m → BeginsInRange e
+    (service : Declarations) (seed n : ℕ) (w : World) (m : ℕ) (e : Event) → n ≤ most_nodes → IsService service → IsChecked service → IsNode n m → BeginsInRange e
     → IsKept service seed n w → IsKept service seed n (take service w m e)
 
 -- so is one after any doings that name what is there
 abbrev pub DoingsAreKept : Type 0
 DoingsAreKept =
-    (service : Declarations) (requests : List Request) (seed n : ℕ) (w : World) (doings : List Doing) → n ≤ 9 → IsService service → IsChecked service → All (RequestFits service) requests
+    (service : Declarations) (requests : List Request) (seed n : ℕ) (w : World) (doings : List Doing) → n ≤ most_nodes → IsService service → IsChecked service → All (RequestFits service) requests
     → All (DoingFits n (length requests) service.lanes) doings → IsKept service seed n w → IsKept service seed n (after_doings service requests seed n w doings)
 
 -- ---- what holds after any doings
 
 -- a fact of the world after any doings, for at most nine nodes
 abbrev pub AfterAnyDoings : ((service : Declarations) (n : ℕ) (w : World) → Type 0) → Type 0
-AfterAnyDoings P = (service : Declarations) (requests : List Request) (seed n : ℕ) (doings : List Doing) → n ≤ 9 → P service n (world_after_doings service requests seed n doings)
+AfterAnyDoings P = (service : Declarations) (requests : List Request) (seed n : ℕ) (doings : List Doing) → n ≤ most_nodes → P service n (world_after_doings service requests seed n doings)
 
 -- a fact of the worlds at two moments, the first of which is the earlier one or the same
 abbrev pub AtTwoMomentsOfDoings : ((service : Declarations) (n : ℕ) (earlier later : World) → Type 0) → Type 0
 AtTwoMomentsOfDoings P =
-    (service : Declarations) (requests : List Request) (seed n : ℕ) (doings more : List Doing) → n ≤ 9
+    (service : Declarations) (requests : List Request) (seed n : ℕ) (doings more : List Doing) → n ≤ most_nodes
     → P service n (world_after_doings service requests seed n doings) (world_after_doings service requests seed n (doings ++ more))
 
 -- two values that are chosen for one instance are equal
@@ -74,7 +75,7 @@ DoingsKeepBases = AfterAnyDoings BaseIsRight
 -- each request has at most one begin and at most one reply in the agreed trace
 abbrev pub DoingsHappenOnce : Type 0
 DoingsHappenOnce =
-    (service : Declarations) (requests : List Request) (seed n : ℕ) (doings : List Doing) → n ≤ 9 → IsService service → IsChecked service
+    (service : Declarations) (requests : List Request) (seed n : ℕ) (doings : List Doing) → n ≤ most_nodes → IsService service → IsChecked service
     → IsOnce (trace_of (agreed (world_after_doings service requests seed n doings)))
 
 -- ---- replies
@@ -93,5 +94,5 @@ moments_of_doings service requests seed n w (x ∷ rest) =
 -- with a checked service and requests that fit it, each released reply stands in the trace of every later leader
 abbrev pub DoingsKeepReplies : Type 0
 DoingsKeepReplies =
-    (service : Declarations) (requests : List Request) (seed n : ℕ) (doings : List Doing) → n ≤ 9 → IsService service → IsChecked service → All (RequestFits service) requests
+    (service : Declarations) (requests : List Request) (seed n : ℕ) (doings : List Doing) → n ≤ most_nodes → IsService service → IsChecked service → All (RequestFits service) requests
     → ReleasesStand (moments_of_doings service requests seed n (beginning n) doings)

@@ -1,6 +1,7 @@
 -- That each step keeps what is kept, and what follows from it.
 use Rattle.std.specs.Prelude.{◌≡◌, ℕ, ◌+◌, ◌*◌, ◌^◌, ◌<◌, ◌≤◌, ◌⊎◌, true, List, length}
 use Rattle.std.specs.List.{All}
+use Rattle.rex_ballot.specs.Limits.{most_nodes}
 use Rattle.rex_syntax.specs.declared.request.Request.{Request}
 use Rattle.rex_syntax.specs.declared.service.Declarations.{Declarations}
 use Rattle.rex_syntax.specs.Service.{IsService}
@@ -24,12 +25,12 @@ use Rattle.rex_safety.specs.Kept.{roles, IsKept}
 
 -- it is kept before the first line
 abbrev pub BeginningsAreKept : Type 0
-BeginningsAreKept = (service : Declarations) (seed n : ℕ) → n ≤ 9 → IsService service → IsChecked service → IsKept service seed n (beginning n)
+BeginningsAreKept = (service : Declarations) (seed n : ℕ) → n ≤ most_nodes → IsService service → IsChecked service → IsKept service seed n (beginning n)
 
 -- what a line that names what is there makes of a kept world is kept
 abbrev pub Keeps : ((service : Declarations) (requests : List Request) (seed n : ℕ) (w : World) (line : ScheduleLine) → World) → Type 0
 Keeps next =
-    (service : Declarations) (requests : List Request) (seed n : ℕ) (w : World) (line : ScheduleLine) → n ≤ 9 → IsService service → IsChecked service → All (RequestFits service) requests
+    (service : Declarations) (requests : List Request) (seed n : ℕ) (w : World) (line : ScheduleLine) → n ≤ most_nodes → IsService service → IsChecked service → All (RequestFits service) requests
     → LineFits n (length requests) service.lanes line → IsKept service seed n w → IsKept service seed n (next service requests seed n w line)
 
 abbrev pub StepsAreKept : Type 0

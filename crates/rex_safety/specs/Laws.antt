@@ -1,6 +1,7 @@
 -- What holds of every run of a world.
 use Rattle.std.specs.Prelude.{◌≡◌, ℕ, suc, ◌*◌, ℤ, ◌≤◌, ◌⊎◌, true, List, [], ◌∷◌, ◌++◌, length, take, Option, Some, slice_get}
 use Rattle.std.specs.List.{All, list_all}
+use Rattle.rex_ballot.specs.Limits.{most_nodes}
 use Rattle.rex_state.specs.Start.{start_of}
 use Rattle.rex_state.specs.Machine.{lane_of, run}
 use Rattle.rex_syntax.specs.declared.request.Request.{Request}
@@ -36,12 +37,12 @@ use Rattle.rex_safety.specs.Once.{IsOnce}
 
 -- a fact of the world after any lines, for at most nine nodes
 abbrev pub AfterAnyLines : ((service : Declarations) (n : ℕ) (w : World) → Type 0) → Type 0
-AfterAnyLines P = (service : Declarations) (requests : List Request) (seed n : ℕ) (lines : List ScheduleLine) → n ≤ 9 → P service n (world_after service requests seed n lines)
+AfterAnyLines P = (service : Declarations) (requests : List Request) (seed n : ℕ) (lines : List ScheduleLine) → n ≤ most_nodes → P service n (world_after service requests seed n lines)
 
 -- a fact of the worlds at two moments, the first of which is the earlier one or the same
 abbrev pub AtTwoMoments : ((service : Declarations) (n : ℕ) (earlier later : World) → Type 0) → Type 0
 AtTwoMoments P =
-    (service : Declarations) (requests : List Request) (seed n : ℕ) (lines more : List ScheduleLine) → n ≤ 9
+    (service : Declarations) (requests : List Request) (seed n : ℕ) (lines more : List ScheduleLine) → n ≤ most_nodes
     → P service n (world_after service requests seed n lines) (world_after service requests seed n (lines ++ more))
 
 -- ---- agreement
@@ -90,14 +91,14 @@ AgreedTracesRun = AfterAnyLines AgreedRuns
 -- of each front of the agreed trace the events below a consistent cut run from the start too, and the others lead on from there to the same state
 abbrev pub AgreedCutsGoFirst : Type 0
 AgreedCutsGoFirst =
-    (service : Declarations) (requests : List Request) (seed n : ℕ) (lines : List ScheduleLine) → n ≤ 9 → IsService service → IsChecked service
+    (service : Declarations) (requests : List Request) (seed n : ℕ) (lines : List ScheduleLine) → n ≤ most_nodes → IsService service → IsChecked service
     → (k : ℕ) (cut : List ℕ) → IsConsistent (trace_at (world_after service requests seed n lines) k) cut
     → (s : StateValue) × (run service (start_of service) (trace_at (world_after service requests seed n lines) k) ≡ Some s) × GoesFirst service (start_of service) s cut (trace_at (world_after service requests seed n lines) k)
 
 -- the causes of each agreed delta are the least that tell the order of its events
 abbrev pub AgreedCausesAreLeast : Type 0
 AgreedCausesAreLeast =
-    (service : Declarations) (requests : List Request) (seed n : ℕ) (lines : List ScheduleLine) → n ≤ 9 → IsService service → IsChecked service
+    (service : Declarations) (requests : List Request) (seed n : ℕ) (lines : List ScheduleLine) → n ≤ most_nodes → IsService service → IsChecked service
     → (v : Value) → IsIn v (agreed (world_after service requests seed n lines)) → AreLeast (delta_of v).events (delta_of v).causes
 
 -- a checkpoint that a node has is of the state to which the known deltas up to its base run
@@ -113,7 +114,7 @@ BasesAreRight = AfterAnyLines BaseIsRight
 
 abbrev pub RulesAreKept : Type 0
 RulesAreKept =
-    (service : Declarations) (requests : List Request) (seed n : ℕ) (lines : List ScheduleLine) → n ≤ 9
+    (service : Declarations) (requests : List Request) (seed n : ℕ) (lines : List ScheduleLine) → n ≤ most_nodes
     → Rules n (service_of service seed) (world_after service requests seed n lines)
 
 -- ---- replies
@@ -129,13 +130,13 @@ ReleasesStand run =
 -- it is so of every run with a checked service and requests that fit it
 abbrev pub RepliesStand : Type 0
 RepliesStand =
-    (service : Declarations) (requests : List Request) (seed n : ℕ) (lines : List ScheduleLine) → n ≤ 9 → IsService service → IsChecked service → All (RequestFits service) requests
+    (service : Declarations) (requests : List Request) (seed n : ℕ) (lines : List ScheduleLine) → n ≤ most_nodes → IsService service → IsChecked service → All (RequestFits service) requests
     → ReleasesStand (moments service requests seed n (beginning n) lines)
 
 -- each request has at most one begin and at most one reply in the agreed trace
 abbrev pub RequestsHappenOnce : Type 0
 RequestsHappenOnce =
-    (service : Declarations) (requests : List Request) (seed n : ℕ) (lines : List ScheduleLine) → n ≤ 9 → IsService service → IsChecked service
+    (service : Declarations) (requests : List Request) (seed n : ℕ) (lines : List ScheduleLine) → n ≤ most_nodes → IsService service → IsChecked service
     → IsOnce (trace_of (agreed (world_after service requests seed n lines)))
 
 -- of every run with a checked service, requests that fit it, and lanes that are there: an active node's known deltas and then its live events run from the start, and it works with a recorder
@@ -145,7 +146,7 @@ pub record ActsRightly (service : Declarations) (x : Here) (l : Lead Value) : Ty
 
 abbrev pub ActiveTracesRun : Type 0
 ActiveTracesRun =
-    (service : Declarations) (requests : List Request) (seed n : ℕ) (lines : List ScheduleLine) → n ≤ 9 → IsService service → IsChecked service → All (RequestFits service) requests → All (HasLane service) lines
+    (service : Declarations) (requests : List Request) (seed n : ℕ) (lines : List ScheduleLine) → n ≤ most_nodes → IsService service → IsChecked service → All (RequestFits service) requests → All (HasLane service) lines
     → (m : ℕ) (l : Lead Value) → (node_at (world_after service requests seed n lines).nodes m).role ≡ Leads l → l.active ≡ true
     → ActsRightly service (node_at (world_after service requests seed n lines).nodes m) l
 
@@ -189,7 +190,7 @@ pub record NumbersFit (n : ℕ) (w : World) : Type 0 where
 -- it is so after lines that name what is there
 abbrev pub NumbersStayInRange : Type 0
 NumbersStayInRange =
-    (service : Declarations) (requests : List Request) (seed n : ℕ) (lines : List ScheduleLine) → n ≤ 9 → All (LineFits n (length requests) service.lanes) lines
+    (service : Declarations) (requests : List Request) (seed n : ℕ) (lines : List ScheduleLine) → n ≤ most_nodes → All (LineFits n (length requests) service.lanes) lines
     → NumbersFit n (world_after service requests seed n lines)
 
 -- after values that fit, each lane did at most 4,096 events for each of them
@@ -232,5 +233,5 @@ pub record NodesAreKept (service : Declarations) (seed n : ℕ) (w : World) : Ty
 
 abbrev pub NodesStayKept : Type 0
 NodesStayKept =
-    (service : Declarations) (requests : List Request) (seed n : ℕ) (lines : List ScheduleLine) → n ≤ 9
+    (service : Declarations) (requests : List Request) (seed n : ℕ) (lines : List ScheduleLine) → n ≤ most_nodes
     → NodesAreKept service seed n (world_after service requests seed n lines)

@@ -21,3 +21,4 @@ pub mod Takes
 pub mod Limits
 pub mod Keeping
 pub mod Doings
+pub mod Migrating

@@ -5,6 +5,7 @@
 ghost use Rattle.rex_safety.specs.Laws.{ChosenValuesAgree, KnownBeginsAgreed, ListsOnlyGrow, KnownListsArePrefixes, AgreedTracesRun, BasesAreRight, RulesAreKept, RepliesStand, RequestsHappenOnce, ActiveTracesRun, CutsAreFaithful, LeadersGoOnToTheEnd, NextValuesFit, NumbersStayInRange, CountsAreFew, AgreedCausesAreLeast, AgreedCutsGoFirst, ValuesStayBytes, ValuesStayShort, NodesStayKept};
 ghost use Rattle.rex_safety.specs.Keeping.{BeginningsAreKept, StepsAreKept, LinesAreKept, KeptValuesFit, KeptBasesAreRight, KeptCutsAreSpelled, KeptCutsAreFaithful, KeptCountsHaveRoom};
 ghost use Rattle.rex_safety.specs.Limits.{ValuesLeadToLimitedStates};
+ghost use Rattle.rex_safety.specs.Migrating.{MigrationsSayTheSame, MigrationsKeepStates, MigrationsHappenOnce};
 ghost use Rattle.rex_safety.specs.Doings.{TakesAreKept, DoingsAreKept, DoingsAgree, DoingsBeginAgreed, DoingsOnlyGrow, DoingsGivePrefixes, DoingsRun, DoingsKeepBases, DoingsHappenOnce, DoingsKeepReplies};
 
 /// Two values that are chosen for one instance are equal (Lamport, 2001).
@@ -200,4 +201,19 @@ pub fn requests_happen_once_after_doings()
 /// Each reply that is released among them stands in the trace of every later leader.
 pub fn released_replies_stand_after_doings()
     ensures { DoingsKeepReplies }
+{}
+
+/// A migration leaves what outlives a node as it was: its promise, what it accepted and knows, and its base.
+pub fn migrations_say_the_same()
+    ensures { MigrationsSayTheSame }
+{}
+
+/// The last checkpoint before a migration and the last one after it are of one state.
+pub fn migrations_keep_states()
+    ensures { MigrationsKeepStates }
+{}
+
+/// A checkpoint is migrated once.
+pub fn migrations_happen_once()
+    ensures { MigrationsHappenOnce }
 {}

@@ -1,5 +1,5 @@
 -- Scenarios, and what they say.
-use Rattle.std.proofs.Common.{◌≡◌, ℕ, List, [], ◌∷◌, ◌++◌, ◌<◌, ◌≤◌, length, map, true, false, Option, Some, None, Result, Ok, Err, refl, codes}
+use Rattle.std.proofs.Common.{◌≡◌, ℕ, Bool, List, [], ◌∷◌, ◌++◌, ◌<◌, ◌≤◌, length, map, true, false, Option, Some, None, Result, Ok, Err, refl, codes}
 use Rattle.std.specs.Prelude.{pos}
 use Rattle.std.specs.Result.{result_err}
 use Rattle.std.proofs.lemmas.Bool.{lt-ltb, le-leb}
@@ -10,6 +10,7 @@ use Rattle.rex_parse.specs.Table.{new_code, lock_code, variable_code, local_code
 use Rattle.rex_parse.specs.declared.language.ServiceCode.TheVariants as service
 use Rattle.rex_syntax.specs.declared.request.Request.{Request}
 use Rattle.rex_scenario.specs.Requests.{is_repeated, place_code}
+use Rattle.rex_version.specs.declared.version.Version.TheVariants.{One, Two}
 use Rattle.rex_scenario.specs.Schedule.{step_of, is_there, schedule_code}
 use Rattle.rex_scenario.specs.Reading.{answer_from, answer_of, unscheduled_answer_of, scenario_of}
 use Rattle.rex_scenario.specs.declared.scenario.ScenarioCode.{ScenarioCode}
@@ -114,9 +115,9 @@ four_nodes : refusal (codes "%nodes 4" ∷ []) ≡ Some (1, code.BadHeading)
 unfolding refusal text_of answer_from digits
 four_nodes = refl
 
-seven_nodes : refusal (codes "%nodes 7" ∷ []) ≡ Some (1, code.BadHeading)
+eleven_nodes : refusal (codes "%nodes 11" ∷ []) ≡ Some (1, code.BadHeading)
 unfolding refusal text_of answer_from digits
-seven_nodes = refl
+eleven_nodes = refl
 
 seed_above : refusal (codes "%nodes 1" ∷ codes "%seed 4294967296" ∷ []) ≡ Some (2, code.BadHeading)
 unfolding refusal text_of answer_from digits
@@ -126,7 +127,7 @@ two_seeds : refusal (codes "%nodes 1" ∷ codes "%seed 1" ∷ codes "%seed 1" �
 unfolding refusal text_of answer_from digits
 two_seeds = refl
 
-bad_service : refusal (codes "%nodes 1" ∷ codes "%service" ∷ codes "lanes 17" ∷ []) ≡ Some (3, code.Service service.NoNumber)
+bad_service : refusal (codes "%nodes 1" ∷ codes "%service" ∷ codes "lanes 65" ∷ []) ≡ Some (3, code.Service service.NoNumber)
 unfolding refusal text_of answer_from digits
 bad_service = refl
 
@@ -160,9 +161,9 @@ no_request = refl
 
 -- ---- cuts with limits
 
--- the codes of schedule lines, where three nodes, a request and two lanes are there and so many schedule lines came before
+-- the codes of schedule lines, where three nodes, a request and two lanes are there, the service's states have the old version, and so many schedule lines came before
 codes_of : ℕ → List (List ℕ) → List (Option ScenarioCode)
-codes_of earlier lines = map (λ line. schedule_code true 3 1 2 earlier (words_of line)) lines
+codes_of earlier lines = map (λ line. schedule_code true 3 1 2 true earlier (words_of line)) lines
 
 limits_taken : codes_of 0 (codes "cut 1 0 0" ∷ codes "cut 1 4294967295 0" ∷ []) ≡ None ∷ None ∷ []
 unfolding codes_of digits
@@ -226,7 +227,7 @@ steps_of : List (List ℕ) → List (Option Step)
 steps_of lines = map (λ line. step_of (words_of line)) lines
 
 spelled : steps_of (codes "checkpoint 2" ∷ codes "keepfail 2 kept" ∷ codes "keepfail 3 lost" ∷ codes "keepfail 1" ∷ codes "keepfail 1 keep" ∷ [])
-    ≡ Some (step.Checkpoint 2) ∷ Some (step.KeepFail 2 true) ∷ Some (step.KeepFail 3 false) ∷ None ∷ None ∷ []
+    ≡ Some (step.Checkpoint 2 Two) ∷ Some (step.KeepFail 2 true) ∷ Some (step.KeepFail 3 false) ∷ None ∷ None ∷ []
 unfolding steps_of digits
 spelled = refl
 
@@ -235,12 +236,28 @@ of_nodes : codes_of 99999 (codes "checkpoint 1" ∷ codes "checkpoint 4" ∷ cod
 unfolding codes_of digits
 of_nodes = refl
 
+-- ---- checkpoints in the old version
+
+old_spelled : steps_of (codes "checkpoint 2 old" ∷ codes "checkpoint 2 new" ∷ codes "checkpoint old" ∷ codes "checkpoint 2 old 2" ∷ codes "checkpoint 2 2" ∷ [])
+    ≡ Some (step.Checkpoint 2 One) ∷ None ∷ None ∷ None ∷ None ∷ []
+unfolding steps_of digits
+old_spelled = refl
+
+-- they are refused where the service's states don't have it, after a node that isn't there
+old_refused : map (λ (old : Bool). schedule_code true 3 1 2 old 0 (words_of (codes "checkpoint 2 old"))) (true ∷ false ∷ []) ≡ None ∷ Some code.NoOldForm ∷ []
+unfolding digits
+old_refused = refl
+
+old_of_no_node : schedule_code true 3 1 2 false 0 (words_of (codes "checkpoint 4 old")) ≡ Some code.NotThere
+unfolding digits
+old_of_no_node = refl
+
 -- ---- the codes of what is too much
 
 too_long : (bytes : List ℕ) → 4194304 < length bytes → answer_of bytes ≡ Err (0, code.TooLong)
 too_long bytes lt = rw (lt-ltb 4194304 (length bytes) lt) refl
 
-too_many_lines : (lanes : ℕ) → schedule_code true 1 0 lanes 100000 (codes "elect" ∷ codes "1" ∷ []) ≡ Some code.TooManyLines
+too_many_lines : (lanes : ℕ) → schedule_code true 1 0 lanes true 100000 (codes "elect" ∷ codes "1" ∷ []) ≡ Some code.TooManyLines
 unfolding digits
 too_many_lines lanes = refl
 

@@ -10,6 +10,7 @@ use Rattle.rex_parse.specs.After.{service_of}
 use Rattle.rex_parse.specs.Reading.{end_code}
 use Rattle.rex_parse.specs.declared.language.ServiceCode.{ServiceCode}
 use Rattle.rex_scenario.specs.Headings.{is_heading, is_due, if_due, begun_by, heading_code, begin_code, begun, after_heading, is_node_count, is_whole, nodes_after, next_stage}
+use Rattle.rex_version.specs.Versions.{is_old_size}
 use Rattle.rex_scenario.specs.Fits.{ScenarioFits}
 use Rattle.rex_scenario.specs.Keeps.{FitsAt, SectionsFit}
 use Rattle.rex_scenario.specs.Schedule.{step_of}
@@ -55,7 +56,7 @@ begin_fits stage.Service stage.Requests s ws due good whole fit =
     (record { nodes = fit.1; whole = whole refl; few = rw fit.0.requests (omega arith); each = rw fit.0.requests (All-nil _) }, fit.0.schedule)
 begin_fits stage.Requests stage.Schedule s ws due good whole fit = (
   record { nodes = fit.0.nodes; whole = fit.0.whole; few = fit.0.few; each = fit.0.each },
-  record { few = rw fit.1 (omega arith); each = rw fit.1 (All-nil _); none = λ _. fit.1 },
+  record { few = rw fit.1 (omega arith); each = rw fit.1 (All-nil _); forms = rw fit.1 (All-nil _); none = λ _. fit.1 },
 )
 begin_fits st next s ws due good whole fit = absurd cc
 
@@ -100,8 +101,8 @@ words_fit stage.Requests s ws at e fit =
     let more = requests_fit s.service s.requests ws e fit.0.each in
     rw at (record { nodes = fit.0.nodes; whole = fit.0.whole; few = more.0; each = more.1 }, fit.1)
 words_fit stage.Schedule s ws at e fit =
-    let more = schedule_fits s.scheduled s.nodes (length s.requests) (unwrap_or s.service.lanes 0) s.schedule (step_of ws) e fit.1.each in
-    rw at (record { nodes = fit.0.nodes; whole = fit.0.whole; few = fit.0.few; each = fit.0.each }, record { few = more.1.0; each = more.1.1; none = λ closed. absurd (false≢true (sym closed ∙ more.0)) })
+    let more = schedule_fits s.scheduled s.nodes (length s.requests) (unwrap_or s.service.lanes 0) (is_old_size (unwrap_or s.service.lanes 0) (length s.service.variables)) s.schedule (step_of ws) e fit.1.each fit.1.forms in
+    rw at (record { nodes = fit.0.nodes; whole = fit.0.whole; few = fit.0.few; each = fit.0.each }, record { few = more.1.0; each = more.1.1; forms = more.1.2; none = λ closed. absurd (false≢true (sym closed ∙ more.0)) })
 
 other_fits : (s : Sections) (line : List ℕ) (clean skipped heading : Bool) → is_clean line ≡ clean → is_skipped (words_of line) ≡ skipped → is_heading (words_of line) ≡ heading
     → (s.stage ≡ stage.Service → ⊥) → other_line_code s line ≡ None → FitsAt s.stage s → FitsAt (other_line_after s line).stage (other_line_after s line)
@@ -177,7 +178,7 @@ ended stage.Requests s e fit = absurd cc
 pub scenario_fits : (s : Sections) → SectionsFit s → end_of s s.stage ≡ None → ScenarioFits (service_of s.service) (scenario_of s)
 scenario_fits s fit e =
     let parts = ended s.stage s e fit.sections in
-    record { nodes = parts.0.nodes; few_requests = parts.0.few; few_lines = parts.1.few; requests = parts.0.each; schedule = parts.1.each }
+    record { nodes = parts.0.nodes; few_requests = parts.0.few; few_lines = parts.1.few; requests = parts.0.each; schedule = parts.1.each; forms = parts.1.forms }
 
 -- and its schedule has no lines where it may have none
 pub schedule_empty : (s : Sections) → SectionsFit s → end_of s s.stage ≡ None → s.scheduled ≡ false → s.schedule ≡ []

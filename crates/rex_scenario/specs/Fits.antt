@@ -1,8 +1,10 @@
 -- What a scenario names is there.
-use Rattle.std.specs.Prelude.{◌≡◌, ◌≢◌, ℕ, ◌<◌, ◌≤◌, true, length, slice_get}
+use Rattle.std.specs.Prelude.{◌≡◌, ◌≢◌, ℕ, ◌<◌, ◌≤◌, Bool, true, length, slice_get}
 use Rattle.std.specs.List.{All}
 use Rattle.rex_syntax.specs.declared.request.Request.{Request}
 use Rattle.rex_syntax.specs.declared.service.Declarations.{Declarations}
+use Rattle.rex_version.specs.declared.version.Version.TheVariants.{One}
+use Rattle.rex_version.specs.Versions.{has_old_form}
 use Rattle.rex_scenario.specs.Headings.{is_node_count}
 use Rattle.rex_scenario.specs.Requests.{takes_so_many}
 use Rattle.rex_scenario.specs.declared.scenario.Scenario.{Scenario}
@@ -35,8 +37,13 @@ LineFits nodes requests lanes (Replay n) = IsNode nodes n
 LineFits nodes requests lanes (Ask n m) = IsNode nodes n × (IsNode nodes m × (n ≢ m))
 LineFits nodes requests lanes (Stop n) = IsNode nodes n
 LineFits nodes requests lanes (Start n) = IsNode nodes n
-LineFits nodes requests lanes (Checkpoint n) = IsNode nodes n
+LineFits nodes requests lanes (Checkpoint n version) = IsNode nodes n
 LineFits nodes requests lanes (KeepFail n kept) = IsNode nodes n
+
+-- a checkpoint is in a version that the service's states have, where these have the old one or don't
+abbrev pub FormFits : Bool → ScheduleLine → Type 0
+FormFits old (Checkpoint n One) = old ≡ true
+FormFits old _ = Unit {0}
 
 -- what a scenario names is there in its service
 pub record ScenarioFits (service : Declarations) (s : Scenario) : Type 0 where
@@ -45,3 +52,4 @@ pub record ScenarioFits (service : Declarations) (s : Scenario) : Type 0 where
   pub few_lines : length s.schedule ≤ 100000
   pub requests : All (RequestFits service) s.requests
   pub schedule : All (LineFits s.nodes (length s.requests) service.lanes) s.schedule
+  pub forms : All (FormFits (has_old_form service)) s.schedule

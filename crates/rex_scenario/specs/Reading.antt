@@ -5,6 +5,7 @@ use Rattle.rex_text.specs.Text.{Word, lines_of, words_of, numbered, is_skipped, 
 use Rattle.rex_parse.specs.Above.{nothing}
 use Rattle.rex_parse.specs.Reading.{raw_code, raw_after, end_code}
 use Rattle.rex_parse.specs.declared.language.ServiceCode.{ServiceCode}
+use Rattle.rex_version.specs.Versions.{is_old_size}
 use Rattle.rex_scenario.specs.Headings.{is_heading, heading_code, after_heading}
 use Rattle.rex_scenario.specs.Requests.{or_code, request_code, request_of}
 use Rattle.rex_scenario.specs.Schedule.{schedule_code, step_of, with_step}
@@ -43,7 +44,8 @@ service_line_code s line = if is_heading (words_of line) then service_end_code s
 -- the code that fits a line with words outside the service that is no heading
 abbrev pub words_code : Sections → Stage → List Word → Option ScenarioCode
 words_code s stage.Requests ws = request_code s.service s.requests ws
-words_code s stage.Schedule ws = schedule_code s.scheduled s.nodes (length s.requests) (unwrap_or s.service.lanes 0) (length s.schedule) ws
+words_code s stage.Schedule ws =
+    schedule_code s.scheduled s.nodes (length s.requests) (unwrap_or s.service.lanes 0) (is_old_size (unwrap_or s.service.lanes 0) (length s.service.variables)) (length s.schedule) ws
 words_code s _ ws = Some OutOfPlace
 
 -- the code that fits a line outside the service

@@ -4,8 +4,9 @@ use Rattle.std.specs.Str.{bytes_eq}
 use Rattle.rex_text.specs.Text.{Word}
 use Rattle.rex_text.specs.Numbers.{u64_at}
 use Rattle.rex_parse.specs.Table.{in_range}
+use Rattle.rex_version.specs.declared.version.Version.TheVariants.{One, Two}
 use Rattle.rex_scenario.specs.declared.scenario.ScenarioCode.{ScenarioCode}
-use Rattle.rex_scenario.specs.declared.scenario.ScenarioCode.TheVariants.{BadLine, TooManyLines, NotThere, WrongLimits}
+use Rattle.rex_scenario.specs.declared.scenario.ScenarioCode.TheVariants.{BadLine, TooManyLines, NotThere, WrongLimits, NoOldForm}
 use Rattle.rex_scenario.specs.declared.schedule.Step.{Step}
 use Rattle.rex_scenario.specs.declared.schedule.Step.TheVariants as step
 use Rattle.rex_scenario.specs.declared.scenario.ScheduleLine.{ScheduleLine}
@@ -22,7 +23,7 @@ short_step w n =
     else if bytes_eq w (codes "cut") then Some (step.Cut n)
     else if bytes_eq w (codes "deliver") then Some (step.Deliver n)
     else if bytes_eq w (codes "replay") then Some (step.Replay n)
-    else if bytes_eq w (codes "checkpoint") then Some (step.Checkpoint n)
+    else if bytes_eq w (codes "checkpoint") then Some (step.Checkpoint n Two)
     else if bytes_eq w (codes "stop") then Some (step.Stop n)
     else if bytes_eq w (codes "start") then Some (step.Start n) else None
 
@@ -61,9 +62,16 @@ with_limits _ _ = None
 abbrev pub cut_step : Word → Word → List Word → Option Step
 cut_step w v us = if bytes_eq w (codes "cut") then with_limits (u64_at v) (limits_at us) else None
 
+-- a checkpoint in the old version
+abbrev pub old_step : ℕ → Word → Option Step
+old_step n u = if bytes_eq u (codes "old") then Some (step.Checkpoint n One) else None
+
 -- a word, a node, and one word more
 abbrev pub longer_step : Word → ℕ → Word → Option Step
-longer_step w n u = if bytes_eq w (codes "keepfail") then option_map (step.KeepFail n) (kept_at u) else option_and_then (long_step w n) (u64_at u)
+longer_step w n u =
+    if bytes_eq w (codes "keepfail") then option_map (step.KeepFail n) (kept_at u)
+    else if bytes_eq w (codes "checkpoint") then old_step n u
+    else option_and_then (long_step w n) (u64_at u)
 
 -- the step that the words spell
 abbrev pub step_of : List Word → Option Step
@@ -86,13 +94,18 @@ is_there nodes requests lanes (step.Replay n) = in_range 1 nodes n
 is_there nodes requests lanes (step.Ask n m) = in_range 1 nodes n && (in_range 1 nodes m && not (n == m))
 is_there nodes requests lanes (step.Stop n) = in_range 1 nodes n
 is_there nodes requests lanes (step.Start n) = in_range 1 nodes n
-is_there nodes requests lanes (step.Checkpoint n) = in_range 1 nodes n
+is_there nodes requests lanes (step.Checkpoint n version) = in_range 1 nodes n
 is_there nodes requests lanes (step.KeepFail n kept) = in_range 1 nodes n
 
 -- a cut with limits has one for each lane
 abbrev pub has_limits : ℕ → Step → Bool
 has_limits lanes (step.CutBelow n limits) = length limits == lanes
 has_limits lanes _ = true
+
+-- a checkpoint is in a version that the service's states have, where these have the old one or don't
+abbrev pub has_form : Bool → Step → Bool
+has_form old (step.Checkpoint n One) = old
+has_form old _ = true
 
 -- the schedule line that a step is
 abbrev pub line_of : Step → ScheduleLine
@@ -107,21 +120,22 @@ line_of (step.Replay n) = line.Replay n
 line_of (step.Ask n m) = line.Ask n m
 line_of (step.Stop n) = line.Stop n
 line_of (step.Start n) = line.Start n
-line_of (step.Checkpoint n) = line.Checkpoint n
+line_of (step.Checkpoint n version) = line.Checkpoint n version
 line_of (step.KeepFail n kept) = line.KeepFail n kept
 
 -- the code that fits a step, or words that spell none; a schedule that may have no lines has none of a form
-abbrev pub step_code : Bool → ℕ → ℕ → ℕ → ℕ → Option Step → Option ScenarioCode
-step_code scheduled nodes requests lanes earlier None = Some BadLine
-step_code scheduled nodes requests lanes earlier (Some s) =
+abbrev pub step_code : Bool → ℕ → ℕ → ℕ → Bool → ℕ → Option Step → Option ScenarioCode
+step_code scheduled nodes requests lanes old earlier None = Some BadLine
+step_code scheduled nodes requests lanes old earlier (Some s) =
     if not scheduled then Some BadLine
     else if nat_le 100000 earlier then Some TooManyLines
     else if not (is_there nodes requests lanes s) then Some NotThere
-    else if has_limits lanes s then None else Some WrongLimits
+    else if not (has_limits lanes s) then Some WrongLimits
+    else if has_form old s then None else Some NoOldForm
 
--- the code that fits a schedule line, where so many nodes, requests and lanes are there and so many schedule lines came before
-abbrev pub schedule_code : Bool → ℕ → ℕ → ℕ → ℕ → List Word → Option ScenarioCode
-schedule_code scheduled nodes requests lanes earlier ws = step_code scheduled nodes requests lanes earlier (step_of ws)
+-- the code that fits a schedule line, where so many nodes, requests and lanes are there, the service's states have the old version or don't, and so many schedule lines came before
+abbrev pub schedule_code : Bool → ℕ → ℕ → ℕ → Bool → ℕ → List Word → Option ScenarioCode
+schedule_code scheduled nodes requests lanes old earlier ws = step_code scheduled nodes requests lanes old earlier (step_of ws)
 
 -- the schedule with a good line
 abbrev pub with_step : List ScheduleLine → Option Step → List ScheduleLine

@@ -7,6 +7,7 @@ ghost use Rattle.rex_scenario.specs.Headings as headings;
 
 use crate::scenario::Stage;
 use crate::words::count_of;
+use rex_ballot::NODES;
 use rex_text::{read_u64, words};
 
 /// Whether the first word of a line begins with `%`.
@@ -110,11 +111,11 @@ pub(crate) fn seed_after(next: Stage, words: &[&[u8]], before: u32) -> u32
 fn nodes_of(word: &[u8]) -> Option<u8>
     ensures value { result ≡ headings.nodes_of word.now }
 {
-    match read_u64(word)? {
-        1 => Some(1),
-        3 => Some(3),
-        5 => Some(5),
-        _ => None,
+    let n = read_u64(word)?;
+    if n % 2 == 1 && n <= NODES as u64 {
+        Some(n as u8)
+    } else {
+        None
     }
 }
 

@@ -3,6 +3,7 @@
 use rex_list::List;
 use rex_parse::{Above, ServiceCode};
 use rex_syntax::request::Request;
+use rex_version::Version;
 use std::alloc::AllocError;
 
 /// A line of a schedule. Nodes and messages are numbered from 1, lanes and requests from 0.
@@ -30,8 +31,8 @@ pub enum ScheduleLine {
     Stop { node: u8 },
     /// The node is started from what it has recorded.
     Start { node: u8 },
-    /// The node records the state that it has come to.
-    Checkpoint { node: u8 },
+    /// The node records the state that it has come to, in this version.
+    Checkpoint { node: u8, version: Version },
     /// The next record that the node appends will fail, and be kept or lost.
     KeepFail { node: u8, kept: bool },
 }
@@ -39,7 +40,7 @@ pub enum ScheduleLine {
 /// The requests and the schedule of a scenario, which its service is read beside.
 #[derive(Drop)]
 pub struct Scenario {
-    /// The number of nodes: 1, 3 or 5.
+    /// The number of nodes: 1, 3, 5, 7 or 9.
     pub nodes: u8,
     /// The seed of the random reads.
     pub seed: u32,
@@ -77,6 +78,8 @@ pub enum ScenarioCode {
     TooManyRequests,
     /// S12: limits that aren't as many as the lanes.
     WrongLimits,
+    /// S13: a checkpoint in the old version, where the service has more than 16 lanes or 256 variables.
+    NoOldForm,
 }
 
 /// Why a line was not taken.

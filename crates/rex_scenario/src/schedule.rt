@@ -9,7 +9,9 @@ ghost use Rattle.rex_scenario.specs.Schedule as schedule;
 
 use crate::scenario::{LineFault, ScenarioCode, ScheduleLine};
 use rex_list::List;
+use rex_syntax::service::LANES;
 use rex_text::read_u64;
+use rex_version::Version;
 use std::alloc::{AllocError, Global};
 
 /// A schedule line as it is spelled: its numbers are counted from 1, and may be of what isn't there.
@@ -26,7 +28,7 @@ pub(crate) enum Step {
     Ask(u64, u64),
     Stop(u64),
     Start(u64),
-    Checkpoint(u64),
+    Checkpoint(u64, Version),
     KeepFail(u64, bool),
 }
 
@@ -68,7 +70,7 @@ fn short_step(word: &[u8], number: &[u8]) -> Option<Step>
     } else if word == b"replay".as_slice() {
         Some(Step::Replay(number))
     } else if word == b"checkpoint".as_slice() {
-        Some(Step::Checkpoint(number))
+        Some(Step::Checkpoint(number, Version::Two))
     } else if word == b"stop".as_slice() {
         Some(Step::Stop(number))
     } else if word == b"start".as_slice() {
@@ -86,7 +88,21 @@ fn longer_step(word: &[u8], node: &[u8], other: &[u8]) -> Option<Step>
     if word == b"keepfail".as_slice() {
         return Some(Step::KeepFail(node, kept_of(other)?));
     }
+    if word == b"checkpoint".as_slice() {
+        return old_step(node, other);
+    }
     long_step(word, node, read_u64(other)?)
+}
+
+// A checkpoint in the old version.
+fn old_step(node: u64, word: &[u8]) -> Option<Step>
+    ensures { result ≡ schedule.old_step node word.now }
+{
+    if word == b"old".as_slice() {
+        Some(Step::Checkpoint(node, Version::One))
+    } else {
+        None
+    }
 }
 
 // A step of two numbers.
@@ -150,8 +166,8 @@ fn limit_of(word: &[u8]) -> Option<u32>
     u32::try_from(read_u64(word)?).ok()
 }
 
-/// The schedule line that words spell, or the code that fits, where so many nodes, requests and lanes are there, so many
-/// schedule lines came before, and the schedule may have lines, or may not.
+/// The schedule line that words spell, or the code that fits, where so many nodes, requests and lanes are there, the service's
+/// states have the old version or don't, so many schedule lines came before, and the schedule may have lines, or may not.
 pub(crate) fn read_schedule_line(
     alloc: Global,
     words: &[&[u8]],
@@ -159,11 +175,12 @@ pub(crate) fn read_schedule_line(
     nodes: u8,
     requests: usize,
     lanes: u64,
+    old: bool,
     earlier: usize,
 ) -> Result<ScheduleLine, LineFault>
     requires requests { requests ≤ 65536 }
-    requires lanes { lanes ≤ 16 }
-    ensures { Reads result (schedule.schedule_code scheduled nodes requests lanes earlier (texts words.now))
+    requires lanes { lanes ≤ LANES }
+    ensures { Reads result (schedule.schedule_code scheduled nodes requests lanes old earlier (texts words.now))
         (option_map schedule.line_of (schedule.step_of (texts words.now))) }
 {
     let Some(step) = step_of(alloc, words)? else {
@@ -176,11 +193,15 @@ pub(crate) fn read_schedule_line(
         return Err(LineFault::Refused(ScenarioCode::TooManyLines));
     }
     let is_complete = has_limits(&step, lanes);
+    let has_form = has_form(&step, old);
     let Some(line) = placed(step, nodes, requests as u64, lanes) else {
         return Err(LineFault::Refused(ScenarioCode::NotThere));
     };
     if !is_complete {
         return Err(LineFault::Refused(ScenarioCode::WrongLimits));
+    }
+    if !has_form {
+        return Err(LineFault::Refused(ScenarioCode::NoOldForm));
     }
     Ok(line)
 }
@@ -195,10 +216,20 @@ fn has_limits(step: &Step, lanes: u64) -> bool
     }
 }
 
+// Whether a checkpoint is in a version that the service's states have.
+fn has_form(step: &Step, old: bool) -> bool
+    ensures { result ≡ schedule.has_form old step.now }
+{
+    match step {
+        Step::Checkpoint(_, Version::One) => old,
+        _ => true,
+    }
+}
+
 // The schedule line that a step is, if what it names is there.
 fn placed(step: Step, nodes: u8, requests: u64, lanes: u64) -> Option<ScheduleLine>
     requires requests { requests ≤ 65536 }
-    requires lanes { lanes ≤ 16 }
+    requires lanes { lanes ≤ LANES }
     ensures { result ≡ (if schedule.is_there nodes requests lanes step then Some (schedule.line_of step) else None) }
 {
     let line = match step {
@@ -237,8 +268,9 @@ fn placed(step: Step, nodes: u8, requests: u64, lanes: u64) -> Option<ScheduleLi
         Step::Start(node) => ScheduleLine::Start {
             node: node_of(node, nodes)?,
         },
-        Step::Checkpoint(node) => ScheduleLine::Checkpoint {
+        Step::Checkpoint(node, version) => ScheduleLine::Checkpoint {
             node: node_of(node, nodes)?,
+            version,
         },
         Step::KeepFail(node, kept) => ScheduleLine::KeepFail {
             node: node_of(node, nodes)?,

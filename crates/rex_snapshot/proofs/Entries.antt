@@ -15,7 +15,7 @@ use Rattle.rex_snapshot.specs.Spelling.{EntryFits}
 
 -- ---- a place in a list
 
-set_at : {X : Type 0} (xs ys : List X) (x y : X) → set (xs ++ x ∷ ys) (length xs) y ≡ xs ++ y ∷ ys
+pub set_at : {X : Type 0} (xs ys : List X) (x y : X) → set (xs ++ x ∷ ys) (length xs) y ≡ xs ++ y ∷ ys
 set_at [] ys x y = refl
 set_at (z ∷ xs) ys x y = ap (λ zs. z ∷ zs) (set_at xs ys x y)
 

@@ -2,10 +2,12 @@
 use Rattle.std.proofs.Common.{◌≡◌, ℕ, ◌+◌, ◌-◌, Bool, true, false, ℤ, List, [], ◌++◌, length, Ok, refl, sym, subst, ◌∙◌, arith, FitsSigned, w64, eqb, append_assoc}
 use Rattle.std.specs.Prelude.{◌==◌, Option, Some, None, IfSome, if◌then◌else◌}
 use Rattle.std.specs.Int.{w16, w32, to_be_bytes}
-use Rattle.std.specs.List.{flat_map}
+use Rattle.std.specs.List.{All, flat_map}
 use Rattle.std.proofs.lemmas.Bool.{eqb-true, and_parts}
 use Rattle.arrayvec.specs.ArrayVec.{ArrayVec}
 use Rattle.rex_syntax.specs.declared.service.Declarations.{Declarations}
+use Rattle.rex_version.specs.declared.version.Version.{Version}
+use Rattle.rex_version.specs.Versions.{number_of, has_version}
 use Rattle.rex_state.specs.declared.lane.Queue.{Queue}
 use Rattle.rex_wire.specs.Reading.{Left}
 use Rattle.rex_wire.specs.Spelling.{byte, signed}
@@ -21,7 +23,10 @@ use Rattle.rex_snapshot.specs.Allowed.{is_served, waiters, may_be_waiter, may_be
 use Rattle.rex_snapshot.specs.Reading.{with_last, counted, waiter_at, queue_at, queues_at, given_at, reply_at, after_client, known_at, clients_at, parts_at, parts_in}
 use Rattle.rex_wire.proofs.Lists.{AreEach}
 use Rattle.rex_snapshot.proofs.ListLaws.{list_spelled, array_spelled}
-use Rattle.rex_snapshot.proofs.LaneLaws.{AreValues, values_spelled, IsSeat, seats_spelled}
+use Rattle.rex_snapshot.specs.Semaphores.{level_bytes}
+use Rattle.rex_snapshot.proofs.Levels.{AreLevels, levels_spelled}
+use Rattle.rex_snapshot.proofs.LaneLaws.{AreValues, IsSeat, seats_spelled}
+use Rattle.rex_snapshot.proofs.Variables.{version_spelled, variables_spelled}
 
 -- ---- queues
 
@@ -147,65 +152,71 @@ clients_spelled seats n = list_spelled (known_at seats) after_client known_bytes
 
 -- parts that were read
 pub record AreParts (service : Declarations) (p : Parts) : Type 0 where
+  pub version : has_version service p.version ≡ true
   pub seats : AreEach with_last (IsSeat service) [] p.seats
   pub lanes : length p.seats ≡ service.lanes
   pub variables : AreValues (length service.variables) p.variables
   pub queues : AreEach counted (IsQueueOf p.seats) 0 p.queues
   pub conditions : length p.queues ≡ length service.conditions
+  pub semaphores : AreLevels (length service.semaphores) p.semaphores
   pub count : may_be_count p.seats (length p.clients) ≡ true
   pub clients : AreEach after_client (IsKnownAfter p.seats) (0, length p.clients - 1) p.clients
 
-abbrev pub parts_with : List Seat → List ℤ → List Queue → List Known → Parts
-parts_with seats variables queues clients = record { seats = seats; variables = variables; queues = queues; clients = clients }
+abbrev pub parts_with : Version → List Seat → List ℤ → List Queue → List ℕ → List Known → Parts
+parts_with version seats variables queues semaphores clients = record { version = version; seats = seats; variables = variables; queues = queues; semaphores = semaphores; clients = clients }
 
-pub parts_text : (p : Parts) → parts_bytes p ≡ byte 1 ++ (byte (length p.seats) ++ (flat_map seat_bytes p.seats ++ (variables_bytes p.variables ++ (flat_map queue_bytes p.queues ++ (to_be_bytes w16 (length p.clients) ++ flat_map known_bytes p.clients)))))
-parts_text p = simp append_assoc
+pub parts_text : (service : Declarations) (p : Parts)
+    → parts_bytes service p ≡ byte (number_of p.version) ++ (byte (length p.seats) ++ (flat_map seat_bytes p.seats ++ (variables_bytes service p.version p.variables ++ (flat_map queue_bytes p.queues ++ (flat_map level_bytes p.semaphores ++ (to_be_bytes w16 (length p.clients) ++ flat_map known_bytes p.clients))))))
+parts_text service p = simp append_assoc
 
-parts_taken : (l a b c d e f g : Left) (version lanes count : ℕ) (p : Parts) → Takes l (byte version) a → Takes a (byte lanes) b → Takes b (flat_map seat_bytes p.seats) c → Takes c (variables_bytes p.variables) d → Takes d (flat_map queue_bytes p.queues) e → Takes e (to_be_bytes w16 count) f
-    → Takes f (flat_map known_bytes p.clients) g → version ≡ 1 → length p.seats ≡ lanes → length p.clients ≡ count → Takes l (parts_bytes p) g
-parts_taken l a b c d e f g version lanes count p t1 t2 t3 t4 t5 t6 t7 e1 e2 e3 =
-    let one : Takes l (byte 1) a = rw (← e1) t1 in
+parts_taken : (service : Declarations) (l a b c d e s f g : Left) (lanes count : ℕ) (p : Parts) → Takes l (byte (number_of p.version)) a → Takes a (byte lanes) b → Takes b (flat_map seat_bytes p.seats) c → Takes c (variables_bytes service p.version p.variables) d → Takes d (flat_map queue_bytes p.queues) e
+    → Takes e (flat_map level_bytes p.semaphores) s → Takes s (to_be_bytes w16 count) f → Takes f (flat_map known_bytes p.clients) g → length p.seats ≡ lanes → length p.clients ≡ count → Takes l (parts_bytes service p) g
+parts_taken service l a b c d e s f g lanes count p t1 t2 t3 t4 t5 t6 t7 t8 e2 e3 =
     let two : Takes a (byte (length p.seats)) b = rw e2 t2 in
-    let six : Takes e (to_be_bytes w16 (length p.clients)) f = rw e3 t6 in
-    subst (λ (text : List ℕ). Takes l text g) (sym (parts_text p))
-    (Takes-then l a g (byte 1) _ one
+    let seven : Takes s (to_be_bytes w16 (length p.clients)) f = rw e3 t7 in
+    subst (λ (text : List ℕ). Takes l text g) (sym (parts_text service p))
+    (Takes-then l a g (byte (number_of p.version)) _ t1
     (Takes-then a b g (byte (length p.seats)) _ two
     (Takes-then b c g (flat_map seat_bytes p.seats) _ t3
-    (Takes-then c d g (variables_bytes p.variables) _ t4
+    (Takes-then c d g (variables_bytes service p.version p.variables) _ t4
     (Takes-then d e g (flat_map queue_bytes p.queues) _ t5
-    (Takes-then e f g (to_be_bytes w16 (length p.clients)) (flat_map known_bytes p.clients) six t7))))))
+    (Takes-then e s g (flat_map level_bytes p.semaphores) _ t6
+    (Takes-then s f g (to_be_bytes w16 (length p.clients)) (flat_map known_bytes p.clients) seven t8)))))))
 
-parts_are : (service : Declarations) (lanes count : ℕ) (p : Parts) → lanes ≡ service.lanes → AreEach with_last (IsSeat service) [] p.seats × (length p.seats ≡ lanes) → AreValues (length service.variables) p.variables → AreEach counted (IsQueueOf p.seats) 0 p.queues × (length p.queues ≡ length service.conditions)
-    → may_be_count p.seats count ≡ true → AreEach after_client (IsKnownAfter p.seats) (0, count - 1) p.clients × (length p.clients ≡ count) → AreParts service p
-parts_are service lanes count p e seats variables queues counts clients = record {
+parts_are : (service : Declarations) (lanes count : ℕ) (p : Parts) → has_version service p.version ≡ true → lanes ≡ service.lanes → AreEach with_last (IsSeat service) [] p.seats × (length p.seats ≡ lanes) → length p.variables ≡ length service.variables → AreEach counted (IsQueueOf p.seats) 0 p.queues × (length p.queues ≡ length service.conditions)
+    → AreLevels (length service.semaphores) p.semaphores → may_be_count p.seats count ≡ true → AreEach after_client (IsKnownAfter p.seats) (0, count - 1) p.clients × (length p.clients ≡ count) → All (FitsSigned w64) p.variables → AreParts service p
+parts_are service lanes count p has e seats variables queues semaphores counts clients typed = record {
+  version = has;
   seats = seats.0;
   lanes = seats.1 ∙ e;
-  variables = variables;
+  variables = record { typed = typed; long = variables };
   queues = queues.0;
   conditions = queues.1;
+  semaphores = semaphores;
   count = subst (λ (n : ℕ). may_be_count p.seats n ≡ true) (sym clients.1) counts;
   clients = subst (λ (n : ℕ). AreEach after_client (IsKnownAfter p.seats) (0, n - 1) p.clients) (sym clients.1) clients.0;
 }
 
-pub parts_spelled : (service : Declarations) → IsSpelled (parts_at service) parts_bytes (AreParts service)
+pub parts_spelled : (service : Declarations) → IsSpelled (parts_at service) (parts_bytes service) (λ p. All (FitsSigned w64) p.variables → AreParts service p)
 unfolding parts_at
 parts_spelled service = record {
   takes = λ l x bytes e.
-      let version = step (allowed_spelled wide8 (λ n. n == 1)) l _ x bytes e in
+      let version = step (version_spelled service) l _ x bytes e in
       let lanes = step (allowed_spelled wide8 (λ n. n == service.lanes)) version.left _ x version.takes.bytes version.next in
       let seats = step (seats_spelled service lanes.value) lanes.left _ x lanes.takes.bytes lanes.next in
-      let variables = step (values_spelled (length service.variables)) seats.left _ x seats.takes.bytes seats.next in
+      let variables = step (variables_spelled service version.value) seats.left _ x seats.takes.bytes seats.next in
       let queues = step (queues_spelled seats.value (length service.conditions)) variables.left _ x variables.takes.bytes variables.next in
-      let count = step (allowed_spelled wide16 (may_be_count seats.value)) queues.left _ x queues.takes.bytes queues.next in
+      let semaphores = step (levels_spelled (length service.semaphores)) queues.left _ x queues.takes.bytes queues.next in
+      let count = step (allowed_spelled wide16 (may_be_count seats.value)) semaphores.left _ x semaphores.takes.bytes semaphores.next in
       let clients = step (clients_spelled seats.value count.value) count.left _ x count.takes.bytes count.next in
-      is_taken parts_bytes (AreParts service) l (parts_with seats.value variables.value queues.value clients.value, clients.left) x clients.next (
-        parts_taken l version.left lanes.left seats.left variables.left queues.left count.left clients.left version.value lanes.value count.value (parts_with seats.value variables.value queues.value clients.value) version.takes lanes.takes seats.takes variables.takes queues.takes count.takes clients.takes
-            (eqb-true version.value 1 version.may) seats.may.1 clients.may.1,
-        parts_are service lanes.value count.value (parts_with seats.value variables.value queues.value clients.value) (eqb-true lanes.value service.lanes lanes.may) seats.may variables.may queues.may count.may clients.may,
+      let p = parts_with version.value seats.value variables.value queues.value semaphores.value clients.value in
+      is_taken (parts_bytes service) (λ q. All (FitsSigned w64) q.variables → AreParts service q) l (p, clients.left) x clients.next (
+        parts_taken service l version.left lanes.left seats.left variables.left queues.left semaphores.left count.left clients.left lanes.value count.value p version.takes lanes.takes seats.takes variables.takes queues.takes semaphores.takes count.takes clients.takes seats.may.1 clients.may.1,
+        λ typed. parts_are service lanes.value count.value p version.may (eqb-true lanes.value service.lanes lanes.may) seats.may variables.may queues.may semaphores.may count.may clients.may typed,
       );
 }
 
 -- what is read whole is all of the bytes
-pub parts_found : (service : Declarations) (bytes : List ℕ) (p : Parts) → IsBytes bytes → parts_in service bytes ≡ Ok p → AreParts service p × (bytes ≡ parts_bytes p)
+pub parts_found : (service : Declarations) (bytes : List ℕ) (p : Parts) → IsBytes bytes → parts_in service bytes ≡ Ok p → All (FitsSigned w64) p.variables → AreParts service p × (bytes ≡ parts_bytes service p)
 unfolding parts_in
-parts_found service bytes p are e = let f = whole_found (parts_spelled service) bytes p are e in (f.has, f.bytes_are)
+parts_found service bytes p are e typed = let f = whole_found (parts_spelled service) bytes p are e in (f.has typed, f.bytes_are)

@@ -1,5 +1,5 @@
 -- Queues, clients and the whole: what is spelled is read again.
-use Rattle.std.proofs.Common.{◌≡◌, ℕ, ◌+◌, ◌-◌, ◌≤◌, ℤ, List, [], ◌++◌, length, Ok, refl, sym, subst, arith, FitsSigned, w64, eq-eqb}
+use Rattle.std.proofs.Common.{◌≡◌, ℕ, ◌+◌, ◌-◌, ◌≤◌, ℤ, List, [], ◌++◌, length, Ok, sym, subst, arith, FitsSigned, w64, eq-eqb}
 use Rattle.std.specs.Prelude.{◌==◌, Option, Some, None, IfSome}
 use Rattle.std.specs.Int.{w8, w16, w32, to_be_bytes}
 use Rattle.std.specs.List.{flat_map, count_by}
@@ -7,6 +7,8 @@ use Rattle.std.proofs.lemmas.Bool.{and_parts}
 use Rattle.std.proofs.lemmas.List.Sums.{count_by-le-length}
 use Rattle.rex_syntax.specs.declared.service.Declarations.{Declarations}
 use Rattle.rex_syntax.specs.Service.{IsService}
+use Rattle.rex_event.specs.Limits.{most_lanes}
+use Rattle.rex_version.specs.Versions.{number_of}
 use Rattle.rex_state.specs.declared.lane.Queue.{Queue}
 use Rattle.rex_wire.specs.Reading.{◌>>=◌, signed_at, allowed_at, list_at}
 use Rattle.rex_wire.specs.Spelling.{byte, signed}
@@ -19,15 +21,18 @@ use Rattle.rex_snapshot.specs.declared.parts.Known.{Known}
 use Rattle.rex_snapshot.specs.declared.parts.Parts.{Parts}
 use Rattle.rex_snapshot.specs.Spelling.{seat_bytes, waiter_bytes, queue_bytes, reply_bytes, known_bytes, variables_bytes, parts_bytes}
 use Rattle.rex_snapshot.specs.Allowed.{is_condition, is_busy, waiters, may_be_waiter, may_be_count, may_be_client, may_be_sequence, may_be_replied}
-use Rattle.rex_snapshot.specs.Reading.{with_last, counted, into_array, seats_at, waiter_at, queue_at, queues_at, given_at, reply_at, after_client, known_at, clients_at, variables_at, parts_at, parts_in}
+use Rattle.rex_snapshot.specs.Reading.{with_last, counted, into_array, seats_at, waiter_at, queue_at, queues_at, given_at, reply_at, after_client, known_at, clients_at, version_at, variables_at, parts_at, parts_in}
 use Rattle.rex_wire.proofs.Lists.{AreEach}
+use Rattle.rex_snapshot.specs.Semaphores.{level_bytes, levels_at}
+use Rattle.rex_snapshot.proofs.Levels.{levels_again}
 use Rattle.rex_snapshot.proofs.ListLaws.{list_again, array_again}
 use Rattle.rex_snapshot.proofs.PartLaws.{MayWait, IsQueueOf, queue_of, reply_number, reply_text, reply_parts, IsKnownAfter, client_with, AreParts, parts_with, parts_text}
-use Rattle.rex_snapshot.proofs.LanesAgain.{values_again, seats_again}
+use Rattle.rex_snapshot.proofs.LanesAgain.{seats_again}
+use Rattle.rex_snapshot.proofs.Variables.{version_again, variables_read}
 
 -- ---- queues
 
-waiter_again : (seats : List Seat) (condition : ℕ) (earlier : List ℕ) (lane : ℕ) → length seats ≤ 16 → MayWait seats condition earlier lane → IsRead (waiter_at seats condition earlier) (waiter_bytes lane) lane
+waiter_again : (seats : List Seat) (condition : ℕ) (earlier : List ℕ) (lane : ℕ) → length seats ≤ most_lanes → MayWait seats condition earlier lane → IsRead (waiter_at seats condition earlier) (waiter_bytes lane) lane
 unfolding waiter_at
 waiter_again seats condition earlier lane few may =
     let range = is_between-true 1 (length seats) (lane + 1) (and_parts _ _ may).0 in
@@ -36,7 +41,7 @@ waiter_again seats condition earlier lane few may =
     (IsRead-last (allowed_at w8 (may_be_waiter seats condition earlier)) (λ n. n - 1) (waiter_bytes lane) (lane + 1)
     (allowed_again wide8 (may_be_waiter seats condition earlier) (lane + 1) (omega (arith, range.1)) may))
 
-pub queue_again : (seats : List Seat) (condition : ℕ) (q : Queue) → length seats ≤ 16 → IsQueueOf seats condition q → IsRead (queue_at seats condition) (queue_bytes q) q
+pub queue_again : (seats : List Seat) (condition : ℕ) (q : Queue) → length seats ≤ most_lanes → IsQueueOf seats condition q → IsRead (queue_at seats condition) (queue_bytes q) q
 unfolding queue_at
 queue_again seats condition q few is =
     let count = length q.lanes.items in
@@ -46,7 +51,7 @@ queue_again seats condition q few is =
     (array_again (λ l. list_at (waiter_at seats condition) with_last count [] l) (flat_map waiter_bytes q.lanes.items) q.lanes.items
     (list_again (waiter_at seats condition) with_last waiter_bytes (MayWait seats condition) (λ earlier lane may. waiter_again seats condition earlier lane few may) [] q.lanes.items is.lanes)))
 
-pub queues_again : (seats : List Seat) (qs : List Queue) → length seats ≤ 16 → AreEach counted (IsQueueOf seats) 0 qs → IsRead (queues_at seats (length qs)) (flat_map queue_bytes qs) qs
+pub queues_again : (seats : List Seat) (qs : List Queue) → length seats ≤ most_lanes → AreEach counted (IsQueueOf seats) 0 qs → IsRead (queues_at seats (length qs)) (flat_map queue_bytes qs) qs
 queues_again seats qs few each = list_again (queue_at seats) counted queue_bytes (IsQueueOf seats) (λ condition q is. queue_again seats condition q few is) 0 qs each
 
 -- ---- clients
@@ -81,27 +86,27 @@ clients_again seats ks each = list_again (known_at seats) after_client known_byt
 
 -- ---- the whole
 
-pub parts_read : (service : Declarations) (p : Parts) → IsService service → AreParts service p → IsRead (parts_at service) (parts_bytes p) p
+pub parts_read : (service : Declarations) (p : Parts) → IsService service → AreParts service p → IsRead (parts_at service) (parts_bytes service p) p
 unfolding parts_at
 parts_read service p good are =
     let lanes = length p.seats in
-    let few : lanes ≤ 16 = omega (arith, are.lanes, good.lanes) in
+    let few : lanes ≤ most_lanes = omega (arith, are.lanes, good.lanes) in
     let count = length p.clients in
     let counts = is_between-true (count_by (λ s. is_busy s.lane.frame) p.seats) 256 count are.count in
-    let variables : IsRead (variables_at service) (variables_bytes p.variables) p.variables = record { again = (values_again (length service.variables) p.variables are.variables).again } in
     let queues : IsRead (queues_at p.seats (length service.conditions)) (flat_map queue_bytes p.queues) p.queues = subst (λ (n : ℕ). IsRead (queues_at p.seats n) (flat_map queue_bytes p.queues) p.queues) are.conditions (queues_again p.seats p.queues few are.queues) in
-    subst (λ (text : List ℕ). IsRead (parts_at service) text p) (sym (parts_text p))
-    (IsRead-then (allowed_at w8 (λ n. n == 1)) _ (byte 1) _ 1 p (allowed_again wide8 (λ n. n == 1) 1 (omega arith) refl)
+    subst (λ (text : List ℕ). IsRead (parts_at service) text p) (sym (parts_text service p))
+    (IsRead-then (version_at service) _ (byte (number_of p.version)) _ p.version p (version_again service p.version are.version)
     (IsRead-then (allowed_at w8 (λ n. n == service.lanes)) _ (byte lanes) _ lanes p (allowed_again wide8 (λ n. n == service.lanes) lanes (omega (arith, few)) (eq-eqb lanes service.lanes are.lanes))
     (IsRead-then (seats_at service lanes) _ (flat_map seat_bytes p.seats) _ p.seats p (seats_again service good p.seats are.seats)
-    (IsRead-then (variables_at service) _ (variables_bytes p.variables) _ p.variables p variables
+    (IsRead-then (variables_at service p.version) _ (variables_bytes service p.version p.variables) _ p.variables p (variables_read service p.version p.variables good are.variables)
     (IsRead-then (queues_at p.seats (length service.conditions)) _ (flat_map queue_bytes p.queues) _ p.queues p queues
+    (IsRead-then (levels_at (length service.semaphores)) _ (flat_map level_bytes p.semaphores) _ p.semaphores p (levels_again (length service.semaphores) p.semaphores are.semaphores)
     (IsRead-then (allowed_at w16 (may_be_count p.seats)) _ (to_be_bytes w16 count) (flat_map known_bytes p.clients) count p (allowed_again wide16 (may_be_count p.seats) count (omega (arith, counts.1)) are.count)
-    (IsRead-last (clients_at p.seats count) (λ clients. parts_with p.seats p.variables p.queues clients) (flat_map known_bytes p.clients) p.clients (clients_again p.seats p.clients are.clients))))))))
+    (IsRead-last (clients_at p.seats count) (λ clients. parts_with p.version p.seats p.variables p.queues p.semaphores clients) (flat_map known_bytes p.clients) p.clients (clients_again p.seats p.clients are.clients)))))))))
 
-pub parts_whole : (service : Declarations) (p : Parts) → IsService service → AreParts service p → parts_in service (parts_bytes p) ≡ Ok p
+pub parts_whole : (service : Declarations) (p : Parts) → IsService service → AreParts service p → parts_in service (parts_bytes service p) ≡ Ok p
 unfolding parts_in
 parts_whole service p good are = whole_again (parts_read service p good are)
 
-pub no_parts_begin : (service : Declarations) (p q : Parts) (rest : List ℕ) → IsService service → AreParts service p → AreParts service q → parts_bytes p ≡ parts_bytes q ++ rest → (p ≡ q) × (rest ≡ [])
+pub no_parts_begin : (service : Declarations) (p q : Parts) (rest : List ℕ) → IsService service → AreParts service p → AreParts service q → parts_bytes service p ≡ parts_bytes service q ++ rest → (p ≡ q) × (rest ≡ [])
 no_parts_begin service p q rest good hp hq same_bytes = begins_no_other (parts_read service p good hp) (parts_read service q good hq) rest same_bytes

@@ -12,6 +12,10 @@ use Rattle.rex_syntax.specs.declared.line.Line.{Line}
 use Rattle.rex_syntax.specs.declared.line.Line.TheVariants.{Repeat, EndRepeat, EndIf}
 use Rattle.rex_syntax.specs.declared.service.Declarations.{Declarations}
 use Rattle.rex_syntax.specs.Service.{IsService}
+use Rattle.rex_event.specs.Limits.{most_lanes}
+use Rattle.rex_version.specs.declared.version.Version.{Version}
+use Rattle.rex_version.specs.declared.version.Version.TheVariants.{One, Two}
+use Rattle.rex_version.specs.Versions.{number_of}
 use Rattle.rex_syntax.specs.Shape.{IsShaped, LeadsOn, open_at, open_after}
 use Rattle.rex_frame.specs.declared.frame.Turn.{Turn}
 use Rattle.rex_frame.specs.declared.frame.Frame.{Frame}
@@ -25,12 +29,17 @@ use Rattle.rex_state.specs.Machine.{no_lane, no_queue, frame_at, queue_at}
 use Rattle.rex_state.specs.Sound.{with_flows}
 use Rattle.rex_state.proofs.Names.{lane_in, waiting_there, handler_at, lines_are, locals_are}
 use Rattle.rex_state.proofs.Rooms.{once_few}
+use Rattle.rex_state.specs.Start.{first_of}
 use Rattle.rex_wire.specs.Spelling.{byte, signed}
 use Rattle.rex_wire.proofs.Numbers.{wide16, wide32, wide64}
 use Rattle.rex_snapshot.specs.declared.parts.Known.{Known}
+use Rattle.rex_snapshot.specs.declared.parts.Change.{Change}
+use Rattle.rex_snapshot.specs.Changes.{firsts, changes_of}
 use Rattle.rex_snapshot.specs.Parts.{waits_in, seat_of, seats_from, known_of, known_if, known_from, parts_of}
-use Rattle.rex_snapshot.specs.Spelling.{turn_bytes, frame_bytes, busy_bytes, seat_bytes, waiter_bytes, queue_bytes, reply_bytes, known_bytes, variables_bytes}
+use Rattle.rex_snapshot.specs.Spelling.{turn_bytes, frame_bytes, busy_bytes, seat_bytes, waiter_bytes, queue_bytes, reply_bytes, known_bytes, change_bytes, changes_bytes, variables_bytes}
+use Rattle.rex_snapshot.specs.Semaphores.{level_bytes}
 use Rattle.rex_snapshot.specs.Laws.{SnapshotsAreShort}
+use Rattle.rex_snapshot.proofs.Changes.{few_noted}
 use Rattle.rex_snapshot.proofs.PartLaws.{parts_text}
 
 -- ---- texts one after the other
@@ -53,6 +62,9 @@ eight_bytes v = omega (arith, wide64.long (cast_unsigned w64 v))
 
 values_short : (vs : List ℤ) → length (flat_map signed vs) ≤ length vs * 8
 values_short vs = all_short signed 8 vs (λ i d lt. eight_bytes (get_or vs i d))
+
+levels_short : (vs : List ℕ) → length (flat_map level_bytes vs) ≤ length vs * 4
+levels_short vs = all_short level_bytes 4 vs (λ i d lt. four_bytes (get_or vs i d))
 
 turns_short : (ts : List Turn) → length (flat_map turn_bytes ts) ≤ length ts * 2
 turns_short ts = all_short turn_bytes 2 ts (λ i d lt. two_bytes (get_or ts i d).left)
@@ -116,7 +128,7 @@ module _ (service : Declarations) (good : IsService service) where
 
 -- ---- queues
 
-queue_short : (q : Queue) → length q.lanes.items ≤ 16 → length (queue_bytes q) ≤ 17
+queue_short : (q : Queue) → length q.lanes.items ≤ most_lanes → length (queue_bytes q) ≤ 65
 queue_short q few =
     let each : length (flat_map waiter_bytes q.lanes.items) ≤ length q.lanes.items * 1 = all_short waiter_bytes 1 q.lanes.items (λ i d lt. omega arith) in
     omega (arith, few, each)
@@ -149,30 +161,50 @@ clients_short n (e ∷ es) =
     let parts = flat_map-append known_bytes (known_if n e) (known_from (n + 1) es) in
     omega (arith, ap length parts, length-append (flat_map known_bytes (known_if n e)) (flat_map known_bytes (known_from (n + 1) es)), if_short n e, clients_short (n + 1) es)
 
+-- ---- variables
+
+change_short : (c : Change) → length (change_bytes c) ≤ 10
+change_short c = both_short (to_be_bytes w16 (c.variable + 1)) (signed c.value) 2 8 (two_bytes (c.variable + 1)) (eight_bytes c.value)
+
+changes_short : (cs : List Change) (most : ℕ) → length cs ≤ most → length (changes_bytes cs) ≤ 2 + most * 10
+changes_short cs most few =
+    let each = all_short change_bytes 10 cs (λ i d lt. change_short (get_or cs i d)) in
+    both_short (to_be_bytes w16 (length cs)) (flat_map change_bytes cs) 2 (most * 10) (two_bytes (length cs)) (omega (arith, each, few))
+
+-- so many variables, at most 1,024, have at most 10,242 bytes in each version
+variables_short : (service : Declarations) (v : Version) (vs : List ℤ) → length service.variables ≤ 1024 → length vs ≡ length service.variables → length (variables_bytes service v vs) ≤ 10242
+variables_short service One vs few long = omega (arith, values_short vs, few, long)
+variables_short service Two vs few long =
+    let noted : length (changes_of service vs) ≤ 1024 = omega (arith, few, few_noted 0 (firsts service) vs, length-map service.variables first_of) in
+    omega (arith, changes_short (changes_of service vs) 1024 noted)
+
 -- ---- the whole
 
 pub snapshots_are_short : SnapshotsAreShort
-snapshots_are_short service s good sound limited =
-    let p = parts_of s in
-    let few : length s.lanes ≤ 16 = omega (arith, sound.by.complete.lanes, good.lanes) in
+snapshots_are_short service version s good old sound limited =
+    let p = parts_of version s in
+    let few : length s.lanes ≤ most_lanes = omega (arith, sound.by.complete.lanes, good.lanes) in
     let fit : All (LaneFits service good) s.lanes = λ i d lt.
     let own : LaneFits service good (get_or s.lanes i no_lane) = record { frame = lane_in (with_flows service sound.flows) (frame_at s i) (sound.by.fits i) } in
     subst (LaneFits service good) (get_or_default s.lanes i no_lane d lt) own in
-    let queued : All (λ q. length (queue_bytes q) ≤ 17) s.queues = λ i d lt.
-    let short : length (queue_at s.queues i) ≤ 16 = once_few (queue_at s.queues i) 16 (sound.by.queued.once i) (λ lane h. omega (arith, waiting_there service s i lane sound.by.queued h, few)) in
-    subst (λ (q : Queue). length (queue_bytes q) ≤ 17) (get_or_default s.queues i no_queue d lt) (queue_short (get_or s.queues i no_queue) short) in
-    let seats : length (flat_map seat_bytes p.seats) ≤ 2400 = omega (arith, few, seats_short service good s.queues 0 s.lanes fit) in
-    let variables : length (variables_bytes s.variables) ≤ 2048 = omega (arith, values_short s.variables, sound.by.complete.variables, good.few_variables) in
-    let queues : length (flat_map queue_bytes s.queues) ≤ 1088 = omega (arith, all_short queue_bytes 17 s.queues queued, sound.by.complete.queues, good.few_conditions) in
+    let queued : All (λ q. length (queue_bytes q) ≤ 65) s.queues = λ i d lt.
+    let short : length (queue_at s.queues i) ≤ most_lanes = once_few (queue_at s.queues i) most_lanes (sound.by.queued.once i) (λ lane h. omega (arith, waiting_there service s i lane sound.by.queued h, few)) in
+    subst (λ (q : Queue). length (queue_bytes q) ≤ 65) (get_or_default s.queues i no_queue d lt) (queue_short (get_or s.queues i no_queue) short) in
+    let seats : length (flat_map seat_bytes p.seats) ≤ 9600 = omega (arith, few, seats_short service good s.queues 0 s.lanes fit) in
+    let variables : length (variables_bytes service version s.variables) ≤ 10242 = variables_short service version s.variables (omega (arith, good.few_variables)) sound.by.complete.variables in
+    let queues : length (flat_map queue_bytes s.queues) ≤ 4160 = omega (arith, all_short queue_bytes 65 s.queues queued, sound.by.complete.queues, good.few_conditions) in
+    let semaphores : length (flat_map level_bytes s.semaphores) ≤ 256 = omega (arith, levels_short s.semaphores, sound.by.complete.semaphores, good.few_semaphores) in
     let clients : length (flat_map known_bytes p.clients) ≤ 3855 = omega (arith, clients_short 0 s.clients, sound.by.complete.clients) in
     let count : List ℕ = to_be_bytes w16 (length p.clients) ++ flat_map known_bytes p.clients in
-    let waiting : List ℕ = flat_map queue_bytes s.queues ++ count in
-    let values : List ℕ = variables_bytes s.variables ++ waiting in
+    let levels : List ℕ = flat_map level_bytes s.semaphores ++ count in
+    let waiting : List ℕ = flat_map queue_bytes s.queues ++ levels in
+    let values : List ℕ = variables_bytes service version s.variables ++ waiting in
     let lanes : List ℕ = flat_map seat_bytes p.seats ++ values in
-    let five = both_short (to_be_bytes w16 (length p.clients)) (flat_map known_bytes p.clients) 2 3855 (two_bytes (length p.clients)) clients in
-    let four = both_short (flat_map queue_bytes s.queues) count 1088 3857 queues five in
-    let three = both_short (variables_bytes s.variables) waiting 2048 4945 variables four in
-    let two = both_short (flat_map seat_bytes p.seats) values 2400 6993 seats three in
-    let one = both_short (byte (length p.seats)) lanes 1 9393 (omega arith) two in
-    let whole = both_short (byte 1) (byte (length p.seats) ++ lanes) 1 9394 (omega arith) one in
-    subst (λ (text : List ℕ). length text ≤ 65536) (sym (parts_text p)) (omega (arith, whole))
+    let six = both_short (to_be_bytes w16 (length p.clients)) (flat_map known_bytes p.clients) 2 3855 (two_bytes (length p.clients)) clients in
+    let five = both_short (flat_map level_bytes s.semaphores) count 256 3857 semaphores six in
+    let four = both_short (flat_map queue_bytes s.queues) levels 4160 4113 queues five in
+    let three = both_short (variables_bytes service version s.variables) waiting 10242 8273 variables four in
+    let two = both_short (flat_map seat_bytes p.seats) values 9600 18515 seats three in
+    let one = both_short (byte (length p.seats)) lanes 1 28115 (omega arith) two in
+    let whole = both_short (byte (number_of version)) (byte (length p.seats) ++ lanes) 1 28116 (omega arith) one in
+    subst (λ (text : List ℕ). length text ≤ 65536) (sym (parts_text service p)) (omega (arith, whole))

@@ -14,6 +14,8 @@ use Rattle.rex_syntax.specs.declared.locks.Mode.TheVariants.{Free, Shared, Exclu
 use Rattle.rex_syntax.specs.declared.locks.Lockset.{Lockset}
 use Rattle.rex_syntax.specs.declared.service.Declarations.{Declarations}
 use Rattle.rex_syntax.specs.Service.{IsService}
+use Rattle.rex_version.specs.declared.version.Version.{Version}
+use Rattle.rex_version.specs.Versions.{has_version}
 use Rattle.rex_syntax.specs.Locks.{mode_of, with_mode, no_locks}
 use Rattle.rex_event.specs.Order.{Has}
 use Rattle.rex_frame.specs.declared.frame.Phase.{Phase}
@@ -531,18 +533,20 @@ module _ (service : Declarations) (good : IsService service) (s : StateValue) (s
 
   -- ---- the whole
 
-  pub are_parts : AreParts service (parts_of s)
-  are_parts = record {
+  pub are_parts : (v : Version) → has_version service v ≡ true → AreParts service (parts_of v s)
+  are_parts v old = record {
+    version = old;
     seats = seats_are;
     lanes = long_seats ∙ sound.by.complete.lanes;
     variables = record { typed = has.typed.variables; long = sound.by.complete.variables };
     queues = queues_are;
     conditions = sound.by.complete.queues;
+    semaphores = record { bounded = sound.by.bounded; long = sound.by.complete.semaphores };
     count = between-is (count_by (λ x. is_busy x.lane.frame) seats) 256 (length clients) (busy_few, few_clients);
     clients = known_each seats are_apart 0 clients clients_rise good_client (λ lane f e less. covers lane f e);
   }
 
-  pub state_again : state_of (parts_of s) ≡ s
-  state_again =
-      let make : List Lane → List Entry → StateValue = λ lanes entries. record { variables = s.variables; lanes = lanes; queues = s.queues; clients = entries } in
+  pub state_again : (v : Version) → state_of (parts_of v s) ≡ s
+  state_again v =
+      let make : List Lane → List Entry → StateValue = λ lanes entries. record { variables = s.variables; lanes = lanes; queues = s.queues; semaphores = s.semaphores; clients = entries } in
       ap (λ (ls : List Lane). make ls (entered no_entries clients)) (lanes_again s.queues 0 s.lanes) ∙ ap (make s.lanes) (entries_again s.clients sound.by.complete.clients has.limited.entries)

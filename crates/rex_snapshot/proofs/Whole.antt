@@ -224,6 +224,7 @@ module _ (service : Declarations) (flows : _) (good : IsService service) (right 
       variables = are.variables.long;
       lanes = length-map p.seats lane_in ∙ are.lanes;
       queues = are.conditions;
+      semaphores = are.semaphores.long;
       clients = length-entered no_entries p.clients ∙ length-replicate 257 no_entry;
     };
     fits = λ lane. subst (Fits (with_flows service flows)) (sym (frame_is p lane)) (fits_by service flows good right p.seats are.seats lane (frame_in p.seats lane) refl).0;
@@ -235,6 +236,7 @@ module _ (service : Declarations) (flows : _) (good : IsService service) (right 
       apart = λ l m f g other e k. clients_apart service flows good right p.seats l m f g are.seats other (sym (frame_is p l) ∙ e) (sym (frame_is p m) ∙ k);
       others = open_served;
     };
+    bounded = are.semaphores.bounded;
   }
 
   pub sound : IsSound service (state_of p)
@@ -293,8 +295,8 @@ pub have_places : (service : Declarations) (p : Parts) → AreParts service p �
 have_places service p are = AreEach-all after_client (IsKnownAfter p.seats) HasPlace (has_place p.seats) (0, length p.clients - 1) p.clients are.clients
 
 -- the parts of the state are those that were read
-pub parts_again : (service : Declarations) (p : Parts) → IsService service → AreParts service p → parts_of (state_of p) ≡ p
+pub parts_again : (service : Declarations) (p : Parts) → IsService service → AreParts service p → parts_of p.version (state_of p) ≡ p
 parts_again service p good are =
-    let make : List Seat → List Known → Parts = λ seats clients. record { seats = seats; variables = p.variables; queues = p.queues; clients = clients } in
+    let make : List Seat → List Known → Parts = λ seats clients. record { version = p.version; seats = seats; variables = p.variables; queues = p.queues; semaphores = p.semaphores; clients = clients } in
     ap (λ (ss : List Seat). make ss (known_from 0 (entered no_entries p.clients))) (seats_again service good p.seats p.queues are.seats are.queues are.conditions)
     ∙ ap (make p.seats) (known_again p.clients (rising_each p.seats (0, length p.clients - 1) p.clients are.clients))

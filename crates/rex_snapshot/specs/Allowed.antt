@@ -5,6 +5,9 @@ use Rattle.rex_syntax.specs.declared.line.Line.{Line}
 use Rattle.rex_syntax.specs.declared.line.Line.TheVariants.{Wait}
 use Rattle.rex_syntax.specs.declared.locks.Lockset.{Lockset}
 use Rattle.rex_syntax.specs.declared.service.Declarations.{Declarations}
+use Rattle.rex_version.specs.declared.version.Version.{Version}
+use Rattle.rex_version.specs.declared.version.Version.TheVariants.{One, Two}
+use Rattle.rex_version.specs.Versions.{has_version}
 use Rattle.rex_frame.specs.declared.frame.Frame.{Frame}
 use Rattle.rex_frame.specs.Handlers.{lines_of}
 use Rattle.rex_state.specs.Lines.{is_primitive}
@@ -13,6 +16,20 @@ use Rattle.rex_state.specs.Machine.{is_in, no_lane}
 use Rattle.rex_wire.specs.Ranges.{is_between}
 use Rattle.rex_snapshot.specs.declared.parts.Seat.{Seat}
 use Rattle.rex_snapshot.specs.Locksets.{line_in, lockset_at, is_apart}
+
+-- ---- versions
+
+-- the version with this number
+abbrev pub version_of : ℕ → Version
+version_of n = if n == 1 then One else Two
+
+-- the number of a version that the service's states have
+abbrev pub may_be_version : Declarations → ℕ → Bool
+may_be_version service n = is_between 1 2 n && has_version service (version_of n)
+
+-- the version of bytes that are a snapshot, by the first of them
+abbrev pub version_in : List ℕ → Version
+version_in bytes = version_of (slice_index_or bytes 0 0)
 
 -- ---- clients of lanes
 

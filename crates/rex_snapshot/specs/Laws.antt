@@ -1,7 +1,9 @@
 -- What holds of all snapshots.
-use Rattle.std.specs.Prelude.{◌≡◌, ℕ, ◌<◌, ◌≤◌, List, [], ◌++◌, length, Some}
+use Rattle.std.specs.Prelude.{◌≡◌, ℕ, ◌<◌, ◌≤◌, true, List, [], ◌++◌, length, Some}
 use Rattle.rex_syntax.specs.declared.service.Declarations.{Declarations}
 use Rattle.rex_syntax.specs.Service.{IsService}
+use Rattle.rex_version.specs.declared.version.Version.{Version}
+use Rattle.rex_version.specs.Versions.{has_version}
 use Rattle.rex_event.specs.declared.event.Kind.{Kind}
 use Rattle.rex_event.specs.declared.event.Kind.TheVariants.{Begin}
 use Rattle.rex_event.specs.declared.event.Event.{Event}
@@ -12,15 +14,15 @@ use Rattle.rex_state.specs.Sound.{IsSound}
 use Rattle.rex_wire.specs.Ranges.{IsBetween}
 use Rattle.rex_snapshot.specs.Spelling.{greatest_count, state_bytes, IsLimited, HasSpelling}
 
--- no snapshot begins another: where one state's bytes begin another's, they are one state and nothing follows
+-- no snapshot begins another, of whichever versions they are: where one state's bytes begin another's, they are one state in one version, and nothing follows
 abbrev pub NoSnapshotBeginsAnother : Type 0
 NoSnapshotBeginsAnother =
-    (service : Declarations) (s t : StateValue) (rest : List ℕ) → IsService service → IsSound service s → HasSpelling s → IsSound service t → HasSpelling t → state_bytes s ≡ state_bytes t ++ rest
-    → (s ≡ t) × (rest ≡ [])
+    (service : Declarations) (v w : Version) (s t : StateValue) (rest : List ℕ) → IsService service → has_version service v ≡ true → has_version service w ≡ true → IsSound service s → HasSpelling s → IsSound service t → HasSpelling t
+    → state_bytes service v s ≡ state_bytes service w t ++ rest → (v ≡ w) × (s ≡ t) × (rest ≡ [])
 
 -- a sound state's snapshot within the limits has at most 65,536 bytes
 abbrev pub SnapshotsAreShort : Type 0
-SnapshotsAreShort = (service : Declarations) (s : StateValue) → IsService service → IsSound service s → IsLimited s → length (state_bytes s) ≤ 65536
+SnapshotsAreShort = (service : Declarations) (version : Version) (s : StateValue) → IsService service → has_version service version ≡ true → IsSound service s → IsLimited s → length (state_bytes service version s) ≤ 65536
 
 -- ---- limits
 

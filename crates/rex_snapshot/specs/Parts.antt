@@ -1,6 +1,7 @@
 -- A state as the parts of its snapshot, and back.
 use Rattle.std.specs.Prelude.{◌==◌, ℕ, ◌+◌, ◌≤◌, List, [], ◌∷◌, ◌++◌, map, Option, slice_set, if◌then◌else◌}
 use Rattle.std.specs.List.{position}
+use Rattle.rex_version.specs.declared.version.Version.{Version}
 use Rattle.rex_state.specs.declared.lane.Lane.{Lane}
 use Rattle.rex_state.specs.declared.lane.Queue.{Queue}
 use Rattle.rex_state.specs.declared.lane.Entry.{Entry}
@@ -39,9 +40,9 @@ abbrev pub known_from : ℕ → List Entry → List Known
 known_from n [] = []
 known_from n (e ∷ es) = known_if n e ++ known_from (n + 1) es
 
--- a state's parts: its lanes, its variables, its queues, and its clients that have sent something
-abbrev pub parts_of : StateValue → Parts
-parts_of s = record { seats = seats_from s.queues 0 s.lanes; variables = s.variables; queues = s.queues; clients = known_from 0 s.clients }
+-- a state's parts in a version: its lanes, its variables, its queues, its semaphores' values, and its clients that have sent something
+abbrev pub parts_of : Version → StateValue → Parts
+parts_of version s = record { version = version; seats = seats_from s.queues 0 s.lanes; variables = s.variables; queues = s.queues; semaphores = s.semaphores; clients = known_from 0 s.clients }
 
 -- ---- a state of parts
 
@@ -58,6 +59,6 @@ abbrev pub entered : List Entry → List Known → List Entry
 entered entries [] = entries
 entered entries (k ∷ ks) = entered (slice_set entries k.client k.entry) ks
 
--- the state of these parts; who isn't among its clients has sent nothing
+-- the state of these parts, whatever their version; who isn't among its clients has sent nothing
 abbrev pub state_of : Parts → StateValue
-state_of p = record { variables = p.variables; lanes = map lane_in p.seats; queues = p.queues; clients = entered no_entries p.clients }
+state_of p = record { variables = p.variables; lanes = map lane_in p.seats; queues = p.queues; semaphores = p.semaphores; clients = entered no_entries p.clients }

@@ -1,12 +1,16 @@
 -- Reading a snapshot from left to right, a field a line, with the first field that is absent, cut short or not allowed.
 pub use Rattle.rex_wire.specs.Decoding.{Gives}
-use Rattle.std.specs.Prelude.{◌≡◌, ◌==◌, ℕ, ◌+◌, ◌-◌, ℤ, Bool, nat_le, List, [], ◌∷◌, ◌++◌, length, Option, Some, None, slice_index_or, Result, Ok, if◌then◌else◌}
-use Rattle.std.specs.Int.{w8, w16, w32}
+use Rattle.std.specs.Prelude.{◌≡◌, ◌==◌, ℕ, ◌+◌, ◌-◌, ℤ, pos, Bool, nat_le, List, [], ◌∷◌, ◌++◌, length, Option, Some, None, slice_index_or, Result, Ok, Err, FitsSigned, if◌then◌else◌}
+use Rattle.std.specs.Int.{w8, w16, w32, w64}
+use Rattle.std.specs.List.{All}
+use Rattle.std.specs.Ordering.{int_eq}
 use Rattle.arrayvec.specs.ArrayVec.{ArrayVec}
 use Rattle.rex_syntax.specs.declared.line.Line.{Line}
 use Rattle.rex_syntax.specs.declared.locks.Lockset.{Lockset}
 use Rattle.rex_syntax.specs.declared.service.Declarations.{Declarations}
 use Rattle.rex_syntax.specs.Locks.{no_locks}
+use Rattle.rex_version.specs.declared.version.Version.{Version}
+use Rattle.rex_version.specs.declared.version.Version.TheVariants.{One, Two}
 use Rattle.rex_syntax.specs.Shape.{open_at}
 use Rattle.rex_frame.specs.declared.frame.Phase.{Phase}
 use Rattle.rex_frame.specs.declared.frame.Phase.TheVariants.{Running, Waiting}
@@ -20,11 +24,14 @@ use Rattle.rex_wire.specs.Ranges.{is_between}
 use Rattle.rex_wire.specs.Reading.{Left, Reading, ◌>>=◌, signed_at, allowed_at, list_at, whole}
 use Rattle.rex_snapshot.specs.declared.parts.Seat.{Seat}
 use Rattle.rex_snapshot.specs.declared.parts.Known.{Known}
+use Rattle.rex_snapshot.specs.declared.parts.Change.{Change}
 use Rattle.rex_snapshot.specs.declared.parts.Parts.{Parts}
 use Rattle.rex_snapshot.specs.Locksets.{line_in, lockset_at}
 use Rattle.rex_snapshot.specs.Spelling.{greatest_count}
 use Rattle.rex_snapshot.specs.Parts.{state_of}
-use Rattle.rex_snapshot.specs.Allowed.{may_be_new_client, may_be_line, condition_of, waiters, may_be_waiter, may_be_count, may_be_client, may_be_sequence, may_be_replied}
+use Rattle.rex_snapshot.specs.Semaphores.{levels_at}
+use Rattle.rex_snapshot.specs.Changes.{firsts, change_of, changed}
+use Rattle.rex_snapshot.specs.Allowed.{version_of, may_be_version, may_be_new_client, may_be_line, condition_of, waiters, may_be_waiter, may_be_count, may_be_client, may_be_sequence, may_be_replied}
 
 -- ---- values one after the other
 
@@ -188,23 +195,61 @@ known_at seats s l = do
 abbrev pub clients_at : List Seat → ℕ → Left → Reading (List Known)
 clients_at seats n l = list_at (known_at seats) after_client n (0, n - 1) l
 
+-- ---- variables
+
+-- a value that isn't the first one
+unfoldable pub other_at : ℤ → Left → Reading ℤ
+other_at first l = do
+  value ← signed_at l
+  if int_eq value.0 first then Err l.at else Ok value
+
+-- a variable from this number on, with a value that isn't its first
+unfoldable pub change_at : Declarations → ℕ → Left → Reading Change
+change_at service least l = do
+  n ← allowed_at w16 (is_between (least + 1) (length service.variables)) l
+  value ← other_at (slice_index_or (firsts service) (n.0 - 1) (pos 0)) n.1
+  Ok (change_of (n.0 - 1) value.0, value.1)
+
+-- the number after the variable
+abbrev pub after_change : ℕ → Change → ℕ
+after_change least c = c.variable + 1
+
+-- so many variables
+abbrev pub changes_at : Declarations → ℕ → Left → Reading (List Change)
+changes_at service n l = list_at (change_at service) after_change n 0 l
+
+-- the values of which some aren't the first ones
+unfoldable pub changed_at : Declarations → Left → Reading (List ℤ)
+changed_at service l = do
+  count ← allowed_at w16 (is_between 0 (length service.variables)) l
+  changes ← changes_at service count.0 count.1
+  Ok (changed (firsts service) changes.0, changes.1)
+
+-- the variables' values, as the version has them
+abbrev pub variables_at : Declarations → Version → Left → Reading (List ℤ)
+variables_at service One l = values_at (length service.variables) l
+variables_at service Two l = changed_at service l
+
 -- ---- a snapshot
 
--- the variables, as version 1 has them
-abbrev pub variables_at : Declarations → Left → Reading (List ℤ)
-variables_at service l = values_at (length service.variables) l
+-- a version
+unfoldable pub version_at : Declarations → Left → Reading Version
+version_at service l = do
+  n ← allowed_at w8 (may_be_version service) l
+  Ok (version_of n.0, n.1)
 
 -- a snapshot's parts at the front of bytes
 unfoldable pub parts_at : Declarations → Left → Reading Parts
 parts_at service l = do
-  version ← allowed_at w8 (λ n. n == 1) l
+  version ← version_at service l
   lanes ← allowed_at w8 (λ n. n == service.lanes) version.1
   seats ← seats_at service lanes.0 lanes.1
-  variables ← variables_at service seats.1
+  variables ← variables_at service version.0 seats.1
   queues ← queues_at seats.0 (length service.conditions) variables.1
-  count ← allowed_at w16 (may_be_count seats.0) queues.1
+  semaphores ← levels_at (length service.semaphores) queues.1
+  count ← allowed_at w16 (may_be_count seats.0) semaphores.1
   clients ← clients_at seats.0 count.0 count.1
-  Ok (record { seats = seats.0; variables = variables.0; queues = queues.0; clients = clients.0 }, clients.1)
+  Ok (record { version = version.0; seats = seats.0; variables = variables.0; queues = queues.0; semaphores = semaphores.0; clients = clients.0 }, clients.1)
 
 -- the parts of a snapshot that is all of the bytes, or the offset at which the first bad field begins; of bytes after a whole snapshot that is its length
 unfoldable pub parts_in : Declarations → List ℕ → Result Parts ℕ
@@ -220,4 +265,5 @@ state_in service bytes = do
 pub record IsReadState (service : Declarations) (bytes : List ℕ) (s : StateValue) : Type 0 where
   pub parts : Parts
   pub read : parts_in service bytes ≡ Ok parts
+  pub typed : All (FitsSigned w64) parts.variables
   pub is : s ≡ state_of parts

@@ -1,7 +1,11 @@
 -- What a state's snapshot is, and which states have one.
-use Rattle.std.specs.Prelude.{◌≡◌, ℕ, ◌+◌, ◌≤◌, ℤ, List, ◌++◌, length, Option, Some, None, IfSome, FitsSigned}
+use Rattle.std.specs.Prelude.{◌≡◌, ℕ, ◌+◌, ◌≤◌, true, ℤ, List, ◌++◌, length, Option, Some, None, IfSome, FitsSigned}
 use Rattle.std.specs.List.{All, flat_map}
 use Rattle.std.specs.Int.{w16, w32, w64, to_be_bytes}
+use Rattle.rex_syntax.specs.declared.service.Declarations.{Declarations}
+use Rattle.rex_version.specs.declared.version.Version.{Version}
+use Rattle.rex_version.specs.declared.version.Version.TheVariants.{One, Two}
+use Rattle.rex_version.specs.Versions.{number_of, has_version}
 use Rattle.rex_frame.specs.declared.frame.Phase.{Phase}
 use Rattle.rex_frame.specs.declared.frame.Phase.TheVariants.{Running, Waiting}
 use Rattle.rex_frame.specs.declared.frame.Turn.{Turn}
@@ -14,10 +18,13 @@ use Rattle.rex_state.specs.Machine.{entry_at, no_entry}
 use Rattle.rex_wire.specs.Spelling.{byte, signed}
 use Rattle.rex_snapshot.specs.declared.parts.Seat.{Seat}
 use Rattle.rex_snapshot.specs.declared.parts.Known.{Known}
+use Rattle.rex_snapshot.specs.declared.parts.Change.{Change}
 use Rattle.rex_snapshot.specs.declared.parts.Parts.{Parts}
 use Rattle.rex_snapshot.specs.Parts.{parts_of}
+use Rattle.rex_snapshot.specs.Semaphores.{level_bytes}
+use Rattle.rex_snapshot.specs.Changes.{changes_of}
 
--- ---- spelling; lanes, handlers and lines are spelled with numbers from 1
+-- ---- spelling; lanes, handlers, lines and variables are spelled with numbers from 1
 
 -- how many turns of an open loop are left
 abbrev pub turn_bytes : Turn → List ℕ
@@ -59,17 +66,27 @@ reply_bytes (Some value) = byte 1 ++ signed value
 abbrev pub known_bytes : Known → List ℕ
 known_bytes k = to_be_bytes w16 k.client ++ to_be_bytes w32 k.entry.sequence ++ reply_bytes k.entry.reply
 
--- the variables' values, as version 1 has them
-abbrev pub variables_bytes : List ℤ → List ℕ
-variables_bytes values = flat_map signed values
+-- a variable with its value
+abbrev pub change_bytes : Change → List ℕ
+change_bytes c = to_be_bytes w16 (c.variable + 1) ++ signed c.value
 
--- version 1, how many lanes there are, the lanes, the variables, the queues, how many clients have sent something, and those clients
-abbrev pub parts_bytes : Parts → List ℕ
-parts_bytes p = byte 1 ++ byte (length p.seats) ++ flat_map seat_bytes p.seats ++ variables_bytes p.variables ++ flat_map queue_bytes p.queues ++ to_be_bytes w16 (length p.clients) ++ flat_map known_bytes p.clients
+-- how many variables there are, and those
+abbrev pub changes_bytes : List Change → List ℕ
+changes_bytes cs = to_be_bytes w16 (length cs) ++ flat_map change_bytes cs
 
--- a state's snapshot
-abbrev pub state_bytes : StateValue → List ℕ
-state_bytes s = parts_bytes (parts_of s)
+-- the variables' values: version 1 has them all, and version 2 those that aren't the first ones
+abbrev pub variables_bytes : Declarations → Version → List ℤ → List ℕ
+variables_bytes service One values = flat_map signed values
+variables_bytes service Two values = changes_bytes (changes_of service values)
+
+-- the version, how many lanes there are, the lanes, the variables, the queues, the semaphores' values, how many clients have sent something, and those clients; the versions differ in the variables alone
+abbrev pub parts_bytes : Declarations → Parts → List ℕ
+parts_bytes service p =
+    byte (number_of p.version) ++ byte (length p.seats) ++ flat_map seat_bytes p.seats ++ variables_bytes service p.version p.variables ++ flat_map queue_bytes p.queues ++ flat_map level_bytes p.semaphores ++ to_be_bytes w16 (length p.clients) ++ flat_map known_bytes p.clients
+
+-- a state's snapshot of a version
+abbrev pub state_bytes : Declarations → Version → StateValue → List ℕ
+state_bytes service version s = parts_bytes service (parts_of version s)
 
 -- ---- ranges
 
@@ -116,3 +133,9 @@ pub record IsTyped (s : StateValue) : Type 0 where
 pub record HasSpelling (s : StateValue) : Type 0 where
   pub limited : IsLimited s
   pub typed : IsTyped s
+
+-- the bytes are the state's snapshot, in a version that the service's states have
+pub record IsSnapshot (service : Declarations) (s : StateValue) (bytes : List ℕ) : Type 0 where
+  pub version : Version
+  pub has : has_version service version ≡ true
+  pub is : bytes ≡ state_bytes service version s

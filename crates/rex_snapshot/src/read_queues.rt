@@ -2,6 +2,7 @@
 
 ghost use Rattle.std.specs.Prelude.{◌≡◌, ◌≤◌, [], true, length, IfOk};
 ghost use Rattle.std.specs.Int.{w8};
+ghost use Rattle.rex_event.specs.Limits.{most_lanes};
 ghost use Rattle.rex_wire.specs.Decoding.{ReadsOn};
 ghost use Rattle.rex_wire.specs.Reading.{allowed_at, list_at};
 ghost use Rattle.rex_snapshot.specs.Allowed.{waiters, may_be_waiter};
@@ -54,7 +55,7 @@ fn waiting(
     condition: u8,
     count: u8,
 ) -> Result<ArrayVec<u8, LANES>, DecodeError>
-    requires { count ≤ 16 }
+    requires { count ≤ most_lanes }
     ensures { ReadsOn result reader.new (into_array (list_at (waiter_at seats.now condition) with_last count [] reader.old)) }
 {
     let mut lanes = ArrayVec::new();
@@ -68,7 +69,7 @@ fn waiting(
 /// The lanes that wait at a condition.
 #[tactic(auto, unfolding(crate::specs::Reading::queue_at))]
 fn queue(reader: &mut Reader, seats: &[Seat], condition: u8) -> Result<Queue, DecodeError>
-    requires { length seats.now ≤ 16 }
+    requires { length seats.now ≤ most_lanes }
     ensures { ReadsOn result reader.new (queue_at seats.now condition reader.old) }
 {
     let count = u8_wanted(reader, waiters(seats, condition) as u8)?;
@@ -83,7 +84,7 @@ pub fn queues(
     seats: &[Seat],
     count: u8,
 ) -> Result<List<Queue>, DecodeError>
-    requires { length seats.now ≤ 16 }
+    requires { length seats.now ≤ most_lanes }
     ensures { ReadsOn result reader.new (queues_at seats.now count reader.old) }
 {
     let mut queues = List::new(alloc);

@@ -1,49 +1,52 @@
 //! Reading a state.
 
-ghost use Rattle.std.specs.Prelude.{◌≡◌, ◌≤◌, IfOk, Ok, map, length};
-ghost use Rattle.std.specs.Int.{w16};
+ghost use Rattle.std.specs.Prelude.{◌≡◌, ◌≤◌, IfOk, Ok, map, length, FitsSigned};
+ghost use Rattle.std.specs.Int.{w8, w16, w64};
 ghost use Rattle.std.specs.List.{All};
 ghost use Rattle.rex_wire.specs.Decoding.{Gives, ReadsOn};
 ghost use Rattle.rex_wire.specs.Reading.{allowed_at};
 ghost use Rattle.rex_state.specs.Value.{StateValue};
 ghost use Rattle.rex_state.specs.Sound.{IsSound};
 ghost use Rattle.rex_state.specs.Start.{no_entries};
-ghost use Rattle.rex_snapshot.specs.Allowed.{may_be_count};
+ghost use Rattle.rex_snapshot.specs.Allowed.{may_be_version, may_be_count};
 ghost use Rattle.rex_snapshot.specs.Parts.{lane_in, entered, HasPlace, state_of};
-ghost use Rattle.rex_snapshot.specs.Spelling.{IsLimited, HasSpelling, state_bytes};
-ghost use Rattle.rex_snapshot.specs.Reading.{IsReadState, variables_at, values_at, parts_at, parts_in, state_in};
+ghost use Rattle.rex_snapshot.specs.Spelling.{HasSpelling, IsSnapshot};
+ghost use Rattle.rex_snapshot.specs.Reading.{IsReadState, version_at, parts_at, parts_in, state_in};
 
-use crate::allowed::may_be_count;
-use crate::limits::VERSION;
+use crate::allowed::{may_be_count, may_be_version, version_of};
 use crate::parts::{Known, Parts, Seat};
 use crate::read_clients::clients;
 use crate::read_lanes::seats;
 use crate::read_queues::queues;
+use crate::read_variables::variables;
+use crate::semaphores::read_semaphores;
 use rex_list::List;
 use rex_state::lane::{Entry, Lane};
 use rex_state::new_entries;
 use rex_state::state::State;
 use rex_syntax::checked::Checked;
+use rex_version::Version;
 use rex_wire::{DecodeError, Reader, u8_wanted};
 use std::alloc::{AllocError, Global};
 
-/// As many values.
-fn values(alloc: Global, reader: &mut Reader, count: usize) -> Result<List<i64>, DecodeError>
-    ensures { ReadsOn result reader.new (values_at count reader.old) }
+/// The number of a version that the service's states have.
+fn version_number(reader: &mut Reader, svc: &Checked) -> Result<u8, DecodeError>
+    ensures { ReadsOn result reader.new (allowed_at w8 (may_be_version svc.now) reader.old) }
 {
-    let mut values = List::new(alloc);
-    for _ in 0..count {
-        let value = reader.i64()?;
-        values.push(value)?;
+    let at = reader.at();
+    let number = reader.u8()?;
+    if !may_be_version(svc.declarations(), number) {
+        return Err(DecodeError::Bad { at });
     }
-    Ok(values)
+    Ok(number)
 }
 
-/// The variables' values.
-fn variables(alloc: Global, reader: &mut Reader, svc: &Checked) -> Result<List<i64>, DecodeError>
-    ensures { ReadsOn result reader.new (variables_at svc.now reader.old) }
+/// The version.
+#[tactic(auto, unfolding(crate::specs::Reading::version_at))]
+fn version(reader: &mut Reader, svc: &Checked) -> Result<Version, DecodeError>
+    ensures { ReadsOn result reader.new (version_at svc.now reader.old) }
 {
-    values(alloc, reader, svc.declarations().variables.len())
+    Ok(version_of(version_number(reader, svc)?))
 }
 
 /// How many clients have sent something.
@@ -61,21 +64,25 @@ fn client_count(reader: &mut Reader, seats: &[Seat]) -> Result<u16, DecodeError>
 /// The parts of a snapshot at the front of bytes.
 #[tactic(auto, unfolding(crate::specs::Reading::parts_at))]
 fn parts(alloc: Global, reader: &mut Reader, svc: &Checked) -> Result<Parts, DecodeError>
-    ensures { ReadsOn result reader.new (parts_at svc.now reader.old) }
+    ensures read { ReadsOn result reader.new (parts_at svc.now reader.old) }
+    ensures typed { IfOk result (λ p. All (FitsSigned w64) p.variables) }
 {
     let service = svc.declarations();
-    u8_wanted(reader, VERSION)?;
+    let version = version(reader, svc)?;
     let lanes = u8_wanted(reader, service.lanes)?;
     let seats = seats(alloc, reader, svc, lanes)?;
-    let variables = variables(alloc, reader, svc)?;
+    let variables = variables(alloc, reader, svc, version)?;
     let conditions = service.conditions.len() as u8;
     let queues = queues(alloc, reader, seats.as_slice(), conditions)?;
+    let semaphores = read_semaphores(alloc, reader, service.semaphores.len())?;
     let count = client_count(reader, seats.as_slice())?;
     let clients = clients(alloc, reader, seats.as_slice(), count)?;
     Ok(Parts {
+        version,
         seats,
         variables,
         queues,
+        semaphores,
         clients,
     })
 }
@@ -83,7 +90,8 @@ fn parts(alloc: Global, reader: &mut Reader, svc: &Checked) -> Result<Parts, Dec
 /// The parts of a snapshot that is all of the bytes.
 #[tactic(auto, unfolding(crate::specs::Reading::parts_in))]
 fn whole(alloc: Global, svc: &Checked, bytes: &[u8]) -> Result<Parts, DecodeError>
-    ensures { Gives result (parts_in svc.now bytes.now) }
+    ensures read { Gives result (parts_in svc.now bytes.now) }
+    ensures typed { IfOk result (λ p. All (FitsSigned w64) p.variables) }
 {
     let mut reader = Reader::new(bytes);
     let parts = parts(alloc, &mut reader, svc)?;
@@ -128,17 +136,17 @@ fn state(alloc: Global, svc: &Checked, bytes: &[u8]) -> Result<State, DecodeErro
         parts.variables.into_vec(),
         lanes,
         parts.queues.into_vec(),
+        parts.semaphores.into_vec(),
         entries,
     ))
 }
 
-/// The state that the bytes spell, all of the bytes: a snapshot of version 1 of a state of the service. The state is sound,
-/// and its spelling is the bytes; bytes that spell no such state are refused at the first field from the left that is
-/// absent, cut short or not allowed.
+/// The state of which the bytes, all of them, are a snapshot, in a version that the service's states have. The state is sound;
+/// bytes that spell no such state are refused at the first field from the left that is absent, cut short or not allowed.
 pub fn decode(alloc: Global, svc: &Checked, bytes: &[u8]) -> Result<State, DecodeError>
     ensures sound { IfOk result (λ s. IsSound svc.now s) }
-    ensures found { IfOk result (λ s. HasSpelling s × (bytes.now ≡ state_bytes s)) }
-    ensures only { (s : StateValue) → IsSound svc.now s → HasSpelling s → bytes.now ≡ state_bytes s → Gives result (Ok s) }
+    ensures found { IfOk result (λ s. HasSpelling s × IsSnapshot svc.now s bytes.now) }
+    ensures only { (s : StateValue) → IsSound svc.now s → HasSpelling s → IsSnapshot svc.now s bytes.now → Gives result (Ok s) }
     ensures exact { Gives result (state_in svc.now bytes.now) }
 {
     let _service = svc.declarations();

@@ -1,25 +1,31 @@
 //! Writing a state.
 
-ghost use Rattle.std.specs.Prelude.{◌≡◌, ◌<◌, ◌++◌, ◌≤◌, length, OnOk, IfOk, Ok};
+ghost use Rattle.std.specs.Prelude.{◌≡◌, ◌<◌, ◌++◌, ◌≤◌, length, true, OnOk, IfOk, Ok};
 ghost use Rattle.std.specs.List.{All, count_by, flat_map};
+ghost use Rattle.rex_event.specs.Limits.{most_lanes};
+ghost use Rattle.rex_version.specs.declared.version.Version.TheVariants.{One, Two};
+ghost use Rattle.rex_version.specs.Versions.{has_old_form, has_version};
 ghost use Rattle.rex_state.specs.Sound.{IsSound};
 ghost use Rattle.rex_snapshot.specs.Parts.{known_of, known_if, known_from, parts_of};
 ghost use Rattle.rex_snapshot.specs.Spelling.{waiter_bytes, queue_bytes, reply_bytes, known_bytes, state_bytes, EntryFits, EntryIsTyped, IsLimited, IsTyped};
 ghost use Rattle.rex_state.specs.Room.{IsQueueSmall};
 ghost use Rattle.rex_snapshot.specs.Writing.{has_sent, LaneCanBeWritten};
+ghost use Rattle.rex_snapshot.specs.Allowed.{version_in};
 ghost use Rattle.rex_snapshot.specs.Reading.{state_in};
 
-use crate::limits::VERSION;
-use crate::write_lanes::{lanes, values};
+use crate::semaphores::write_semaphores;
+use crate::write_lanes::lanes;
+use crate::write_variables::variables;
 use rex_state::lane::{Entry, Queue};
 use rex_state::state::State;
 use rex_syntax::checked::Checked;
+use rex_version::Version;
 use rex_wire::Writer;
 use std::alloc::{AllocError, Global};
 
 /// Lanes that wait.
 fn waiting(writer: &mut Writer, lanes: &[u8]) -> Result<(), AllocError>
-    requires { All (λ lane. lane < 16) lanes.now }
+    requires { All (λ lane. lane < most_lanes) lanes.now }
     ensures { OnOk result (writer.new ≡ writer.old ++ flat_map waiter_bytes lanes.now) }
 {
     for lane in lanes {
@@ -112,34 +118,73 @@ fn client_count(entries: &[Entry]) -> usize
     entries.iter().filter(|entry| has_sent(**entry)).count()
 }
 
-fn write(writer: &mut Writer, state: &State) -> Result<(), AllocError>
+fn write(
+    alloc: Global,
+    writer: &mut Writer,
+    svc: &Checked,
+    version: Version,
+    state: &State,
+) -> Result<(), AllocError>
+    requires variables { length state.now.variables ≡ length svc.now.variables }
     requires lanes { All LaneCanBeWritten state.now.lanes }
     requires clients { length state.now.clients ≤ 257 }
     requires entries { All EntryFits state.now.clients }
-    ensures spelled { OnOk result (writer.new ≡ writer.old ++ state_bytes state.now) }
+    ensures spelled { OnOk result (writer.new ≡ writer.old ++ state_bytes svc.now version state.now) }
     ensures typed { OnOk result (IsTyped state.now) }
 {
     let own = state.queues();
-    writer.u8(VERSION)?;
+    writer.u8(version.number())?;
     writer.u8(state.lanes().len() as u8)?;
     lanes(writer, own, state.lanes())?;
-    values(writer, state.variables())?;
+    variables(alloc, writer, svc, version, state.variables())?;
     queues(writer, own)?;
+    write_semaphores(writer, state.semaphores())?;
     writer.u16(client_count(state.entries()) as u16)?;
     clients(writer, state.entries())
 }
 
-/// The snapshot of a state, its one spelling of version 1. The state is sound, its clients are 1 to 256 with sequences of
-/// at most 1,000,000, and each lane did at most 268,431,360 events.
-pub fn encode(alloc: Global, svc: &Checked, state: &State) -> Result<Vec<u8>, AllocError>
+/// The snapshot of a state in a version that the service's states have.
+fn spell(
+    alloc: Global,
+    svc: &Checked,
+    version: Version,
+    state: &State,
+) -> Result<Vec<u8>, AllocError>
+    requires has { has_version svc.now version ≡ true }
     requires sound { IsSound svc.now state.now }
     requires limited { IsLimited state.now }
-    ensures spelled { IfOk result (λ v. v.items ≡ state_bytes state.now) }
+    ensures spelled { IfOk result (λ v. v.items ≡ state_bytes svc.now version state.now) }
     ensures short { IfOk result (λ v. length v.items ≤ 65536) }
     ensures again { IfOk result (λ v. state_in svc.now v.items ≡ Ok state.now) }
 {
     let _service = svc.declarations();
     let mut writer = Writer::new(alloc);
-    write(&mut writer, state)?;
+    write(alloc, &mut writer, svc, version, state)?;
     Ok(writer.into_vec())
+}
+
+/// The snapshot of a state, its one spelling of version 2. The state is sound, its clients are 1 to 256 with sequences of
+/// at most 1,000,000, and each lane did at most 268,431,360 events.
+pub fn encode(alloc: Global, svc: &Checked, state: &State) -> Result<Vec<u8>, AllocError>
+    requires sound { IsSound svc.now state.now }
+    requires limited { IsLimited state.now }
+    ensures spelled { IfOk result (λ v. v.items ≡ state_bytes svc.now Two state.now) }
+    ensures version { IfOk result (λ v. version_in v.items ≡ Two) }
+    ensures short { IfOk result (λ v. length v.items ≤ 65536) }
+    ensures again { IfOk result (λ v. state_in svc.now v.items ≡ Ok state.now) }
+{
+    spell(alloc, svc, Version::Two, state)
+}
+
+/// The same of version 1, for a service of at most 16 lanes and 256 variables.
+pub fn encode_old(alloc: Global, svc: &Checked, state: &State) -> Result<Vec<u8>, AllocError>
+    requires old { has_old_form svc.now ≡ true }
+    requires sound { IsSound svc.now state.now }
+    requires limited { IsLimited state.now }
+    ensures spelled { IfOk result (λ v. v.items ≡ state_bytes svc.now One state.now) }
+    ensures version { IfOk result (λ v. version_in v.items ≡ One) }
+    ensures short { IfOk result (λ v. length v.items ≤ 65536) }
+    ensures again { IfOk result (λ v. state_in svc.now v.items ≡ Ok state.now) }
+{
+    spell(alloc, svc, Version::One, state)
 }

@@ -20,6 +20,7 @@ counter = record {
   lanes = Some 2;
   names = (record { name = codes "L"; meaning = meaning.Lock 0 }) ∷ (record { name = codes "a"; meaning = meaning.Variable 0 }) ∷ (record { name = codes "add"; meaning = meaning.Handler 0 }) ∷ [];
   locks = (record { name = codes "L"; kind = Plain }) ∷ [];
+  semaphores = [];
   conditions = [];
   variables = (record { name = codes "a"; guard = 0; first = pos 0 }) ∷ [];
   handlers = (record {

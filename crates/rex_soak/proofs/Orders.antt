@@ -40,7 +40,7 @@ first_is w e =
 -- a word to which one of three nodes may be added
 pub record IsOrder (w : List ℕ) : Type 0 where
   pub first : IsFirst w
-  pub fits : (u : List ℕ) (node requests earlier : ℕ) → u64_at u ≡ Some node → (nat_le 1 node && nat_le node 3) ≡ true → nat_le 100000 earlier ≡ false → schedule_code true 3 requests 2 earlier (w ∷ u ∷ []) ≡ None
+  pub fits : (u : List ℕ) (node requests earlier : ℕ) → u64_at u ≡ Some node → (nat_le 1 node && nat_le node 3) ≡ true → nat_le 100000 earlier ≡ false → schedule_code true 3 requests 2 true earlier (w ∷ u ∷ []) ≡ None
 
 pub elect : IsOrder (codes "elect")
 elect = record { first = first_is (codes "elect") refl; fits = λ u node requests earlier is there room. rw (is, there, room) refl }

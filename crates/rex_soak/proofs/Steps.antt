@@ -64,10 +64,10 @@ pub record IsFirst (w : List ℕ) : Type 0 where
 
 -- no code fits the words where so many requests are there, as long as there is room
 abbrev pub Fits : ℕ → List (List ℕ) → Type 0
-Fits requests words = (earlier : ℕ) → nat_le 100000 earlier ≡ false → schedule_code true 3 requests 2 earlier words ≡ None
+Fits requests words = (earlier : ℕ) → nat_le 100000 earlier ≡ false → schedule_code true 3 requests 2 true earlier words ≡ None
 
 good_line : (seed : ℕ) (requests : List Request) (schedule : List ScheduleLine) (n : ℕ) (line w : List ℕ) (ws : List (List ℕ)) → list_all is_allowed line ≡ true → words_of line ≡ w ∷ ws
-    → eqb (slice_index w 0) 35 ≡ false → eqb (slice_index w 0) 37 ≡ false → schedule_code true 3 (length requests) 2 (length schedule) (w ∷ ws) ≡ None
+    → eqb (slice_index w 0) 35 ≡ false → eqb (slice_index w 0) 37 ≡ false → schedule_code true 3 (length requests) 2 true (length schedule) (w ∷ ws) ≡ None
     → (line_code (scheduling seed requests schedule) line ≡ None) × (line_after (scheduling seed requests schedule) n line ≡ scheduling seed requests (with_step schedule (step_of (w ∷ ws))))
 good_line seed requests schedule n line w ws clean words hash percent good =
     (rw (clean, words, hash, percent) good, rw (words, hash, percent) refl)

@@ -10,15 +10,17 @@ use Rattle.std.proofs.lemmas.Map.Steps.{length-le_from_distinct_below}
 use Rattle.rex_syntax.specs.declared.line.Line.{Line}
 use Rattle.rex_syntax.specs.declared.line.Line.TheVariants.{Clock as ClockAt, Random as RandomAt}
 use Rattle.rex_syntax.specs.declared.service.Declarations.{Declarations}
+use Rattle.rex_event.specs.Limits.{most_lanes}
 use Rattle.rex_syntax.specs.Service.{IsService}
 use Rattle.rex_frame.specs.declared.frame.Frame.{Frame}
 use Rattle.rex_event.specs.declared.event.Kind.{Kind}
 use Rattle.rex_event.specs.declared.event.Event.{Event}
-use Rattle.rex_event.specs.declared.event.Kind.TheVariants.{Begin, AcqEx, AcqSh, RelEx, RelSh, TryOk, TryBusy, Wait, Wake, Signal, Broadcast, Clock, Random, Reply}
+use Rattle.rex_event.specs.declared.event.Kind.TheVariants.{Begin, AcqEx, AcqSh, RelEx, RelSh, TryOk, TryBusy, Wait, Wake, Signal, Broadcast, Clock, Random, Reply, Down, Up}
 use Rattle.rex_state.specs.declared.lane.Lane.{Lane}
 use Rattle.rex_state.specs.declared.lane.Queue.{Queue}
 use Rattle.rex_state.specs.Value.{StateValue}
 use Rattle.rex_state.specs.Lines.{locals_of, line_of, local_of}
+use Rattle.rex_state.specs.Semaphores.{HasSemaphore}
 use Rattle.rex_state.specs.Own.{started}
 use Rattle.rex_state.specs.Machine.{lane_of, frame_at, can_go, own_can, no_queue, queue_at, queues_after, client_allows, next}
 use Rattle.rex_state.specs.Flows.{CheckedFlows}
@@ -54,6 +56,8 @@ module _ (service : Declarations) (good : IsService service) where
   can_move (Wake condition lock) f vs fits names h = omega (arith, good.locks, names.1)
   can_move (Signal condition woken) f vs fits names h = next_place f fits
   can_move (Broadcast condition woken) f vs fits names h = next_place f fits
+  can_move (Down semaphore) f vs fits names h = next_place f fits
+  can_move (Up semaphore) f vs fits names h = next_place f fits
   can_move (Clock value) f vs fits names h = let t = clock_line _ (and_parts _ _ h).1 in has_local f (ClockAt t.0) t.0 fits (names_line service good f (ClockAt t.0) fits t.1) t.1 refl
   can_move (Random value) f vs fits names h = let t = random_line _ (and_parts _ _ h).1 in has_local f (RandomAt t.0) t.0 fits (names_line service good f (RandomAt t.0) fits t.1) t.1 refl
   can_move (Begin client sequence handler arguments) f vs fits names h = tt
@@ -71,11 +75,17 @@ module _ (service : Declarations) (good : IsService service) where
 
 -- the condition that an event names has its queue
 has_queue : (service : Declarations) (kind : Kind) → KindNames service kind → (queues : List Queue) → length queues ≡ length service.conditions
-    → ((condition lock : ℕ) → kind ≡ Wait condition lock → length (queue_at queues condition) < 16) → HasQueue kind queues
+    → ((condition lock : ℕ) → kind ≡ Wait condition lock → length (queue_at queues condition) < most_lanes) → HasQueue kind queues
 has_queue service (Wait condition lock) names queues long room = (subst (λ (n : ℕ). condition < n) (sym long) names.0, room condition lock refl)
 has_queue service (Signal condition woken) names queues long room = omega (arith, long, names.0)
 has_queue service (Broadcast condition woken) names queues long room = omega (arith, long, names.0)
 has_queue service _ names queues long room = tt
+
+-- the semaphore that an event names has its value
+has_semaphore : (service : Declarations) (kind : Kind) → KindNames service kind → (values : List ℕ) → length values ≡ length service.semaphores → HasSemaphore kind values
+has_semaphore service (Down semaphore) names values long = omega (arith, long, names)
+has_semaphore service (Up semaphore) names values long = omega (arith, long, names)
+has_semaphore service _ names values long = tt
 
 -- ---- a queue has room
 
@@ -105,7 +115,7 @@ pub once_few : (xs : List ℕ) (n : ℕ) → IsOnce xs → ((x : ℕ) → Has x 
 once_few xs n once below = length-le_from_distinct_below xs n (distinct_from xs once) (λ q h. below q (has_any q xs h))
 
 -- a queue without one of the lanes has room for it
-queue_room : (service : Declarations) (s : StateValue) (lane condition : ℕ) → IsQueued service s → lane < length s.lanes → length s.lanes ≤ 16 → (Has lane (queue_at s.queues condition) → ⊥) → length (queue_at s.queues condition) < 16
+queue_room : (service : Declarations) (s : StateValue) (lane condition : ℕ) → IsQueued service s → lane < length s.lanes → length s.lanes ≤ most_lanes → (Has lane (queue_at s.queues condition) → ⊥) → length (queue_at s.queues condition) < most_lanes
 queue_room service s lane condition queued l few n =
     let below : (x : ℕ) → Has x (lane ∷ queue_at s.queues condition) → x < length s.lanes = λ x h. by x h in
     let all : length (lane ∷ queue_at s.queues condition) ≤ length s.lanes = once_few (lane ∷ queue_at s.queues condition) (length s.lanes) (n, queued.once condition) below in
@@ -134,7 +144,7 @@ can_apply service s t e good sound h count =
     let right : IsRight (with_flows service sound.flows) = right_flows service s good sound in
     let fits : IfSome (frame_at s e.lane) (FitsIn service) = lane_in (with_flows service sound.flows) (frame_at s e.lane) (sound.by.fits e.lane) in
     let names : KindNames service e.kind = (events_name service s t e good sound h).kind in
-    let few : length s.lanes ≤ 16 = omega (arith, sound.by.complete.lanes, good.lanes) in
+    let few : length s.lanes ≤ most_lanes = omega (arith, sound.by.complete.lanes, good.lanes) in
     let index : (lane_of s e.lane).done ≡ e.index = eqb-true _ _ n.index in
     record {
       there = n.enabled.there;
@@ -144,21 +154,22 @@ can_apply service s t e good sound h count =
       variables = sound.by.complete.variables;
       queue = has_queue service e.kind names s.queues sound.by.complete.queues
           (λ condition lock k. queue_room service s e.lane condition sound.by.queued n.enabled.there few (not_queued service s e n.enabled sound.by.queued condition));
+      semaphore = has_semaphore service e.kind names s.semaphores sound.by.complete.semaphores;
       entry = client_there e.kind s e.lane (frame_at s e.lane) service refl sound.by.served n.enabled.own n.enabled.client;
     }
 
 -- ---- bounds stay
 
-queue_small : (queues : List Queue) (condition : ℕ) → All IsQueueSmall queues → All (λ lane. lane < 16) (queue_at queues condition)
+queue_small : (queues : List Queue) (condition : ℕ) → All IsQueueSmall queues → All (λ lane. lane < most_lanes) (queue_at queues condition)
 queue_small queues condition h = by (cases_lt condition (length queues))
   where
-    by : (condition < length queues) ⊎ (length queues ≤ condition) → All (λ lane. lane < 16) (queue_at queues condition)
+    by : (condition < length queues) ⊎ (length queues ≤ condition) → All (λ lane. lane < most_lanes) (queue_at queues condition)
     by (inl l) = h condition no_queue l
-    by (inr l) = subst (λ (q : Queue). All (λ lane. lane < 16) q.lanes.items) (sym (get_or_past queues condition no_queue l)) (λ k d z. absurd (omega arith))
+    by (inr l) = subst (λ (q : Queue). All (λ lane. lane < most_lanes) q.lanes.items) (sym (get_or_past queues condition no_queue l)) (λ k d z. absurd (omega arith))
 
-pub queues_small : (kind : Kind) (lane : ℕ) (queues : List Queue) → lane < 16 → All IsQueueSmall queues → All IsQueueSmall (queues_after kind lane queues)
-queues_small (Wait condition lock) lane queues l h = All-set IsQueueSmall queues condition _ (All-push (λ x. x < 16) (queue_at queues condition) lane (queue_small queues condition h) l) h
-queues_small (Signal condition woken) lane queues l h = All-set IsQueueSmall queues condition _ (All-drop (λ x. x < 16) 1 (queue_at queues condition) (queue_small queues condition h)) h
+pub queues_small : (kind : Kind) (lane : ℕ) (queues : List Queue) → lane < most_lanes → All IsQueueSmall queues → All IsQueueSmall (queues_after kind lane queues)
+queues_small (Wait condition lock) lane queues l h = All-set IsQueueSmall queues condition _ (All-push (λ x. x < most_lanes) (queue_at queues condition) lane (queue_small queues condition h) l) h
+queues_small (Signal condition woken) lane queues l h = All-set IsQueueSmall queues condition _ (All-drop (λ x. x < most_lanes) 1 (queue_at queues condition) (queue_small queues condition h)) h
 queues_small (Broadcast condition woken) lane queues l h = All-set IsQueueSmall queues condition _ (λ k d z. absurd (omega arith)) h
 queues_small _ lane queues l h = h
 
@@ -168,16 +179,16 @@ has_at [] i d h = absurd (omega arith)
 has_at (x ∷ xs) zero d h = inl refl
 has_at (x ∷ xs) (suc i) d h = inr (has_at xs i d (omega arith))
 
--- a sound state has at most 16 lanes, and queues of no others
+-- a sound state has no more than the most lanes, and queues of no others
 pub sound_is_small : (service : Declarations) (s : StateValue) → IsService service → IsSound service s → IsSmall s.lanes s.queues
 sound_is_small service s good sound =
     let long : length s.lanes ≡ service.lanes = sound.by.complete.lanes in
-    let below : (q : ℕ) (lane : ℕ) → Has lane (queue_at s.queues q) → lane < 16 = λ q lane h. let w : lane < length s.lanes = waiting_there service s q lane sound.by.queued h in omega (arith, good.lanes) in
+    let below : (q : ℕ) (lane : ℕ) → Has lane (queue_at s.queues q) → lane < most_lanes = λ q lane h. let w : lane < length s.lanes = waiting_there service s q lane sound.by.queued h in omega (arith, good.lanes) in
     record {
       few = omega (arith, good.lanes);
       each = λ q d h.
-          let small : All (λ lane. lane < 16) (queue_at s.queues q) = λ i x k. below q _ (has_at (queue_at s.queues q) i x k) in
-          subst (λ (queue : Queue). All (λ lane. lane < 16) queue.lanes.items) (get_or_default s.queues q no_queue d h) small;
+          let small : All (λ lane. lane < most_lanes) (queue_at s.queues q) = λ i x k. below q _ (has_at (queue_at s.queues q) i x k) in
+          subst (λ (queue : Queue). All (λ lane. lane < most_lanes) queue.lanes.items) (get_or_default s.queues q no_queue d h) small;
     }
 
 pub small_set : (lanes : List Lane) (queues : List Queue) (lane : ℕ) (x : Lane) (kind : Kind) → lane < length lanes → IsSmall lanes queues → IsSmall (set lanes lane x) (queues_after kind lane queues)

@@ -2,6 +2,7 @@ pub mod Value
 pub mod Lines
 pub mod Locks
 pub mod Actions
+pub mod Semaphores
 pub mod Own
 pub mod Machine
 pub mod Put

@@ -9,6 +9,7 @@ mod own;
 mod parts;
 pub mod state;
 
-pub use can::{can_begin, client_allows};
+pub use apply::MOST_VALUE;
+pub use can::{can_begin, client_allows, semaphores_allow};
 pub use own::{do_own, run_on, start_lane};
 pub use parts::new_entries;

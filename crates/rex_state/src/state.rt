@@ -7,17 +7,23 @@ ghost use Rattle.rex_state.specs.Locks as locks;
 ghost use Rattle.rex_state.specs.Machine as spec;
 ghost use Rattle.rex_state.specs.Start.{start_of};
 ghost use Rattle.rex_state.specs.Sound.{IsSound};
+ghost use Rattle.rex_event.specs.Limits.{most_lanes};
+ghost use Rattle.rex_state.specs.Semaphores.{HasSemaphore, semaphore_at};
 ghost use Rattle.rex_state.specs.Room.{CanApply, FitsIn, HasQueue, HasEntry, IsSmall};
 ghost use Rattle.rex_state.specs.Put.{with_lane, with_variable, noted, lines_run};
 ghost use Rattle.rex_state.specs.Spare.{spare_of};
 ghost use Rattle.rex_state.specs.Counts.{counts_of};
 
-use crate::apply::{change_clients, change_queues};
-use crate::can::{client_allows, is_in, locks_allow, mask, own_can, queue_at, queues_allow};
+use crate::apply::{change_clients, change_queues, change_semaphores};
+use crate::can::{
+    client_allows, is_in, locks_allow, mask, own_can, queue_at, queues_allow, semaphore_at,
+    semaphores_allow,
+};
 use crate::lane::{Entry, Lane, Queue, as_lane, copy_frame, exclusive_holder, holder};
 use crate::own::{run_lane, start_lane};
 use crate::parts::{
-    copy_lanes, copy_queues, empty_queues, first_values, idle_lanes, lane_counts, new_entries,
+    copy_lanes, copy_queues, empty_queues, first_counts, first_values, idle_lanes, lane_counts,
+    new_entries,
 };
 use rex_event::{Event, Kind};
 use rex_frame::frame::Frame;
@@ -25,13 +31,14 @@ use rex_syntax::checked::Checked;
 use std::alloc::{AllocError, Global};
 use std::marker::Model;
 
-/// What a service came to: the variables' values, the lanes, the lanes that wait at each condition, and what is known of
-/// each client.
+/// What a service came to: the variables' values, the lanes, the lanes that wait at each condition, the semaphores' values,
+/// and what is known of each client.
 #[derive(Drop)]
 pub struct State {
     variables: Vec<i64>,
     lanes: Vec<Lane>,
     queues: Vec<Queue>,
+    semaphores: Vec<u32>,
     /// By client number, from 0.
     clients: Vec<Entry>,
 }
@@ -42,7 +49,7 @@ impl Model for State {
 
     ghost Value = { StateValue };
 
-    ghost view = { λ s. record { variables = s.variables.items; lanes = s.lanes.items; queues = s.queues.items; clients = s.clients.items } };
+    ghost view = { λ s. record { variables = s.variables.items; lanes = s.lanes.items; queues = s.queues.items; semaphores = s.semaphores.items; clients = s.clients.items } };
 
     ghost invariant = { λ s. IsSmall s.lanes.items s.queues.items };
 }
@@ -58,27 +65,30 @@ impl State {
             variables: first_values(alloc, service.variables.as_slice())?,
             lanes: idle_lanes(alloc, service.lanes)?,
             queues: empty_queues(alloc, service.conditions.len())?,
+            semaphores: first_counts(alloc, service.semaphores.as_slice())?,
             clients: new_entries(alloc)?,
         })
     }
 
-    /// The state of these parts: the variables' values, the lanes, the lanes that wait at each condition, and the clients'
-    /// entries by client number from 0. It takes no memory.
+    /// The state of these parts: the variables' values, the lanes, the lanes that wait at each condition, the semaphores'
+    /// values, and the clients' entries by client number from 0. It takes no memory.
     pub fn of_parts(
         svc: &Checked,
         variables: Vec<i64>,
         lanes: Vec<Lane>,
         queues: Vec<Queue>,
+        semaphores: Vec<u32>,
         clients: Vec<Entry>,
     ) -> State
-        requires { IsSound svc.now (value_of variables.items lanes.items queues.items clients.items) }
-        ensures { result ≡ value_of variables.items lanes.items queues.items clients.items }
+        requires { IsSound svc.now (value_of variables.items lanes.items queues.items semaphores.items clients.items) }
+        ensures { result ≡ value_of variables.items lanes.items queues.items semaphores.items clients.items }
     {
         let _service = svc.declarations();
         State {
             variables,
             lanes,
             queues,
+            semaphores,
             clients,
         }
     }
@@ -91,6 +101,7 @@ impl State {
             variables: self.variables.to_vec(alloc)?,
             lanes: copy_lanes(alloc, &self.lanes)?,
             queues: copy_queues(alloc, &self.queues)?,
+            semaphores: self.semaphores.to_vec(alloc)?,
             clients: self.clients.to_vec(alloc)?,
         })
     }
@@ -115,6 +126,20 @@ impl State {
         ensures small { IsSmall self.now.lanes self.now.queues }
     {
         &self.queues
+    }
+
+    /// The semaphores' values, in order of declaration.
+    pub fn semaphores(&self) -> &[u32]
+        ensures { result.now ≡ self.now.semaphores }
+    {
+        &self.semaphores
+    }
+
+    /// The value of a semaphore, or 0 where there is none.
+    pub fn semaphore(&self, semaphore: u8) -> u32
+        ensures { result ≡ semaphore_at self.now.semaphores semaphore }
+    {
+        semaphore_at(&self.semaphores, semaphore)
     }
 
     /// The clients' entries by client number, from 0.
@@ -225,6 +250,7 @@ impl State {
                     &self.variables,
                 ) && locks_allow(&event.kind, &self.lanes)
                     && queues_allow(&event.kind, event.lane, &self.queues)
+                    && semaphores_allow(&event.kind, &self.semaphores)
                     && client_allows(&event.kind, &self.clients)
             }
             None => false,
@@ -241,6 +267,7 @@ impl State {
         start_lane(&mut own.frame, svc, kind);
         run_lane(&mut own.frame, &mut self.variables, svc);
         change_queues(&mut self.queues, kind, lane);
+        change_semaphores(&mut self.semaphores, kind);
         change_clients(&mut self.clients, kind);
     }
 
@@ -295,14 +322,16 @@ impl State {
         self.variables[variable] = value;
     }
 
-    /// Does to the queues and to the clients' entries what an event does, and nothing else.
+    /// Does to the queues, to the semaphores and to the clients' entries what an event does, and nothing else.
     pub fn note(&mut self, event: &Event)
-        requires lane { event.now.lane < 16 }
+        requires lane { event.now.lane < most_lanes }
         requires queue { HasQueue event.now.kind self.old.queues }
+        requires semaphore { HasSemaphore event.now.kind self.old.semaphores }
         requires entry { HasEntry event.now.kind self.old.clients }
         ensures { self.new ≡ noted self.old event.now }
     {
         change_queues(&mut self.queues, &event.kind, event.lane);
+        change_semaphores(&mut self.semaphores, &event.kind);
         change_clients(&mut self.clients, &event.kind);
     }
 

@@ -3,6 +3,7 @@ use Rattle.std.proofs.Common.{◌≡◌, ℕ, suc, ◌<◌, ◌≤◌, Bool, tru
 use Rattle.std.specs.Prelude.{◌+◌, ◌||◌, max, Some, nat_le, nat_lt}
 use Rattle.std.specs.List.{All}
 use Rattle.std.proofs.lemmas.Bool.{and_parts, lt-leb, ne_eqb}
+use Rattle.rex_ballot.specs.Limits.{most_nodes}
 use Rattle.rex_syntax.specs.declared.request.Request.{Request}
 use Rattle.rex_syntax.specs.declared.service.Declarations.{Declarations}
 use Rattle.rex_syntax.specs.Service.{IsService}
@@ -92,7 +93,7 @@ cut_is service seed n log counted counts x xs dice replayed room greatest all fa
 
 -- ---- the agreement
 
-module _ (service : Declarations) (requests : List Request) (seed n : ℕ) (some : 1 ≤ n) (few : n ≤ 9) (good : IsService service) (checked : IsChecked service) (fit : All (RequestFits service) requests) where
+module _ (service : Declarations) (requests : List Request) (seed n : ℕ) (some : 1 ≤ n) (few : n ≤ most_nodes) (good : IsService service) (checked : IsChecked service) (fit : All (RequestFits service) requests) where
   -- after the agreement the value of these live events is known, and they are its events
   pub record AgreesOn (values : List Value) (live : List Event) (s : StateValue) (w : World) : Type 0 where
     pub rests : Rests n (values ++ value_at (counts_of s) live ∷ []) [] (after_doings service requests seed n w agreement)

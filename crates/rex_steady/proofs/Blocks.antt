@@ -3,6 +3,7 @@ use Rattle.std.proofs.Common.{◌≡◌, ℕ, ◌<◌, ◌≤◌, List, [], ◌�
 use Rattle.std.specs.Prelude.{◌+◌, Some, map}
 use Rattle.std.specs.List.{All}
 use Rattle.std.proofs.lemmas.List.Elements.{All-head, All-tail}
+use Rattle.rex_ballot.specs.Limits.{most_nodes}
 use Rattle.rex_syntax.specs.declared.request.Request.{Request}
 use Rattle.rex_syntax.specs.declared.service.Declarations.{Declarations}
 use Rattle.rex_syntax.specs.Service.{IsService}
@@ -44,7 +45,7 @@ module _ (service : Declarations) (requests : List Request) (seed n : ℕ) where
   taken_both w (Does line ∷ xs) ys h k = taken_both (does service requests seed n w (Does line)) xs ys h k
   taken_both w (Takes m e ∷ xs) ys h k = (h.0, taken_both (take service w m e) xs ys h.1 k)
 
-module _ (service : Declarations) (requests : List Request) (seed n : ℕ) (some : 1 ≤ n) (few : n ≤ 9) (good : IsService service) (checked : IsChecked service) (fit : All (RequestFits service) requests) (keeps : TakesAreKept) (s : StateValue) where
+module _ (service : Declarations) (requests : List Request) (seed n : ℕ) (some : 1 ≤ n) (few : n ≤ most_nodes) (good : IsService service) (checked : IsChecked service) (fit : All (RequestFits service) requests) (keeps : TakesAreKept) (s : StateValue) where
   agreed_block : (values : List Value) (block : List Event) (t : StateValue) (w : World) → 0 < length block → Rests n values block w → IsKept service seed n w → length values < 65535
       → run service (start_of service) (trace_of values ++ block) ≡ Some t → All HasTypedKind block → AgreesOn service requests seed n some few good checked fit values block t w
   agreed_block values [] t w l h k room r typed = absurd (omega (arith, l))

@@ -4,6 +4,7 @@ use Rattle.std.specs.Prelude.{Some, replicate}
 use Rattle.std.specs.List.{All}
 use Rattle.std.proofs.lemmas.Bool.{cases_eq}
 use Rattle.std.proofs.lemmas.List.{length-map}
+use Rattle.rex_ballot.specs.Limits.{most_nodes}
 use Rattle.rex_syntax.specs.declared.request.Request.{Request}
 use Rattle.rex_syntax.specs.declared.service.Declarations.{Declarations}
 use Rattle.rex_syntax.specs.Service.{IsService}
@@ -71,7 +72,7 @@ module _ (n : ℕ) (values : List Value) (before w : World) (h : Rests n values 
         go (inl e) = subst (λ (k : ℕ). P (node_at w.nodes k)) (sym e) (subst P (sym pair.first) a)
         go (inr d) = subst P (sym (pair.others m (omega (arith, l.0, d)) l.1)) b
 
-module _ (service : Declarations) (requests : List Request) (seed n : ℕ) (blocks : List (List Event)) (s : StateValue) (some : 1 ≤ n) (few : n ≤ 9) (good : IsService service) (checked : IsChecked service)
+module _ (service : Declarations) (requests : List Request) (seed n : ℕ) (blocks : List (List Event)) (s : StateValue) (some : 1 ≤ n) (few : n ≤ most_nodes) (good : IsService service) (checked : IsChecked service)
     (fit : All (RequestFits service) requests) (keeps : TakesAreKept) (is : All IsBlock blocks) (short : length blocks ≤ 65535) (runs : run service (start_of service) (joined blocks) ≡ Some s) where
   abbrev chosen : World
   chosen = after_doings service requests seed n (beginning n) election

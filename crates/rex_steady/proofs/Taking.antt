@@ -3,6 +3,7 @@ use Rattle.std.proofs.Common.{◌≡◌, ℕ, ◌<◌, ◌≤◌, true, List, []
 use Rattle.std.specs.Prelude.{Some}
 use Rattle.std.specs.List.{All}
 use Rattle.std.proofs.lemmas.List.Elements.{All-head, All-tail}
+use Rattle.rex_ballot.specs.Limits.{most_nodes}
 use Rattle.rex_syntax.specs.declared.request.Request.{Request}
 use Rattle.rex_syntax.specs.declared.service.Declarations.{Declarations}
 use Rattle.rex_syntax.specs.Service.{IsService}
@@ -61,7 +62,7 @@ module _ (service : Declarations) (requests : List Request) (seed n : ℕ) (some
       ∙ (ap (λ (t : StateValue). taken_turn service t [] (length live) e) (state_is service (trace_of values ++ live) split.0 split.1)
       ∙ next_is_taken service split.0 first.0 (length live) e first.1 l))
 
-  module _ (few : n ≤ 9) (good : IsService service) (checked : IsChecked service) (keeps : TakesAreKept) where
+  module _ (few : n ≤ most_nodes) (good : IsService service) (checked : IsChecked service) (keeps : TakesAreKept) where
     -- the world after events were handed in, each of which was taken
     pub record Took (values : List Value) (live : List Event) (w : World) (es : List Event) : Type 0 where
       pub rests : Rests n values (live ++ es) (after_doings service requests seed n w (takes es))

@@ -1,6 +1,7 @@
 -- What a leader that nothing disturbs comes to.
 use Rattle.std.specs.Prelude.{◌≡◌, ℕ, ◌≤◌, List, [], ◌∷◌, ◌++◌, length, map, Some}
 use Rattle.std.specs.List.{All}
+use Rattle.rex_ballot.specs.Limits.{most_nodes}
 use Rattle.rex_syntax.specs.declared.request.Request.{Request}
 use Rattle.rex_syntax.specs.declared.service.Declarations.{Declarations}
 use Rattle.rex_syntax.specs.Service.{IsService}
@@ -49,5 +50,5 @@ pub record IsSteady (service : Declarations) (requests : List Request) (seed n :
 -- so it is wherever the blocks are at most 65,535 and run from the start, for at most nine nodes
 abbrev pub LeadersAreSteady : Type 0
 LeadersAreSteady =
-    (service : Declarations) (requests : List Request) (seed n : ℕ) (blocks : List (List Event)) (s : StateValue) → 1 ≤ n → n ≤ 9 → IsService service → IsChecked service → All (RequestFits service) requests
+    (service : Declarations) (requests : List Request) (seed n : ℕ) (blocks : List (List Event)) (s : StateValue) → 1 ≤ n → n ≤ most_nodes → IsService service → IsChecked service → All (RequestFits service) requests
     → All IsBlock blocks → length blocks ≤ 65535 → run service (start_of service) (joined blocks) ≡ Some s → IsSteady service requests seed n blocks s

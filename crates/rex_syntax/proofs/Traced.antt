@@ -3,7 +3,7 @@ use Rattle.std.proofs.Common.{◌≡◌, ℕ, ◌+◌, ◌-◌, ◌<◌, Bool, t
 use Rattle.std.specs.Prelude.{Option, Some, Ok, Err, IfSome, slice_get, if◌then◌else◌}
 use Rattle.std.proofs.lemmas.Option.{same_Some}
 use Rattle.rex_syntax.specs.declared.line.Line.{Line}
-use Rattle.rex_syntax.specs.declared.line.Line.TheVariants.{Acquire, Share, Release, Try, Busy, EndTry, Wait, Signal, Broadcast, Set, Let, Clock, Random, If, Else, EndIf, Repeat, EndRepeat, Reply}
+use Rattle.rex_syntax.specs.declared.line.Line.TheVariants.{Acquire, Share, Release, Try, Busy, EndTry, Wait, Signal, Broadcast, Down, Up, Set, Let, Clock, Random, If, Else, EndIf, Repeat, EndRepeat, Reply}
 use Rattle.rex_syntax.specs.declared.locks.Lockset.{Lockset}
 use Rattle.rex_syntax.specs.declared.service.Declarations.{Declarations}
 use Rattle.rex_syntax.specs.declared.flow.CheckCode.{CheckCode}
@@ -41,6 +41,8 @@ leads_next service (Try lock busy) held leads e d r = next_is leads (only_ok _ _
 leads_next service (Wait condition test) held leads e d r = next_is leads (both_ok _ _ _ _ _ leads e)
 leads_next service (Signal condition) held leads e d r = next_is leads (only_ok _ _ _ leads e)
 leads_next service (Broadcast condition) held leads e d r = next_is leads (only_ok _ _ _ leads e)
+leads_next service (Down semaphore) held leads e d r = next_is leads (only_ok _ _ _ leads e)
+leads_next service (Up semaphore) held leads e d r = cc
 leads_next service (Set variable value) held leads e d r = next_is leads (both_ok _ _ _ _ _ leads e)
 leads_next service (Let local value) held leads e d r = next_is leads (only_ok _ _ _ leads e)
 leads_next service (If test otherwise) held leads e d r = next_is leads (only_ok _ _ _ leads e)

@@ -5,7 +5,7 @@ use Rattle.rex_syntax.specs.declared.expr.Operand.{Operand}
 use Rattle.rex_syntax.specs.declared.expr.Operand.TheVariants.{Variable}
 use Rattle.rex_syntax.specs.declared.expr.Expr.{Expr}
 use Rattle.rex_syntax.specs.declared.line.Line.{Line}
-use Rattle.rex_syntax.specs.declared.line.Line.TheVariants.{Acquire, Share, Release, Try, Busy, EndTry, Wait, Signal, Broadcast, Set, Let, Clock, Random, If, Else, EndIf, Repeat, EndRepeat, Reply}
+use Rattle.rex_syntax.specs.declared.line.Line.TheVariants.{Acquire, Share, Release, Try, Busy, EndTry, Wait, Signal, Broadcast, Down, Up, Set, Let, Clock, Random, If, Else, EndIf, Repeat, EndRepeat, Reply}
 use Rattle.rex_syntax.specs.declared.locks.Mode.TheVariants.{Free, Shared, Exclusive}
 use Rattle.rex_syntax.specs.declared.locks.Lockset.{Lockset}
 use Rattle.rex_syntax.specs.declared.service.Declarations.{Declarations}
@@ -13,7 +13,7 @@ use Rattle.rex_syntax.specs.declared.service.Variable.{Variable as VariableOf}
 use Rattle.rex_syntax.specs.declared.service.Condition.{Condition}
 use Rattle.rex_syntax.specs.Locks.{mode_of, with_mode, is_free, is_exclusive, is_above, is_empty, is_only}
 use Rattle.rex_syntax.specs.declared.flow.CheckCode.{CheckCode}
-use Rattle.rex_syntax.specs.declared.flow.CheckCode.TheVariants.{UnguardedRead, UnguardedWrite, NotHeld, OutOfOrder, HeldAtReply, ConditionLock}
+use Rattle.rex_syntax.specs.declared.flow.CheckCode.TheVariants.{UnguardedRead, UnguardedWrite, NotHeld, OutOfOrder, HeldAtReply, ConditionLock, HeldAtDown}
 use Rattle.rex_syntax.specs.declared.flow.Leads.{Leads}
 use Rattle.rex_syntax.specs.declared.flow.Target.{Target}
 
@@ -73,6 +73,8 @@ leads_of service (Wait condition test) held =
     if is_only held (lock_of service condition) then only_if (expr_is_held service held test) (on held) UnguardedRead else Err ConditionLock
 leads_of service (Signal condition) held = only_if (is_exclusive (mode_of held (lock_of service condition))) (on held) ConditionLock
 leads_of service (Broadcast condition) held = only_if (is_exclusive (mode_of held (lock_of service condition))) (on held) ConditionLock
+leads_of service (Down semaphore) held = only_if (is_empty held) (on held) HeldAtDown
+leads_of service (Up semaphore) held = Ok (on held)
 leads_of service (Set variable value) held =
     if expr_is_held service held value then only_if (is_exclusive (mode_of held (guard_of service variable))) (on held) UnguardedWrite else Err UnguardedRead
 leads_of service (Let local value) held = only_if (expr_is_held service held value) (on held) UnguardedRead

@@ -1,3 +1,4 @@
+pub mod Limits
 pub mod Expr
 pub mod Locks
 pub mod Shape

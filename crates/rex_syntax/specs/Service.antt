@@ -3,14 +3,17 @@ use Rattle.std.specs.Prelude.{◌≡◌, ℕ, ◌<◌, ◌≤◌, true, List, []
 use Rattle.std.specs.List.{All}
 use Rattle.rex_syntax.specs.declared.expr.Expr.{Expr}
 use Rattle.rex_syntax.specs.declared.line.Line.{Line}
-use Rattle.rex_syntax.specs.declared.line.Line.TheVariants.{Acquire, Share, Release, Try, Wait, Signal, Broadcast, Set, Let, Clock, Random, If, Repeat, Reply}
+use Rattle.rex_syntax.specs.declared.line.Line.TheVariants.{Acquire, Share, Release, Try, Wait, Signal, Broadcast, Down, Up, Set, Let, Clock, Random, If, Repeat, Reply}
 use Rattle.rex_syntax.specs.declared.service.LockKind.{LockKind}
 use Rattle.rex_syntax.specs.declared.service.LockKind.TheVariants.{Plain, ReadersWriter}
 use Rattle.rex_syntax.specs.declared.service.Lock.{Lock}
+use Rattle.rex_syntax.specs.declared.service.Semaphore.{Semaphore}
 use Rattle.rex_syntax.specs.declared.service.Condition.{Condition}
 use Rattle.rex_syntax.specs.declared.service.Variable.{Variable}
 use Rattle.rex_syntax.specs.declared.service.Handler.{Handler}
 use Rattle.rex_syntax.specs.declared.service.Declarations.{Declarations}
+use Rattle.rex_event.specs.Limits.{most_lanes}
+use Rattle.rex_syntax.specs.Limits.{most_variables, most_first}
 use Rattle.rex_syntax.specs.Expr.{ExprFits}
 use Rattle.rex_syntax.specs.Shape.{IsShaped, HasBranches}
 use Rattle.rex_syntax.specs.Blocks.{is_matched}
@@ -34,6 +37,8 @@ LineNames service locals (Try lock busy) = IsLock service Plain lock
 LineNames service locals (Wait condition test) = (condition < length service.conditions) × ExprNames service locals test
 LineNames service locals (Signal condition) = condition < length service.conditions
 LineNames service locals (Broadcast condition) = condition < length service.conditions
+LineNames service locals (Down semaphore) = semaphore < length service.semaphores
+LineNames service locals (Up semaphore) = semaphore < length service.semaphores
 LineNames service locals (Set variable value) = (variable < length service.variables) × ExprNames service locals value
 LineNames service locals (Let local value) = (local < locals) × ExprNames service locals value
 LineNames service locals (Clock local) = local < locals
@@ -56,15 +61,17 @@ pub record IsHandler (service : Declarations) (h : Handler) : Type 0 where
   pub branches : HasBranches h.lines
   pub names : All (LineNames service h.locals) h.lines
 
--- declarations within their limits, whose conditions have plain locks and whose variables have guards
+-- declarations within their limits, whose semaphores have small first values, whose conditions have plain locks and whose variables have guards
 pub record IsService (service : Declarations) : Type 0 where
   pub some_lanes : 0 < service.lanes
-  pub lanes : service.lanes ≤ 16
+  pub lanes : service.lanes ≤ most_lanes
   pub locks : length service.locks ≤ 64
+  pub few_semaphores : length service.semaphores ≤ 64
   pub few_conditions : length service.conditions ≤ 64
-  pub few_variables : length service.variables ≤ 256
+  pub few_variables : length service.variables ≤ most_variables
   pub few_handlers : length service.handlers ≤ 64
   pub some_handlers : 0 < length service.handlers
+  pub semaphores : All (λ (x : Semaphore). x.first ≤ most_first) service.semaphores
   pub conditions : All (λ (c : Condition). IsLock service Plain c.lock) service.conditions
   pub variables : All (λ (v : Variable). v.guard < length service.locks) service.variables
   pub handlers : All (IsHandler service) service.handlers

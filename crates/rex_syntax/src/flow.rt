@@ -23,6 +23,8 @@ pub enum CheckCode {
     ConditionLock,
     /// C9: the bound on steps is above 100,000.
     TooLong,
+    /// C10: a lock is held where a semaphore is taken down.
+    HeldAtDown,
 }
 
 /// A line other than the next one, and what is held there, where a line leads there.

@@ -2,8 +2,8 @@
 
 use crate::expr::Expr;
 
-/// A line of a handler. Locks, conditions, variables and locals are numbered from 0. A line that leads elsewhere than to
-/// the next line has the number of that line in its handler, from 0.
+/// A line of a handler. Locks, semaphores, conditions, variables and locals are numbered from 0. A line that leads elsewhere
+/// than to the next line has the number of that line in its handler, from 0.
 #[derive(Drop)]
 pub enum Line {
     /// Takes a lock of either kind exclusively.
@@ -23,6 +23,10 @@ pub enum Line {
     Signal { condition: u8 },
     /// Wakes all lanes that wait.
     Broadcast { condition: u8 },
+    /// Takes one off a semaphore's value, once that is above 0.
+    Down { semaphore: u8 },
+    /// Adds one to a semaphore's value.
+    Up { semaphore: u8 },
     Set { variable: u16, value: Expr },
     Let { local: u8, value: Expr },
     /// A recorded read of the clock.

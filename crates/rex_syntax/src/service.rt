@@ -6,12 +6,14 @@ ghost use Rattle.rex_syntax.specs.Service.{IsService};
 use crate::line::Line;
 use rex_list::List;
 
-/// The most lanes, locks, conditions, variables and handlers that a service declares.
-pub const LANES: usize = 16;
+/// The most lanes, semaphores, conditions, variables and handlers that a service declares.
+pub use rex_event::LANES;
+
+pub const SEMAPHORES: usize = 64;
 
 pub const CONDITIONS: usize = 64;
 
-pub const VARIABLES: usize = 256;
+pub const VARIABLES: usize = 1024;
 
 pub const HANDLERS: usize = 64;
 
@@ -21,6 +23,9 @@ pub const LINES: usize = 256;
 pub const LOCALS: usize = 16;
 
 pub const PARAMETERS: usize = 4;
+
+/// The greatest first value of a semaphore.
+pub const MOST_FIRST: u32 = 1_000_000;
 
 #[derive(Clone, Copy, PartialEq, Eq, Debug)]
 pub enum LockKind {
@@ -33,6 +38,13 @@ pub enum LockKind {
 pub struct Lock {
     pub name: List<u8>,
     pub kind: LockKind,
+}
+
+/// A counting semaphore (Dijkstra), and its first value.
+#[derive(Drop)]
+pub struct Semaphore {
+    pub name: List<u8>,
+    pub first: u32,
 }
 
 /// A condition, and the number of its plain lock.
@@ -68,6 +80,7 @@ pub struct Handler {
 pub struct Declarations {
     pub lanes: u8,
     pub locks: List<Lock>,
+    pub semaphores: List<Semaphore>,
     pub conditions: List<Condition>,
     pub variables: List<Variable>,
     pub handlers: List<Handler>,

@@ -6,6 +6,7 @@ use Rattle.std.proofs.lemmas.List.{length-map}
 use Rattle.std.proofs.lemmas.List.Elements.{All-weaker}
 use Rattle.rex_syntax.specs.declared.service.Declarations.{Declarations}
 use Rattle.rex_syntax.specs.Service.{IsService}
+use Rattle.rex_event.specs.Limits.{most_lanes}
 use Rattle.rex_event.specs.declared.event.Event.{Event}
 use Rattle.rex_event.specs.declared.delta.Cause.{Cause}
 use Rattle.rex_event.specs.Causes.{HasCauses}
@@ -43,7 +44,7 @@ module _ (service : Declarations) (s : StateValue) (es : List Event) (good : IsS
   pub is_trace : IsTrace es
   is_trace = record {
     bases = counts_of s;
-    few = let a = length-map s.lanes done_of in let b = sound.by.complete.lanes in let c = good.lanes in let r : length (counts_of s) ≤ 16 = omega (arith, a, b, c) in r;
+    few = let a = length-map s.lanes done_of in let b = sound.by.complete.lanes in let c = good.lanes in let r : length (counts_of s) ≤ most_lanes = omega (arith, a, b, c) in r;
     numbered = (runs_count_on service s end.0 es end.1).numbered;
   }
 

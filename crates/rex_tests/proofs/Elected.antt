@@ -4,7 +4,7 @@ use Rattle.rex_syntax.specs.declared.service.Declarations.{Declarations}
 use Rattle.rex_traits.specs.declared.mem_keeper.Fate.{Fate}
 use Rattle.rex_traits.specs.Keeping.{KeeperValue, armed_to, unused_keeper}
 use Rattle.rex_safety.specs.Node.{down_node}
-use Rattle.rex_safety.specs.Calls.{begin, elect, start}
+use Rattle.rex_safety.specs.Calls.{begin, elect, restart}
 use Rattle.rex_safety.specs.Lanes.{Here}
 use Rattle.rex_safety.specs.Values.{service_of}
 use Rattle.rex_node.specs.Parts.{NodeValue, here_of}
@@ -16,7 +16,7 @@ records_of k = k.records
 
 -- a node without records that was started
 abbrev fresh : Here
-fresh = (start 1 (begin (down_node [] None))).node
+fresh = (restart 1 (begin (down_node [] None))).node
 
 fresh_runs : (service : Declarations) (seed : ℕ) → RunsOn service (elect 3 (service_of service seed) 1) (begin fresh)
 fresh_runs service seed = refl

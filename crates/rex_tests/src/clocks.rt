@@ -22,5 +22,5 @@ fn clocks_cover_what_they_merge(rt: HostRuntime) {
         assert_eq!(rt; first.covers(lane, place), covered);
     }
     assert_eq!(rt; first.count(2), 2);
-    assert!(rt; first == second);
+    assert_eq!(rt; first.lanes(), 16);
 }

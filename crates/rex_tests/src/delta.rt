@@ -1,7 +1,7 @@
 ghost use Rattle.std.specs.Prelude.{◌+◌, ◌≤◌, length, IfOk};
 ghost use Rattle.rex_delta.specs.Spelling.{IsDelta};
 
-use rex_delta::{DecodeError, decode, encode};
+use rex_delta::{DecodeError, check, decode, decode_events, encode};
 use rex_event::Delta;
 use std::alloc::{AllocError, Global};
 use std::test::*;
@@ -30,12 +30,21 @@ pub static HANDED_ON: [u8; 67] = [
     0x00, 0x00, 0x02,
 ];
 
+/// Lane 1 begins a request; lane 2 begins another and puts a semaphore up; lane 1 takes it down and replies.
+static COUNTED: [u8; 60] = [
+    0x02, 0x02, 0x00, 0x00, 0x00, 0x00, 0x00, 0x00, 0x00, 0x00, 0x00, 0x05, 0x01, 0x01, 0x00, 0x01,
+    0x00, 0x00, 0x00, 0x01, 0x01, 0x00, 0x00, 0x02, 0x01, 0x00, 0x02, 0x00, 0x00, 0x00, 0x01, 0x02,
+    0x00, 0x00, 0x02, 0x10, 0x01, 0x00, 0x01, 0x0f, 0x01, 0x01, 0x02, 0x00, 0x00, 0x00, 0x01, 0x01,
+    0x0e, 0x00, 0x01, 0x00, 0x00, 0x00, 0x00, 0x00, 0x00, 0x00, 0x01, 0x00,
+];
+
 /// Bytes put in the place of others of the second delta: their offset, and that of the first bad field.
-static CHANGES: [(u8, &[u8], usize); 28] = [
+static CHANGES: [(u8, &[u8], usize); 29] = [
     (0, &[0], 0),
-    (0, &[2], 0),
+    (0, &[2], 59),
+    (0, &[3], 0),
     (1, &[0], 1),
-    (1, &[17], 1),
+    (1, &[65], 1),
     (2, &[255, 255, 240, 0], 2),
     (10, &[0, 0], 10),
     (10, &[16, 1], 10),
@@ -72,9 +81,23 @@ pub fn delta_of(alloc: Global, bytes: &[u8]) -> Result<Delta, &'static str>
     }
 }
 
+/// The offset of the first bad field, where each way of reading finds the same.
 fn bad_at(alloc: Global, bytes: &[u8]) -> Option<usize> {
-    match decode(alloc, bytes) {
-        Err(DecodeError::Bad { at }) => Some(at),
+    match (
+        decode(alloc, bytes),
+        check(bytes),
+        decode_events(alloc, bytes),
+    ) {
+        (Err(DecodeError::Bad { at }), Err(counted), Err(DecodeError::Bad { at: alone }))
+            if at == counted && at == alone => Some(at),
+        _ => None,
+    }
+}
+
+/// How many events a delta has, where each way of reading finds as many.
+fn events_in(alloc: Global, bytes: &[u8]) -> Option<u32> {
+    match (check(bytes), decode_events(alloc, bytes)) {
+        (Ok(count), Ok(events)) if events.len() == count as usize => Some(count),
         _ => None,
     }
 }
@@ -89,18 +112,17 @@ fn changed(alloc: Global, bytes: &[u8], at: usize, new: &[u8]) -> Result<Vec<u8>
 
 #[test]
 fn deltas_are_read_and_written(rt: HostRuntime) -> Result<(), Fail> {
-    let delta = delta_of(rt.alloc(), &REQUEST)?;
-    let bytes = encode(rt.alloc(), &delta)?;
-    assert_eq!(rt; bytes.as_slice(), REQUEST.as_slice());
-    assert!(rt; delta.bases.len() == 2 && delta.events.len() == 4 && delta.causes.len() == 4);
-    Ok(())
-}
-
-#[test]
-fn causes_are_read_and_written(rt: HostRuntime) -> Result<(), Fail> {
-    let delta = delta_of(rt.alloc(), &HANDED_ON)?;
-    let bytes = encode(rt.alloc(), &delta)?;
-    assert_eq!(rt; bytes.as_slice(), HANDED_ON.as_slice());
+    let deltas = [
+        (REQUEST.as_slice(), 4),
+        (HANDED_ON.as_slice(), 5),
+        (COUNTED.as_slice(), 5),
+    ];
+    for (bytes, count) in deltas {
+        let delta = delta_of(rt.alloc(), bytes)?;
+        let again = encode(rt.alloc(), &delta)?;
+        assert_eq!(rt; again.as_slice(), bytes);
+        assert_eq!(rt; events_in(rt.alloc(), bytes), Some(count));
+    }
     Ok(())
 }
 
@@ -112,6 +134,8 @@ fn the_first_bad_field_is_named(rt: HostRuntime) -> Result<(), Fail> {
     let mut longer = Vec::from_slice(rt.alloc(), &REQUEST)?;
     longer.push(0)?;
     assert_eq!(rt; bad_at(rt.alloc(), &longer), Some(52));
+    let older = changed(rt.alloc(), &COUNTED, 0, &[1])?;
+    assert_eq!(rt; bad_at(rt.alloc(), &older), Some(35));
     for (at, new, field) in &CHANGES {
         let at = *at as usize;
         assert!(rt; new.len() < 5 && at + new.len() <= HANDED_ON.len());

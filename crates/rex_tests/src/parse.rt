@@ -59,7 +59,7 @@ fn blocks_lead_to_their_ends(rt: HostRuntime) {
 
 #[test]
 fn the_first_bad_line_is_refused(rt: HostRuntime) {
-    match read_service(rt.alloc(), b"lanes 1\n\nlanes 17\nfly") {
+    match read_service(rt.alloc(), b"lanes 1\n\nlanes 65\nfly") {
         Err(ReadError::Refused { line, code }) => {
             assert!(rt; line == 3 && code == ServiceCode::NoNumber);
         }

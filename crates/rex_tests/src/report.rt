@@ -114,7 +114,7 @@ fn effects_are_written(rt: &impl Abort, alloc: Global, counter: &Service) {
 }
 
 fn ends_are_written(rt: &impl Abort, alloc: Global, counter: &Service) {
-    let variables = counter.declarations().variables.as_slice();
+    let service = counter.declarations();
     let up = End::Up(UpEnd {
         node: 1,
         role: Role::Active,
@@ -123,8 +123,8 @@ fn ends_are_written(rt: &impl Abort, alloc: Global, counter: &Service) {
         count: 0,
     });
     let mut out = Vec::new(alloc);
-    push_end(&mut out, &up, variables, &[5]).expect(rt, "memory");
-    push_end(&mut out, &End::Down { node: 2 }, variables, &[5]).expect(rt, "memory");
+    push_end(&mut out, &up, service, &[5], &[]).expect(rt, "memory");
+    push_end(&mut out, &End::Down { node: 2 }, service, &[5], &[]).expect(rt, "memory");
     let text = b"end node 1 active promised 17 known 1 live 0 a=5\nend node 2 down\n".as_slice();
     assert_eq!(rt; out.as_slice(), text);
 }

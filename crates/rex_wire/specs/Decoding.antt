@@ -18,3 +18,8 @@ Gives (Err e) read = Fails e read
 abbrev pub ReadsOn : {A : Type 0} → Result A DecodeError → Left → Reading A → Type 0
 ReadsOn (Ok x) new read = read ≡ Ok (x, new)
 ReadsOn (Err e) new read = Fails e read
+
+-- the bytes are bad; memory did not run out
+abbrev pub IsBad : DecodeError → Type 0
+IsBad (Bad at) = Unit {0}
+IsBad OutOfMemory = ⊥

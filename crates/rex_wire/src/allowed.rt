@@ -1,8 +1,8 @@
 //! Reading numbers that are allowed.
 
-ghost use Rattle.std.specs.Prelude.{◌==◌, ◌≤◌, nat_le, IfOk};
+ghost use Rattle.std.specs.Prelude.{◌==◌, ◌≤◌, nat_le, IfOk, IfErr};
 ghost use Rattle.std.specs.Int.{w8, w16, w32};
-ghost use Rattle.rex_wire.specs.Decoding.{ReadsOn};
+ghost use Rattle.rex_wire.specs.Decoding.{ReadsOn, IsBad};
 ghost use Rattle.rex_wire.specs.Ranges.{is_between, IsBetween};
 ghost use Rattle.rex_wire.specs.Reading.{allowed_at};
 
@@ -13,6 +13,7 @@ use crate::reader::Reader;
 pub fn u8_between(reader: &mut Reader, least: u8, greatest: u8) -> Result<u8, DecodeError>
     ensures read { ReadsOn result reader.new (allowed_at w8 (is_between least greatest) reader.old) }
     ensures between { IfOk result (λ n. IsBetween least greatest n) }
+    ensures fault { IfErr result IsBad }
 {
     let at = reader.at();
     let n = reader.u8()?;
@@ -26,6 +27,7 @@ pub fn u8_between(reader: &mut Reader, least: u8, greatest: u8) -> Result<u8, De
 pub fn u16_between(reader: &mut Reader, least: u16, greatest: u16) -> Result<u16, DecodeError>
     ensures read { ReadsOn result reader.new (allowed_at w16 (is_between least greatest) reader.old) }
     ensures between { IfOk result (λ n. IsBetween least greatest n) }
+    ensures fault { IfErr result IsBad }
 {
     let at = reader.at();
     let n = reader.u16()?;
@@ -39,6 +41,7 @@ pub fn u16_between(reader: &mut Reader, least: u16, greatest: u16) -> Result<u16
 pub fn u32_between(reader: &mut Reader, least: u32, greatest: u32) -> Result<u32, DecodeError>
     ensures read { ReadsOn result reader.new (allowed_at w32 (is_between least greatest) reader.old) }
     ensures between { IfOk result (λ n. IsBetween least greatest n) }
+    ensures fault { IfErr result IsBad }
 {
     let at = reader.at();
     let n = reader.u32()?;
@@ -50,7 +53,8 @@ pub fn u32_between(reader: &mut Reader, least: u32, greatest: u32) -> Result<u32
 
 /// A number of 8 bits up to a greatest one.
 pub fn u8_at_most(reader: &mut Reader, greatest: u8) -> Result<u8, DecodeError>
-    ensures { ReadsOn result reader.new (allowed_at w8 (λ n. nat_le n greatest) reader.old) }
+    ensures read { ReadsOn result reader.new (allowed_at w8 (λ n. nat_le n greatest) reader.old) }
+    ensures fault { IfErr result IsBad }
 {
     let at = reader.at();
     let n = reader.u8()?;
@@ -64,6 +68,7 @@ pub fn u8_at_most(reader: &mut Reader, greatest: u8) -> Result<u8, DecodeError>
 pub fn u32_at_most(reader: &mut Reader, greatest: u32) -> Result<u32, DecodeError>
     ensures read { ReadsOn result reader.new (allowed_at w32 (λ n. nat_le n greatest) reader.old) }
     ensures most { IfOk result (λ n. n ≤ greatest) }
+    ensures fault { IfErr result IsBad }
 {
     let at = reader.at();
     let n = reader.u32()?;
@@ -75,7 +80,8 @@ pub fn u32_at_most(reader: &mut Reader, greatest: u32) -> Result<u32, DecodeErro
 
 /// The one number of 8 bits that is wanted.
 pub fn u8_wanted(reader: &mut Reader, wanted: u8) -> Result<u8, DecodeError>
-    ensures { ReadsOn result reader.new (allowed_at w8 (λ n. n == wanted) reader.old) }
+    ensures read { ReadsOn result reader.new (allowed_at w8 (λ n. n == wanted) reader.old) }
+    ensures fault { IfErr result IsBad }
 {
     let at = reader.at();
     let n = reader.u8()?;

@@ -9,6 +9,7 @@ use Rattle.rex_safety.specs.Records.{Rec, Proposal, base, promise, known}
 use Rattle.rex_safety.specs.Quorum.{ballot_above, round_of}
 use Rattle.rex_safety.specs.Node.{Content, Failure, Lead, Role, Service, is_active, role_name}
 use Rattle.rex_safety.specs.Node.Role.{Follower, Leads}
+use Rattle.rex_version.specs.declared.version.Version.{Version}
 use Rattle.rex_safety.specs.Calls.{begin, say, checkpoint, elect, receive, replay}
 use Rattle.rex_safety.specs.Values.{Value, service_of, values_fit}
 use Rattle.rex_safety.specs.Lanes.{Here, CallHere, active_only, cut, cut_role, cut_lead, cut_live}
@@ -168,10 +169,10 @@ module _ (number : ℕ) (h : Here) where
       by false e true f = rw (e, f) refl
       by false e false f = tt
 
-  pub checkpoint_excused : (sv : Service Value StateValue) → Excused (checkpoint sv number (begin h)) number h (if h.replayed == base h.log then Some why.Nothing else if nat_lt 0 (length h.work.live) then Some (why.Live (length h.work.live)) else None)
-  checkpoint_excused sv = by (h.replayed == base h.log) refl (nat_lt 0 (length h.work.live)) refl
+  pub checkpoint_excused : (version : Version) (sv : Service Value StateValue) → Excused (checkpoint version sv number (begin h)) number h (if h.replayed == base h.log then Some why.Nothing else if nat_lt 0 (length h.work.live) then Some (why.Live (length h.work.live)) else None)
+  checkpoint_excused version sv = by (h.replayed == base h.log) refl (nat_lt 0 (length h.work.live)) refl
     where
-      by : (b : Bool) → (h.replayed == base h.log) ≡ b → (c : Bool) → nat_lt 0 (length h.work.live) ≡ c → Excused (checkpoint sv number (begin h)) number h (if b then Some why.Nothing else if c then Some (why.Live (length h.work.live)) else None)
+      by : (b : Bool) → (h.replayed == base h.log) ≡ b → (c : Bool) → nat_lt 0 (length h.work.live) ≡ c → Excused (checkpoint version sv number (begin h)) number h (if b then Some why.Nothing else if c then Some (why.Live (length h.work.live)) else None)
       by true e c f = rw e refl
       by false e true f = rw (e, f) refl
       by false e false f = tt
@@ -247,7 +248,7 @@ module _ (service : Declarations) (seed nodes number : ℕ) (old : NodeValue Kee
     stays_seat call (Err why.UpToDate) goes stays does spared whole = still spared
     stays_seat call (Err why.Spent) goes stays does spared whole = still spared
 
-    done_if : (call : CallHere → CallHere) (result : Result Step Refusal) → ((f : Option Failure) → Goes f call) → IfOk result (Does records_of follows (λ k. k.faults) service call old new) → old.up ≡ true → IfOk result (IsDone call (here_at service old) (here_at service new))
+    pub done_if : (call : CallHere → CallHere) (result : Result Step Refusal) → ((f : Option Failure) → Goes f call) → IfOk result (Does records_of follows (λ k. k.faults) service call old new) → old.up ≡ true → IfOk result (IsDone call (here_at service old) (here_at service new))
     done_if call (Ok step) goes does up = is_done service call goes old new step up does
     done_if call (Err refusal) goes does up = tt
 
@@ -281,11 +282,11 @@ module _ (service : Declarations) (seed nodes number : ℕ) (old new : NodeValue
       (if is_active (here_at service old).role then Some why.UpToDate else if (here_at service old).replayed == length (known (here_at service old).log) then Some why.UpToDate else None)
       result refuses left (replay_excused old.id (here_at service old)) does
 
-  pub checkpoints : Refuses (refusal_of_checkpoint (here_at service old)) result → IfOk result (Does records_of follows (λ k. k.faults) service (checkpoint (service_of service old.seed) old.id) old new) → IsSpared result old new → Acts (checkpoint (service_of service seed) number) number (here_at service old) (here_at service new) result
-  checkpoints refuses does left =
-      node_acts service seed nodes number old runner new (λ n s m. checkpoint (service_of service s) m) (λ f. checkpoint_either f (service_of service old.seed) old.id)
+  pub checkpoints : (version : Version) → Refuses (refusal_of_checkpoint (here_at service old)) result → IfOk result (Does records_of follows (λ k. k.faults) service (checkpoint version (service_of service old.seed) old.id) old new) → IsSpared result old new → Acts (checkpoint version (service_of service seed) number) number (here_at service old) (here_at service new) result
+  checkpoints version refuses does left =
+      node_acts service seed nodes number old runner new (λ n s m. checkpoint version (service_of service s) m) (λ f. checkpoint_either f version (service_of service old.seed) old.id)
       (if (here_at service old).replayed == base (here_at service old).log then Some why.Nothing else if nat_lt 0 (length (here_at service old).work.live) then Some (why.Live (length (here_at service old).work.live)) else None)
-      result refuses left (checkpoint_excused old.id (here_at service old) (service_of service old.seed)) does
+      result refuses left (checkpoint_excused old.id (here_at service old) version (service_of service old.seed)) does
 
   -- of a cut, where the second refusal is what the model says of a leader without an open proposal, where an instance is left
   pub cuts : (counts : List ℕ) (late : Option Refusal) → old.up ≡ true → RefusesThen (refusal_of_cut (here_at service old) (length old.known)) late result → ((l : Lead Value) → nat_le 65535 (length (known (here_at service old).log)) ≡ false → Excused (cut_lead service old.seed old.nodes old.id counts l None (begin (here_at service old))) old.id (here_at service old) late) → IfOk result (Does records_of follows (λ k. k.faults) service (cut service old.seed old.nodes old.id counts) old new) → IsSpared result old new → Acts (cut service seed nodes number counts) number (here_at service old) (here_at service new) result

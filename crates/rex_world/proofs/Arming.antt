@@ -6,6 +6,7 @@ use Rattle.std.specs.Vec.{with_items}
 use Rattle.std.proofs.lemmas.List.{with_items_is}
 use Rattle.std.proofs.Math.Seq.{drop-append_seam}
 use Rattle.std.proofs.lemmas.List.{append-nil}
+use Rattle.rex_ballot.specs.Limits.{most_nodes}
 use Rattle.rex_syntax.specs.declared.service.Declarations.{Declarations}
 use Rattle.rex_syntax.specs.declared.request.Request.{Request}
 use Rattle.rex_traits.specs.declared.mem_keeper.Fate.{Fate}
@@ -121,7 +122,7 @@ module _ (service : Declarations) (w : World) (h : IsRunning service w) (m : ℕ
         service_is = h.service_is;
         checked = h.checked;
         whole = h.whole;
-        few = subst (λ (n : ℕ). n ≤ 9) (sym many) h.few;
+        few = subst (λ (n : ℕ). n ≤ most_nodes) (sym many) h.few;
         kept = subst (λ (n : ℕ). IsKept service w.seed n (world_of service after)) (sym many)
             (subst (IsKept service w.seed (nodes_of w)) (sym arming_world) (row_kept service h.service_is h.checked w.requests h.requests w.seed (nodes_of w) h.few (world_of service w) (KeepFail m kept) there h.kept));
         seats = subst (λ (n : ℕ). AreSeats service w.seed n 1 seats.items) (sym many) all;

@@ -1,10 +1,11 @@
 -- A world before the first line.
-use Rattle.std.proofs.Common.{◌≡◌, ⊎_elim, ℕ, suc, ◌+◌, ◌≤◌, Bool, true, false, List, [], ◌∷◌, ◌++◌, length, take, replicate, refl, sym, ◌∙◌, ap, subst, arith, add-zero, length-append}
-use Rattle.std.specs.Prelude.{◌==◌, ◌||◌}
-use Rattle.std.proofs.lemmas.Bool.{or_cases, eqb-true}
+use Rattle.std.proofs.Common.{◌≡◌, ℕ, suc, ◌+◌, ◌≤◌, Bool, true, false, List, [], ◌∷◌, ◌++◌, length, take, replicate, refl, sym, ◌∙◌, ap, subst, arith, add-zero, length-append}
+use Rattle.std.specs.Prelude.{◌==◌, ◌&&◌, ◌%◌, nat_le}
+use Rattle.std.proofs.lemmas.Bool.{leb-true}
 use Rattle.std.proofs.lemmas.Grind.{replicate_next}
 use Rattle.std.specs.List.{All, list_all}
 use Rattle.std.proofs.lemmas.List.Elements.{All-nil}
+use Rattle.rex_ballot.specs.Limits.{most_nodes}
 use Rattle.rex_syntax.specs.declared.service.Declarations.{Declarations}
 use Rattle.rex_syntax.specs.Service.{IsService}
 use Rattle.rex_syntax.specs.Check.{IsChecked}
@@ -51,12 +52,12 @@ new_next service seed nodes number seats seat h e one none =
       many = length-append seats (seat ∷ []) ∙ ap (λ (k : ℕ). k + 1) h.many;
     }
 
--- there are at most nine
-pub few_nodes : (n : ℕ) → is_node_count n ≡ true → n ≤ 9
-few_nodes n h =
-    ⊎_elim (λ (a : (n == 1) ≡ true). let e : n ≡ 1 = eqb-true n 1 a in omega arith)
-    (λ (b : (n == 3 || n == 5) ≡ true). ⊎_elim (λ (c : (n == 3) ≡ true). let e : n ≡ 3 = eqb-true n 3 c in omega arith) (λ (d : (n == 5) ≡ true). let e : n ≡ 5 = eqb-true n 5 d in omega arith) (or_cases (n == 3) (n == 5) b))
-    (or_cases (n == 1) (n == 3 || n == 5) h)
+both : (a b : Bool) → (a && b) ≡ true → (a ≡ true) × (b ≡ true)
+both true b e = (refl, e)
+both false b e = absurd cc
+
+pub few_nodes : (n : ℕ) → is_node_count n ≡ true → n ≤ most_nodes
+few_nodes n h = leb-true n most_nodes (both (n % 2 == 1) (nat_le n most_nodes) h).1
 
 abbrev model_of : ℕ → List Here → List (Message Value) → List Bool → ModelWorld
 model_of done nodes messages handed = record { done = done; nodes = nodes; messages = messages; handed = handed }
@@ -69,7 +70,7 @@ begins service seed n w h net handed done =
     ∙ ap (λ (ms : List (List ℕ)). model_of 0 (replicate n new_node) (messages_of ms) w.handed.items) net
     ∙ ap (λ (hs : List Bool). model_of 0 (replicate n new_node) [] hs) handed
 
-pub new_running : (service : Declarations) (n : ℕ) (w : World) → n ≤ 9 → IsService service → IsChecked service → All (RequestFits service) w.requests → AreNew service w.seed n n w.seats.items
+pub new_running : (service : Declarations) (n : ℕ) (w : World) → n ≤ most_nodes → IsService service → IsChecked service → All (RequestFits service) w.requests → AreNew service w.seed n n w.seats.items
     → w.net ≡ [] → w.handed.items ≡ [] → w.done ≡ 0 → w.flushed ≡ 0 → w.broken ≡ false → IsRunning service w
 new_running service n w few good checked fit h net handed done flushed whole =
     record {

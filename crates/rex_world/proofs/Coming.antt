@@ -6,18 +6,24 @@ use Rattle.std.specs.List.{All, list_all}
 use Rattle.std.proofs.Math.Seq.{drop-append_seam, drop-length}
 use Rattle.std.proofs.lemmas.List.{append-nil, length-map, take-append-le}
 use Rattle.std.proofs.lemmas.List.Elements.{All-nil, All-cons, All-append, All-head, All-tail}
+use Rattle.rex_ballot.specs.Limits.{most_nodes}
 use Rattle.rex_syntax.specs.declared.service.Declarations.{Declarations}
 use Rattle.rex_report.specs.declared.effect.Effect.{Effect}
 use Rattle.rex_report.specs.declared.effect.Effect.TheVariants.{IsDown, IsUp}
 use Rattle.rex_msg.specs.declared.message.Message.{Message as Said}
 use Rattle.rex_msg.specs.Spelling.{HasSpelling, spelling_of, IsMessage}
 use Rattle.rex_msg.proofs.MessageAgain.{message_read}
-use Rattle.rex_safety.specs.Node.{Message}
-use Rattle.rex_safety.specs.Calls.{begin, say, start}
-use Rattle.rex_safety.specs.Values.{Value}
+use Rattle.rex_state.specs.Value.{StateValue}
+use Rattle.rex_version.specs.declared.version.Version.TheVariants.{Two}
+use Rattle.rex_safety.specs.Records.{base, known, has_old_base}
+use Rattle.rex_safety.specs.Records.Rec.{Checkpoint}
+use Rattle.rex_safety.specs.Node.{Message, Service}
+use Rattle.rex_safety.specs.Calls.{begin, restart, say, start}
+use Rattle.rex_safety.specs.Values.{Value, service_of}
 use Rattle.rex_safety.specs.Lanes.{Here, CallHere}
 use Rattle.rex_safety.specs.World.{World as ModelWorld, Row, node_at, put, after, only, if_up, at_node, start_if, sent_from}
 use Rattle.rex_safety.specs.Kept.{IsKept}
+use Rattle.rex_safety.proofs.Migrated.{migrated_sends}
 use Rattle.rex_node.specs.declared.refusal.Refusal.{Refusal}
 use Rattle.rex_node.specs.declared.refusal.Refusal.TheVariants as why
 use Rattle.rex_node.specs.declared.step.Step.{Step}
@@ -51,6 +57,10 @@ all_spelled : (ms : List Said) → All HasSpelling ms → All IsSpelled (map spe
 all_spelled [] h = All-nil IsSpelled
 all_spelled (m ∷ ms) h =
     All-cons IsSpelled (spelling_of m) (map spelling_of ms) (record { message = m; spelling = All-head HasSpelling m ms h; is = refl }) (all_spelled ms (All-tail HasSpelling m ms h))
+
+-- a node that is started sends nothing
+started_sends : (sv : Service Value StateValue) (m : ℕ) (x : Here) → (start sv m (begin x)).sends ≡ []
+started_sends sv m x = migrated_sends (has_old_base x.log) m (restart m (begin x)) (base x.log) (Checkpoint Two (base x.log) (sv.state (take (base x.log) (known x.log)))) refl
 
 -- ---- worlds
 
@@ -121,7 +131,7 @@ module _ (service : Declarations) (w w2 : World) (seats : Vec Seat) (told told2 
           service_is = h.service_is;
           checked = h.checked;
           whole = h.whole;
-          few = subst (λ (k : ℕ). k ≤ 9) (sym many) h.few;
+          few = subst (λ (k : ℕ). k ≤ most_nodes) (sym many) h.few;
           kept = subst (λ (k : ℕ). IsKept service w.seed k (world_of service sent_world)) (sym many) (subst (λ (v : World). IsKept service w.seed (nodes_of w) (world_of service v)) tells.rest kept);
           seats = subst (λ (k : ℕ). AreSeats service w.seed k 1 seats.items) (sym many) all.seats_are;
           within = all.within;
@@ -164,7 +174,7 @@ module _ (service : Declarations) (w w2 : World) (seats : Vec Seat) (told told2 
             service_is = h.service_is;
             checked = h.checked;
             whole = h.whole;
-            few = subst (λ (k : ℕ). k ≤ 9) (sym many) h.few;
+            few = subst (λ (k : ℕ). k ≤ most_nodes) (sym many) h.few;
             kept = subst (λ (k : ℕ). IsKept service w.seed k (world_of service seated)) (sym many)
                 (subst (IsKept service w.seed (nodes_of w)) (sym world_same ∙ ap (world_of service) same) h.kept);
             seats = subst (λ (k : ℕ). AreSeats service w.seed k 1 seats.items) (sym many) all.seats_are;
@@ -251,25 +261,25 @@ module _ (service : Declarations) (w w2 : World) (seats : Vec Seat) (told told2 
           (same_world w.done w.done (put (heres service w.seats.items) m here) (heres service w.seats.items) (messages_of w.net ++ []) (messages_of w.net) (w.handed.items ++ []) w.handed.items refl
           (put_same (heres service w.seats.items) m) (append-nil (messages_of w.net)) (append-nil w.handed.items))
 
-      started_step : (t : Bool) (step : Step) → StartsIf t m here there step → IsKept service w.seed (nodes_of w) (start_if t (world_of service w) m).world → TellsStep seated w2 told told2 step
-          → ComesTo service w w2 told told2 (start_if t (world_of service w) m)
+      started_step : (t : Bool) (step : Step) → StartsIf (service_of service w.seed) t m here there step → IsKept service w.seed (nodes_of w) (start_if (service_of service w.seed) t (world_of service w) m).world → TellsStep seated w2 told told2 step
+          → ComesTo service w w2 told told2 (start_if (service_of service w.seed) t (world_of service w) m)
       unfolding still
       started_step true step is kept tells =
           subst (ComesTo service w w2 told told2) still_only
           (comes_after still step tells is.same (ap (map message_in) is.sends) is.effects others many all (subst (λ (r : Row). IsKept service w.seed (nodes_of w) r.world) (sym still_only) kept))
-      started_step false step is kept tells = comes_after (start m (begin here)) step tells is.node (ap (map message_in) is.sends) is.effects others many all kept
+      started_step false step is kept tells = comes_after (start (service_of service w.seed) m (begin here)) step tells is.node (ap (map message_in) is.sends ∙ sym (started_sends (service_of service w.seed) m here)) is.effects others many all kept
 
-    pub comes_started : (outcome : Result Step Refusal) → IsStarted m here there outcome → heres service seats.items ≡ put (heres service w.seats.items) m there → length seats.items ≡ nodes_of w
-        → (IsWhole outcome → AreKept service w.seed (nodes_of w) w.done seats.items) → IsKept service w.seed (nodes_of w) (start_if here.up (world_of service w) m).world
-        → IsTold m seated w2 told told2 outcome → ComesTo service w w2 told told2 (start_if here.up (world_of service w) m)
+    pub comes_started : (outcome : Result Step Refusal) → IsStarted (service_of service w.seed) m here there outcome → heres service seats.items ≡ put (heres service w.seats.items) m there → length seats.items ≡ nodes_of w
+        → (IsWhole outcome → AreKept service w.seed (nodes_of w) w.done seats.items) → IsKept service w.seed (nodes_of w) (start_if (service_of service w.seed) here.up (world_of service w) m).world
+        → IsTold m seated w2 told told2 outcome → ComesTo service w w2 told told2 (start_if (service_of service w.seed) here.up (world_of service w) m)
     comes_started (Ok step) is others many all kept t = started_step others many (all tt) here.up step is kept t.tells
     comes_started (Err refusal) is others many all kept t = absurd (subst (λ (why : Refusal). Tells m seated w2 told told2 (Err why)) is t.tells)
 
 -- what was started sends nothing
-pub starts_fit : (m : ℕ) (x y : Here) (outcome : Result Step Refusal) → IsStarted m x y outcome → IfOk outcome (λ (step : Step). All IsMessage step.sends)
-starts_fit m x y (Err refusal) is = tt
-starts_fit m x y (Ok step) is = go x.up is
+pub starts_fit : (sv : Service Value StateValue) (m : ℕ) (x y : Here) (outcome : Result Step Refusal) → IsStarted sv m x y outcome → IfOk outcome (λ (step : Step). All IsMessage step.sends)
+starts_fit sv m x y (Err refusal) is = tt
+starts_fit sv m x y (Ok step) is = go x.up is
   where
-    go : (t : Bool) → StartsIf t m x y step → All IsMessage step.sends
+    go : (t : Bool) → StartsIf sv t m x y step → All IsMessage step.sends
     go true h = subst (All IsMessage) (sym h.sends) (All-nil IsMessage)
     go false h = subst (All IsMessage) (sym h.sends) (All-nil IsMessage)

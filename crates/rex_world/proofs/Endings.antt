@@ -2,7 +2,6 @@
 use Rattle.std.proofs.Common.{◌≡◌, ℕ, suc, ◌+◌, ◌-◌, ◌<◌, ◌≤◌, Bool, true, List, [], ◌∷◌, ◌++◌, length, take, Option, Some, None, is_some, refl, sym, ◌∙◌, ap, subst, arith, append_assoc, add-zero, add-one, length-take}
 use Rattle.std.specs.Prelude.{slice_index_or, unwrap_or, if◌then◌else◌, ℤ, Result, OnOk}
 use Rattle.std.proofs.lemmas.Result.{on_ok_weaker}
-use Rattle.rex_syntax.specs.declared.service.Variable.{Variable}
 use Rattle.std.proofs.Math.Seq.{take-suc}
 use Rattle.rex_syntax.specs.declared.service.Declarations.{Declarations}
 use Rattle.rex_state.specs.Value.{StateValue}
@@ -19,39 +18,39 @@ use Rattle.rex_safety.specs.Node.{role_name, is_active}
 use Rattle.rex_safety.specs.Values.{Value, trace_of, state_after}
 use Rattle.rex_safety.specs.Lanes.{Here}
 use Rattle.rex_traits.specs.Keeping.{KeeperValue}
-use Rattle.rex_node.specs.Parts.{NodeValue, ActingValue, IsNode, IsActing, here_of, log_of, role_of, work_of, state_of, variables_of, variables_with}
+use Rattle.rex_node.specs.Parts.{NodeValue, ActingValue, IsNode, IsActing, here_of, log_of, role_of, work_of, state_of, shown_of, shown_with}
 use Rattle.rex_world.specs.declared.seats.Seat.{Seat}
 use Rattle.rex_world.specs.declared.seats.Seat.TheVariants.{Running, Stopped}
 use Rattle.rex_world.specs.Seats.{IsSeat, AreSeats, heres, here_in, records_of}
 use Rattle.rex_world.proofs.Seated.{many_here, seat_is}
 use Rattle.std.proofs.lemmas.List.{append-nil}
-use Rattle.rex_world.specs.Report.{IsNumbered, count_of, end_of, ends_text, up_end_of, values_of}
+use Rattle.rex_world.specs.Report.{IsNumbered, count_of, end_of, ends_text, node_text, shown_state, up_end_of}
 
 -- the state that events run to
 run_to : (service : Declarations) (es : List Event) (s : StateValue) → run service (start_of service) es ≡ Some s → state_after service es ≡ s
 run_to service es s h = ap (λ (o : Option StateValue). unwrap_or o (start_of service)) h
 
 -- an end line that was told, in other terms
-pub told_as : {E : Type 0} {end other : End} {variables others : List Variable} {values shown : List ℤ} (r : Result (Unit {0}) E) (before after : List ℕ) → other ≡ end → others ≡ variables → shown ≡ values
-    → OnOk r (after ≡ before ++ end_text other others shown) → OnOk r (after ≡ before ++ end_text end variables values)
-told_as {E} {end} {other} {variables} {others} {values} {shown} r before after a b d h =
+pub told_as : {E : Type 0} {end other : End} {service declared : Declarations} {values shown : List ℤ} {counts others : List ℕ} (r : Result (Unit {0}) E) (before after : List ℕ) → other ≡ end → declared ≡ service → shown ≡ values → others ≡ counts
+    → OnOk r (after ≡ before ++ end_text other declared shown others) → OnOk r (after ≡ before ++ end_text end service values counts)
+told_as {E} {end} {other} {service} {declared} {values} {shown} {counts} {others} r before after a b d c h =
     on_ok_weaker r
-    (λ (t : after ≡ before ++ end_text other others shown).
-    t ∙ ap (λ (x : End). before ++ end_text x others shown) a
-    ∙ ap (λ (x : List Variable). before ++ end_text end x shown) b
-    ∙ ap (λ (x : List ℤ). before ++ end_text end variables x) d)
+    (λ (t : after ≡ before ++ end_text other declared shown others).
+    t ∙ ap (λ (x : End). before ++ end_text x declared shown others) a
+    ∙ ap (λ (x : Declarations). before ++ end_text end x shown others) b
+    ∙ ap (λ (x : List ℤ). before ++ end_text end service x others) d
+    ∙ ap (λ (x : List ℕ). before ++ end_text end service values x) c)
     h
 
--- the values of the variables, where it is active and where it isn't
-values_at : (service : Declarations) (values : List Value) (replayed : ℕ) (a : _) (proposer : Option _) (acting : Option ActingValue) (s : StateValue)
+-- the state that is shown, where it is active and where it isn't
+shown_at : (service : Declarations) (values : List Value) (replayed : ℕ) (a : _) (proposer : Option _) (acting : Option ActingValue) (s : StateValue)
     → (acting ≡ None → run service (start_of service) (trace_of (take replayed values)) ≡ Some s) → IsActing service values a proposer acting
-    → (if is_active (role_of a proposer (is_some acting)) then (state_after service (trace_of values ++ (work_of acting).live)).variables else (state_after service (trace_of (take replayed values))).variables) ≡ variables_with acting s
-values_at service values replayed a None None s ahead acts = ap (λ (t : StateValue). t.variables) (run_to service (trace_of (take replayed values)) s (ahead refl))
-values_at service values replayed a (Some p) None s ahead acts = ap (λ (t : StateValue). t.variables) (run_to service (trace_of (take replayed values)) s (ahead refl))
-values_at service values replayed a None (Some e) s ahead acts = absurd acts
-values_at service values replayed a (Some p) (Some e) s ahead acts =
-    ap (λ (t : StateValue). t.variables)
-    (run_to service (trace_of values ++ e.recorder.live) e.recorder.state (run-then service (start_of service) e.recorder.start (trace_of values) e.recorder.live acts.executes.known ∙ acts.executes.recorder.runs))
+    → (if is_active (role_of a proposer (is_some acting)) then state_after service (trace_of values ++ (work_of acting).live) else state_after service (trace_of (take replayed values))) ≡ shown_with acting s
+shown_at service values replayed a None None s ahead acts = run_to service (trace_of (take replayed values)) s (ahead refl)
+shown_at service values replayed a (Some p) None s ahead acts = run_to service (trace_of (take replayed values)) s (ahead refl)
+shown_at service values replayed a None (Some e) s ahead acts = absurd acts
+shown_at service values replayed a (Some p) (Some e) s ahead acts =
+    run_to service (trace_of values ++ e.recorder.live) e.recorder.state (run-then service (start_of service) e.recorder.start (trace_of values) e.recorder.live acts.executes.known ∙ acts.executes.recorder.runs)
 
 few_live : (service : Declarations) (values : List Value) (a : _) (proposer : Option _) (acting : Option ActingValue) → IsActing service values a proposer acting → length (work_of acting).live ≤ 4096
 few_live service values a p None acts = omega arith
@@ -63,12 +62,12 @@ abbrev end_at : NodeValue KeeperValue → ℕ → ℕ → UpEnd
 end_at x promised many = record { node = x.id; role = role_name (role_of x.acceptor x.proposer (is_some x.acting)); promised = promised; known = many; count = count_of x }
 
 module _ (service : Declarations) (x : NodeValue KeeperValue) (node : IsNode records_of service x) where
-  -- the values that its parts have are those of the model's node
-  pub values_are : x.up ≡ true → values_of service (here_of records_of service x) ≡ variables_of x
-  values_are e =
+  -- the state that its parts show is that of the model's node
+  pub shown_is : x.up ≡ true → shown_state service (here_of records_of service x) ≡ shown_of x
+  shown_is e =
       let up = node.up e in
-      ap (λ (vs : List Value). if is_active (role_of x.acceptor x.proposer (is_some x.acting)) then (state_after service (trace_of vs ++ (work_of x.acting).live)).variables else (state_after service (trace_of (take x.replayed vs))).variables) (sym up.known)
-      ∙ values_at service x.known x.replayed x.acceptor x.proposer x.acting (state_of x) up.ahead up.acting
+      ap (λ (vs : List Value). if is_active (role_of x.acceptor x.proposer (is_some x.acting)) then state_after service (trace_of vs ++ (work_of x.acting).live) else state_after service (trace_of (take x.replayed vs))) (sym up.known)
+      ∙ shown_at service x.known x.replayed x.acceptor x.proposer x.acting (state_of x) up.ahead up.acting
 
   pub end_is : x.up ≡ true → end_of x.id (here_of records_of service x) ≡ Up (up_end_of x)
   end_is e =
@@ -89,29 +88,29 @@ heres_both service [] ys = refl
 heres_both service (x ∷ xs) ys = ap (λ (zs : List Here). here_in service x ∷ zs) (heres_both service xs ys)
 
 -- the line of one more node
-ends_more : (service : Declarations) (number : ℕ) (xs : List Here) (y : Here) → ends_text service number (xs ++ y ∷ []) ≡ ends_text service number xs ++ end_text (end_of (number + length xs) y) service.variables (values_of service y)
+ends_more : (service : Declarations) (number : ℕ) (xs : List Here) (y : Here) → ends_text service number (xs ++ y ∷ []) ≡ ends_text service number xs ++ node_text service (number + length xs) y
 ends_more service number [] y =
-    append-nil (end_text (end_of number y) service.variables (values_of service y)) ∙ ap (λ (k : ℕ). end_text (end_of k y) service.variables (values_of service y)) (sym (add-zero number))
+    append-nil (node_text service number y) ∙ ap (λ (k : ℕ). node_text service k y) (sym (add-zero number))
 ends_more service number (x ∷ xs) y =
     let e : suc number + length xs ≡ number + suc (length xs) = omega arith in
-    ap (λ (t : List ℕ). end_text (end_of number x) service.variables (values_of service x) ++ t)
-    (ends_more service (suc number) xs y ∙ ap (λ (k : ℕ). ends_text service (suc number) xs ++ end_text (end_of k y) service.variables (values_of service y)) e)
-    ∙ sym (append_assoc (end_text (end_of number x) service.variables (values_of service x)) (ends_text service (suc number) xs) (end_text (end_of (number + suc (length xs)) y) service.variables (values_of service y)))
+    ap (λ (t : List ℕ). node_text service number x ++ t)
+    (ends_more service (suc number) xs y ∙ ap (λ (k : ℕ). ends_text service (suc number) xs ++ node_text service k y) e)
+    ∙ sym (append_assoc (node_text service number x) (ends_text service (suc number) xs) (node_text service (number + suc (length xs)) y))
 
 -- the lines so far, and one more
 pub ends_next : (service : Declarations) (seats : List Seat) (i number : ℕ) (seat d : Seat) (initial before after : List ℕ) → i < length seats → seat ≡ slice_index_or seats i d → number ≡ i + 1
-    → before ≡ initial ++ ends_text service 1 (heres service (take i seats)) → after ≡ before ++ end_text (end_of number (here_in service seat)) service.variables (values_of service (here_in service seat))
+    → before ≡ initial ++ ends_text service 1 (heres service (take i seats)) → after ≡ before ++ node_text service number (here_in service seat)
     → after ≡ initial ++ ends_text service 1 (heres service (take (i + 1) seats))
 ends_next service seats i number seat d initial before after l is e b h =
     let t : take (i + 1) seats ≡ take i seats ++ seat ∷ [] = ap (λ (k : ℕ). take k seats) (add-one i) ∙ take-suc seats i d l ∙ ap (λ (y : Seat). take i seats ++ y ∷ []) (sym is) in
     let n : 1 + length (heres service (take i seats)) ≡ number = omega (arith, many_here service (take i seats), length-take i seats, l, e) in
-    let m : ends_text service 1 (heres service (take (i + 1) seats)) ≡ ends_text service 1 (heres service (take i seats)) ++ end_text (end_of number (here_in service seat)) service.variables (values_of service (here_in service seat)) =
+    let m : ends_text service 1 (heres service (take (i + 1) seats)) ≡ ends_text service 1 (heres service (take i seats)) ++ node_text service number (here_in service seat) =
     ap (λ (ss : List Seat). ends_text service 1 (heres service ss)) t
     ∙ ap (λ (xs : List Here). ends_text service 1 xs) (heres_both service (take i seats) (seat ∷ []))
     ∙ ends_more service 1 (heres service (take i seats)) (here_in service seat)
-    ∙ ap (λ (k : ℕ). ends_text service 1 (heres service (take i seats)) ++ end_text (end_of k (here_in service seat)) service.variables (values_of service (here_in service seat))) n in
-    h ∙ ap (λ (t : List ℕ). t ++ end_text (end_of number (here_in service seat)) service.variables (values_of service (here_in service seat))) b
-    ∙ append_assoc initial (ends_text service 1 (heres service (take i seats))) (end_text (end_of number (here_in service seat)) service.variables (values_of service (here_in service seat)))
+    ∙ ap (λ (k : ℕ). ends_text service 1 (heres service (take i seats)) ++ node_text service k (here_in service seat)) n in
+    h ∙ ap (λ (t : List ℕ). t ++ node_text service number (here_in service seat)) b
+    ∙ append_assoc initial (ends_text service 1 (heres service (take i seats))) (node_text service number (here_in service seat))
     ∙ ap (λ (t : List ℕ). initial ++ t) (sym m)
 
 -- a kept node has its number

@@ -5,6 +5,7 @@ use Rattle.std.specs.Global.{Vec}
 use Rattle.std.specs.Vec.{with_items}
 use Rattle.std.proofs.lemmas.List.{with_items_is}
 use Rattle.std.proofs.lemmas.List.Elements.{All-nil}
+use Rattle.rex_ballot.specs.Limits.{most_nodes}
 use Rattle.rex_syntax.specs.declared.service.Declarations.{Declarations}
 use Rattle.rex_event.specs.declared.event.Event.{Event}
 use Rattle.rex_record.specs.declared.turns.Turn.{Turn}
@@ -149,7 +150,7 @@ module _ (service : Declarations) (w : World) (h : IsRunning service w) (m : ℕ
           service_is = h.service_is;
           checked = h.checked;
           whole = h.whole;
-          few = subst (λ (n : ℕ). n ≤ 9) (sym a.many) h.few;
+          few = subst (λ (n : ℕ). n ≤ most_nodes) (sym a.many) h.few;
           kept = subst (λ (n : ℕ). IsKept service w.seed n (world_of service (later w.broken))) (sym a.many) (kept_later outcome a);
           seats = subst (λ (n : ℕ). AreSeats service w.seed n 1 seats.items) (sym a.many) all.seats_are;
           within = all.within;

@@ -3,6 +3,7 @@ use Rattle.std.proofs.Common.{◌≡◌, inl, inr, ℕ, zero, suc, ◌≤◌, tr
 use Rattle.std.specs.Prelude.{take, map}
 use Rattle.std.specs.List.{All, list_all}
 use Rattle.std.proofs.lemmas.Bool.{and_parts}
+use Rattle.rex_ballot.specs.Limits.{most_nodes}
 use Rattle.rex_syntax.specs.declared.request.Request.{Request}
 use Rattle.rex_syntax.specs.declared.service.Declarations.{Declarations}
 use Rattle.rex_syntax.specs.Service.{IsService}
@@ -57,7 +58,7 @@ in_take (suc k) (w ∷ values) v (inl e) = inl e
 in_take (suc k) (w ∷ values) v (inr i) = inr (in_take k values v i)
 
 -- what holds of every run of a checked service
-pub headline : (service : Declarations) (requests : List Request) (seed n : ℕ) (lines : List ScheduleLine) → n ≤ 9 → IsService service → IsChecked service
+pub headline : (service : Declarations) (requests : List Request) (seed n : ℕ) (lines : List ScheduleLine) → n ≤ most_nodes → IsService service → IsChecked service
     → All (RequestFits service) requests → Headline service requests seed n lines
 headline service requests seed n lines few good checked fit = record {
   prefix = λ earlier later rest is a b la lb. is_one_list service requests seed n earlier later few a b la lb;

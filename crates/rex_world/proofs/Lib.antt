@@ -1,4 +1,5 @@
 pub mod Acted
+pub mod Starting
 pub mod Arming
 pub mod Given
 pub mod Headlines

@@ -2,6 +2,7 @@
 use Rattle.std.proofs.Common.{◌≡◌, ℕ, ◌+◌, ◌≤◌, List, [], ◌∷◌, ◌++◌, length, map, inl, inr, refl, sym, arith}
 use Rattle.std.specs.List.{All}
 use Rattle.std.proofs.lemmas.List.Elements.{All-nil, All-cons}
+use Rattle.rex_ballot.specs.Limits.{most_nodes}
 use Rattle.rex_ballot.specs.declared.proposal.Proposal.{Proposal as Kept}
 use Rattle.rex_ballot.specs.Ballot as ballot
 use Rattle.rex_ballot.specs.Proposals as proposals
@@ -24,7 +25,7 @@ use Rattle.rex_node.specs.Messages.{content_in, message_in}
 
 -- ---- ranges
 
-node_fits : (n m : ℕ) → n ≤ 9 → IsNode n m → ballot.IsNode m
+node_fits : (n m : ℕ) → n ≤ most_nodes → IsNode n m → ballot.IsNode m
 node_fits n m few l = record { first = omega (arith, l.0); last = omega (arith, l.1) }
 
 ballot_fits : (b : ℕ) → IsBallot b → ballot.IsBallot b
@@ -71,7 +72,7 @@ content_fits (says.Chosen i v) h s = (instance_fits i h, record { few = s.told i
 content_fits (says.Nack b p) h s = (ballot_fits b h.0, h.1)
 content_fits (says.Ask first) h s = first_fits first h
 
-pub message_fits : (n : ℕ) (m : Said) → n ≤ 9 → MessageFits n (message_in m) → HasShort (content_in m.content) → message.IsMessage m
+pub message_fits : (n : ℕ) (m : Said) → n ≤ most_nodes → MessageFits n (message_in m) → HasShort (content_in m.content) → message.IsMessage m
 message_fits n m few fits short = record {
   from = node_fits n m.from few fits.from;
   to = node_fits n m.to few fits.to;
@@ -81,7 +82,7 @@ message_fits n m few fits short = record {
 
 -- ---- the messages of a world
 
-module _ (service : Declarations) (n : ℕ) (few : n ≤ 9) (w : World) (numbers : NumbersFit n w) (short : ValuesAreShort service n w) where
+module _ (service : Declarations) (n : ℕ) (few : n ≤ most_nodes) (w : World) (numbers : NumbersFit n w) (short : ValuesAreShort service n w) where
   short_of : (x : Message Value) → IsIn x w.messages → HasShort x.content
   short_of x i = record {
     promised = λ b ps p e j. short.promised x b ps p i e j;

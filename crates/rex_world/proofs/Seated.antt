@@ -5,6 +5,7 @@ use Rattle.std.proofs.lemmas.Bool.{ne_eqb}
 use Rattle.rex_syntax.specs.declared.service.Declarations.{Declarations}
 use Rattle.rex_scenario.specs.Fits.{IsNode}
 use Rattle.rex_safety.specs.Lanes.{Here, CallHere}
+use Rattle.rex_safety.specs.Values.{service_of}
 use Rattle.rex_safety.specs.World.{node_at, put}
 use Rattle.rex_node.specs.declared.refusal.Refusal.{Refusal}
 use Rattle.rex_node.specs.declared.step.Step.{Step}
@@ -129,10 +130,10 @@ module _ (service : Declarations) where
     }
 
     pub starts_at : (seed : ℕ) (seat : Seat) (outcome : Result Step Refusal)
-        → IsStarted number (here_in service (slice_index_or seats (number - 1) d)) (here_in service seat) outcome → (IsWhole outcome → StaysSeat service seed (length seats) number (slice_index_or seats (number - 1) d) seat)
+        → IsStarted (service_of service seed) number (here_in service (slice_index_or seats (number - 1) d)) (here_in service seat) outcome → (IsWhole outcome → StaysSeat service seed (length seats) number (slice_index_or seats (number - 1) d) seat)
         → StartsAt service seed number seats (slice_set seats (number - 1) seat) outcome
     starts_at seed seat outcome starts kept = record {
-      starts = subst (λ (x : Here). IsStarted number x (node_at (heres service (slice_set seats (number - 1) seat)) number) outcome) (sym here_is)
-          (subst (λ (y : Here). IsStarted number (here_in service (slice_index_or seats (number - 1) d)) y outcome) (sym (new_is seat)) starts);
+      starts = subst (λ (x : Here). IsStarted (service_of service seed) number x (node_at (heres service (slice_set seats (number - 1) seat)) number) outcome) (sym here_is)
+          (subst (λ (y : Here). IsStarted (service_of service seed) number (here_in service (slice_index_or seats (number - 1) d)) y outcome) (sym (new_is seat)) starts);
       changed = changed_at seed seat outcome kept;
     }

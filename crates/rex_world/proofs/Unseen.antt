@@ -7,7 +7,9 @@ use Rattle.rex_cut.specs.Greatest.{greatest_cut}
 use Rattle.rex_report.specs.declared.effect.Effect.{Effect}
 use Rattle.rex_report.specs.declared.effect.Effect.TheVariants as effect
 use Rattle.rex_syntax.specs.declared.service.Declarations.{Declarations}
-use Rattle.rex_safety.specs.Records.{Rec, Proposal, promise, accepted, known, base}
+use Rattle.rex_safety.specs.Records.{Rec, Proposal, promise, accepted, known, base, has_old_base}
+use Rattle.rex_version.specs.declared.version.Version.{Version}
+use Rattle.rex_version.specs.declared.version.Version.TheVariants.{Two}
 use Rattle.rex_safety.specs.Records.Rec.{Promised, Accepted, Known, Checkpoint}
 use Rattle.rex_safety.specs.Quorum.{round_of, ballot_above, is_in, is_majority}
 use Rattle.rex_safety.specs.Node.{Service, Content, Lead, Role, Failure, Node, is_active}
@@ -15,7 +17,7 @@ use Rattle.rex_safety.specs.Node.Content.{Prepare, Promise, Accept, Accepted as 
 use Rattle.rex_safety.specs.Node.Role.{Follower, Leads}
 use Rattle.rex_safety.specs.Values.{Value, service_of}
 use Rattle.rex_safety.specs.Lanes.{CallHere, is_faithful, active_only, cut_live, cut_lead, cut_role, cut, value_at}
-use Rattle.rex_safety.specs.Calls.{Call, begin, append, led, logged, propose, decide, best, choose, lead, turn, settle, enough, own_reports, stand, elect, on_prepare, heard, on_own_promise, on_promise, has_last, on_accept, voted, on_own_vote, on_voted, on_chosen, on_nack, receive, replay, checkpoint}
+use Rattle.rex_safety.specs.Calls.{Call, begin, append, led, logged, propose, decide, best, choose, lead, turn, settle, enough, own_reports, stand, elect, on_prepare, heard, on_own_promise, on_promise, has_last, on_accept, voted, on_own_vote, on_voted, on_chosen, on_nack, receive, replay, checkpoint, migrate}
 
 -- the call where this append of its node will fail
 abbrev pub armed_as : {V S : Type 0} → Option Failure → Call V S → Call V S
@@ -143,10 +145,13 @@ module _ {V S : Type 0} (failure : Option Failure) where
     receive_either from (Nack b p) d e = nack_either p d d.node.role
     receive_either from (Ask first) d e = if_either (nat_lt (length (known d.node.log)) first) (quiet refl refl) (quiet refl refl)
 
-  pub checkpoint_either : (sv : Service V S) (me : ℕ) → Goes (checkpoint sv me)
-  checkpoint_either sv me d e =
+  pub checkpoint_either : (version : Version) (sv : Service V S) (me : ℕ) → Goes (checkpoint version sv me)
+  checkpoint_either version sv me d e =
       if_either (d.node.replayed == base d.node.log) (quiet refl refl)
-      (if_either (nat_lt 0 (length d.node.work.live)) (quiet refl refl) (added d.node.armed me (Checkpoint _ _) d _ _ e (le_refl _)))
+      (if_either (nat_lt 0 (length d.node.work.live)) (quiet refl refl) (added d.node.armed me (Checkpoint version _ _) d _ _ e (le_refl _)))
+
+  pub migrate_either : (sv : Service V S) (me : ℕ) → Goes (migrate sv me)
+  migrate_either sv me d e = if_either (has_old_base d.node.log) (added d.node.armed me (Checkpoint Two _ _) d _ _ e (le_refl _)) (quiet refl refl)
 
   pub replay_either : (me : ℕ) → Goes (replay me)
   replay_either me d e = if_either (is_active d.node.role || d.node.replayed == length (known d.node.log)) (quiet refl refl) (quiet refl refl)

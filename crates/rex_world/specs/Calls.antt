@@ -4,9 +4,11 @@ use Rattle.std.specs.List.{All}
 use Rattle.rex_syntax.specs.declared.service.Declarations.{Declarations}
 use Rattle.rex_report.specs.declared.effect.Effect.{Effect}
 use Rattle.rex_report.specs.declared.effect.Effect.TheVariants as effect
-use Rattle.rex_safety.specs.Records.{known}
-use Rattle.rex_safety.specs.Calls.{begin, say, start}
-use Rattle.rex_safety.specs.Values.{values_fit}
+use Rattle.rex_state.specs.Value.{StateValue}
+use Rattle.rex_safety.specs.Records.{known, promise}
+use Rattle.rex_safety.specs.Node.{Service}
+use Rattle.rex_safety.specs.Calls.{begin, migrate, say, start}
+use Rattle.rex_safety.specs.Values.{Value, values_fit}
 use Rattle.rex_safety.specs.Lanes.{Here, CallHere}
 use Rattle.rex_syntax.specs.declared.request.Request.{Request}
 use Rattle.rex_scenario.specs.declared.scenario.ScheduleLine.{ScheduleLine}
@@ -82,18 +84,24 @@ pub record IsUpAgain (number : ℕ) (before after : Here) (step : Step) : Type 0
   pub sends : step.sends ≡ []
   pub effects : step.effects ≡ effect.IsUp number ∷ []
 
-pub record HasStarted (number : ℕ) (before after : Here) (step : Step) : Type 0 where
-  pub node : after ≡ (start number (begin before)).node
+pub record HasStarted (sv : Service Value StateValue) (number : ℕ) (before after : Here) (step : Step) : Type 0 where
+  pub node : after ≡ (start sv number (begin before)).node
   pub sends : step.sends ≡ []
-  pub effects : step.effects ≡ (start number (begin before)).effects
+  pub effects : step.effects ≡ (start sv number (begin before)).effects
 
-abbrev pub StartsIf : Bool → ℕ → Here → Here → Step → Type 0
-StartsIf true number before after step = IsUpAgain number before after step
-StartsIf false number before after step = HasStarted number before after step
+abbrev pub StartsIf : Service Value StateValue → Bool → ℕ → Here → Here → Step → Type 0
+StartsIf sv true number before after step = IsUpAgain number before after step
+StartsIf sv false number before after step = HasStarted sv number before after step
 
-abbrev pub IsStarted : ℕ → Here → Here → Result Step Refusal → Type 0
-IsStarted number before after (Ok step) = StartsIf before.up number before after step
-IsStarted number before after (Err refusal) = refusal ≡ why.OutOfMemory
+-- what a node does that has come up: it says so, and its last checkpoint is migrated
+pub record CameBack (sv : Service Value StateValue) (number : ℕ) (before after : Here) (step : Step) : Type 0 where
+  pub node : after ≡ (migrate sv number (begin before)).node
+  pub sends : step.sends ≡ []
+  pub effects : step.effects ≡ effect.Started number (promise before.log) (length (known before.log)) before.replayed ∷ (migrate sv number (begin before)).effects
+
+abbrev pub IsStarted : Service Value StateValue → ℕ → Here → Here → Result Step Refusal → Type 0
+IsStarted sv number before after (Ok step) = StartsIf sv before.up number before after step
+IsStarted sv number before after (Err refusal) = refusal ≡ why.OutOfMemory
 
 -- memory was not short
 abbrev pub IsWhole : {A : Type 0} → Result A Refusal → Type 0

@@ -1,6 +1,7 @@
 -- What is kept of a world from line to line.
 use Rattle.std.specs.Prelude.{◌≡◌, ◌≤◌, Bool, true, false, length, take}
 use Rattle.std.specs.List.{All, list_all}
+use Rattle.rex_ballot.specs.Limits.{most_nodes}
 use Rattle.rex_syntax.specs.declared.service.Declarations.{Declarations}
 use Rattle.rex_syntax.specs.Service.{IsService}
 use Rattle.rex_syntax.specs.Check.{IsChecked}
@@ -16,7 +17,7 @@ pub record IsRunning (service : Declarations) (w : World) : Type 0 where
   pub service_is : IsService service
   pub checked : IsChecked service
   pub whole : w.broken ≡ false
-  pub few : nodes_of w ≤ 9
+  pub few : nodes_of w ≤ most_nodes
   pub kept : IsKept service w.seed (nodes_of w) (world_of service w)
   pub seats : AreSeats service w.seed (nodes_of w) 1 w.seats.items
   pub within : AreWithin w.done w.seats.items

@@ -1,6 +1,7 @@
 -- What holds of every run of a scenario.
 use Rattle.std.specs.Prelude.{◌≡◌, ◌⊎◌, ℕ, ℤ, ◌≤◌, List, ◌++◌, Some, slice_get, map, take}
 use Rattle.std.specs.List.{All}
+use Rattle.rex_ballot.specs.Limits.{most_nodes}
 use Rattle.rex_syntax.specs.declared.request.Request.{Request}
 use Rattle.rex_syntax.specs.declared.service.Declarations.{Declarations}
 use Rattle.rex_syntax.specs.Service.{IsService}
@@ -51,5 +52,5 @@ pub record Headline (service : Declarations) (requests : List Request) (seed n :
 -- it holds for every checked service, whatever the schedule, for at most nine nodes
 abbrev pub HeadlineHolds : Type 0
 HeadlineHolds =
-    (service : Declarations) (requests : List Request) (seed n : ℕ) (lines : List ScheduleLine) → n ≤ 9 → IsService service → IsChecked service
+    (service : Declarations) (requests : List Request) (seed n : ℕ) (lines : List ScheduleLine) → n ≤ most_nodes → IsService service → IsChecked service
     → All (RequestFits service) requests → Headline service requests seed n lines

@@ -6,6 +6,7 @@ use Rattle.rex_record.specs.declared.turns.Turn.{Turn}
 use Rattle.rex_traits.specs.declared.mem_keeper.Fate.{Fate}
 use Rattle.rex_safety.specs.Lanes.{Here, CallHere}
 use Rattle.rex_safety.specs.Takes.{taken, taken_in}
+use Rattle.rex_safety.specs.Values.{service_of}
 use Rattle.rex_safety.specs.World.{node_at, put}
 use Rattle.rex_node.specs.declared.refusal.Refusal.{Refusal}
 use Rattle.rex_node.specs.declared.step.Step.{Step}
@@ -27,7 +28,7 @@ pub record ActsAt (service : Declarations) (seed : ℕ) (call : CallHere → Cal
 
 -- the node of this number was started, or was up
 pub record StartsAt (service : Declarations) (seed number : ℕ) (before after : List Seat) (outcome : Result Step Refusal) : Type 0 where
-  pub starts : IsStarted number (node_at (heres service before) number) (node_at (heres service after) number) outcome
+  pub starts : IsStarted (service_of service seed) number (node_at (heres service before) number) (node_at (heres service after) number) outcome
   pub changed : IsChangedAt service seed number before after outcome
 
 -- only the keeper of the node of this number is armed

@@ -1,5 +1,5 @@
 -- The report of a scenario.
-use Rattle.std.specs.Prelude.{◌≡◌, ℕ, suc, ◌+◌, ℤ, List, [], ◌∷◌, ◌++◌, length, take, is_some, if◌then◌else◌}
+use Rattle.std.specs.Prelude.{◌≡◌, ℕ, suc, ◌+◌, List, [], ◌∷◌, ◌++◌, length, take, is_some, if◌then◌else◌}
 use Rattle.rex_syntax.specs.declared.request.Request.{Request}
 use Rattle.rex_syntax.specs.declared.service.Declarations.{Declarations}
 use Rattle.rex_report.specs.declared.effect.Effect.{Effect}
@@ -13,6 +13,7 @@ use Rattle.rex_scenario.specs.declared.scenario.ScheduleLine.{ScheduleLine}
 use Rattle.rex_safety.specs.Records.{promise, known}
 use Rattle.rex_safety.specs.Node.{role_name, is_active}
 use Rattle.rex_safety.specs.Values.{trace_of, state_after}
+use Rattle.rex_state.specs.Value.{StateValue}
 use Rattle.rex_safety.specs.Lanes.{Here, live_state}
 use Rattle.rex_safety.specs.World.{World, beginning, row}
 use Rattle.rex_node.specs.Parts.{NodeValue, IsNode, role_of, work_of}
@@ -37,11 +38,15 @@ end_of number x =
     })
     else Down number
 
--- the values of its variables: of the live state where it is active, and else of the state that it has replayed
-abbrev pub values_of : Declarations → Here → List ℤ
-values_of service x =
-    if is_active x.role then (live_state service x).variables
-    else (state_after service (trace_of (take x.replayed (known x.log)))).variables
+-- the state that it shows: the live state where it is active, and else the state that it has replayed
+abbrev pub shown_state : Declarations → Here → StateValue
+shown_state service x =
+    if is_active x.role then live_state service x
+    else state_after service (trace_of (take x.replayed (known x.log)))
+
+-- the line of the node of this number
+abbrev pub node_text : Declarations → ℕ → Here → List ℕ
+node_text service number x = end_text (end_of number x) service (shown_state service x).variables (shown_state service x).semaphores
 
 -- how many events are live at an active node; how many deltas another one has replayed
 abbrev pub count_of : {K : Type 0} → NodeValue K → ℕ
@@ -65,7 +70,7 @@ IsNumbered service number (Stopped keeper) = Unit {0}
 -- the lines of the nodes from this number on
 abbrev pub ends_text : Declarations → ℕ → List Here → List ℕ
 ends_text service number [] = []
-ends_text service number (x ∷ xs) = end_text (end_of number x) service.variables (values_of service x) ++ ends_text service (suc number) xs
+ends_text service number (x ∷ xs) = node_text service number x ++ ends_text service (suc number) xs
 
 -- the report from a world of n nodes on
 abbrev pub report_from : Declarations → List Request → ℕ → ℕ → World → List ScheduleLine → List ℕ

@@ -2,10 +2,9 @@
 
 ghost use Rattle.std.specs.Prelude.{◌≡◌, ◌++◌, ◌≤◌, length, OnOk};
 ghost use Rattle.rex_node.specs.Parts.{IsNode, here_of, work_of};
-ghost use Rattle.rex_report.specs.Ends.{end_text};
 ghost use Rattle.rex_world.specs.Kept.{IsRunning};
 ghost use Rattle.rex_world.specs.Report as specs;
-ghost use Rattle.rex_world.specs.Report.{IsNumbered, end_of, ends_text, values_of};
+ghost use Rattle.rex_world.specs.Report.{IsNumbered, ends_text, node_text};
 ghost use Rattle.rex_world.specs.Seats.{here_in, records_of};
 ghost use Rattle.rex_world.specs.World.{world_of};
 
@@ -46,25 +45,26 @@ fn up_end_of(node: &Node<MemKeeper>) -> UpEnd
 // Appends the line of a node that was started.
 fn push_running(out: &mut Vec<u8>, svc: &Checked, node: &Node<MemKeeper>) -> Result<(), AllocError>
     requires { IsNode records_of svc.now node.now }
-    ensures { OnOk result (out.new.items ≡ out.old.items ++ end_text (end_of node.now.id (here_of records_of svc.now node.now)) svc.now.variables (values_of svc.now (here_of records_of svc.now node.now))) }
+    ensures { OnOk result (out.new.items ≡ out.old.items ++ node_text svc.now node.now.id (here_of records_of svc.now node.now)) }
 {
-    let variables = svc.declarations().variables.as_slice();
+    let service = svc.declarations();
     if !node.is_up() {
-        return push_end(out, &End::Down { node: node.id() }, variables, &[]);
+        return push_end(out, &End::Down { node: node.id() }, service, &[], &[]);
     }
-    push_end(out, &End::Up(up_end_of(node)), variables, node.variables())
+    let end = End::Up(up_end_of(node));
+    push_end(out, &end, service, node.variables(), node.semaphores())
 }
 
 // Appends the line of the node of this number.
 fn push_seat(out: &mut Vec<u8>, svc: &Checked, number: u8, seat: &Seat) -> Result<(), AllocError>
     requires { IsNumbered svc.now number seat.now }
-    ensures { OnOk result (out.new.items ≡ out.old.items ++ end_text (end_of number (here_in svc.now seat.now)) svc.now.variables (values_of svc.now (here_in svc.now seat.now))) }
+    ensures { OnOk result (out.new.items ≡ out.old.items ++ node_text svc.now number (here_in svc.now seat.now)) }
 {
     match seat {
         Seat::Running(node) => push_running(out, svc, node),
         Seat::Stopped(_) => {
-            let variables = svc.declarations().variables.as_slice();
-            push_end(out, &End::Down { node: number }, variables, &[])
+            let service = svc.declarations();
+            push_end(out, &End::Down { node: number }, service, &[], &[])
         }
     }
 }

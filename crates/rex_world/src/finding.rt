@@ -1,9 +1,11 @@
 //! How one message is found, and handed over.
 
 ghost use Rattle.std.specs.Prelude.{◌≡◌, ◌<◌, ◌≤◌, ◌-◌, true, length, slice_set, IfOk, OnOk};
+ghost use Rattle.std.specs.List.{All};
 ghost use Rattle.rex_msg.specs.Spelling.{HasSpelling, spelling_of};
 ghost use Rattle.rex_scenario.specs.declared.scenario.ScheduleLine.TheVariants as line;
 ghost use Rattle.rex_world.specs.Kept.{IsRunning};
+ghost use Rattle.rex_world.specs.World.{IsSpelled};
 ghost use Rattle.rex_world.specs.Calls.{Comes};
 ghost use Rattle.rex_world.specs.Finding.{IsSent, IsFound, IsMarked};
 
@@ -12,26 +14,29 @@ use crate::places::on_message_at;
 use crate::told::Told;
 use crate::world::World;
 use rex_event::{Event, Kind};
-use rex_msg::{Message, decode};
+use rex_msg::{DecodeError, Message, decode};
 use rex_replay::Replayer;
 use rex_report::Effect;
 use rex_syntax::checked::Checked;
 use std::alloc::{AllocError, Global};
 
-// The message that bytes spell. Bytes that were sent do spell one.
+// The message that bytes spell.
 fn read(alloc: Global, bytes: &[u8]) -> Result<Message, AllocError>
+    requires { IsSpelled bytes.now }
     ensures spelling { IfOk result (λ message. HasSpelling message) }
     ensures spelled { IfOk result (λ message. bytes.now ≡ spelling_of message) }
 {
     match decode(alloc, bytes) {
         Ok(message) => Ok(message),
-        Err(_) => Err(AllocError),
+        Err(DecodeError::OutOfMemory) => Err(AllocError),
+        Err(DecodeError::Bad { .. }) => unreachable!(),
     }
 }
 
 impl World {
     /// The message of a number, if there is one.
     pub(crate) fn find(&self, number: u64) -> Result<Option<Message>, AllocError>
+        requires { All IsSpelled self.now.net }
         ensures { IfOk result (λ found. IsFound self.now.net number found) }
     {
         match self.net.get(number) {

@@ -1,10 +1,11 @@
 //! What each kind of schedule line does.
 
-ghost use Rattle.std.specs.Prelude.{◌≡◌, ◌≢◌, ◌<◌, length, IfOk, OnOk};
+ghost use Rattle.std.specs.Prelude.{◌≡◌, ◌≢◌, ◌<◌, true, length, IfOk, OnOk};
 ghost use Rattle.std.specs.Option.{option_copied};
 ghost use Rattle.std.specs.List.{All};
 ghost use Rattle.rex_msg.specs.Spelling.{IsMessage};
-ghost use Rattle.rex_scenario.specs.Fits.{IsNode, LineFits};
+ghost use Rattle.rex_version.specs.Versions.{has_old_form, has_version};
+ghost use Rattle.rex_scenario.specs.Fits.{FormFits, IsNode, LineFits};
 ghost use Rattle.rex_safety.specs.World as model;
 ghost use Rattle.rex_scenario.specs.declared.scenario.ScheduleLine.TheVariants as line;
 ghost use Rattle.rex_node.specs.Calls.{AreLimits};
@@ -23,6 +24,7 @@ use rex_node::{Refusal, Step};
 use rex_replay::Replayer;
 use rex_scenario::ScheduleLine;
 use rex_syntax::checked::Checked;
+use rex_version::Version;
 use std::alloc::AllocError;
 
 impl World {
@@ -145,13 +147,20 @@ impl World {
         self.tell(told, node, outcome)
     }
 
-    // The node writes down the state that it has replayed.
-    fn checkpoint(&mut self, svc: &Checked, told: &mut Told, node: u8) -> Result<(), AllocError>
+    // The node writes down the state that it has replayed, in a version.
+    fn checkpoint(
+        &mut self,
+        svc: &Checked,
+        told: &mut Told,
+        node: u8,
+        version: Version,
+    ) -> Result<(), AllocError>
         requires running { IsRunning svc.now self.old }
         requires there { IsNode (nodes_of self.old) node }
-        ensures comes { OnOk result (Comes svc.now self.old self.new told.old told.new (line.Checkpoint node)) }
+        requires has { has_version svc.now version ≡ true }
+        ensures comes { OnOk result (Comes svc.now self.old self.new told.old told.new (line.Checkpoint node version)) }
     {
-        let outcome = checkpoint_at(&mut self.seats, svc, self.seed, node);
+        let outcome = checkpoint_at(&mut self.seats, svc, self.seed, node, version);
         self.tell(told, node, outcome)
     }
 
@@ -197,6 +206,7 @@ impl World {
         requires running { IsRunning svc.now self.old }
         requires ready { R.ready replayer.old }
         requires fits { LineFits (nodes_of self.old) (length self.old.requests) svc.now.lanes line.now }
+        requires form { FormFits (has_old_form svc.now) line.now }
         requires call { IsCall line.now }
         ensures comes { OnOk result (Comes svc.now self.old self.new told.old told.new line.now) }
         ensures ready { R.ready replayer.new }
@@ -213,7 +223,9 @@ impl World {
             ScheduleLine::Ask { node, other } => self.ask(svc, told, *node, *other),
             ScheduleLine::Stop { node } => self.stop(svc, told, *node),
             ScheduleLine::Start { node } => self.start(svc, told, *node),
-            ScheduleLine::Checkpoint { node } => self.checkpoint(svc, told, *node),
+            ScheduleLine::Checkpoint { node, version } => {
+                self.checkpoint(svc, told, *node, *version)
+            }
             _ => unreachable!(),
         }
     }

@@ -2,7 +2,9 @@
 
 ghost use Rattle.std.specs.Prelude.{◌≡◌, ◌<◌, ◌≤◌, ◌+◌, ◌^◌, true, length, Some};
 ghost use Rattle.std.specs.Option.{option_copied};
+ghost use Rattle.rex_ballot.specs.Limits.{most_nodes};
 ghost use Rattle.rex_msg.specs.Spelling.{HasSpelling};
+ghost use Rattle.rex_version.specs.Versions.{has_version};
 ghost use Rattle.rex_scenario.specs.Fits.{IsNode, RequestFits};
 ghost use Rattle.rex_state.specs.Machine.{lane_of};
 ghost use Rattle.rex_safety.specs.Node.{is_active};
@@ -28,6 +30,7 @@ use rex_replay::Replayer;
 use rex_syntax::checked::Checked;
 use rex_syntax::request::Request;
 use rex_traits::Fate;
+use rex_version::Version;
 use std::alloc::Global;
 
 /// The node asks to lead.
@@ -39,7 +42,7 @@ pub(crate) fn elect_at<R: Replayer>(
     number: u8,
 ) -> Result<Step, Refusal>
     requires there { IsNode (length seats.old) number }
-    requires few { length seats.old ≤ 9 }
+    requires few { length seats.old ≤ most_nodes }
     requires seats { AreSeats svc.now seed (length seats.old) 1 seats.old }
     requires ready { R.ready replayer.old }
     requires runs { RunsOn svc.now (calls.elect (length seats.old) (service_of svc.now seed) number) (begin (disarmed (node_at (heres svc.now seats.old) number))) }
@@ -59,7 +62,7 @@ pub(crate) fn on_message_at<R: Replayer>(
     message: &Message,
 ) -> Result<Step, Refusal>
     requires there { IsNode (length seats.old) message.now.to }
-    requires few { length seats.old ≤ 9 }
+    requires few { length seats.old ≤ most_nodes }
     requires seats { AreSeats svc.now seed (length seats.old) 1 seats.old }
     requires ready { R.ready replayer.old }
     requires message { MessageFits (length seats.old) (message_in message.now) }
@@ -82,7 +85,7 @@ pub(crate) fn submit_at(
     request: &Request,
 ) -> Result<Step, Refusal>
     requires there { IsNode (length seats.old) number }
-    requires few { length seats.old ≤ 9 }
+    requires few { length seats.old ≤ most_nodes }
     requires seats { AreSeats svc.now seed (length seats.old) 1 seats.old }
     requires request { RequestFits svc.now request.now }
     ensures acts { ActsAt svc.now seed (λ d. lanes.active_only (is_active d.node.role) d (lanes.submit_request svc.now (Some request.now) d)) number seats.old seats.new result }
@@ -102,7 +105,7 @@ pub(crate) fn lane_at(
     done: u32,
 ) -> Result<Step, Refusal>
     requires there { IsNode (length seats.old) number }
-    requires few { length seats.old ≤ 9 }
+    requires few { length seats.old ≤ most_nodes }
     requires seats { AreSeats svc.now seed (length seats.old) 1 seats.old }
     requires lane { lane < svc.now.lanes }
     requires count { (node_at (heres svc.now seats.old) number).up ≡ true → (lane_of (lanes.live_state svc.now (node_at (heres svc.now seats.old) number)) lane).done + 1 < 2 ^ 32 }
@@ -121,7 +124,7 @@ pub(crate) fn take_at(
     event: &Event,
 ) -> Result<Turn, Refusal>
     requires there { IsNode (length seats.old) number }
-    requires few { length seats.old ≤ 9 }
+    requires few { length seats.old ≤ most_nodes }
     requires seats { AreSeats svc.now seed (length seats.old) 1 seats.old }
     requires count { (node_at (heres svc.now seats.old) number).up ≡ true → (lane_of (lanes.live_state svc.now (node_at (heres svc.now seats.old) number)) event.now.lane).done + 1 < 2 ^ 32 }
     ensures { IsHandedAt svc.now seed number event.now seats.old seats.new result }
@@ -139,7 +142,7 @@ pub(crate) fn cut_at(
     limits: Option<&[u32]>,
 ) -> Result<Step, Refusal>
     requires there { IsNode (length seats.old) number }
-    requires few { length seats.old ≤ 9 }
+    requires few { length seats.old ≤ most_nodes }
     requires seats { AreSeats svc.now seed (length seats.old) 1 seats.old }
     requires limits { AreLimits svc.now (option_copied limits) }
     requires spelling { (node_at (heres svc.now seats.old) number).up ≡ true → CanBeCut (node_at (heres svc.now seats.old) number) (counts_for svc.now (node_at (heres svc.now seats.old) number) (option_copied limits)) }
@@ -159,7 +162,7 @@ pub(crate) fn replay_at<R: Replayer>(
     number: u8,
 ) -> Result<Step, Refusal>
     requires there { IsNode (length seats.old) number }
-    requires few { length seats.old ≤ 9 }
+    requires few { length seats.old ≤ most_nodes }
     requires seats { AreSeats svc.now seed (length seats.old) 1 seats.old }
     requires ready { R.ready replayer.old }
     ensures acts { ActsAt svc.now seed (calls.replay number) number seats.old seats.new result }
@@ -169,20 +172,22 @@ pub(crate) fn replay_at<R: Replayer>(
     seats[number as usize - 1].replay(svc, replayer, seed, nodes, number)
 }
 
-/// The node writes down the state that it has replayed.
+/// The node writes down the state that it has replayed, in a version.
 pub(crate) fn checkpoint_at(
     seats: &mut [Seat],
     svc: &Checked,
     seed: u32,
     number: u8,
+    version: Version,
 ) -> Result<Step, Refusal>
+    requires has { has_version svc.now version ≡ true }
     requires there { IsNode (length seats.old) number }
-    requires few { length seats.old ≤ 9 }
+    requires few { length seats.old ≤ most_nodes }
     requires seats { AreSeats svc.now seed (length seats.old) 1 seats.old }
-    ensures acts { ActsAt svc.now seed (calls.checkpoint (service_of svc.now seed) number) number seats.old seats.new result }
+    ensures acts { ActsAt svc.now seed (calls.checkpoint version (service_of svc.now seed) number) number seats.old seats.new result }
 {
     let nodes = seats.len() as u8;
-    seats[number as usize - 1].checkpoint(svc, seed, nodes, number)
+    seats[number as usize - 1].checkpoint(svc, seed, nodes, number, version)
 }
 
 /// The node asks another one for what it doesn't know.
@@ -194,7 +199,7 @@ pub(crate) fn ask_at(
     other: u8,
 ) -> Result<Step, Refusal>
     requires there { IsNode (length seats.old) number }
-    requires few { length seats.old ≤ 9 }
+    requires few { length seats.old ≤ most_nodes }
     requires seats { AreSeats svc.now seed (length seats.old) 1 seats.old }
     ensures acts { ActsAt svc.now seed (calls.ask number other) number seats.old seats.new result }
 {
@@ -211,7 +216,7 @@ pub(crate) fn stop_at(
     number: u8,
 ) -> Result<Step, Refusal>
     requires there { IsNode (length seats.old) number }
-    requires few { length seats.old ≤ 9 }
+    requires few { length seats.old ≤ most_nodes }
     requires seats { AreSeats svc.now seed (length seats.old) 1 seats.old }
     ensures acts { ActsAt svc.now seed (calls.stop number) number seats.old seats.new result }
 {
@@ -228,7 +233,7 @@ pub(crate) fn start_at(
     number: u8,
 ) -> Result<Step, Refusal>
     requires there { IsNode (length seats.old) number }
-    requires few { length seats.old ≤ 9 }
+    requires few { length seats.old ≤ most_nodes }
     requires seats { AreSeats svc.now seed (length seats.old) 1 seats.old }
     requires runs { Starts svc.now (node_at (heres svc.now seats.old) number) }
     ensures starts { StartsAt svc.now seed number seats.old seats.new result }

@@ -5,7 +5,8 @@ ghost use Rattle.std.specs.List.{All};
 ghost use Rattle.std.specs.Io.KnownBytes.{Appends};
 ghost use Rattle.rex_traits.specs.Causes.{Rose, TellsAlike};
 ghost use Rattle.rex_streams.specs.Front.{AppendsFront};
-ghost use Rattle.rex_scenario.specs.Fits.{LineFits, ScenarioFits};
+ghost use Rattle.rex_version.specs.Versions.{has_old_form};
+ghost use Rattle.rex_scenario.specs.Fits.{FormFits, LineFits, ScenarioFits};
 ghost use Rattle.rex_safety.specs.World.{row};
 ghost use Rattle.rex_world.specs.declared.run.RunFault.TheVariants as fault;
 ghost use Rattle.rex_world.specs.Kept.{IsOf, IsRunning, IsSame};
@@ -75,6 +76,7 @@ impl World {
         requires running { IsRunning svc.now self.old }
         requires ready { R.ready replayer.old }
         requires fits { LineFits (nodes_of self.old) (length self.old.requests) svc.now.lanes line.now }
+        requires form { FormFits (has_old_form svc.now) line.now }
         requires count { self.old.done + 1 < 2 ^ 32 }
         ensures told { OnOk result (waiting.new.items ≡ waiting.old.items ++ effects_text svc.now (self.old.done + 1) (row svc.now self.old.requests self.old.seed (nodes_of self.old) (world_of svc.now self.old) line.now).effects) }
         ensures world { OnOk result (world_of svc.now self.new ≡ (row svc.now self.old.requests self.old.seed (nodes_of self.old) (world_of svc.now self.old) line.now).world) }
@@ -103,6 +105,7 @@ impl World {
         requires running { IsRunning svc.now self.old }
         requires ready { R.ready replayer.old }
         requires fits { LineFits (nodes_of self.old) (length self.old.requests) svc.now.lanes line.now }
+        requires form { FormFits (has_old_form svc.now) line.now }
         requires count { self.old.done + 1 < 2 ^ 32 }
         ensures written { OnOk result (IsWritten (K.held sink.old) (K.held sink.new) waiting.new.items [] (waiting.old.items ++ effects_text svc.now (self.old.done + 1) (row svc.now self.old.requests self.old.seed (nodes_of self.old) (world_of svc.now self.old) line.now).effects)) }
         ensures front { OnErr result (AppendsFront (K.held sink.old) (K.held sink.new) (waiting.old.items ++ effects_text svc.now (self.old.done + 1) (row svc.now self.old.requests self.old.seed (nodes_of self.old) (world_of svc.now self.old) line.now).effects)) }

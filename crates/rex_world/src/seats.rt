@@ -1,8 +1,10 @@
 //! The places of nodes: a node that was started, or the keeper of one that was stopped.
 
-ghost use Rattle.std.specs.Prelude.{◌≡◌, ◌<◌, ◌≤◌, ◌+◌, ◌^◌, ◌∷◌, [], length, true, Some, IfOk, IfErr};
+ghost use Rattle.std.specs.Prelude.{◌≡◌, ◌<◌, ◌≤◌, ◌+◌, ◌^◌, ◌∷◌, ◌++◌, [], length, true, Some, IfOk, IfErr};
 ghost use Rattle.std.specs.Option.{option_copied};
+ghost use Rattle.rex_ballot.specs.Limits.{most_nodes};
 ghost use Rattle.rex_msg.specs.Spelling.{HasSpelling};
+ghost use Rattle.rex_version.specs.Versions.{has_version};
 ghost use Rattle.rex_scenario.specs.Fits.{RequestFits};
 ghost use Rattle.rex_state.specs.Machine.{lane_of};
 ghost use Rattle.rex_safety.specs.Node.{is_active};
@@ -16,8 +18,9 @@ ghost use Rattle.rex_node.specs.Calls.{AreLimits, CanBeCut, counts_for};
 ghost use Rattle.rex_node.specs.Going.{RunsOn};
 ghost use Rattle.rex_node.specs.Messages.{content_in, message_in};
 ghost use Rattle.rex_report.specs.declared.effect.Effect.TheVariants as effect;
-ghost use Rattle.rex_world.specs.Seats.{IsSeat, StaysSeat, armed_in, disarmed, here_in, is_up_in, keeper_in};
-ghost use Rattle.rex_world.specs.Calls.{Acts, IsWhole, Starts, IsStarted, TellsOf};
+ghost use Rattle.rex_world.specs.Seats.{IsRunner, IsSeat, StaysSeat, armed_in, disarmed, here_at, here_in, is_up_in, keeper_in};
+ghost use Rattle.rex_world.specs.declared.seats.Seat.TheVariants.{Running};
+ghost use Rattle.rex_world.specs.Calls.{Acts, CameBack, IsWhole, Starts, IsStarted, TellsOf};
 ghost use Rattle.rex_world.specs.Places.{IsHanded};
 
 use rex_event::{Event, Kind};
@@ -31,6 +34,7 @@ use rex_report::Effect;
 use rex_syntax::checked::Checked;
 use rex_syntax::request::Request;
 use rex_traits::{Fate, MemKeeper};
+use rex_version::Version;
 use std::alloc::{AllocError, Global};
 use std::mem;
 
@@ -83,6 +87,7 @@ fn turn_effect(lane: u8, turn: Turn) -> Effect
         Turn::Idle => Effect::Idle { lane },
         Turn::Held { by } => Effect::Held { lane, by },
         Turn::Unsignalled => Effect::Unsignalled { lane },
+        Turn::Zero { semaphore } => Effect::Zero { lane, semaphore },
         // No turn of a lane comes to this.
         Turn::Unfit => Effect::Nothing,
     }
@@ -128,6 +133,45 @@ fn started(alloc: Global, node: &Node<MemKeeper>) -> Result<Step, Refusal>
             replayed: node.replayed(),
         },
     )
+}
+
+// What two steps did, one after the other, of which the first sent nothing.
+fn joined(alloc: Global, first: Step, second: Step) -> Result<Step, Refusal>
+    ensures effects { IfOk result (λ step. step.effects ≡ first.effects ++ second.effects) }
+    ensures sends { IfOk result (λ step. step.sends ≡ second.sends) }
+    ensures memory { IfErr result (λ e. e ≡ Refusal.OutOfMemory) }
+{
+    let _event: Option<(Event, Kind)> = None;
+    let mut effects = first.effects.into_vec();
+    let mut more = second.effects.into_vec();
+    effects.append(&mut more)?;
+    Ok(Step {
+        effects: List::from_vec(effects),
+        sends: second.sends,
+    })
+}
+
+// What a node does that has come up: it says so, and writes its last checkpoint down again where that is in the old version.
+fn come_back(
+    alloc: Global,
+    svc: &Checked,
+    seed: u32,
+    nodes: u8,
+    number: u8,
+    node: &mut Node<MemKeeper>,
+) -> Result<Step, Refusal>
+    requires runner { IsRunner svc.now seed nodes number node.old }
+    requires up { node.old.up ≡ true }
+    ensures back { IfOk result (CameBack (service_of svc.now seed) number (here_at svc.now node.old) (here_at svc.now node.new)) }
+    ensures memory { IfErr result (λ e. e ≡ Refusal.OutOfMemory) }
+    ensures stays { IsWhole result → StaysSeat svc.now seed nodes number (Running node.old) (Running node.new) }
+{
+    let step = started(alloc, node)?;
+    if !node.has_old_base() {
+        return Ok(step);
+    }
+    let migrated = node.migrate(svc)?;
+    joined(alloc, step, migrated)
 }
 
 impl Seat {
@@ -323,20 +367,22 @@ impl Seat {
         }
     }
 
-    /// The node writes down the state that it has replayed.
+    /// The node writes down the state that it has replayed, in a version.
     pub(crate) fn checkpoint(
         &mut self,
         svc: &Checked,
         seed: u32,
         nodes: u8,
         number: u8,
+        version: Version,
     ) -> Result<Step, Refusal>
+        requires has { has_version svc.now version ≡ true }
         requires seat { IsSeat svc.now seed nodes number self.old }
-        ensures acts { Acts (calls.checkpoint (service_of svc.now seed) number) number (here_in svc.now self.old) (here_in svc.now self.new) result }
+        ensures acts { Acts (calls.checkpoint version (service_of svc.now seed) number) number (here_in svc.now self.old) (here_in svc.now self.new) result }
         ensures seat { IsWhole result → StaysSeat svc.now seed nodes number self.old self.new }
     {
         match self {
-            Seat::Running(node) => node.checkpoint(svc),
+            Seat::Running(node) => node.checkpoint_in(svc, version),
             Seat::Stopped(_) => Err(Refusal::Down),
         }
     }
@@ -402,10 +448,10 @@ impl Seat {
         number: u8,
     ) -> Result<Step, Refusal>
         requires there { (0 < number) × (number ≤ nodes) }
-        requires few { nodes ≤ 9 }
+        requires few { nodes ≤ most_nodes }
         requires seat { IsSeat svc.now seed nodes number self.old }
         requires runs { Starts svc.now (here_in svc.now self.old) }
-        ensures starts { IsStarted number (here_in svc.now self.old) (here_in svc.now self.new) result }
+        ensures starts { IsStarted (service_of svc.now seed) number (here_in svc.now self.old) (here_in svc.now self.new) result }
         ensures seat { IsWhole result → StaysSeat svc.now seed nodes number self.old self.new }
     {
         if self.is_up() {
@@ -413,8 +459,8 @@ impl Seat {
         }
         let keeper = self.take_keeper(alloc);
         match Node::restart(alloc, number, nodes, seed, svc, keeper) {
-            Ok(node) => {
-                let step = started(alloc, &node)?;
+            Ok(mut node) => {
+                let step = come_back(alloc, svc, seed, nodes, number, &mut node)?;
                 *self = Seat::Running(node);
                 Ok(step)
             }

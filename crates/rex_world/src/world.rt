@@ -1,7 +1,9 @@
 //! The world.
 
 ghost use Rattle.std.specs.Prelude.{◌≡◌, ◌<◌, ◌≤◌, ◌+◌, ◌^◌, Err, false, true, length, replicate, IfOk, OnOk, OnErr, if◌then◌else◌};
-ghost use Rattle.rex_scenario.specs.Fits.{IsNode, LineFits, ScenarioFits};
+ghost use Rattle.rex_ballot.specs.Limits.{most_nodes};
+ghost use Rattle.rex_version.specs.Versions.{has_old_form};
+ghost use Rattle.rex_scenario.specs.Fits.{FormFits, IsNode, LineFits, ScenarioFits};
 ghost use Rattle.rex_traits.specs.declared.mem_keeper.Fate.TheVariants as fate;
 ghost use Rattle.rex_safety.specs.Node.{new_node};
 ghost use Rattle.rex_safety.specs.World.{beginning, node_at, row, steps_of};
@@ -57,7 +59,7 @@ fn new_seat(
     number: u8,
 ) -> Result<Seat, AllocError>
     requires there { (0 < number) × (number ≤ nodes) }
-    requires few { nodes ≤ 9 }
+    requires few { nodes ≤ most_nodes }
     ensures here { IfOk result (λ seat. here_in svc.now seat ≡ new_node) }
     ensures seat { IfOk result (IsSeat svc.now seed nodes number) }
     ensures within { IfOk result (λ seat. faults_of (keeper_in seat) ≡ 0) }
@@ -73,7 +75,7 @@ fn new_seat(
 
 // The nodes before the first line.
 fn new_seats(alloc: Global, svc: &Checked, seed: u32, nodes: u8) -> Result<Vec<Seat>, AllocError>
-    requires { nodes ≤ 9 }
+    requires { nodes ≤ most_nodes }
     ensures heres { IfOk result (λ seats. heres svc.now seats.items ≡ replicate nodes new_node) }
     ensures seats { IfOk result (λ seats. AreSeats svc.now seed nodes 1 seats.items) }
     ensures within { IfOk result (λ seats. AreWithin 0 seats.items) }
@@ -153,6 +155,7 @@ impl World {
         requires running { IsRunning svc.now self.old }
         requires ready { R.ready replayer.old }
         requires fits { LineFits (nodes_of self.old) (length self.old.requests) svc.now.lanes line.now }
+        requires form { FormFits (has_old_form svc.now) line.now }
         requires kind { ArmsNone line.now }
         ensures did { OnOk result (DidSteps svc.now self.old.requests self.old.seed (nodes_of self.old) (world_of svc.now self.old) (world_of svc.now self.new) told.old told.new (steps_of (world_of svc.now self.old) line.now)) }
         ensures running { OnOk result (IsRunning svc.now self.new) }
@@ -195,6 +198,7 @@ impl World {
         requires running { IsRunning svc.now self.old }
         requires ready { R.ready replayer.old }
         requires fits { LineFits (nodes_of self.old) (length self.old.requests) svc.now.lanes line.now }
+        requires form { FormFits (has_old_form svc.now) line.now }
         requires count { self.old.done + 1 < 2 ^ 32 }
         ensures effects { IfOk result (λ effects. effects ≡ (row svc.now self.old.requests self.old.seed (nodes_of self.old) (world_of svc.now self.old) line.now).effects) }
         ensures world { OnOk result (world_of svc.now self.new ≡ (row svc.now self.old.requests self.old.seed (nodes_of self.old) (world_of svc.now self.old) line.now).world) }
@@ -242,6 +246,7 @@ impl World {
         requires running { IsRunning svc.now self.old }
         requires ready { R.ready replayer.old }
         requires fits { LineFits (nodes_of self.old) (length self.old.requests) svc.now.lanes line.now }
+        requires form { FormFits (has_old_form svc.now) line.now }
         requires count { self.old.done + 1 < 2 ^ 32 }
         ensures effects { IfOk result (λ effects. effects ≡ (row svc.now self.old.requests self.old.seed (nodes_of self.old) (world_of svc.now self.old) line.now).effects) }
         ensures world { OnOk result (world_of svc.now self.new ≡ (row svc.now self.old.requests self.old.seed (nodes_of self.old) (world_of svc.now self.old) line.now).world) }

@@ -2,12 +2,13 @@ use Rattle.std.proofs.Common.{rules, arith, refl, ◌<◌, ℕ, subst, sym}
 use Rattle.rex_board.proofs.Keeps.{deals}
 use Rattle.rex_board.proofs.Placing.{first_place}
 use Rattle.rex_board.proofs.start.deal.Goals as goal
+use Rattle.rex_event.specs.Limits.{most_lanes}
 
 pub split_seat-seat-requires : goal.split_seat-seat-requires
 split_seat-seat-requires c = (
   c.requires.hosting.0.table,
   omega (arith, c.requires.table.0),
-  deals _ _ _ c.requires.hosting.0.role (subst (λ (x : ℕ). x < 16) (sym c.requires.hosting.1) c.requires.table.1) c.requires.hosting.0.gathered,
+  deals _ _ _ c.requires.hosting.0.role (subst (λ (x : ℕ). x < most_lanes) (sym c.requires.hosting.1) c.requires.table.1) c.requires.hosting.0.gathered,
 )
 
 pub returns-clause-seat : goal.returns-clause-seat

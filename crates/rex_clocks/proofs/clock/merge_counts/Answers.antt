@@ -1,7 +1,5 @@
 use Rattle.std.proofs.Common.{⊎_elim, ◌<◌, ◌≤◌, sym, ◌∙◌, arith}
 use Rattle.std.proofs.lemmas.Bool.{cases_lt}
-use Rattle.std.proofs.lemmas.List.{get_or_past}
-use Rattle.rex_clocks.specs.declared.clock.TheConstants.{LANES}
 use Rattle.rex_clocks.specs.Counts.{merged}
 use Rattle.rex_clocks.proofs.Counts.{count_merged, merged_long, same_counts}
 use Rattle.rex_clocks.proofs.clock.merge_counts.Goals as goal
@@ -16,6 +14,10 @@ returns c =
     let lc = c.loop-lane.invariant.long in
     same_counts c.loop-lane.counts (merged a b) (omega arith)
     (λ lane.
-    ⊎_elim (λ (l : lane < LANES). c.loop-lane.invariant.done lane (omega (arith, c.loop-lane-test.false)) ∙ sym (count_merged a b lane))
-    (λ (l : LANES ≤ lane). get_or_past c.loop-lane.counts lane 0 (omega arith) ∙ sym (get_or_past (merged a b) lane 0 (omega arith)))
-    (cases_lt lane LANES))
+    ⊎_elim (λ (l : lane < c.args.lanes). c.loop-lane.invariant.done lane (omega (arith, c.loop-lane-test.false)) ∙ sym (count_merged a b lane))
+    (λ (l : c.args.lanes ≤ lane).
+    let zero = c.requires.beyond lane l in
+    let both = count_merged a b lane in
+    let kept = c.loop-lane.invariant.left lane (omega (arith, l, c.loop-lane.auto.lane-end)) in
+    omega (arith, zero, both, kept))
+    (cases_lt lane c.args.lanes))

@@ -1,6 +1,6 @@
 use Rattle.std.proofs.Common.{◌≡◌, ℕ, ◌<◌, ◌≤◌, max, length}
 use Rattle.rex_event.specs.Cuts.{count_at}
-use Rattle.rex_clocks.specs.declared.clock.TheConstants.{LANES}
+use Rattle.rex_event.specs.declared.event.TheConstants.{LANES}
 use Rattle.rex_clocks.proofs.clock.merge_counts.Given as goal
 
 abbrev pub invariant-loop-lane : goal.invariant-loop-lane

@@ -11,7 +11,7 @@ returns-in_err-cause c =
     let bases = c.args.bases.now in
     let counts = c.args.counts.now in
     let lane = c.args.lane in
-    let p = err_from_is_err_and c.from_residual.result c.from_residual.ensures.1 in
+    let p = err_from_is_err_and c.from_residual-in_err-cause.result c.from_residual-in_err-cause.ensures.1 in
     rw (p.1, p.2) (fails (cause_at bases counts lane) after_cause [] alone joined (causes_in bases counts lane) (causes_repeated bases counts lane) c.in_err-cause.field-0.0 c.loop.above c.args.count c.loop.counter c.loop.reader c.loop.causes (causes_at bases counts lane c.args.count 0 c.args.reader.now) c.loop-test.true c.in_err-cause.ensures.read c.loop.invariant)
 
 pub loop-preserved : goal.loop-preserved

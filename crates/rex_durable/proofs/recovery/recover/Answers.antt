@@ -7,7 +7,7 @@ use Rattle.rex_durable.proofs.ReadBehind.{count_few, read_none, read_more, read_
 use Rattle.rex_durable.proofs.recovery.recover.Goals as goal
 
 pub loop-index-init : goal.loop-index-init
-loop-index-init g c = read_none (g.K.Keeper.records c.args.keeper.now) c.new-recovered.result c.new-recovered.ensures
+loop-index-init g c = read_none (g.K.Keeper.records c.args.keeper.now) c.in_ok-recovered.recovered c.in_ok-recovered.ensures
 
 pub read-requires : goal.read-requires
 read-requires g c = rw c.len-count.ensures (count_few (g.K.Keeper.records c.args.keeper.now) c.loop-index.index c.loop-index.recovered c.loop-index.invariant)
@@ -15,26 +15,26 @@ read-requires g c = rw c.len-count.ensures (count_few (g.K.Keeper.records c.args
 pub returns-in_err-rec-clause-bad : goal.returns-in_err-rec-clause-bad
 returns-in_err-rec-clause-bad g c =
     let kept = g.K.Keeper.records c.args.keeper.now in
-    let p = err_from_is_err_and c.from_residual.result c.from_residual.ensures.1 in
+    let p = err_from_is_err_and c.from_residual-in_err-rec.result c.from_residual-in_err-rec.ensures.1 in
     let bad = rw (c.len-count.ensures, c.get.ensures) at c.in_err-rec.ensures.exact in
     rw (p.1, p.2) (is_bad kept c.loop-index.index c.loop-index.recovered c.in_err-rec.field-0.0 c.loop-index.invariant (omega arith) bad)
 
 pub returns-in_err-rec-clause-exact : goal.returns-in_err-rec-clause-exact
 returns-in_err-rec-clause-exact g c =
     let kept = g.K.Keeper.records c.args.keeper.now in
-    let p = err_from_is_err_and c.from_residual.result c.from_residual.ensures.1 in
+    let p = err_from_is_err_and c.from_residual-in_err-rec.result c.from_residual-in_err-rec.ensures.1 in
     let bad = rw (c.len-count.ensures, c.get.ensures) at c.in_err-rec.ensures.exact in
     rw (p.1, p.2) (answers_bad kept c.in_err-rec.field-0.0 (is_bad kept c.loop-index.index c.loop-index.recovered c.in_err-rec.field-0.0 c.loop-index.invariant (omega arith) bad))
 
 pub returns-in_err-rec-clause-only : goal.returns-in_err-rec-clause-only
 returns-in_err-rec-clause-only g c =
     let kept = g.K.Keeper.records c.args.keeper.now in
-    let p = err_from_is_err_and c.from_residual.result c.from_residual.ensures.1 in
+    let p = err_from_is_err_and c.from_residual-in_err-rec.result c.from_residual-in_err-rec.ensures.1 in
     let bad = rw (c.len-count.ensures, c.get.ensures) at c.in_err-rec.ensures.exact in
-    answers_spelled c.from_residual.result kept (rw (p.1, p.2) (answers_bad kept c.in_err-rec.field-0.0 (is_bad kept c.loop-index.index c.loop-index.recovered c.in_err-rec.field-0.0 c.loop-index.invariant (omega arith) bad)))
+    answers_spelled c.from_residual-in_err-rec.result kept (rw (p.1, p.2) (answers_bad kept c.in_err-rec.field-0.0 (is_bad kept c.loop-index.index c.loop-index.recovered c.in_err-rec.field-0.0 c.loop-index.invariant (omega arith) bad)))
 
-pub with_record-requires : goal.with_record-requires
-with_record-requires g c =
+pub add-requires : goal.add-requires
+add-requires g c =
     let h = c.loop-index.invariant in
     let e = ap (λ (x : Recovered). x.accepted) h.is in
     rw e (accepted_rises h.rs)
@@ -43,7 +43,7 @@ pub loop-index-preserved : goal.loop-index-preserved
 loop-index-preserved g c =
     let kept = g.K.Keeper.records c.args.keeper.now in
     let found = rw (c.len-count.ensures, c.get.ensures) at c.in_ok-rec.ensures.found in
-    read_more kept c.loop-index.index c.loop-index.recovered c.in_ok-recovered.recovered c.in_ok-rec.rec c.loop-index.invariant (omega arith) found c.in_ok-recovered.ensures
+    read_more kept c.loop-index.index c.loop-index.recovered c.add.new.self c.in_ok-rec.rec c.loop-index.invariant (omega arith) found c.in_ok-add.ensures
 
 pub returns-clause-found : goal.returns-clause-found
 returns-clause-found g c =

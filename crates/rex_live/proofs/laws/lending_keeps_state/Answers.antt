@@ -16,6 +16,7 @@ keeps service out kept s good lending =
     record {
       held = held;
       queues = lending.by.queues;
+      semaphores = lending.by.semaphores;
       clients = lending.by.clients;
       free = λ x none. lending.by.others x (λ lane gone. ap (λ (h : Lockset). may_write service h x) (held lane) ∙ none lane);
       back = lending.by.back;

@@ -1,9 +1,12 @@
-use Rattle.std.proofs.Common.{◌≡◌, ℕ, ◌≤◌, length, ◌++◌, List, take, drop, reverse, sym, subst, ◌∙◌}
+use Rattle.std.proofs.Common.{◌≡◌, ℕ, ◌≤◌, length, ◌++◌, List, take, drop, reverse, ap, sym, subst, ◌∙◌}
 use Rattle.std.proofs.lemmas.List.{append-nil, drop_all}
 use Rattle.rex_event.specs.declared.event.Event.{Event}
 use Rattle.rex_event.specs.declared.delta.Cause.{Cause}
 use Rattle.rex_reduce.specs.Reduced.{AreLeast, FitPieces}
 use Rattle.rex_reduce.specs.Reduction.{first_indices, reduced_from, reduced}
+use Rattle.rex_reduce.specs.declared.summary.Summary.{Summary}
+use Rattle.rex_reduce.specs.Summaries.{next}
+use Rattle.rex_reduce.proofs.Covers.{uses_covered}
 use Rattle.rex_reduce.proofs.Reduced.{reduced_least, reduced_fits}
 use Rattle.rex_reduce.proofs.Steps.{trace_lanes, turn, turn_met, turn_kept, turn_causes, turn_room, turn_lane, turn_next}
 use Rattle.rex_reduce.proofs.reduction.reduce.Goals as goal
@@ -30,6 +33,15 @@ next-requires-clause-room c =
     let e = c.event-item.result in
     let t = turn es c.loop-event.event-index e c.loop-event-test.true c.event-item.is in
     turn_next es c.loop-event.event-index e c.met-met.result c.requires.trace c.requires.room t (turn_met es c.loop-event.event-index e c.loop-event.uses c.met-met.result c.requires.trace t c.loop-event.invariant.kept c.met-met.ensures)
+
+pub add-requires : goal.add-requires
+add-requires c =
+    let es = c.args.events.now in
+    let i = c.loop-event.event-index in
+    let e = c.event-item.result in
+    let t = turn es i e c.loop-event-test.true c.event-item.is in
+    let m = turn_met es i e c.loop-event.uses c.met-met.result c.requires.trace t c.loop-event.invariant.kept c.met-met.ensures in
+    uses_covered (reverse (take i es)) e c.next.result c.loop-event.uses (c.next.ensures ∙ ap (λ (s : Summary). next s e.lane) m) c.loop-event.invariant.kept
 
 pub loop-event-preserved : goal.loop-event-preserved
 loop-event-preserved c =

@@ -12,4 +12,4 @@ pub returns-clause-found : goal.returns-clause-found
 returns-clause-found c = is_found c.args.svc.now c.args.bytes.now c.state.result c.declarations-service.ensures.sound (λ i. omega (arith, c.type_inv.bytes i)) c.state.ensures.parts
 
 pub returns-clause-only : goal.returns-clause-only
-returns-clause-only c = λ s sound has e. subst (λ r. Gives c.state.result r) (ap (state_in c.args.svc.now) e ∙ read_again c.args.svc.now s c.declarations-service.ensures.sound sound has) c.state.ensures.read
+returns-clause-only c = λ s sound has is. subst (λ r. Gives c.state.result r) (ap (state_in c.args.svc.now) is.is ∙ read_again c.args.svc.now is.version s c.declarations-service.ensures.sound is.has sound has) c.state.ensures.read

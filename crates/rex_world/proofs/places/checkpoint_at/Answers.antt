@@ -2,8 +2,8 @@ use Rattle.std.proofs.Common.{length}
 use Rattle.rex_world.proofs.Seated.{seat_is, acts_at}
 use Rattle.rex_world.proofs.places.checkpoint_at.Goals as goal
 
-pub checkpoint-requires : goal.checkpoint-requires
-checkpoint-requires c = record { seat = seat_is c.args.svc.now c.args.seats.now c.args.number c.requires.there c.index-seats-number.result c.args.seed (length c.args.seats.now) c.requires.seats }
+pub checkpoint-requires-clause-seat : goal.checkpoint-requires-clause-seat
+checkpoint-requires-clause-seat c = seat_is c.args.svc.now c.args.seats.now c.args.number c.requires.there c.index-seats-number.result c.args.seed (length c.args.seats.now) c.requires.seats
 
 pub returns : goal.returns
 returns c = record {

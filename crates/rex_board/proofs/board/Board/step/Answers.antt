@@ -1,4 +1,5 @@
 use Rattle.std.proofs.Common.{◌<◌, ℕ, List, refl, sym, ◌∙◌, subst}
+use Rattle.rex_event.specs.Limits.{most_lanes}
 use Rattle.rex_event.specs.declared.delta.Cause.{Cause}
 use Rattle.rex_event.specs.Order.{Has}
 use Rattle.rex_board.specs.Recorded.{service_of}
@@ -12,7 +13,7 @@ returns-then-me-self-clause-turn c = (at_end _ _ _ _ _ _ c.requires.board.replay
 
 pub first_missing-requires-clause-lanes : goal.first_missing-requires-clause-lanes
 first_missing-requires-clause-lanes c =
-    subst (λ (l : List Cause). (d : Cause) → Has d l → d.lane < 16) (sym (c.as_slice.ensures ∙ sym c.index-self-me-2.is))
+    subst (λ (l : List Cause). (d : Cause) → Has d l → d.lane < most_lanes) (sym (c.as_slice.ensures ∙ sym c.index-self-me-2.is))
     (lanes_of_causes _ _ _ _ _ _ c.requires.board.replays c.args.me.now c.requires.seat c.if-me-self.false c.index-self-me.result c.index-self-me-2.result c.index-self-me-2.is)
 
 pub returns-in-Some-clause-turn : goal.returns-in-Some-clause-turn
@@ -32,7 +33,7 @@ returns-clause-seat c =
     record {
       table = later.table ∙ looking.later.table ∙ c.requires.seat.table;
       key = later.key ∙ looking.later.key ∙ c.requires.seat.key;
-      lane = subst (λ (x : ℕ). x < 16) (sym (later.lane ∙ looking.later.lane)) c.requires.seat.lane;
+      lane = subst (λ (x : ℕ). x < most_lanes) (sym (later.lane ∙ looking.later.lane)) c.requires.seat.lane;
       there = subst (λ (x : ℕ). x < (service_of (recording_of c.args.self.now)).lanes) (sym (later.lane ∙ looking.later.lane)) c.requires.seat.there;
       small = done_small _ _ _ _ _ _ c.requires.board.replays c.args.me.now c.requires.seat c.if-me-self.false c.first_missing.new.self c.first_missing.ensures.looking c.index-self-me.result c.index-self-me-2.result c.index-self-me-2.is c.do_event.new.self c.do_event.ensures.later c.do_event.ensures.done c.do_event.ensures.bounds;
       wide = c.do_event.ensures.wide;

@@ -7,22 +7,22 @@ use Rattle.rex_state.specs.Machine.{lane_of}
 use Rattle.rex_node.proofs.Executing.{live_state_of, turn_of_node, turn_leads, turn_stays}
 use Rattle.rex_node.proofs.node.Node.lane.Goals as goal
 
-pub lane-turn-requires-clause-count : goal.lane-turn-requires-clause-count
-lane-turn-requires-clause-count g c =
+pub lane-requires-clause-count : goal.lane-requires-clause-count
+lane-requires-clause-count g c =
     subst (λ (s : StateValue). (lane_of s c.args.lane).done + 1 < 4294967296)
-    (live_state_of g.K.Keeper.records c.args.svc.now c.args.self.now _ c.in-Some-take.acting c.self.view_is c.requires.node _ (sym c.active_refusal.ensures ∙ c.in_default.is) c.in-Some-take.ensures.value)
+    (live_state_of g.K.Keeper.records c.args.svc.now c.args.self.now _ c.in-Some-acting.acting c.self.view_is c.requires.node _ (sym c.active_refusal.ensures.why ∙ c.in_default.is) (sym c.in-Some-acting.is))
     c.requires.count
 
-pub returns-in_ok-turn-in-Some-take-clause-told : goal.returns-in_ok-turn-in-Some-take-clause-told
-returns-in_ok-turn-in-Some-take-clause-told g c =
-    subst (λ (z : ℤ). c.in_ok-turn-in-Some-take.field-0 ≡ turn_of c.args.svc.now c.in-Some-take.acting.recorder.state c.in-Some-take.acting.recorder.queue (length c.in-Some-take.acting.recorder.live) c.args.lane z (pcg32 c.in-Some-take.acting.dice).0)
-    (to_z-of_z w64 c.args.now c.ranges.now) c.in_ok-turn-in-Some-take.ensures.turn
-    ∙ turn_of_node g.K.Keeper.records c.args.svc.now c.args.self.now _ c.in-Some-take.acting c.self.view_is c.requires.node _ (sym c.active_refusal.ensures ∙ c.in_default.is) c.in-Some-take.ensures.value c.args.lane c.args.now
+pub returns-clause-told : goal.returns-clause-told
+returns-clause-told g c =
+    subst (λ (z : ℤ). c.in_ok-turn.turn ≡ turn_of c.args.svc.now c.in-Some-acting.acting.recorder.state c.in-Some-acting.acting.recorder.queue (length c.in-Some-acting.acting.recorder.live) c.args.lane z (pcg32 c.in-Some-acting.acting.dice).0)
+    (to_z-of_z w64 c.args.now c.ranges.now) c.in_ok-turn.ensures.turn
+    ∙ turn_of_node g.K.Keeper.records c.args.svc.now c.args.self.now _ c.in-Some-acting.acting c.self.view_is c.requires.node _ (sym c.active_refusal.ensures.why ∙ c.in_default.is) (sym c.in-Some-acting.is) c.args.lane c.args.now
 
-pub returns-in_ok-turn-in-Some-take-clause-node : goal.returns-in_ok-turn-in-Some-take-clause-node
-returns-in_ok-turn-in-Some-take-clause-node g c =
-    turn_leads g.K.Keeper.records c.args.svc.now c.args.self.now _ c.in-Some-take.acting c.self.view_is c.requires.node _ (sym c.active_refusal.ensures ∙ c.in_default.is) c.in-Some-take.ensures.value c.args.lane c.in_ok-turn-in-Some-take.field-0 c.lane-turn.new.self c.in_ok-turn-in-Some-take.ensures.ok
+pub returns-clause-node : goal.returns-clause-node
+returns-clause-node g c =
+    turn_leads g.K.Keeper.records c.args.svc.now c.args.self.now _ c.in-Some-acting.acting c.self.view_is c.requires.node _ (sym c.active_refusal.ensures.why ∙ c.in_default.is) (sym c.in-Some-acting.is) c.args.lane c.in_ok-turn.turn c.lane.new.self c.in_ok-turn.ensures.ok
 
-pub returns-in_ok-turn-in-Some-take-clause-kept : goal.returns-in_ok-turn-in-Some-take-clause-kept
-returns-in_ok-turn-in-Some-take-clause-kept g c =
-    turn_stays g.K.Keeper.records c.args.svc.now c.args.self.now _ c.in-Some-take.acting c.self.view_is c.requires.node _ (sym c.active_refusal.ensures ∙ c.in_default.is) c.in-Some-take.ensures.value c.in_ok-turn-in-Some-take.field-0 _ c.lane-turn.new.self c.in_ok-turn-in-Some-take.ensures.ok c.lane-turn.ensures.kept c.declarations-service.ensures.sound
+pub returns-clause-kept : goal.returns-clause-kept
+returns-clause-kept g c =
+    turn_stays g.K.Keeper.records c.args.svc.now c.args.self.now _ c.in-Some-acting.acting c.self.view_is c.requires.node _ (sym c.active_refusal.ensures.why ∙ c.in_default.is) (sym c.in-Some-acting.is) c.in_ok-turn.turn _ c.lane.new.self c.in_ok-turn.ensures.ok c.lane.ensures.kept c.declarations-service.ensures.sound

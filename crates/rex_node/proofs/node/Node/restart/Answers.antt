@@ -4,12 +4,12 @@ use Rattle.rex_node.proofs.node.Node.restart.Goals as goal
 
 pub returns-in-Ok-clause-up : goal.returns-in-Ok-clause-up
 returns-in-Ok-clause-up g c =
-    came_up g.K.Keeper.records c.args.svc.now c.args.id c.args.nodes c.args.seed c.args.keeper c.in-Ok.field-0.recovered c.in-Ok.field-0.start c.in-Ok.ensures.recalled
+    came_up g.K.Keeper.records c.args.svc.now c.args.id c.args.nodes c.args.seed c.args.keeper c.in-Ok.field-0.recovered c.in-Ok.field-0.start c.in-Ok.field-0.old_base c.in-Ok.ensures.recalled
     c.with_accepted.result c.from_list.result c.into_vec.result.items c.with_accepted.ensures c.from_list.ensures c.into_vec.ensures
 
 pub returns-in-Ok-clause-kept : goal.returns-in-Ok-clause-kept
 returns-in-Ok-clause-kept g c = λ fit right.
-    is_node g.K.Keeper.records c.args.svc.now c.args.id c.args.nodes c.args.seed c.args.keeper c.in-Ok.field-0.recovered c.in-Ok.field-0.start c.in-Ok.ensures.recalled
+    is_node g.K.Keeper.records c.args.svc.now c.args.id c.args.nodes c.args.seed c.args.keeper c.in-Ok.field-0.recovered c.in-Ok.field-0.start c.in-Ok.field-0.old_base c.in-Ok.ensures.recalled
     c.with_accepted.result c.from_list.result c.into_vec.result.items c.with_accepted.ensures c.from_list.ensures c.into_vec.ensures c.requires.there c.requires.few fit right
 
 pub returns-in-Err-clause-read : goal.returns-in-Err-clause-read

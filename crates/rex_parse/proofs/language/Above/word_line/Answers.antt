@@ -20,6 +20,10 @@ pub returns-in-Some-RwLock-clause-takes : goal.returns-in-Some-RwLock-clause-tak
 returns-in-Some-RwLock-clause-takes c =
     dispatched c.args.self.now c.rwlock_line.new.self c.args.words.now no_word c.args.number c.in-Some-RwLock.field-0 form.RwLock c.rwlock_line.result c.in-len1-up.len_at_least c.in-Some-RwLock.ensures c.in-Some-RwLock.field-0-is c.rwlock_line.ensures.takes
 
+pub returns-in-Some-Sem-clause-takes : goal.returns-in-Some-Sem-clause-takes
+returns-in-Some-Sem-clause-takes c =
+    dispatched c.args.self.now c.sem_line.new.self c.args.words.now no_word c.args.number c.in-Some-Sem.field-0 form.Sem c.sem_line.result c.in-len1-up.len_at_least c.in-Some-Sem.ensures c.in-Some-Sem.field-0-is c.sem_line.ensures.takes
+
 pub returns-in-Some-Cond-clause-takes : goal.returns-in-Some-Cond-clause-takes
 returns-in-Some-Cond-clause-takes c =
     dispatched c.args.self.now c.cond_line.new.self c.args.words.now no_word c.args.number c.in-Some-Cond.field-0 form.Cond c.cond_line.result c.in-len1-up.len_at_least c.in-Some-Cond.ensures c.in-Some-Cond.field-0-is c.cond_line.ensures.takes
@@ -67,6 +71,14 @@ returns-in-Some-Signal-clause-takes c =
 pub returns-in-Some-Broadcast-clause-takes : goal.returns-in-Some-Broadcast-clause-takes
 returns-in-Some-Broadcast-clause-takes c =
     dispatched c.args.self.now c.broadcast_line.new.self c.args.words.now no_word c.args.number c.in-Some-Broadcast.field-0 form.Broadcast c.broadcast_line.result c.in-len1-up.len_at_least c.in-Some-Broadcast.ensures c.in-Some-Broadcast.field-0-is c.broadcast_line.ensures.takes
+
+pub returns-in-Some-Down-clause-takes : goal.returns-in-Some-Down-clause-takes
+returns-in-Some-Down-clause-takes c =
+    dispatched c.args.self.now c.down_line.new.self c.args.words.now no_word c.args.number c.in-Some-Down.field-0 form.Down c.down_line.result c.in-len1-up.len_at_least c.in-Some-Down.ensures c.in-Some-Down.field-0-is c.down_line.ensures.takes
+
+pub returns-in-Some-Up-clause-takes : goal.returns-in-Some-Up-clause-takes
+returns-in-Some-Up-clause-takes c =
+    dispatched c.args.self.now c.up_line.new.self c.args.words.now no_word c.args.number c.in-Some-Up.field-0 form.Up c.up_line.result c.in-len1-up.len_at_least c.in-Some-Up.ensures c.in-Some-Up.field-0-is c.up_line.ensures.takes
 
 pub returns-in-Some-Set-clause-takes : goal.returns-in-Some-Set-clause-takes
 returns-in-Some-Set-clause-takes c =

@@ -1,3 +1,4 @@
+use Rattle.rex_safety.specs.Values.{service_of}
 use Rattle.rex_safety.specs.World.{node_at}
 use Rattle.rex_world.specs.Seats.{heres}
 use Rattle.rex_world.proofs.Coming.{starts_fit}
@@ -8,7 +9,7 @@ pub start_at-outcome-requires-clause-runs : goal.start_at-outcome-requires-claus
 start_at-outcome-requires-clause-runs c = starts_from c.args.svc.now c.args.self.now c.requires.running c.deref_mut.result.now c.deref_mut.ensures.value c.args.node c.requires.there
 
 pub tell-requires : goal.tell-requires
-tell-requires c = starts_fit c.args.node (node_at (heres c.args.svc.now c.deref_mut.result.now) c.args.node) (node_at (heres c.args.svc.now c.start_at-outcome.new.seats) c.args.node) c.start_at-outcome.result c.start_at-outcome.ensures.starts.starts
+tell-requires c = starts_fit (service_of c.args.svc.now c.args.self.now.seed) c.args.node (node_at (heres c.args.svc.now c.deref_mut.result.now) c.args.node) (node_at (heres c.args.svc.now c.start_at-outcome.new.seats) c.args.node) c.start_at-outcome.result c.start_at-outcome.ensures.starts.starts
 
 pub returns : goal.returns
 returns c = record {

@@ -1,9 +1,0 @@
-use Rattle.std.proofs.Common.{◌≡◌, ◌≤◌}
-use Rattle.rex_delta.specs.Spelling.{others_below}
-use Rattle.rex_delta.proofs.lane_counts.others.Given as goal
-
-abbrev pub invariant-loop-other : goal.invariant-loop-other
-invariant-loop-other l = record {
-  so_far : l.others ≡ others_below l.bases l.counts l.lane l.other;
-  few : l.others ≤ l.other;
-}

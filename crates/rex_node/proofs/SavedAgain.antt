@@ -1,0 +1,216 @@
+-- A node that writes down its last checkpoint again does as the model's.
+use Rattle.std.proofs.Common.{◌≡◌, ℕ, suc, ◌+◌, ◌<◌, ◌≤◌, inl, inr, Bool, true, false, List, [], ◌∷◌, ◌++◌, length, take, Result, Ok, Option, Some, None, refl, sym, ap, subst, ◌∙◌, arith}
+use Rattle.std.specs.Prelude.{map, is_ok, if◌then◌else◌}
+use Rattle.std.proofs.lemmas.Bool.{false≢true}
+use Rattle.rex_syntax.specs.declared.service.Declarations.{Declarations}
+use Rattle.rex_syntax.specs.Service.{IsService}
+use Rattle.rex_syntax.specs.Check.{IsChecked}
+use Rattle.rex_state.specs.Value.{StateValue}
+use Rattle.rex_state.specs.Start.{start_of}
+use Rattle.rex_state.specs.Sound.{IsSound}
+use Rattle.rex_state.proofs.Sounds.{run_keeps, start_keeps}
+use Rattle.rex_durable.specs.declared.records.Rec.{Rec as KeptRec}
+use Rattle.rex_durable.specs.Spelling.{HasSpelling, IsDue, record_bytes}
+use Rattle.rex_snapshot.specs.Spelling.{IsLimited}
+use Rattle.rex_report.specs.declared.effect.Effect.{Effect}
+use Rattle.rex_report.specs.declared.effect.Effect.TheVariants as effect
+use Rattle.rex_traits.specs.Chains.{Answer}
+use Rattle.rex_version.specs.declared.version.Version.{Version}
+use Rattle.rex_version.specs.declared.version.Version.TheVariants.{Two}
+use Rattle.rex_snapshot.specs.Allowed.{version_in}
+use Rattle.rex_safety.specs.Records.{Rec, known, base, has_old_base}
+use Rattle.rex_safety.specs.Records.Rec.{Checkpoint}
+use Rattle.rex_safety.specs.Node.{Failure, down_node}
+use Rattle.rex_safety.specs.Calls.{append, begin, logged, migrate, say}
+use Rattle.rex_safety.specs.Lanes.{Here, CallHere}
+use Rattle.rex_safety.specs.Values.{Value, service_of, state_after, trace_of}
+use Rattle.rex_safety.proofs.Replies.{state_is}
+use Rattle.rex_node.specs.declared.refusal.Refusal.{Refusal}
+use Rattle.rex_node.specs.declared.refusal.Refusal.TheVariants as why
+use Rattle.rex_node.specs.declared.step.Step.{Step}
+use Rattle.rex_node.specs.Calls.{Does, EndsDown, armed_with, call_of, last_of, refusal_of_migrate}
+use Rattle.rex_node.specs.Checkpointing.{IsCheckpoint, Migrates}
+use Rattle.rex_node.specs.Messages.{message_in}
+use Rattle.rex_node.specs.Parts.{Falls, NodeValue, fallen, IsNode, IsUp, StaysNode, failed_records, here_of, log_of, read_state, rec_of, says_something}
+use Rattle.rex_node.proofs.Appended.{IsLogged, beside_of, call_at, logged_of, up_of}
+use Rattle.rex_node.proofs.GoingLemmas.{fell_append}
+use Rattle.rex_node.proofs.Logs.{log_more}
+use Rattle.rex_node.proofs.OldBase.{old_based}
+use Rattle.rex_node.proofs.Saved.{front_limited, refused_none}
+
+-- ---- refusals
+
+-- the last checkpoint is in the old version
+record IsOld (h : Here) : Type 0 where
+  pub up : h.up ≡ true
+  pub old : has_old_base h.log ≡ true
+
+old_there : (h : Here) → refusal_of_migrate h ≡ None → IsOld h
+old_there h e = by (has_old_base h.log) refl (refused_none h.up _ e)
+  where
+    by : (b : Bool) → has_old_base h.log ≡ b → (h.up ≡ true) × (◌≡◌ {A = Option Refusal} (if has_old_base h.log then None else Some why.Nothing) None) → IsOld h
+    by true a r = record { up = r.0; old = a }
+    by false a r = absurd (let w : Some why.Nothing ≡ None = sym (ap (λ (s : Bool). if s then None else Some why.Nothing) a) ∙ r.1 in cc)
+
+-- ---- the state at the base
+
+module _ {K : Type 0} (records : K → List (List ℕ)) (service : Declarations) (x : NodeValue K) (node : IsNode records service x) (due : refusal_of_migrate (here_of records service x) ≡ None) (good : IsService service) (checked : IsChecked service) where
+  up_now : IsUp service x (here_of records service x)
+  up_now = node.up (old_there (here_of records service x) due).up
+
+  pub start_sound : IsSound service x.start
+  start_sound = run_keeps service (start_of service) x.start (trace_of (take x.base x.known)) good (start_keeps service good checked) up_now.start
+
+  pub start_limited : IsLimited x.start
+  start_limited = front_limited records service x up_now good checked x.base (logged_of records service x up_now).few x.start up_now.start
+
+-- ---- the call
+
+module _ {K : Type 0} (records : K → List (List ℕ)) (gives : K → List ℕ → Answer → K → Type 0) (faults : K → ℕ) (service : Declarations) (x : NodeValue K) (node : IsNode records service x) (due : refusal_of_migrate (here_of records service x) ≡ None)
+    (r : KeptRec) (rec : IsCheckpoint service Two x.base x.start r) where
+  abbrev h : Here
+  h = here_of records service x
+
+  abbrev log : List (Rec Value StateValue)
+  log = log_of service (records x.keeper)
+
+  abbrev call : CallHere → CallHere
+  call = migrate (service_of service x.seed) x.id
+
+  abbrev said : Rec Value StateValue
+  said = Checkpoint Two x.base x.start
+
+  f : IsOld h
+  f = old_there h due
+
+  u : IsUp service x h
+  u = node.up f.up
+
+  few : x.base ≤ length x.known
+  few = (logged_of records service x u).few
+
+  some : 0 < x.base
+  some = subst (λ (n : ℕ). 0 < n) (sym u.base) (old_based service (records x.keeper) f.old)
+
+  pub spelling : HasSpelling r
+  spelling = subst HasSpelling (sym rec.is) (record { in_range = (record { first = omega (arith, some); last = omega (arith, few, (logged_of records service x u).numbers.few, ap length u.known) }, rec.short) })
+
+  is_due : IsDue (length (known log)) r
+  is_due = subst (IsDue (length (known log))) (sym rec.is) (subst (λ (vs : List Value). x.base ≤ length vs) u.known few)
+
+  says : says_something service r ≡ true
+  says = ap (says_something service) rec.is ∙ ap (λ (q : Result StateValue ℕ). is_ok q) rec.spells
+
+  rec_is : rec_of service r ≡ said
+  rec_is =
+      ap (rec_of service) rec.is ∙ ap (λ (q : Result StateValue ℕ). Checkpoint (version_in rec.snapshot) x.base (read_state service q)) rec.spells
+      ∙ ap (λ (v : Version). Checkpoint v x.base x.start) rec.version_is
+
+  log_saved : (lists : List (List ℕ)) → lists ≡ records x.keeper ++ record_bytes r ∷ [] → log_of service lists ≡ said ∷ log
+  log_saved lists e = ap (log_of service) e ∙ log_more service (records x.keeper) r spelling is_due says ∙ ap (λ (m : Rec Value StateValue). m ∷ log) rec_is
+
+  state_now : state_after service (trace_of (take x.base (known log))) ≡ x.start
+  state_now =
+      ap (λ (vs : List Value). state_after service (trace_of (take x.base vs))) (sym u.known)
+      ∙ state_is service (trace_of (take x.base x.known)) x.start u.start
+
+  -- the model appends the state
+  appends : (g : Option Failure) → call (armed_with g (begin h)) ≡ append g x.id said (armed_with g (begin h)) (say (effect.Migrated x.id x.base))
+  appends g =
+      ap (λ (t : Bool). migrate_if t (base log) (state_after service (trace_of (take (base log) (known log))))) f.old
+      ∙ ap (λ (n : ℕ). migrate_if true n (state_after service (trace_of (take n (known log))))) (sym u.base)
+      ∙ ap (migrate_if true x.base) state_now
+    where
+      migrate_if : Bool → ℕ → StateValue → CallHere
+      migrate_if a n t = if a then append g x.id (Checkpoint Two n t) (armed_with g (begin h)) (say (effect.Migrated x.id n)) else armed_with g (begin h)
+
+  module _ (y : NodeValue K) (step : Step) (sends : step.sends ≡ []) where
+    -- it is kept
+    module _ (k : Migrates records faults gives x y (record_bytes r)) (effects : step.effects ≡ effect.Migrated x.id x.base ∷ []) where
+      log_is : log_of service (records y.keeper) ≡ said ∷ log
+      log_is = log_saved (records y.keeper) k.records_are
+
+      comes : say (effect.Migrated x.id x.base) (logged said None (begin h)) ≡ call_of records service y step
+      comes =
+          ap (λ (l : List (Rec Value StateValue)). call_at (record h { log = l }) [] (effect.Migrated x.id x.base ∷ [])) (sym log_is)
+          ∙ ap (λ (n : NodeValue K). call_at (here_of records service n) [] (effect.Migrated x.id x.base ∷ [])) (sym k.parts)
+          ∙ ap (λ (es : List Effect). call_at (here_of records service y) [] es) (sym effects)
+          ∙ ap (λ (ms : List _). call_at (here_of records service y) (map message_in ms) step.effects) (sym sends)
+
+      pub migrated_does : Does records gives faults service call x y step
+      migrated_does =
+          inl (record {
+            written = record_bytes r ∷ [];
+            grown = k.records_are;
+            appends = (Ok tt, y.keeper, k.answer, (refl, refl));
+            counted = k.faults_are;
+            many = ap length log_is ∙ (let e : suc (length log) ≡ 1 + length log = omega arith in e);
+            is = appends None ∙ comes;
+          })
+
+      pub migrated_down : EndsDown x.id (faults x.keeper) (faults y.keeper) step
+      migrated_down = record {
+        down = λ l. absurd (omega (arith, l, k.faults_are));
+        only = λ e. absurd (other (sym (ap last_of effects) ∙ e));
+        quiet = λ l. sends;
+      }
+        where
+          other : ◌≡◌ {A = Option Effect} (Some (effect.Migrated x.id x.base)) (Some (effect.Down x.id)) → ⊥
+          other e = cc
+
+      z_up : IsUp service (record x { keeper = y.keeper; old_base = false }) (here_of records service (record x { keeper = y.keeper; old_base = false }))
+      z_up =
+          let l = logged_of records service x u in
+          let b = beside_of records service x u in
+          up_of records service (record x { keeper = y.keeper; old_base = false })
+          (subst (IsLogged service (record x { keeper = y.keeper; old_base = false })) (sym log_is)
+          (record {
+            promised = l.promised;
+            accepted = l.accepted;
+            known = l.known;
+            base = refl;
+            old_base = refl;
+            few = few;
+            start = l.start;
+            short = l.short;
+            fits = l.fits;
+            numbers = record { ballots = l.numbers.ballots; instances = l.numbers.instances; few = l.numbers.few };
+          }))
+          (record { based = b.based; replayed = b.replayed; ahead = b.ahead; caught_up = b.caught_up; proposer = b.proposer; acting = b.acting; role = b.role })
+
+      pub migrated_stays : StaysNode records service x y
+      migrated_stays = subst (StaysNode records service x) (sym k.parts) (record {
+        same = record { id = refl; nodes = refl; seed = refl };
+        kept = record { id = node.id; few = node.few; up = λ _. z_up; rests = node.rests };
+      })
+
+    -- its append failed
+    module _ (k : Falls records faults gives x y (record_bytes r)) (effects : step.effects ≡ effect.Down x.id ∷ []) where
+      log_in : (b : Bool) (lists : List (List ℕ)) → lists ≡ failed_records b (records x.keeper) (record_bytes r) → log_of service lists ≡ (if b then said ∷ log else log)
+      log_in true lists e = log_saved lists e
+      log_in false lists e = ap (log_of service) e
+
+      base_in : (b : Bool) → x.base ≡ base (if b then said ∷ log else log)
+      base_in true = refl
+      base_in false = u.base
+
+      downs : call_of records service y step ≡ record { node = down_node (if k.kept then said ∷ log else log) None; sends = []; effects = effect.Down x.id ∷ [] }
+      downs =
+          ap (λ (ms : List _). call_at (here_of records service y) (map message_in ms) step.effects) sends
+          ∙ ap (λ (es : List Effect). call_at (here_of records service y) [] es) effects
+          ∙ ap (λ (n : NodeValue K). call_at (here_of records service n) [] (effect.Down x.id ∷ [])) k.parts
+          ∙ ap (λ (l : List (Rec Value StateValue)). call_at (record (here_of records service (fallen x)) { log = l }) [] (effect.Down x.id ∷ [])) (log_in k.kept (records y.keeper) k.records)
+          ∙ ap (λ (b : ℕ). call_at (record (here_of records service (fallen x)) { log = if k.kept then said ∷ log else log; replayed = b }) [] (effect.Down x.id ∷ [])) (base_in k.kept)
+
+      pub fell_does : Does records gives faults service call x y step
+      fell_does =
+          inr (fell_append records gives faults call (say (effect.Migrated x.id x.base)) x.id said (begin h) appends x.keeper y.keeper (record_bytes r) k.kept k.answer k.records k.faults (call_of records service y step) downs).fails
+
+      pub fell_down : EndsDown x.id (faults x.keeper) (faults y.keeper) step
+      fell_down = record { down = λ l. ap last_of effects; only = λ e. k.faults; quiet = λ l. sends }
+
+      pub fell_stays : StaysNode records service x y
+      fell_stays = subst (StaysNode records service x) (sym k.parts) (record {
+        same = record { id = refl; nodes = refl; seed = refl };
+        kept = record { id = node.id; few = node.few; up = λ t. absurd (false≢true t); rests = λ t. absurd (false≢true t) };
+      })

@@ -1,0 +1,85 @@
+//! How a node writes down its last checkpoint again, in the new version.
+
+ghost use Rattle.std.specs.Prelude.{◌≡◌, ◌<◌, ◌-◌, ◌^◌, true, IfOk};
+ghost use Rattle.rex_durable.specs.Spelling.{HasSpelling, record_bytes};
+ghost use Rattle.rex_safety.specs.Calls as calls;
+ghost use Rattle.rex_safety.specs.Values.{service_of};
+ghost use Rattle.rex_node.specs.Calls.{Does, EndsDown, IsSpared, Leaves, Refuses, refusal_of_migrate};
+ghost use Rattle.rex_node.specs.Checkpointing.{MigratesOr};
+ghost use Rattle.rex_node.specs.Parts.{IsNode, StaysNode, here_of};
+
+use crate::checkpointing::{only, record_of};
+use crate::node::Node;
+use crate::refusal::Refusal;
+use crate::step::Step;
+use rex_durable::Rec;
+use rex_list::List;
+use rex_report::Effect;
+use rex_syntax::checked::Checked;
+use rex_traits::{KeepFault, Keeper};
+use rex_version::Version;
+
+impl<K: Keeper> Node<K> {
+    // Why the node writes down nothing.
+    fn migrate_refusal(&self, svc: &Checked) -> Option<Refusal>
+        requires { IsNode K.records svc.now self.now }
+        ensures { result ≡ refusal_of_migrate (here_of K.records svc.now self.now) }
+    {
+        let _service = svc.declarations();
+        if !self.up {
+            return Some(Refusal::Down);
+        }
+        if !self.old_base {
+            return Some(Refusal::Nothing);
+        }
+        None
+    }
+
+    // Appends the record of the last checkpoint in the new version. Where the keeper fails the node is down.
+    fn save_again(&mut self, rec: &Rec) -> Result<(), KeepFault>
+        requires count { K.faults self.old.keeper < 2 ^ 64 - 1 }
+        requires spelling { HasSpelling rec.now }
+        ensures { MigratesOr K.records K.faults K.append_gives self.old self.new (record_bytes rec.now) result }
+    {
+        let written = self.write(rec);
+        if let Ok(()) = written {
+            self.old_base = false;
+        }
+        written
+    }
+
+    /// Writes down the state at the last checkpoint again, in the new version, where the checkpoint is in the old one. A node
+    /// that comes up does so first.
+    pub fn migrate(&mut self, svc: &Checked) -> Result<Step, Refusal>
+        requires node { IsNode K.records svc.now self.old }
+        requires count { K.faults self.old.keeper < 2 ^ 64 - 1 }
+        ensures refused { Refuses (refusal_of_migrate (here_of K.records svc.now self.old)) result }
+        ensures told { IfOk result (Does K.records K.append_gives K.faults svc.now (calls.migrate (service_of svc.now self.old.seed) self.old.id) self.old self.new) }
+        ensures down { IfOk result (EndsDown self.old.id (K.faults self.old.keeper) (K.faults self.new.keeper)) }
+        ensures left { Leaves result (here_of K.records svc.now self.old) (here_of K.records svc.now self.new) }
+        ensures same { IsSpared result self.old self.new }
+        ensures kept { StaysNode K.records svc.now self.old self.new }
+    {
+        let _service = svc.declarations();
+        if let Some(refusal) = self.migrate_refusal(svc) {
+            return Err(refusal);
+        }
+        let node = self.id;
+        let deltas = self.base;
+        let rec = record_of(self.alloc, svc, Version::Two, deltas, &self.start)?;
+        let migrated = only(self.alloc, Effect::Migrated { node, deltas })?;
+        let down = only(self.alloc, Effect::Down { node })?;
+        let sends = List::new(self.alloc);
+        match self.save_again(&rec) {
+            Ok(()) => Ok(Step {
+                effects: migrated,
+                sends,
+            }),
+            Err(KeepFault::Failed) => Ok(Step {
+                effects: down,
+                sends,
+            }),
+            Err(KeepFault::OutOfMemory) => Err(Refusal::OutOfMemory),
+        }
+    }
+}

@@ -1,0 +1,21 @@
+-- Lanes of which nothing is covered have no causes.
+use Rattle.std.proofs.Common.{◌≡◌, ℕ, zero, suc, ◌≤◌, ◌<◌, Bool, false, List, [], ◌∷◌, ◌++◌, sym, ap, ◌∙◌, subst, arith, ⊎_elim, append-nil}
+use Rattle.std.specs.Prelude.{◌&&◌, not, nat_eq, nat_lt, if◌then◌else◌}
+use Rattle.std.proofs.lemmas.Bool.{le-ltb, cases_lt}
+use Rattle.rex_event.specs.declared.delta.Cause.{Cause}
+use Rattle.rex_event.specs.Cuts.{count_at}
+use Rattle.rex_reduce.specs.Reduction.{uncovered, last_covered}
+
+-- a lane of which nothing is covered adds none
+adds_none : (causes : List Cause) (t : Bool) (x : Cause) (u : Bool) → t ≡ false → causes ++ (if t && u then x ∷ [] else []) ≡ causes
+adds_none causes t x u e = subst (λ (b : Bool). causes ++ (if b && u then x ∷ [] else []) ≡ causes) (sym e) (append-nil causes)
+
+pub none_beyond : (bases clock beneath : List ℕ) (own lanes more : ℕ) → lanes ≤ more → ((lane : ℕ) → lanes ≤ lane → count_at clock lane ≡ 0) → uncovered bases clock beneath own lanes ≡ uncovered bases clock beneath own more
+none_beyond bases clock beneath own lanes zero few none = let e : lanes ≡ 0 = omega (arith, few) in ap (uncovered bases clock beneath own) e
+none_beyond bases clock beneath own lanes (suc more) few none = ⊎_elim
+    (λ (l : lanes < suc more).
+    let inside : lanes ≤ more = omega (arith, l) in
+    none_beyond bases clock beneath own lanes more inside none
+    ∙ sym (adds_none (uncovered bases clock beneath own more) (nat_lt (count_at beneath more) (count_at clock more)) (last_covered bases clock more) (not (nat_eq more own)) (le-ltb _ _ (omega (arith, none more inside)))))
+    (λ (l : suc more ≤ lanes). let e : lanes ≡ suc more = omega (arith, few, l) in ap (uncovered bases clock beneath own) e)
+    (cases_lt lanes (suc more))

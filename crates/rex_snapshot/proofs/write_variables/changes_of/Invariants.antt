@@ -1,0 +1,10 @@
+use Rattle.std.proofs.Common.{◌≡◌, ◌++◌, take, drop, FitsSigned, w64}
+use Rattle.std.specs.List.{All}
+use Rattle.rex_snapshot.specs.Changes.{firsts, changes_from, changes_of}
+use Rattle.rex_snapshot.proofs.write_variables.changes_of.Given as goal
+
+abbrev pub invariant-loop-n : goal.invariant-loop-n
+invariant-loop-n l = record {
+  so_far : l.changes ++ changes_from l.n (drop l.n (firsts l.svc)) (drop l.n l.values) ≡ changes_of l.svc l.values;
+  typed : All (FitsSigned w64) (take l.n l.values);
+}

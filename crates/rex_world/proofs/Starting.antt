@@ -1,0 +1,188 @@
+-- A node that was started does as the model's.
+use Rattle.std.proofs.Common.{◌≡◌, ℕ, zero, suc, Bool, true, false, cond, List, [], ◌∷◌, ◌++◌, length, Option, Some, None, Result, Ok, Err, IfOk, refl, sym, ap, ◌∙◌, subst, arith, le_refl}
+use Rattle.std.specs.Prelude.{map, take}
+use Rattle.rex_syntax.specs.declared.service.Declarations.{Declarations}
+use Rattle.rex_state.specs.Value.{StateValue}
+use Rattle.rex_version.specs.declared.version.Version.{Version}
+use Rattle.rex_version.specs.declared.version.Version.TheVariants.{One, Two}
+use Rattle.rex_version.specs.Versions.{has_old_form, has_version}
+use Rattle.rex_scenario.specs.declared.scenario.ScheduleLine.TheVariants as line
+use Rattle.rex_scenario.specs.Fits.{FormFits}
+use Rattle.rex_report.specs.declared.effect.Effect.{Effect}
+use Rattle.rex_report.specs.declared.effect.Effect.TheVariants as effect
+use Rattle.rex_traits.specs.Keeping.{KeeperValue}
+use Rattle.rex_safety.specs.Records.{Rec, base, known, promise, has_old_base}
+use Rattle.rex_safety.specs.Records.Rec.{Checkpoint}
+use Rattle.rex_safety.specs.Node.{Failure, Service, down_node}
+use Rattle.rex_safety.specs.Node.Failure.{After}
+use Rattle.rex_safety.specs.Calls.{append, begin, migrate, restart, say}
+use Rattle.rex_safety.specs.Lanes.{Here, CallHere}
+use Rattle.rex_safety.specs.Values.{Value, service_of}
+use Rattle.rex_safety.proofs.Migrated.{migrated_sends}
+use Rattle.rex_msg.specs.declared.message.Message.{Message as Sent}
+use Rattle.rex_node.specs.declared.refusal.Refusal.{Refusal}
+use Rattle.rex_node.specs.declared.refusal.Refusal.TheVariants as why
+use Rattle.rex_node.specs.declared.step.Step.{Step}
+use Rattle.rex_node.specs.Calls.{Does, Refuses, refusal_of_migrate}
+use Rattle.rex_node.specs.Messages.{message_in}
+use Rattle.rex_node.specs.Restarting.{CameUp}
+use Rattle.rex_node.specs.Parts.{NodeValue, StaysNode, here_of, log_of}
+use Rattle.rex_world.specs.declared.seats.Seat.{Seat}
+use Rattle.rex_world.specs.declared.seats.Seat.TheVariants.{Running, Stopped}
+use Rattle.rex_world.specs.Calls.{CameBack, HasStarted, IsDone, IsWhole, StartsIf}
+use Rattle.rex_world.specs.Seats.{IsRunner, StaysSeat, armed_of, faults_of, here_at, here_in, is_up_in, keeper_in, records_of}
+use Rattle.rex_world.proofs.Acted.{done_if, stays_seat}
+use Rattle.rex_world.proofs.Failing.{follows}
+use Rattle.rex_world.proofs.Unseen.{migrate_either}
+
+abbrev err_of : Refusal → Result Step Refusal
+err_of refusal = Err refusal
+
+-- memory was short, so nothing is kept
+pub not_whole : (P : Type 0) (refusal : Refusal) → refusal ≡ why.OutOfMemory → IsWhole (err_of refusal) → P
+not_whole P refusal e whole = absurd (subst (λ (r : Refusal). IsWhole (err_of r)) e whole)
+
+-- ---- the model's call
+
+module _ (me : ℕ) (x : Here) (e m : Effect) (r : Rec Value StateValue) where
+  -- what is told before stays before
+  told_if : (b : Bool) (a : Option Failure)
+      → cond b (append a me r (record { node = x; sends = []; effects = e ∷ [] }) (say m)) (record { node = x; sends = []; effects = e ∷ [] })
+      ≡ record { node = (cond b (append a me r (begin x) (say m)) (begin x)).node; sends = (cond b (append a me r (begin x) (say m)) (begin x)).sends; effects = e ∷ (cond b (append a me r (begin x) (say m)) (begin x)).effects }
+  told_if false a = refl
+  told_if true None = refl
+  told_if true (Some (After (suc before) kept)) = refl
+  told_if true (Some (After zero kept)) = refl
+
+told_before : (sv : Service Value StateValue) (me : ℕ) (x : Here) (e : Effect)
+    → migrate sv me (record { node = x; sends = []; effects = e ∷ [] }) ≡ record { node = (migrate sv me (begin x)).node; sends = (migrate sv me (begin x)).sends; effects = e ∷ (migrate sv me (begin x)).effects }
+told_before sv me x e = told_if me x e (effect.Migrated me (base x.log)) (Checkpoint Two (base x.log) (sv.state (take (base x.log) (known x.log)))) (has_old_base x.log) x.armed
+
+pub has_started : (sv : Service Value StateValue) (number : ℕ) (before mid after : Here) (step : Step) → mid ≡ (restart number (begin before)).node → CameBack sv number mid after step → HasStarted sv number before after step
+has_started sv number before mid after step e back =
+    let x = (restart number (begin before)).node in
+    let told = effect.Started number (promise before.log) (length (known before.log)) (base before.log) in
+    let same = told_before sv number x told in
+    let b : CameBack sv number x after step = subst (λ (y : Here). CameBack sv number y after step) e back in
+    record {
+      node = b.node ∙ sym (ap (λ (d : CallHere). d.node) same);
+      sends = b.sends;
+      effects = b.effects ∙ sym (ap (λ (d : CallHere). d.effects) same);
+    }
+
+nothing_sent : (sends : List Sent) → map message_in sends ≡ [] → sends ≡ []
+nothing_sent [] e = refl
+nothing_sent (m ∷ ms) e = absurd cc
+
+module _ (service : Declarations) (seed nodes number : ℕ) (old : NodeValue KeeperValue) (runner : IsRunner service seed nodes number old) (up : old.up ≡ true) where
+  abbrev h : Here
+  h = here_at service old
+
+  abbrev started : Effect
+  started = effect.Started old.id old.acceptor.promised (length old.known) old.replayed
+
+  started_is : started ≡ effect.Started number (promise (here_at service old).log) (length (known (here_at service old).log)) (here_at service old).replayed
+  started_is =
+      let u = runner.node.up up in
+      ap (λ (n : ℕ). effect.Started n old.acceptor.promised (length old.known) old.replayed) runner.id
+      ∙ ap (λ (n : ℕ). effect.Started number n (length old.known) old.replayed) u.promised
+      ∙ ap (λ (vs : List Value). effect.Started number (promise (here_at service old).log) (length vs) old.replayed) u.known
+
+  -- its last checkpoint is in the new version, or there is none
+  pub comes_new : (step : Step) → old.old_base ≡ false → step.effects ≡ started ∷ [] → step.sends ≡ [] → CameBack (service_of service seed) number (here_at service old) (here_at service old) step
+  comes_new step none effects sends =
+      let new : has_old_base (here_at service old).log ≡ false = sym (runner.node.up up).old_base ∙ none in
+      record {
+        node = rw new refl;
+        sends = sends;
+        effects = effects ∙ ap (λ (e : Effect). e ∷ []) started_is ∙ rw new refl;
+      }
+
+  -- or it is migrated
+  pub comes_migrated : (new : NodeValue KeeperValue) (first migrated step : Step) → IsDone (migrate (service_of service old.seed) old.id) (here_at service old) (here_at service new) migrated
+      → first.effects ≡ started ∷ [] → step.effects ≡ first.effects ++ migrated.effects → step.sends ≡ migrated.sends → CameBack (service_of service seed) number (here_at service old) (here_at service new) step
+  comes_migrated new first migrated step done first_is effects sends =
+      let n = here_at service new in
+      let sv = service_of service seed in
+      let mine : IsDone (migrate sv number) h n migrated =
+      subst (λ (m : ℕ). IsDone (migrate (service_of service seed) m) h n migrated) runner.id
+      (subst (λ (s : ℕ). IsDone (migrate (service_of service s) old.id) h n migrated) runner.seed_is done) in
+      let none : (migrate sv number (begin h)).sends ≡ [] = migrated_sends (has_old_base h.log) number (begin h) (base h.log) (Checkpoint Two (base h.log) (sv.state (take (base h.log) (known h.log)))) refl in
+      record {
+        node = mine.node;
+        sends = sends ∙ nothing_sent migrated.sends (mine.sends ∙ none);
+        effects =
+            effects ∙ ap (λ (es : List Effect). es ++ migrated.effects) (first_is ∙ ap (λ (e : Effect). e ∷ []) started_is)
+            ∙ ap (λ (es : List Effect). effect.Started number (promise h.log) (length (known h.log)) h.replayed ∷ es) mine.effects;
+      }
+
+  -- then nothing is in the way of the call
+  migrate_due : old.old_base ≡ true → refusal_of_migrate (here_of records_of service old) ≡ None
+  migrate_due old_one =
+      let o : has_old_base (here_of records_of service old).log ≡ true = sym (runner.node.up up).old_base ∙ old_one in
+      rw (up, o) refl
+
+  pub migrate_memory : old.old_base ≡ true → (refusal : Refusal) → Refuses (refusal_of_migrate (here_of records_of service old)) (err_of refusal) → refusal ≡ why.OutOfMemory
+  migrate_memory old_one refusal is = subst (λ (due : Option Refusal). Refuses due (err_of refusal)) (migrate_due old_one) is
+
+  migrates : (new : NodeValue KeeperValue) (migrated : Step) → Does records_of follows (λ k. k.faults) service (migrate (service_of service old.seed) old.id) old new migrated → IsDone (migrate (service_of service old.seed) old.id) (here_at service old) (here_at service new) migrated
+  migrates new migrated does =
+      done_if service seed nodes number old runner new (migrate (service_of service old.seed) old.id) (Ok migrated) (λ f. migrate_either f (service_of service old.seed) old.id) does up
+
+  pub migrate_stays : (new : NodeValue KeeperValue) (migrated : Step) → StaysNode records_of service old new → Does records_of follows (λ k. k.faults) service (migrate (service_of service old.seed) old.id) old new migrated → StaysSeat service seed nodes number (Running old) (Running new)
+  migrate_stays new migrated stays does =
+      stays_seat service seed nodes number old runner new (migrate (service_of service old.seed) old.id) (Ok migrated) (λ f. migrate_either f (service_of service old.seed) old.id) stays does tt tt
+
+  -- what both steps did
+  pub joined_back : (new : NodeValue KeeperValue) (first migrated : Step) (result : Result Step Refusal) → Does records_of follows (λ k. k.faults) service (migrate (service_of service old.seed) old.id) old new migrated
+      → first.effects ≡ started ∷ [] → IfOk result (λ (step : Step). step.effects ≡ first.effects ++ migrated.effects) → IfOk result (λ (step : Step). step.sends ≡ migrated.sends)
+      → IfOk result (CameBack (service_of service seed) number (here_at service old) (here_at service new))
+  joined_back new first migrated (Ok step) does first_is effects sends = comes_migrated new first migrated step (migrates new migrated does) first_is effects sends
+  joined_back new first migrated (Err refusal) does first_is effects sends = tt
+
+  pub still_there : StaysSeat service seed nodes number (Running old) (Running old)
+  still_there = record { seat = runner; within = le_refl (faults_of old.keeper) }
+
+-- ---- a node that came up in a seat
+
+up_in : (service : Declarations) (seat : Seat) → (here_in service seat).up ≡ is_up_in seat
+up_in service (Running node) = refl
+up_in service (Stopped keeper) = refl
+
+armed_in_seat : (service : Declarations) (seat : Seat) → (here_in service seat).armed ≡ armed_of (keeper_in seat).armed
+armed_in_seat service (Running node) = refl
+armed_in_seat service (Stopped keeper) = refl
+
+log_in_seat : (service : Declarations) (seat : Seat) → (here_in service seat).log ≡ log_of service (records_of (keeper_in seat))
+log_in_seat service (Running node) = refl
+log_in_seat service (Stopped keeper) = refl
+
+-- a node with these records, whose keeper is armed so, and that is up
+abbrev restarted : List (Rec Value StateValue) → Option Failure → Here
+restarted log armed = record (down_node log armed) { up = true }
+
+module _ (service : Declarations) (seed nodes number : ℕ) (seat : Seat) (node : NodeValue KeeperValue) (up : CameUp records_of service number nodes seed (keeper_in seat) node) where
+  pub comes_up_up : node.up ≡ true
+  comes_up_up = ap (λ (h : Here). h.up) up.node
+
+  restarts_as : here_at service node ≡ (restart number (begin (here_in service seat))).node
+  restarts_as =
+      ap (λ (h : Here). record h { armed = armed_of node.keeper.armed }) up.node
+      ∙ ap (λ (k : KeeperValue). restarted (log_of service (records_of (keeper_in seat))) (armed_of k.armed)) up.keeper_is
+      ∙ ap (λ (log : List (Rec Value StateValue)). restarted log (armed_of (keeper_in seat).armed)) (sym (log_in_seat service seat))
+      ∙ ap (λ (a : Option Failure). restarted (here_in service seat).log a) (sym (armed_in_seat service seat))
+
+  pub starts_in : (new : NodeValue KeeperValue) (step : Step) → is_up_in seat ≡ false → CameBack (service_of service seed) number (here_at service node) (here_at service new) step
+      → StartsIf (service_of service seed) (here_in service seat).up number (here_in service seat) (here_at service new) step
+  starts_in new step down back =
+      subst (λ (t : Bool). StartsIf (service_of service seed) t number (here_in service seat) (here_at service new) step) (sym (up_in service seat ∙ down))
+      (has_started (service_of service seed) number (here_in service seat) (here_at service node) (here_at service new) step restarts_as back)
+
+-- where a node stays that came up in a seat, the seat stays
+pub stays_on : (service : Declarations) (seed nodes number : ℕ) (seat : Seat) (node new : NodeValue KeeperValue) → StaysSeat service seed nodes number seat (Running node) → StaysSeat service seed nodes number (Running node) (Running new) → StaysSeat service seed nodes number seat (Running new)
+stays_on service seed nodes number seat node new first second = record { seat = second.seat; within = omega (arith, first.within, second.within) }
+
+-- a line's version is one that the service's states have
+pub form_version : (service : Declarations) (node : ℕ) (version : Version) → FormFits (has_old_form service) (line.Checkpoint node version) → has_version service version ≡ true
+form_version service node One fits = fits
+form_version service node Two fits = refl

@@ -1,0 +1,17 @@
+use Rattle.std.proofs.Common.{◌≡◌, ℕ, zero, suc, List, [], Some, ap, subst, sym, ◌∙◌}
+use Rattle.std.specs.List.{All}
+use Rattle.std.specs.Option.{option_copied}
+use Rattle.std.proofs.lemmas.List.Elements.{All-get_or}
+use Rattle.std.proofs.lemmas.Option.{slice_get_within, get_or_from_slice_get}
+use Rattle.rex_net.specs.Net.{message_at}
+use Rattle.rex_world.specs.World.{IsSpelled}
+use Rattle.rex_world.proofs.world.World.find.Goals as goal
+
+-- what is there under a number is spelled
+spelled_at : (net : List (List ℕ)) (number : ℕ) (bytes : List ℕ) → All IsSpelled net → message_at net number ≡ Some bytes → IsSpelled bytes
+spelled_at net zero bytes h e = absurd (cc)
+spelled_at net (suc place) bytes h e =
+    subst IsSpelled (get_or_from_slice_get net place bytes [] e) (All-get_or IsSpelled net place [] (slice_get_within net place bytes e) h)
+
+pub read-requires : goal.read-requires
+read-requires c = spelled_at c.args.self.now.net c.args.number c.in-Some.bytes.now c.requires (sym c.get.ensures ∙ ap option_copied c.in-Some.is)
