@@ -2,6 +2,9 @@ pub mod Causes
 pub mod Chains
 pub mod Keeping
 pub mod Memory
+pub mod Obeying
 pub mod Pieces
 pub mod Plans
 pub mod Standard
+pub mod StoreLaws
+pub mod Stores

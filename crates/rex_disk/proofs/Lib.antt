@@ -1,0 +1,2 @@
+mod Imaging
+mod Recorded

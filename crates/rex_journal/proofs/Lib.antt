@@ -1,0 +1,12 @@
+mod Arming
+mod Closing
+mod BytesLaws
+mod Committing
+mod Examples
+mod Making
+mod Moments
+mod Reopening
+mod Same
+mod Settled
+mod Spelled
+mod Steps

@@ -1,0 +1,86 @@
+//! A journal on a disk in memory, as a store whose failures are armed.
+
+ghost use Rattle.std.specs.Prelude.{◌≡◌, ◌≤◌, ◌<◌, ◌+◌, ◌-◌, ◌^◌, Some, IsTrue, IfErr, IfOk};
+ghost use Rattle.rex_traits.specs.Stores.{armed_to, reopened};
+ghost use Rattle.rex_journal.specs.Storing.{IsReopened, armed_by, fails_as_armed, plan_of};
+ghost use Rattle.rex_journal.specs.StoringLaws.{journal_counts, journal_obeys};
+ghost use Rattle.rex_traits.specs.declared.store.ReopenFault.TheVariants as reopen_fault;
+ghost use Rattle.rex_journal.specs.declared.fault.OpenFault.TheVariants as open_fault;
+
+use crate::{JournalKeeper, OpenFault};
+use rex_disk::{MemDisk, Plan};
+use rex_traits::{Fate, ReopenFault, Store};
+
+// The failure that arming plans: the first write of an append fails with nothing written, or its second sync fails where all
+// is written.
+fn plan_of_fate(fate: Fate) -> Plan
+    ensures { result ≡ plan_of fate }
+{
+    match fate {
+        Fate::Lost => Plan::Write,
+        Fate::Kept => Plan::Sync { writes: 2 },
+    }
+}
+
+// Why a journal was not opened, to those who know it as a store.
+fn cause_of(fault: OpenFault) -> ReopenFault
+    ensures { fault ≡ open_fault.OutOfMemory → result ≡ reopen_fault.OutOfMemory }
+{
+    match fault {
+        OpenFault::OutOfMemory => ReopenFault::OutOfMemory,
+        OpenFault::Failed | OpenFault::BadJournal { .. } => ReopenFault::Unreadable,
+    }
+}
+
+impl JournalKeeper<MemDisk> {
+    fn set_plan(&mut self, plan: Option<Plan>)
+        ensures { self.new ≡ record self.old { disk = record self.old.disk { plan = plan } } }
+    {
+        self.disk.set_plan(plan);
+    }
+
+    // Reopens the journal with nothing planned, so that no call of the disk fails unless it is named.
+    fn reopen_unplanned(self) -> Result<JournalKeeper<MemDisk>, OpenFault>
+        requires count { self.disk.faults < 2 ^ 64 - 1 }
+        ensures reopened { IsTrue (fails_as_armed self) → IfOk result (λ k. IsReopened self k) }
+        ensures memory { IsTrue (fails_as_armed self) → IfErr result (λ e. e ≡ open_fault.OutOfMemory) }
+    {
+        let mut disk = self.disk;
+        disk.set_plan(None);
+        match JournalKeeper::start(self.alloc, disk, self.refused) {
+            Ok(keeper) => Ok(keeper),
+            Err(refused) => Err(refused.fault),
+        }
+    }
+}
+
+impl Store for JournalKeeper<MemDisk> {
+    ghost armed = { λ k. armed_by k.disk.plan };
+
+    ghost broken = { λ k. k.broken };
+
+    ghost as_armed = { λ k. fails_as_armed k };
+
+    ghost counts = { λ old new bytes result gives. journal_counts old new bytes result gives };
+
+    ghost obeys = { λ old new bytes result gives always whole. journal_obeys old new bytes result gives always whole };
+
+    fn is_broken(&self) -> bool {
+        JournalKeeper::is_broken(self)
+    }
+
+    fn arm(&mut self, fate: Fate) {
+        self.set_plan(Some(plan_of_fate(fate)));
+    }
+
+    fn reopen(self) -> Result<Self, ReopenFault> {
+        let plan = self.disk().plan();
+        match self.reopen_unplanned() {
+            Ok(mut keeper) => {
+                keeper.set_plan(plan);
+                Ok(keeper)
+            }
+            Err(fault) => Err(cause_of(fault)),
+        }
+    }
+}
