@@ -1,0 +1,1 @@
+autocmd BufRead,BufNewFile *.service,*.scenario setfiletype rex

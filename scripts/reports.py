@@ -1,0 +1,224 @@
+"""Reports of `rex run`, read for the scripts that draw them: what happened at which node, line by line of the schedule."""
+import re
+import signal
+import sys
+
+# The texts of a report. Each has a kind, a form, and a short label. `minor` ones say what a node did alone, or that nothing happened.
+NODE = r"node (?P<node>[1-9]) "
+TEXTS = [
+    ("role", NODE + r"(?P<role>candidate) ballot (?P<b>\d+)", "candidate, ballot {b}"),
+    ("role", NODE + r"(?P<role>adopts) (?P<i>\d+) events (?P<e>\d+)", "adopts delta {i} ({e} events)"),
+    ("role", NODE + r"(?P<role>active) ballot (?P<b>\d+)", "leads, ballot {b}"),
+    ("role", NODE + r"(?P<role>follower)", "follows"),
+    ("stop", NODE + r"(?P<role>stopped)", "stopped"),
+    ("stop", NODE + r"(?P<role>down)", "its record failed: down"),
+    ("stop", NODE + r"(?P<role>started) promised (?P<p>\d+) known (?P<k>\d+) replayed (?P<r>\d+)", "started: promised {p}, known {k}, replayed {r}"),
+    ("vote", NODE + r"promised (?P<b>\d+)", "promised {b}"),
+    ("vote", NODE + r"accepted (?P<b>\d+) (?P<i>\d+)", "accepts delta {i}, ballot {b}"),
+    ("vote", NODE + r"proposes (?P<i>\d+) events (?P<e>\d+)", "proposes delta {i} ({e} events)"),
+    ("known", NODE + r"known (?P<i>\d+)", "knows delta {i}"),
+    ("released", r"released (?P<c>\d+) (?P<s>\d+) (?P<v>-?\d+)", "reply {v} to client {c}"),
+    ("keep", NODE + r"checkpoint (?P<k>\d+)", "checkpoint after delta {k}"),
+    ("keep", NODE + r"migrated (?P<k>\d+)", "migrates the checkpoint after delta {k}"),
+    ("keep", NODE + r"replayed (?P<k>\d+)", "replayed up to delta {k}"),
+    ("stop", NODE + r"keepfail (?P<how>kept|lost)", "next record fails, {how}"),
+    ("quiet", NODE + r"up to date", "up to date"),
+    ("quiet", NODE + r"is (?P<how>down|up)", "is {how}"),
+    ("quiet", NODE + r"spent", "no ballots left"),
+    ("quiet", r"have (?P<x>\d+)", "{x} so far"),
+    ("quiet", r"(?P<all>ignored (?:late|(?:ballot|instance) \d+ \d+|again \d+))", "{all}"),
+    ("quiet", r"(?P<all>not active (?:follower|candidate|adopting)|open \d+|ended|live \d+|no message \d+|nothing)", "{all}"),
+    ("event", r"lane (?P<lane>\d+) (?P<index>\d+) (?P<event>(?:begin|acquire|share|release|try|wait|wake|signal|broadcast|down|up|clock|random|reply) .+)", "{event}"),
+    ("idle", r"lane (?P<lane>\d+) (?P<how>idle|held by \d+|unsignalled|at zero \w+|full)", "{how}"),
+    ("submit", r"(?P<all>queued|waiting|old \d+|gap \d+)", "{all}"),
+]
+# no number of a report has more than twenty digits
+TEXTS = [(kind, re.compile(form.replace(r"\d+", r"\d{1,20}")), label) for kind, form, label in TEXTS]
+MINOR = ("event", "idle", "submit")
+MESSAGE = re.compile(r"(sent|message) ([1-9]\d{0,19}) (prepare|promise|accept|accepted|chosen|nack|ask) ([1-9]) ([1-9])")
+LINE = re.compile(r"([1-9]\d{0,5}) (.+)")
+END = re.compile(r"end node ([1-9]) (down|(?:active|follower|candidate|adopting) promised \d+ known \d+ (?:live|replayed) \d+(?: \w+=-?\d+)*)")
+ROLES = {"candidate": "candidate", "adopts": "adopting", "active": "active", "follower": "follower", "stopped": "down", "down": "down", "started": "follower"}
+
+
+class Mark:
+    """A text of a step: its kind, its short label, what it was, and the role that it gives its node, if any."""
+
+    def __init__(self, kind, label, text, role):
+        self.kind, self.label, self.text, self.role = kind, label, text, role
+
+
+class Step:
+    """What happened at a node in a schedule line: the message that was handed over, if one was, the marks, and what was sent.
+    `node` is None where the report doesn't tell it."""
+
+    def __init__(self, line, node, message=None):
+        self.line, self.node, self.message, self.marks, self.sends = line, node, message, [], []
+
+    def is_down(self):
+        """Whether it came to a node that is down."""
+        return any(mark.text.endswith(" is down") for mark in self.marks)
+
+    def calls_for(self, message):
+        """Whether this step has what such a message is sent for."""
+        came, answers = self.message, {"promise": ["prepare"], "accepted": ["accept"], "nack": ["prepare", "accept"]}
+        if message.kind in answers:
+            return came is not None and came.kind in answers[message.kind] and came.sender == message.receiver
+        if message.kind == "chosen":
+            is_known = any(mark.kind == "known" for mark in self.marks) and (came is None or came.kind != "chosen")
+            return is_known or (came is not None and came.kind == "ask" and came.sender == message.receiver)
+        return message.kind != "accept" or any("proposes" in mark.text or "adopts" in mark.text for mark in self.marks)
+
+
+class Message:
+    """A message, the step that sent it, and the steps in which it was handed over."""
+
+    def __init__(self, number, kind, sender, receiver):
+        self.number, self.kind, self.sender, self.receiver, self.sent_in, self.handed_over = number, kind, sender, receiver, None, []
+
+
+class Bad(Exception):
+    """What is wrong in a line of a report."""
+
+
+class Report:
+    """The steps, the messages by number, and the end lines of the nodes."""
+
+    def __init__(self):
+        self.steps, self.messages, self.ends, self.here = [], [], [], []
+
+    def take(self, line):
+        end = END.fullmatch(line)
+        if end:
+            if int(end[1]) != len(self.ends) + 1:
+                raise Bad(f"the end line of node {len(self.ends) + 1} is due")
+            self.ends.append(end[2])
+            return
+        parts = LINE.fullmatch(line)
+        if line.startswith("refused "):
+            raise Bad("this run was refused, so there is nothing to draw")
+        if self.ends:
+            raise Bad("behind an end line only end lines may stand")
+        if not parts:
+            raise Bad(f"a line of a report is due, NUMBER and a text, not {line[:60]!r}")
+        number = int(parts[1])
+        if self.steps and number < self.steps[-1].line:
+            raise Bad("lines of a report rise by number")
+        if self.steps and number > self.steps[-1].line:
+            self.here = []
+        message = MESSAGE.fullmatch(parts[2])
+        if message:
+            self.take_message(number, message[1], int(message[2]), message[3], int(message[4]), int(message[5]))
+        else:
+            self.take_text(number, parts[2])
+
+    def step(self, line, node, message=None):
+        self.here.append(Step(line, node, message))
+        self.steps.append(self.here[-1])
+        return self.here[-1]
+
+    def take_message(self, line, word, number, kind, sender, receiver):
+        if word == "sent":
+            if number != len(self.messages) + 1:
+                raise Bad(f"message {len(self.messages) + 1} is the next one that is sent")
+            message = Message(number, kind, sender, receiver)
+            self.messages.append(message)
+            message.sent_in = self.origin(message) or self.step(line, sender)
+            message.sent_in.node = sender
+            message.sent_in.sends.append(message)
+            return
+        if number > len(self.messages):
+            raise Bad(f"message {number} wasn't sent")
+        message = self.messages[number - 1]
+        if (message.kind, message.sender, message.receiver) != (kind, sender, receiver):
+            raise Bad(f"message {number} is {message.kind} {message.sender} {message.receiver}")
+        message.handed_over.append(self.step(line, receiver, message))
+
+    def origin(self, message):
+        """The step of this line that sent a message. A report tells what was sent behind all else that a line did: so it is the first
+        step of the sender that calls for such a message and sent none to the same node, or the last one."""
+        mine = [step for step in self.here if step.node in (message.sender, None)]
+        calling = [step for step in mine if step.calls_for(message)]
+        fresh = [step for step in calling if all((it.kind, it.receiver) != (message.kind, message.receiver) for it in step.sends)]
+        return (fresh[:1] or calling[-1:] or mine[-1:] or [None])[0]
+
+    def take_text(self, line, text):
+        kind, found, label = next(((kind, form.fullmatch(text), label) for kind, form, label in TEXTS if form.fullmatch(text)), (None, None, None))
+        if not found:
+            raise Bad(f"no report has the text {text[:60]!r}")
+        parts = found.groupdict()
+        node = int(parts["node"]) if parts.get("node") else None
+        step = self.here[-1] if self.here else self.step(line, node)
+        if step.node is None:
+            step.node = node
+        if node not in (step.node, None):
+            raise Bad(f"this line is node {step.node}'s")
+        step.marks.append(Mark(kind, label.format(**parts), text, ROLES.get(parts.get("role"))))
+
+    def check(self, schedule):
+        """Whether all of it fits together, and with the schedule, if there is one, each line of which is told of."""
+        if len(self.ends) not in (1, 3, 5, 7, 9):
+            raise Bad(f"the end lines of 1, 3, 5, 7 or 9 nodes are due, and there are {len(self.ends)}")
+        nodes = [it.node or 1 for it in self.steps] + [it.receiver for it in self.messages]
+        if max(nodes, default=1) > len(self.ends):
+            raise Bad("a node without an end line has a part in the report")
+        last = self.steps[-1].line if self.steps else 0
+        if schedule is not None and len(schedule) != last:
+            raise Bad(f"the scenario has {len(schedule)} schedule lines, and the report tells of {last}")
+        for step in self.steps if schedule is not None else ():
+            if not self.fits(step, schedule[step.line - 1]):
+                raise Bad(f"what the report tells of line {step.line} isn't what the scenario has there: {' '.join(schedule[step.line - 1])[:60]}")
+
+    def fits(self, step, words):
+        """Whether a step may be of the schedule line with these words."""
+        if words[0] == "flush" or (words[0] == "deliver" and len(words) == 2):
+            numbers = words[1:] or (step.message and [str(step.message.number)])
+            return [str(step.message.number)] == numbers if step.message else step.node is None
+        is_node = len(words) > 1 and words[1] in [str(node + 1) for node in range(len(self.ends))]
+        return is_node and step.message is None and step.node in (None, int(words[1]))
+
+    def place(self, schedule):
+        """Gives each step a node that the report doesn't tell: by the schedule where there is one, else the leader with the greatest
+        ballot, if there is one."""
+        leaders = {}
+        for step in self.steps:
+            if step.node is None and schedule is not None:
+                words = schedule[step.line - 1]
+                step.node = int(words[1]) if words[0] not in ("flush", "deliver") else None
+            elif step.node is None and leaders:
+                step.node = max(leaders, key=leaders.get)
+            for mark in step.marks:
+                if mark.role == "active":
+                    leaders[step.node] = int(mark.text.split(" ")[-1])
+                elif mark.role:
+                    leaders.pop(step.node, None)
+
+
+def read_schedule(path):
+    """The words of the schedule lines of a scenario."""
+    with open(path, encoding="ascii", errors="replace") as it:
+        lines = [line.split() for line in it]
+    if ["%schedule"] not in lines:
+        raise Bad(f"{path} is no scenario: it has no %schedule")
+    return [words for words in lines[lines.index(["%schedule"]) + 1:] if words and words[0][0] != "#"]
+
+
+def read_report(name, files):
+    """The report of the first of these files, or of standard input, and the schedule of the second one, if there is one. Ends
+    here, naming the bad line, where a file isn't as it has to be."""
+    report, number = Report(), None
+    # who reads the output may stop before its end
+    signal.signal(signal.SIGPIPE, signal.SIG_DFL)
+    try:
+        with open(files[0] if files else 0, encoding="ascii", errors="replace") as it:
+            for number, line in enumerate(it.read().removesuffix("\n").split("\n"), 1):
+                report.take(line)
+        number = None
+        schedule = read_schedule(files[1]) if len(files) > 1 else None
+        report.check(schedule)
+    except OSError as why:
+        sys.exit(f"{name}: {why.filename}: {why.strerror}")
+    except Bad as why:
+        sys.exit(f"{name}: {why}" if number is None else f"{name}: line {number}: {why}")
+    report.place(schedule)
+    return report, schedule
