@@ -7,8 +7,8 @@ ghost use Rattle.rex_gate.specs.Noted as spec;
 use rex_event::{Event, Kind};
 use rex_state::lane::Entry;
 
-/// What is known of a client.
-pub(crate) fn entry_of(clients: &[Entry], client: u16) -> Entry
+/// What is known of a client. A client that isn't there has sent nothing.
+pub fn entry_of(clients: &[Entry], client: u16) -> Entry
     ensures { result ≡ entry_at clients.now client }
 {
     match clients.get(client as usize) {
@@ -30,7 +30,7 @@ fn set_entry(clients: &mut [Entry], client: u16, sequence: u32, reply: Option<i6
 }
 
 /// A begin gives its client's entry the new sequence and no reply, and a reply gives it the reply.
-fn note_kind(clients: &mut [Entry], kind: &Kind)
+pub fn note_kind(clients: &mut [Entry], kind: &Kind)
     ensures { clients.new ≡ clients_after kind.now clients.old }
 {
     match kind {

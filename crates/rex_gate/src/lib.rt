@@ -8,3 +8,4 @@ pub mod laws;
 
 pub use answer::Answer;
 pub use answers::Answers;
+pub use clients::{entry_of, note_kind};

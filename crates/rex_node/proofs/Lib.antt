@@ -1,3 +1,4 @@
+pub mod Blocks
 pub mod Adopting
 pub mod Bridges
 pub mod Following

@@ -1,8 +1,9 @@
 //! What an active node executes.
 
-ghost use Rattle.std.specs.Prelude.{◌≡◌, ◌<◌, ◌≤◌, ◌+◌, ◌++◌, ◌^◌, length, map, IfOk, OnOk, OnErr};
+ghost use Rattle.std.specs.Prelude.{◌≡◌, ◌<◌, ◌≤◌, ◌+◌, ◌++◌, ◌^◌, length, map, IsSome, IfOk, OnOk, OnErr};
 ghost use Rattle.rand_pcg.specs.Pcg.{pcg32};
-ghost use Rattle.rex_state.specs.Machine.{lane_of};
+ghost use Rattle.rex_state.specs.Machine.{lane_of, run};
+ghost use Rattle.rex_state.specs.Counts.{AreCounted};
 ghost use Rattle.rex_record.specs.Turn.{turn_of, does_draw, dice_after};
 ghost use Rattle.rex_event.specs.Cuts.{below, IsConsistent};
 ghost use Rattle.rex_record.specs.Take.{taken_turn};
@@ -11,6 +12,7 @@ ghost use Rattle.rex_safety.specs.Values as values;
 ghost use Rattle.rex_record.specs.Kept.{IsRecorder};
 ghost use Rattle.rex_gate.specs.Noted.{noted};
 ghost use Rattle.rex_scenario.specs.Fits.{RequestFits};
+ghost use Rattle.rex_node.specs.Blocks.{given_all};
 ghost use Rattle.rex_node.specs.Leading.{settling};
 ghost use Rattle.rex_node.specs.Submitting.{answer_in, given, taken};
 
@@ -20,6 +22,7 @@ use rex_delta::{DecodeError, decode};
 use rex_event::{Cut, Event};
 use rex_gate::{Answer, Answers};
 use rex_record::{Recorder, Release, Turn};
+use rex_replay::Replayer;
 use rex_report::Effect;
 use rex_syntax::checked::Checked;
 use rex_syntax::request::Request;
@@ -126,6 +129,29 @@ impl Acting {
         ensures kept { IsRecorder svc.now self.new.recorder }
     {
         self.recorder.take_event(svc, event)
+    }
+
+    /// Takes events that were made elsewhere and run from the live state, one after the other, as far as they can be taken.
+    /// The state after them comes from the replayer.
+    pub fn take_block<R: Replayer>(
+        &mut self,
+        alloc: Global,
+        svc: &Checked,
+        replayer: &mut R,
+        events: &[Event],
+    ) -> Result<(), AllocError>
+        requires recorder { IsRecorder svc.now self.old.recorder }
+        requires runs { IsSome (run svc.now self.old.recorder.state events.now) }
+        requires counted { AreCounted events.now }
+        requires ready { R.ready replayer.old }
+        ensures ok { OnOk result (self.new ≡ given_all svc.now self.old events.now) }
+        ensures err { OnErr result (self.new ≡ self.old) }
+        ensures kept { IsRecorder svc.now self.new.recorder }
+        ensures ready { R.ready replayer.new }
+    {
+        let _service = svc.declarations();
+        let state = replayer.replay(alloc, svc, self.recorder.state(), events)?;
+        self.recorder.take_block(svc, events, state)
     }
 
     /// The live events below the cut that was proposed last, which are those of this value, are known: they are live no longer,

@@ -2,13 +2,15 @@
 
 ghost use Rattle.std.specs.Prelude.{◌≡◌, ◌<◌, ◌+◌, ◌^◌, ◌∷◌, [], false, Some, None, is_some, option_map, IsSome, IfOk, OnOk, OnErr};
 ghost use Rattle.std.specs.Option.{option_copied};
-ghost use Rattle.rex_state.specs.Machine.{lane_of};
+ghost use Rattle.rex_state.specs.Machine.{lane_of, run};
+ghost use Rattle.rex_state.specs.Counts.{AreCounted};
 ghost use Rattle.rex_scenario.specs.Fits.{RequestFits};
 ghost use Rattle.rex_safety.specs.Node.{role_name, lead_name};
 ghost use Rattle.rex_safety.specs.Calls.{begin};
 ghost use Rattle.rex_safety.specs.Lanes.{effect_of, live_state, submit_request, turned};
 ghost use Rattle.rex_safety.specs.Takes as takes;
 ghost use Rattle.rex_node.specs.Parts.{here_of, role_of, open_of, proposal_in, IsNode, StaysNode};
+ghost use Rattle.rex_node.specs.Blocks.{take_each};
 ghost use Rattle.rex_node.specs.Calls.{Refuses, LeadsTo, if_up, if_active, refusal_active, turn_at};
 
 use crate::acting::Acting;
@@ -18,6 +20,7 @@ use rex_event::Event;
 use rex_gate::Answer;
 use rex_paxos::{Acceptor, Proposer};
 use rex_record::Turn;
+use rex_replay::Replayer;
 use rex_report::Role;
 use rex_state::state::State;
 use rex_syntax::checked::Checked;
@@ -211,6 +214,38 @@ impl<K: Keeper> Node<K> {
         };
         let turn = acting.take_event(svc, event)?;
         Ok(turn)
+    }
+
+    /// Takes events that were made elsewhere among the live ones, as if they were handed in one after the other, where they run
+    /// from the live state. The state after them comes from the replayer: where all are taken, no line of the service runs
+    /// beside those that it runs.
+    pub fn take_block<R: Replayer>(
+        &mut self,
+        svc: &Checked,
+        replayer: &mut R,
+        events: &[Event],
+    ) -> Result<(), Refusal>
+        requires node { IsNode K.records svc.now self.old }
+        requires runs { IsSome (run svc.now (live_state svc.now (here_of K.records svc.now self.old)) events.now) }
+        requires counted { AreCounted events.now }
+        requires ready { R.ready replayer.old }
+        ensures refused { Refuses (refusal_active (here_of K.records svc.now self.old)) result }
+        ensures node { OnOk result (LeadsTo (take_each svc.now events.now) (here_of K.records svc.now self.old) (here_of K.records svc.now self.new)) }
+        ensures same { OnErr result (self.new ≡ self.old) }
+        ensures keeper { self.new.keeper ≡ self.old.keeper }
+        ensures kept { StaysNode K.records svc.now self.old self.new }
+        ensures ready { R.ready replayer.new }
+    {
+        let _service = svc.declarations();
+        if let Some(refusal) = self.active_refusal() {
+            return Err(refusal);
+        }
+        let alloc = self.alloc;
+        let Some(acting) = &mut self.acting else {
+            unreachable!()
+        };
+        acting.take_block(alloc, svc, replayer, events)?;
+        Ok(())
     }
 }
 

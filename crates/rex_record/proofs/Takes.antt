@@ -2,7 +2,7 @@
 use Rattle.std.proofs.Common.{◌≡◌, ℕ, ◌+◌, ◌<◌, ◌^◌, Bool, true, false, List, ◌∷◌, [], ◌++◌, length, refl, ap, sym, ◌∙◌, subst, arith, length-append, Bor}
 use Rattle.std.specs.Prelude.{nat_le, Option, Some, None, IsSome, not, ◌&&◌, nat_eq, if◌then◌else◌, unwrap_or, find, is_some, ◌==◌}
 use Rattle.std.specs.Option.{option_map, option_copied}
-use Rattle.std.proofs.lemmas.Bool.{true≢false, and_parts, eqb-true, lt-leb}
+use Rattle.std.proofs.lemmas.Bool.{true≢false, and_parts, eqb-true, leb-false, lt-leb}
 use Rattle.std.proofs.lemmas.Option.{same_Some}
 use Rattle.std.proofs.lemmas.List.Elements.{All-push}
 use Rattle.rex_syntax.specs.declared.request.Request.{Request}
@@ -60,6 +60,13 @@ and_true : (a b : Bool) → a ≡ true → b ≡ true → (a && b) ≡ true
 and_true true b h e = e
 and_true false b h e = absurd (cc)
 
+-- a fit event's index is how many events its lane did
+pub fit_count : (service : Declarations) (s : StateValue) (queue : List Request) (e : Event) → (lane_of s e.lane).done + 1 < 2 ^ 32 → is_fit service s queue e ≡ true → e.index + 1 < 2 ^ 32
+fit_count service s queue e count fit = subst (λ (x : ℕ). x + 1 < 2 ^ 32) (eqb-true _ _ (and_parts _ _ fit).0) count
+
+pub fit_room : (service : Declarations) (s : StateValue) (queue : List Request) (e : Event) → is_fit service s queue e ≡ true → e.index + 1 < 2 ^ 32 → (lane_of s e.lane).done + 1 < 2 ^ 32
+fit_room service s queue e fit count = subst (λ (x : ℕ). x + 1 < 2 ^ 32) (sym (eqb-true _ _ (and_parts _ _ fit).0)) count
+
 -- an event that can be taken is next, leaves room for the index after it, and leaves a recorder
 pub record CanTake (service : Declarations) (r : RecorderValue) (e : Event) : Type 0 where
   pub is : next service r.state e ≡ Some (after service e.lane e.kind r.state)
@@ -78,22 +85,30 @@ module _ (service : Declarations) (r : RecorderValue) (e : Event) (good : IsServ
       queued_still service r.state e.lane e.kind r.queue
       (λ client z. named_free service r.state r.queue e.lane e.kind (frame_at r.state e.lane) client (state_sound service r good kept) kept.queue refl i.enabled.own (not_true _ q.1) z) kept.queue
 
+  pub fit_next : is_fit service r.state r.queue e ≡ true → next service r.state e ≡ Some (after service e.lane e.kind r.state)
+  fit_next fit =
+      let p : (nat_eq (lane_of r.state e.lane).done e.index ≡ true) × ((enabled service e.lane e.kind r.state && not (begins_queued e.kind r.queue)) ≡ true) = and_parts _ _ fit in
+      let q : (enabled service e.lane e.kind r.state ≡ true) × (not (begins_queued e.kind r.queue) ≡ true) = and_parts _ _ p.1 in
+      next_by (nat_eq (lane_of r.state e.lane).done e.index && enabled service e.lane e.kind r.state) (after service e.lane e.kind r.state) (and_true _ _ p.0 q.0)
+
+  -- a fit event leaves a recorder
+  pub fit_kept : is_fit service r.state r.queue e ≡ true → (t : StateValue) → next service r.state e ≡ Some t → IsRecorder service (record r { live = r.live ++ e ∷ []; state = t })
+  fit_kept fit t h = record {
+    sound = kept.sound;
+    runs = run-push service r.start r.state t r.live e kept.runs h;
+    few = omega (arith, length-append r.live (e ∷ []));
+    queue = subst (λ (s : StateValue). AreQueued service s r.queue) (same_Some (after service e.lane e.kind r.state) t (sym (fit_next fit) ∙ h)) (queue_kept fit);
+  }
+
   pub can_take : AreCounted r.live → (lane_of r.state e.lane).done + 1 < 2 ^ 32 → is_fit service r.state r.queue e ≡ true → CanTake service r e
   can_take counted count fit =
-      let p = and_parts _ _ fit in let q = and_parts _ _ p.1 in
-      let n : next service r.state e ≡ Some (after service e.lane e.kind r.state) = next_by (nat_eq (lane_of r.state e.lane).done e.index && enabled service e.lane e.kind r.state) (after service e.lane e.kind r.state) (and_true _ _ p.0 q.0) in
-      let more : e.index + 1 < 2 ^ 32 = subst (λ (x : ℕ). x + 1 < 2 ^ 32) (eqb-true _ _ p.0) count in
+      let more : e.index + 1 < 2 ^ 32 = fit_count service r.state r.queue e count fit in
       record {
-        is = n;
-        some = subst IsSome (sym n) refl;
+        is = fit_next fit;
+        some = subst IsSome (sym (fit_next fit)) refl;
         count = more;
         counted = record { each = All-push (λ (x : Event). x.index + 1 < 2 ^ 32) r.live e counted.each more };
-        kept = λ t h. record {
-          sound = kept.sound;
-          runs = run-push service r.start r.state t r.live e kept.runs h;
-          few = omega (arith, length-append r.live (e ∷ []));
-          queue = subst (λ (s : StateValue). AreQueued service s r.queue) (same_Some (after service e.lane e.kind r.state) t (sym n ∙ h)) (queue_kept fit);
-        };
+        kept = fit_kept fit;
         same = λ t h. ap (λ (o : Option StateValue). record r { live = r.live ++ e ∷ []; state = unwrap_or o r.state }) h;
       }
 
@@ -116,3 +131,16 @@ done_fits service r e d = by (nat_le 4096 (length r.live)) (is_fit service r.sta
     by true c h = absurd (cc)
     by false true h = (refl, refl, cc)
     by false false h = absurd (cc)
+
+-- whatever comes of an event that is handed in, it leaves a recorder
+pub taken_keeps : (service : Declarations) (r : RecorderValue) (e : Event) → IsService service → IsRecorder service r → IsRecorder service (taken service r (taken_turn service r.state r.queue (length r.live) e))
+taken_keeps service r e good kept = by (taken_turn service r.state r.queue (length r.live) e) refl
+  where
+    by : (t : Turn) → taken_turn service r.state r.queue (length r.live) e ≡ t → IsRecorder service (taken service r t)
+    by (Done d) h =
+        let f = done_fits service r e d h in
+        let n : next service r.state e ≡ Some (after service e.lane e.kind r.state) = fit_next service r e good kept (leb-false 4096 (length r.live) f.0) f.1 in
+        subst (λ (x : Event). IsRecorder service (taken service r (Done x))) f.2
+        (subst (λ (s : StateValue). IsRecorder service (record r { live = r.live ++ e ∷ []; state = s })) (sym (ap (λ (o : Option StateValue). unwrap_or o r.state) n))
+        (fit_kept service r e good kept (leb-false 4096 (length r.live) f.0) f.1 (after service e.lane e.kind r.state) n))
+    by _ h = kept
