@@ -27,7 +27,7 @@ caused (Some (Generate seed size)) input status j = record {
   usage = (λ two. absurd cc, λ none. absurd cc);
   unchecked = (λ three. absurd cc, λ h. absurd h);
 }
-caused (Some (Run workers)) input status j = let p = judged (Run workers) (service_in (Run workers) input) status j in record { unread = p.0; usage = p.1; unchecked = p.2 }
+caused (Some (Run workers journal)) input status j = let p = judged (Run workers journal) (service_in (Run workers journal) input) status j in record { unread = p.0; usage = p.1; unchecked = p.2 }
 caused (Some Trace) input status j = let p = judged Trace (service_in Trace input) status j in record { unread = p.0; usage = p.1; unchecked = p.2 }
 caused (Some Check) input status j = let p = judged Check (service_in Check input) status j in record { unread = p.0; usage = p.1; unchecked = p.2 }
 caused (Some (Soak seed size workers)) input status j = record {

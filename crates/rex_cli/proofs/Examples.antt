@@ -1,6 +1,6 @@
 -- What the program is to answer, computed.
 use Rattle.std.proofs.Common.{◌≡◌, ℕ, List, [], ◌∷◌, ◌++◌, refl, codes}
-use Rattle.std.specs.Prelude.{None}
+use Rattle.std.specs.Prelude.{None, false}
 use Rattle.std.specs.Fmt.{digits}
 use Rattle.rex_parse.specs.Words.{is_name}
 use Rattle.rex_parse.specs.Table.{new_code, lock_code, variable_code, local_code, number_code, expr_code}
@@ -37,21 +37,21 @@ scenario reply =
 abbrev idle : List (List ℕ) → List (List ℕ)
 idle lines = codes "%nodes 1" ∷ codes "%service" ∷ (service (codes "reply r") ++ codes "%requests" ∷ codes "%schedule" ∷ lines)
 
-idle_runs : due_command (Run 1) (text_of (idle [])) ≡ one_line 0 (codes "end node 1 follower promised 0 known 0 replayed 0 a=0")
+idle_runs : due_command (Run 1 false) (text_of (idle [])) ≡ one_line 0 (codes "end node 1 follower promised 0 known 0 replayed 0 a=0")
 unfolding answer_from is_name new_code lock_code variable_code local_code number_code expr_code digits
 idle_runs = refl
 
-leader_runs : due_command (Run 1) (text_of (idle (codes "elect 1" ∷ [])))
+leader_runs : due_command (Run 1 false) (text_of (idle (codes "elect 1" ∷ [])))
     ≡ record { status = 0; text = text_of (codes "1 node 1 candidate ballot 17" ∷ codes "1 node 1 active ballot 17" ∷ codes "end node 1 active promised 17 known 0 live 0 a=0" ∷ []) }
 unfolding answer_from is_name new_code lock_code variable_code local_code number_code expr_code digits
 leader_runs = refl
 
 -- a reply that reads without the lock is refused by its line in the scenario
-race_is_refused : due_command (Run 1) (text_of (scenario (codes "reply a"))) ≡ one_line 3 (codes "refused handler add line 11 C1")
+race_is_refused : due_command (Run 1 false) (text_of (scenario (codes "reply a"))) ≡ one_line 3 (codes "refused handler add line 11 C1")
 unfolding answer_from is_name new_code lock_code variable_code local_code number_code expr_code digits
 race_is_refused = refl
 
-nothing_is_no_scenario : due_command (Run 1) [] ≡ one_line 1 (codes "refused line 1 S3")
+nothing_is_no_scenario : due_command (Run 1 false) [] ≡ one_line 1 (codes "refused line 1 S3")
 unfolding answer_from digits
 nothing_is_no_scenario = refl
 

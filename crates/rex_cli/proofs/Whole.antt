@@ -1,5 +1,5 @@
 -- What holds of the bytes that were read holds of all that the source had: where some are left, the text is too long.
-use Rattle.std.proofs.Common.{◌≡◌, ℕ, ◌+◌, ◌<◌, ◌≤◌, Bool, true, List, [], ◌++◌, length, Option, Some, None, inl, inr, ◌⊎◌, sym, ap, subst, ◌∙◌, arith, length-append, append-nil}
+use Rattle.std.proofs.Common.{◌≡◌, ℕ, ◌<◌, ◌≤◌, Bool, true, List, length, Option, Some, None, inl, inr, ◌⊎◌, sym, ap, subst, ◌∙◌}
 use Rattle.std.specs.Prelude.{IfSome, Err, if◌then◌else◌}
 use Rattle.std.specs.Io.KnownBytes.{Consumes, IsAtEnd}
 use Rattle.std.proofs.lemmas.Bool.{cases_lt, lt-ltb}
@@ -21,14 +21,14 @@ use Rattle.rex_cli.specs.Commands.{reads_input}
 -- ---- a text that is too long
 
 due_long : (command : Command) (bytes : List ℕ) → reads_input command ≡ true → 4194304 < length bytes → due_command command bytes ≡ due_refused 0 (scenario_code TooLong)
-due_long (Run workers) bytes reads lt = ap (λ (b : Bool). due_run (if b then Err (0, TooLong) else answer_from (start true) 1 (numbered 1 (lines_of bytes)))) (lt-ltb 4194304 (length bytes) lt)
+due_long (Run workers journal) bytes reads lt = ap (λ (b : Bool). due_run (if b then Err (0, TooLong) else answer_from (start true) 1 (numbered 1 (lines_of bytes)))) (lt-ltb 4194304 (length bytes) lt)
 due_long Trace bytes reads lt = ap (λ (b : Bool). due_trace (if b then Err (0, TooLong) else answer_from (start true) 1 (numbered 1 (lines_of bytes)))) (lt-ltb 4194304 (length bytes) lt)
 due_long Check bytes reads lt = ap (λ (b : Bool). if b then due_refused 0 (scenario_code TooLong) else due_check (service_answer bytes)) (lt-ltb 4194304 (length bytes) lt)
 due_long (Generate seed size) bytes reads lt = absurd cc
 due_long (Soak seed size workers) bytes reads lt = absurd cc
 
 service_long : (command : Command) (bytes : List ℕ) → reads_input command ≡ true → 4194304 < length bytes → service_in command bytes ≡ None
-service_long (Run workers) bytes reads lt = ap (λ (b : Bool). scenario_service (if b then Err (0, TooLong) else answer_from (start true) 1 (numbered 1 (lines_of bytes)))) (lt-ltb 4194304 (length bytes) lt)
+service_long (Run workers journal) bytes reads lt = ap (λ (b : Bool). scenario_service (if b then Err (0, TooLong) else answer_from (start true) 1 (numbered 1 (lines_of bytes)))) (lt-ltb 4194304 (length bytes) lt)
 service_long Trace bytes reads lt = ap (λ (b : Bool). scenario_service (if b then Err (0, TooLong) else answer_from (start true) 1 (numbered 1 (lines_of bytes)))) (lt-ltb 4194304 (length bytes) lt)
 service_long Check bytes reads lt = ap (λ (b : Bool). if b then None else plain_service (service_answer bytes)) (lt-ltb 4194304 (length bytes) lt)
 service_long (Generate seed size) bytes reads lt = absurd cc
@@ -36,7 +36,7 @@ service_long (Soak seed size workers) bytes reads lt = absurd cc
 
 -- none is declared, so 1 is the status
 judges_long : (command : Command) (bytes : List ℕ) (status : ℕ) → reads_input command ≡ true → 4194304 < length bytes → JudgesCommand command bytes status ≡ (status ≡ 1)
-judges_long (Run workers) bytes status reads lt = ap (λ (o : _). Judges o status) (service_long (Run workers) bytes reads lt)
+judges_long (Run workers journal) bytes status reads lt = ap (λ (o : _). Judges o status) (service_long (Run workers journal) bytes reads lt)
 judges_long Trace bytes status reads lt = ap (λ (o : _). Judges o status) (service_long Trace bytes reads lt)
 judges_long Check bytes status reads lt = ap (λ (o : _). Judges o status) (service_long Check bytes reads lt)
 judges_long (Generate seed size) bytes status reads lt = absurd cc

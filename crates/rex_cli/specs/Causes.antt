@@ -17,7 +17,7 @@ plain_service (Err e) = None
 
 -- the service that an input declares: `run` and `trace` ask for a scenario with one, and `check` for one alone; `gen` and `soak` ask for none
 abbrev pub service_in : Command → List ℕ → Option Declarations
-service_in (Run workers) input = scenario_service (scenario_answer input)
+service_in (Run workers journal) input = scenario_service (scenario_answer input)
 service_in Trace input = scenario_service (scenario_answer input)
 service_in Check input = if nat_lt 4194304 (length input) then None else plain_service (service_answer input)
 service_in (Generate seed size) input = None

@@ -5,7 +5,7 @@ use Rattle.rex_command.specs.declared.commands.Command.TheVariants.{Run, Trace, 
 
 -- the command reads an input
 abbrev pub reads_input : Command → Bool
-reads_input (Run workers) = true
+reads_input (Run workers journal) = true
 reads_input Trace = true
 reads_input Check = true
 reads_input (Generate seed size) = false

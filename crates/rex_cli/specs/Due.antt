@@ -97,9 +97,9 @@ due_soak seed size (Err e) = due_refused e.0 (scenario_code e.1)
 abbrev pub due_generated : ℕ → ℕ → Due
 due_generated seed size = record { status = 0; text = scenario_text seed size }
 
--- what a command asks for, however many workers replay; a service may be as long as a scenario
+-- what a command asks for, however many workers replay, and whether records are in journals or not; a service may be as long as a scenario
 abbrev pub due_command : Command → List ℕ → Due
-due_command (Run workers) input = due_run (scenario_answer input)
+due_command (Run workers journal) input = due_run (scenario_answer input)
 due_command Trace input = due_trace (scenario_answer input)
 due_command Check input = if nat_lt 4194304 (length input) then due_refused 0 (scenario_code TooLong) else due_check (service_answer input)
 due_command (Generate seed size) input = due_generated seed size

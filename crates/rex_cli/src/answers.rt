@@ -1,6 +1,6 @@
 //! What an input is answered.
 
-ghost use Rattle.std.specs.Prelude.{◌≡◌, ◌≤◌, ◌++◌, ℕ, Some, IfOk, OnOk, length};
+ghost use Rattle.std.specs.Prelude.{◌≡◌, ◌≤◌, ◌++◌, ℕ, Bool, false, Some, IfOk, OnOk, length};
 ghost use Rattle.rex_syntax.specs.Service.{IsService};
 ghost use Rattle.rex_lockset.specs.Refusal.{refusal_of as refusal};
 ghost use Rattle.rex_scenario.specs.Fits.{ScenarioFits};
@@ -98,8 +98,8 @@ fn trace_input(alloc: Global, input: &[u8]) -> Result<Answer, AllocError>
 // What `run` asks for.
 fn run_input(alloc: Global, input: &[u8]) -> Result<Response, AllocError>
     requires { length input.now ≤ 4194305 }
-    ensures due { IfOk result (λ r. due_of r ≡ due.due_command (commands.Run 1) input.now) }
-    ensures judges { IfOk result (λ r. Judges (service_in (commands.Run 1) input.now) (due_of r).status) }
+    ensures due { IfOk result (λ r. due_of r ≡ due.due_command (commands.Run 1 false) input.now) }
+    ensures judges { IfOk result (λ r. Judges (service_in (commands.Run 1 false) input.now) (due_of r).status) }
     ensures headline { IfOk result (λ r. (due_of r).status ≡ 0 → Committed input.now) }
     ensures fits { IfOk result MayRun }
 {
@@ -190,7 +190,7 @@ pub(crate) fn response_to<R: Replayer>(
     requires fits { Fits command }
     ensures due { IfOk result (λ r. due_of r ≡ due.due_command command input.now) }
     ensures judges { IfOk result (λ r. JudgesCommand command input.now (due_of r).status) }
-    ensures headline { (workers : ℕ) → command ≡ commands.Run workers → IfOk result (λ r. (due_of r).status ≡ 0 → Committed input.now) }
+    ensures headline { (workers : ℕ) (journal : Bool) → command ≡ commands.Run workers journal → IfOk result (λ r. (due_of r).status ≡ 0 → Committed input.now) }
     ensures fits { IfOk result MayRun }
     ensures ready { R.ready replayer.new }
 {

@@ -3,6 +3,7 @@
 
 mod answers;
 mod generated;
+mod journals;
 mod running;
 
 pub use running::rex_main;

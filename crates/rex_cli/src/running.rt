@@ -1,4 +1,4 @@
-ghost use Rattle.std.specs.Prelude.{◌≡◌, ◌≤◌, ◌<◌, ◌⊎◌, ℕ, [], true, false, Some, None, IsSome, map, IfOk, IfSome, IsErrOf, string_bytes};
+ghost use Rattle.std.specs.Prelude.{◌≡◌, ◌≤◌, ◌<◌, ◌⊎◌, ℕ, Bool, [], true, false, Some, None, IsSome, map, IfOk, IfSome, IsErrOf, string_bytes};
 ghost use Rattle.std.specs.Io.KnownBytes.{IsAtEnd};
 ghost use Rattle.rex_traits.specs.Causes.{Rose};
 ghost use Rattle.rex_answer.specs.Outcome.{Gives, Ends};
@@ -9,7 +9,10 @@ ghost use Rattle.rex_cli.specs.Commands as inputs;
 ghost use Rattle.rex_cli.specs.Due as due;
 ghost use Rattle.rex_cli.specs.Causes.{JudgesFor, IsCaused};
 ghost use Rattle.rex_scenario.specs.Fits.{ScenarioFits};
+ghost use Rattle.rex_safety.specs.World.{beginning};
+ghost use Rattle.rex_world.specs.Kept.{IsOf, IsRunning};
 ghost use Rattle.rex_world.specs.Report.{report_of};
+ghost use Rattle.rex_world.specs.World.{world_of};
 ghost use Rattle.rex_cli.specs.Response.{MayRun, due_of};
 ghost use Rattle.rex_cli.specs.Headline.{Committed};
 ghost use Rattle.rex_state.specs.Counts.{AreCounted};
@@ -18,6 +21,7 @@ ghost use Rattle.rex_state.specs.Sound.{IsSound};
 ghost use Rattle.rex_streams.specs.declared.reading.ReadFault.TheVariants as fault;
 
 use crate::answers::{Plan, Response, response_to, usage};
+use crate::journals::journal_world;
 use rex_command::{Command, command_of};
 use rex_crew::Crew;
 use rex_event::Event;
@@ -25,7 +29,7 @@ use rex_replay::{ByCall, Replayer};
 use rex_state::state::State;
 use rex_streams::{ReadFault, read_input};
 use rex_syntax::checked::Checked;
-use rex_traits::{Gate, Sink, Source};
+use rex_traits::{Gate, Sink, Source, Store};
 use rex_world::{RunFault, World};
 use std::alloc::{AllocError, Global};
 use std::thread::Threads;
@@ -56,7 +60,7 @@ fn read_and_respond<R: Replayer, S: Source>(
     ensures due { IfOk result (λ r. IfSome (S.left source.old) (λ input. due_of r ≡ due.due_command command input)) }
     ensures judges { IfOk result (λ r. IfSome (S.left source.old) (λ input. JudgesFor (Some command) input (due_of r).status)) }
     ensures whole { IfOk result (λ r. (due_of r).status ≡ 0 → IsAtEnd (S.left source.new)) }
-    ensures headline { (workers : ℕ) → command ≡ commands.Run workers → IfOk result (λ r. (due_of r).status ≡ 0 → IfSome (S.left source.old) Committed) }
+    ensures headline { (workers : ℕ) (journal : Bool) → command ≡ commands.Run workers journal → IfOk result (λ r. (due_of r).status ≡ 0 → IfSome (S.left source.old) Committed) }
     ensures low { IfOk result (λ r. (due_of r).status < 4) }
     ensures fits { IfOk result MayRun }
     ensures later { S.faults source.old ≤ S.faults source.new }
@@ -85,7 +89,7 @@ fn respond<R: Replayer, S: Source>(
     ensures judges { IfOk result (λ r. IfSome (inputs.input_for command (S.left source.old)) (λ input. JudgesFor command input (due_of r).status)) }
     ensures whole { inputs.reads command ≡ true → IfOk result (λ r. (due_of r).status ≡ 0 → IsAtEnd (S.left source.new)) }
     ensures unread { inputs.reads command ≡ false → (source.new ≡ source.old) × (IsErrOf result fault.Failed → ⊥) }
-    ensures headline { (workers : ℕ) → command ≡ Some (commands.Run workers) → IfOk result (λ r. (due_of r).status ≡ 0 → IfSome (S.left source.old) Committed) }
+    ensures headline { (workers : ℕ) (journal : Bool) → command ≡ Some (commands.Run workers journal) → IfOk result (λ r. (due_of r).status ≡ 0 → IfSome (S.left source.old) Committed) }
     ensures low { IfOk result (λ r. (due_of r).status < 4) }
     ensures fits { IfOk result MayRun }
     ensures later { S.faults source.old ≤ S.faults source.new }
@@ -107,16 +111,21 @@ fn respond<R: Replayer, S: Source>(
     }
 }
 
-// Runs a plan, and answers the status.
-fn give_run<R: Replayer, K: Sink>(alloc: Global, replayer: &mut R, plan: &Plan, sink: &mut K) -> u8
+// Runs a plan from its world before the first line, and answers the status.
+fn run_world<T: Store, R: Replayer, K: Sink>(
+    mut world: World<T>,
+    replayer: &mut R,
+    plan: &Plan,
+    sink: &mut K,
+) -> u8
     requires ready { R.ready replayer.old }
     requires fits { ScenarioFits plan.now.service plan.now.scenario }
+    requires running { IsRunning plan.now.service world }
+    requires of { IsOf plan.now.scenario world }
+    requires begins { world_of plan.now.service world ≡ beginning plan.now.scenario.nodes }
     ensures gives { Gives (record { status = 0; text = report_of plan.now.service plan.now.scenario }) (K.held sink.old) (K.held sink.new) result }
     ensures ends { Ends (record { status = 0; text = report_of plan.now.service plan.now.scenario }) (K.faults sink.old) (K.faults sink.new) result }
 {
-    let Ok(mut world) = World::new(alloc, &plan.service, &plan.scenario) else {
-        return 6;
-    };
     match world.run(&plan.service, replayer, &plan.scenario, sink) {
         Ok(()) => 0,
         Err(RunFault::Failed) => 5,
@@ -124,10 +133,47 @@ fn give_run<R: Replayer, K: Sink>(alloc: Global, replayer: &mut R, plan: &Plan, 
     }
 }
 
-// Gives what was asked for.
+// Runs a plan whose nodes keep their records in lists, and answers the status.
+fn run_in_memory<R: Replayer, K: Sink>(
+    alloc: Global,
+    replayer: &mut R,
+    plan: &Plan,
+    sink: &mut K,
+) -> u8
+    requires ready { R.ready replayer.old }
+    requires fits { ScenarioFits plan.now.service plan.now.scenario }
+    ensures gives { Gives (record { status = 0; text = report_of plan.now.service plan.now.scenario }) (K.held sink.old) (K.held sink.new) result }
+    ensures ends { Ends (record { status = 0; text = report_of plan.now.service plan.now.scenario }) (K.faults sink.old) (K.faults sink.new) result }
+{
+    match World::new(alloc, &plan.service, &plan.scenario) {
+        Ok(world) => run_world(world, replayer, plan, sink),
+        Err(_) => 6,
+    }
+}
+
+// Runs a plan whose nodes keep their records in journals, and answers the status.
+fn run_in_journals<R: Replayer, K: Sink>(
+    alloc: Global,
+    replayer: &mut R,
+    plan: &Plan,
+    sink: &mut K,
+) -> u8
+    requires ready { R.ready replayer.old }
+    requires fits { ScenarioFits plan.now.service plan.now.scenario }
+    ensures gives { Gives (record { status = 0; text = report_of plan.now.service plan.now.scenario }) (K.held sink.old) (K.held sink.new) result }
+    ensures ends { Ends (record { status = 0; text = report_of plan.now.service plan.now.scenario }) (K.faults sink.old) (K.faults sink.new) result }
+{
+    match journal_world(alloc, plan) {
+        Ok(world) => run_world(world, replayer, plan, sink),
+        Err(_) => 6,
+    }
+}
+
+// Gives what was asked for: of a run, with the nodes' records in journals or not.
 fn give<R: Replayer, K: Sink>(
     alloc: Global,
     replayer: &mut R,
+    journal: bool,
     response: &Response,
     sink: &mut K,
 ) -> u8
@@ -139,7 +185,13 @@ fn give<R: Replayer, K: Sink>(
 {
     match response {
         Response::Told(answer) => answer.give(sink),
-        Response::Run(plan) => give_run(alloc, replayer, plan, sink),
+        Response::Run(plan) => {
+            if journal {
+                run_in_journals(alloc, replayer, plan, sink)
+            } else {
+                run_in_memory(alloc, replayer, plan, sink)
+            }
+        }
     }
 }
 
@@ -163,13 +215,18 @@ fn obey<R: Replayer, S: Source, K: Sink>(
     ensures complete { IfSome (inputs.input_for command (S.left source.old)) (λ input. (due.due_for command input).status ≡ 0
         → (Rose (S.faults source.old) (S.faults source.new) → ⊥) → (Rose (K.faults sink.old) (K.faults sink.new) → ⊥)
         → (result ≡ 0) ⊎ (result ≡ 6)) }
-    ensures headline { (workers : ℕ) → command ≡ Some (commands.Run workers) → result ≡ 0 → IfSome (S.left source.old) Committed }
+    ensures headline { (workers : ℕ) (journal : Bool) → command ≡ Some (commands.Run workers journal) → result ≡ 0 → IfSome (S.left source.old) Committed }
 {
     match respond(alloc, replayer, command, source) {
-        Ok(response) => give(alloc, replayer, &response, sink),
+        Ok(response) => give(alloc, replayer, has_journal(command), &response, sink),
         Err(ReadFault::Failed) => 4,
         Err(ReadFault::OutOfMemory) => 6,
     }
+}
+
+// Whether the nodes of a run keep their records in journals.
+fn has_journal(command: Option<Command>) -> bool {
+    matches!(command, Some(Command::Run { journal: true, .. }))
 }
 
 // How many workers replay.
@@ -178,7 +235,7 @@ fn workers_for(command: Option<Command>) -> u8
     ensures { (0 < result) × (result ≤ 16) }
 {
     match command {
-        Some(Command::Run { workers }) => workers,
+        Some(Command::Run { workers, .. }) => workers,
         Some(Command::Soak { workers, .. }) => workers,
         _ => 1,
     }
@@ -197,7 +254,8 @@ pub fn rex_main<R: Threads + Sync, S: Source, K: Sink, G: Gate + Sync>(
     sink: &mut K,
     gate: &G,
 ) -> u8
-    // Below 4 the status and what was written are what the words and the input ask for, however many workers replay.
+    // Below 4 the status and what was written are what the words and the input ask for, however many workers replay, and
+    // whether the nodes keep their records in journals or not.
     ensures run { IfSome (inputs.input_for (spec.command_of (map string_bytes words.now)) (S.left source.old)) (λ input. Gives (due.due (map string_bytes words.now) input) (K.held sink.old) (K.held sink.new) result) }
 
     // Below 4 it is 1 exactly where the input is no scenario or no service, 2 exactly where the words are no command
@@ -224,7 +282,7 @@ pub fn rex_main<R: Threads + Sync, S: Source, K: Sink, G: Gate + Sync>(
         → (result ≡ 0) ⊎ (result ≡ 6)) }
 
     // At 0 the run that the report tells of keeps its agreed trace, and what it has released.
-    ensures headline { (workers : ℕ) → spec.command_of (map string_bytes words.now) ≡ Some (commands.Run workers) → result ≡ 0 → IfSome (S.left source.old) Committed }
+    ensures headline { (workers : ℕ) (journal : Bool) → spec.command_of (map string_bytes words.now) ≡ Some (commands.Run workers journal) → result ≡ 0 → IfSome (S.left source.old) Committed }
 {
     match command_of(alloc, words) {
         Ok(command) => {

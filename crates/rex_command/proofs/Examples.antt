@@ -1,18 +1,34 @@
 -- Which words are a command line, and what they ask for, computed.
-use Rattle.std.proofs.Common.{◌≡◌, [], ◌∷◌, Some, None, codes, refl}
+use Rattle.std.proofs.Common.{◌≡◌, [], ◌∷◌, true, false, Some, None, codes, refl}
 use Rattle.clap.proofs.OnLiterals.{clap_on_literals}
 use Rattle.rex_command.specs.Reading.{command_of}
 use Rattle.rex_command.specs.declared.commands.Command.TheVariants.{Run, Generate, Soak}
 
-workers : command_of (codes "rex" ∷ codes "run" ∷ codes "--workers" ∷ codes "8" ∷ []) ≡ Some (Run 8)
+workers : command_of (codes "rex" ∷ codes "run" ∷ codes "--workers" ∷ codes "8" ∷ []) ≡ Some (Run 8 false)
 unfolding clap_on_literals
 workers = refl
 
-workers_with_equals : command_of (codes "rex" ∷ codes "run" ∷ codes "--workers=2" ∷ []) ≡ Some (Run 2)
+workers_with_equals : command_of (codes "rex" ∷ codes "run" ∷ codes "--workers=2" ∷ []) ≡ Some (Run 2 false)
 unfolding clap_on_literals
 workers_with_equals = refl
 
-sign : command_of (codes "rex" ∷ codes "run" ∷ codes "--workers" ∷ codes "+7" ∷ []) ≡ Some (Run 7)
+journal_behind : command_of (codes "rex" ∷ codes "run" ∷ codes "--workers" ∷ codes "8" ∷ codes "--journal" ∷ []) ≡ Some (Run 8 true)
+unfolding clap_on_literals
+journal_behind = refl
+
+journal_with_a_value : command_of (codes "rex" ∷ codes "run" ∷ codes "--journal=true" ∷ []) ≡ None
+unfolding clap_on_literals
+journal_with_a_value = refl
+
+journal_twice : command_of (codes "rex" ∷ codes "run" ∷ codes "--journal" ∷ codes "--journal" ∷ []) ≡ None
+unfolding clap_on_literals
+journal_twice = refl
+
+journal_elsewhere : command_of (codes "rex" ∷ codes "soak" ∷ codes "7" ∷ codes "1" ∷ codes "--journal" ∷ []) ≡ None
+unfolding clap_on_literals
+journal_elsewhere = refl
+
+sign : command_of (codes "rex" ∷ codes "run" ∷ codes "--workers" ∷ codes "+7" ∷ []) ≡ Some (Run 7 false)
 unfolding clap_on_literals
 sign = refl
 
@@ -24,7 +40,7 @@ option_between : command_of (codes "rex" ∷ codes "soak" ∷ codes "7" ∷ code
 unfolding clap_on_literals
 option_between = refl
 
-dashes : command_of (codes "rex" ∷ codes "run" ∷ codes "--" ∷ []) ≡ Some (Run 1)
+dashes : command_of (codes "rex" ∷ codes "run" ∷ codes "--" ∷ []) ≡ Some (Run 1 false)
 unfolding clap_on_literals
 dashes = refl
 

@@ -7,7 +7,7 @@ use Rattle.clap.specs.Words.{Row, Text, one_of, subcommand_of}
 use Rattle.clap.specs.declared.builder.ValueParser.TheVariants.{Unsigned}
 use Rattle.clap.proofs.ValueTestLemmas.{accepts-Accepts}
 use Rattle.rex_command.specs.Application.{rex_app}
-use Rattle.rex_command.specs.Reading.{number_of, number_in, run_of, generate_of, soak_of, workers_in, seed_in, size_in, command_named, is_command_line}
+use Rattle.rex_command.specs.Reading.{number_of, number_in, run_of, generate_of, soak_of, workers_in, seed_in, size_in, command_named, is_command_line, is_given}
 use Rattle.rex_command.specs.Laws.{AreWorkers, Fits, CommandsFit}
 use Rattle.rex_command.specs.declared.commands.Command.{Command}
 use Rattle.rex_command.specs.declared.commands.Command.TheVariants.{Trace, Check}
@@ -33,9 +33,9 @@ found_between low high (Some t) = read_between low high t
 between : (low high : ℕ) (id : Text) (rows : List Row) → IfSome (number_in low high id rows) (Between low high)
 between low high id rows = found_between low high (one_of id rows)
 
-run_fits : (workers : Option ℕ) → IfSome workers AreWorkers → IfSome (run_of workers) Fits
-run_fits None w = tt
-run_fits (Some workers) w = w
+run_fits : (workers : Option ℕ) (journal : Bool) → IfSome workers AreWorkers → IfSome (run_of workers journal) Fits
+run_fits None journal w = tt
+run_fits (Some workers) journal w = w
 
 gen_fits : (seed size : Option ℕ) → IfSome seed (Between 0 4294967295) → IfSome size (Between 1 1000) → IfSome (generate_of seed size) Fits
 gen_fits None size n s = tt
@@ -63,8 +63,8 @@ named_fits name rows =
     let n : IfSome (seed_in rows) (Between 0 4294967295) = between 0 4294967295 (codes "seed") rows in
     let s : IfSome (size_in rows) (Between 1 1000) = between 1 1000 (codes "size") rows in
     first_of_five (bytes_eq name (codes "run")) (bytes_eq name (codes "trace")) (bytes_eq name (codes "check")) (bytes_eq name (codes "gen")) (bytes_eq name (codes "soak"))
-    (run_of (workers_in rows)) (Some Trace) (Some Check) (generate_of (seed_in rows) (size_in rows)) (soak_of (seed_in rows) (size_in rows) (workers_in rows))
-    (run_fits (workers_in rows) w) tt tt (gen_fits (seed_in rows) (size_in rows) n s) (soak_fits (seed_in rows) (size_in rows) (workers_in rows) n s w)
+    (run_of (workers_in rows) (is_given (codes "journal") rows)) (Some Trace) (Some Check) (generate_of (seed_in rows) (size_in rows)) (soak_of (seed_in rows) (size_in rows) (workers_in rows))
+    (run_fits (workers_in rows) (is_given (codes "journal") rows) w) tt tt (gen_fits (seed_in rows) (size_in rows) n s) (soak_fits (seed_in rows) (size_in rows) (workers_in rows) n s w)
 
 found_fits : (o : Option (Text × List Row)) → IfSome (option_and_then (λ p. command_named p.0 p.1) o) Fits
 found_fits None = tt

@@ -38,6 +38,18 @@ record IsTaken (w : Text) : Type 0 where
 
 -- ---- behind `run`
 
+-- where this is held
+module _ (h : Held) (met : walked run.rules [] (at h 1) option_word ≡ waits_at (option workers) (waits_held run h) 1) (fine : turn_fault run [] (at h 1) option_word ≡ []) where
+  option_walk : (w : Text) → IsTaken w → walk run.rules [] h (option_word ∷ w ∷ []) ≡ at (given_held run h w) 1
+  option_walk w t = ap (λ (x : Walk). walked run.rules [] x w) met ∙ plain_walked run.rules [] (option workers) 1 w (waits_held run h) t.plain refl
+
+  option_walk_fine : (w : Text) → IsTaken w → walk_fault run [] (at h 1) (option_word ∷ w ∷ []) ≡ []
+  unfolding walk_fault
+  option_walk_fine w t =
+      ap (λ (k : Kinds). or_else k (or_else (turn_fault run [] (walked run.rules [] (at h 1) option_word) w) [])) fine
+      ∙ ap (λ (x : Walk). or_else (turn_fault run [] x w) []) met
+      ∙ ap (λ (k : Kinds). or_else k []) (plain_turned run [] (option workers) 1 w (waits_held run h) t.plain refl)
+
 run_option : walked run.rules [] (at nothing_held 1) option_word ≡ waits_at (option workers) (waits_held run nothing_held) 1
 unfolding clap_on_literals
 run_option = refl
@@ -47,14 +59,10 @@ unfolding clap_on_literals
 run_option_fine = refl
 
 run_walk : (w : Text) → IsTaken w → walk run.rules [] nothing_held (option_word ∷ w ∷ []) ≡ at (given_held run nothing_held w) 1
-run_walk w t = ap (λ (x : Walk). walked run.rules [] x w) run_option ∙ plain_walked run.rules [] (option workers) 1 w (waits_held run nothing_held) t.plain refl
+run_walk = option_walk nothing_held run_option run_option_fine
 
 run_walk_fine : (w : Text) → IsTaken w → walk_fault run [] (walk_from nothing_held) (option_word ∷ w ∷ []) ≡ []
-unfolding walk_fault
-run_walk_fine w t =
-    ap (λ (k : Kinds). or_else k (or_else (turn_fault run [] (walked run.rules [] (walk_from nothing_held) option_word) w) [])) run_option_fine
-    ∙ ap (λ (x : Walk). or_else (turn_fault run [] x w) []) run_option
-    ∙ ap (λ (k : Kinds). or_else k []) (plain_turned run [] (option workers) 1 w (waits_held run nothing_held) t.plain refl)
+run_walk_fine = option_walk_fine nothing_held run_option run_option_fine
 
 run_end_fine : (w : Text) → IsTaken w → end_fault run (given_held run nothing_held w) false ≡ []
 unfolding defaults_fault
@@ -71,14 +79,80 @@ run_rows : (name w : Text) → subcommand_of rex_app (name ∷ codes "run" ∷ o
 unfolding clap_on_literals
 run_rows name w = refl
 
-run_named : (w : Text) → IsTaken w → command_named (codes "run") (finished run.rules (given_held run nothing_held w)) ≡ Some (Run (digits_value 10 (without_leading_plus w)))
-run_named w t = ap run_of (number_read 1 16 w t.fits)
+run_named : (w : Text) → IsTaken w → command_named (codes "run") (finished run.rules (given_held run nothing_held w)) ≡ Some (Run (digits_value 10 (without_leading_plus w)) false)
+run_named w t = ap (λ (o : Option ℕ). run_of o false) (number_read 1 16 w t.fits)
 
-run_texts : (name w : Text) → IsTaken w → command_of (name ∷ codes "run" ∷ option_word ∷ w ∷ []) ≡ Some (Run (digits_value 10 (without_leading_plus w)))
+run_texts : (name w : Text) → IsTaken w → command_of (name ∷ codes "run" ∷ option_word ∷ w ∷ []) ≡ Some (Run (digits_value 10 (without_leading_plus w)) false)
 run_texts name w t =
     answer_is (name ∷ codes "run" ∷ option_word ∷ w ∷ []) (codes "run", finished run.rules (given_held run nothing_held w)) (run_fault name w ∙ ap (λ (k : Kinds). or_else k []) (run_level_fine w t))
     (run_rows name w ∙ ap (λ (x : Walk). Some (codes "run", finished run.rules x.held)) (run_walk w t))
     ∙ run_named w t
+
+-- ---- behind `run --journal`
+
+abbrev journal_word : Text
+journal_word = codes "--journal"
+
+-- what is held after it
+abbrev journal_held : Held
+journal_held = (walked run.rules [] (at nothing_held 1) journal_word).held
+
+abbrev journal_words : Text → List Text
+journal_words w = journal_word ∷ option_word ∷ w ∷ []
+
+journal_met : walked run.rules [] (at nothing_held 1) journal_word ≡ at journal_held 1
+unfolding clap_on_literals
+journal_met = refl
+
+journal_fine : turn_fault run [] (at nothing_held 1) journal_word ≡ []
+unfolding clap_on_literals
+journal_fine = refl
+
+journal_option : walked run.rules [] (at journal_held 1) option_word ≡ waits_at (option workers) (waits_held run journal_held) 1
+unfolding clap_on_literals
+journal_option = refl
+
+journal_option_fine : turn_fault run [] (at journal_held 1) option_word ≡ []
+unfolding clap_on_literals
+journal_option_fine = refl
+
+journal_walk : (w : Text) → IsTaken w → walk run.rules [] nothing_held (journal_words w) ≡ at (given_held run journal_held w) 1
+journal_walk w t =
+    ap (λ (x : Walk). walked run.rules [] (walked run.rules [] x option_word) w) journal_met
+    ∙ option_walk journal_held journal_option journal_option_fine w t
+
+journal_walk_fine : (w : Text) → IsTaken w → walk_fault run [] (walk_from nothing_held) (journal_words w) ≡ []
+unfolding walk_fault
+journal_walk_fine w t =
+    let rest = λ (x : Walk). walk_fault run [] x (option_word ∷ w ∷ []) in
+    ap (λ (k : Kinds). or_else k (rest (walked run.rules [] (walk_from nothing_held) journal_word))) journal_fine
+    ∙ ap rest journal_met
+    ∙ option_walk_fine journal_held journal_option journal_option_fine w t
+
+journal_end_fine : (w : Text) → IsTaken w → end_fault run (given_held run journal_held w) false ≡ []
+unfolding defaults_fault walked
+journal_end_fine w t = ap (λ (k : Kinds). or_else k []) (value_fine 1 16 w t.fits)
+
+journal_level_fine : (w : Text) → IsTaken w → level_fault run [] nothing_held (journal_words w) false [] ≡ []
+journal_level_fine w t = level_ends run nothing_held (given_held run journal_held w) (journal_words w) (journal_walk_fine w t) (ap (λ (x : Walk). x.held) (journal_walk w t)) ∙ journal_end_fine w t
+
+journal_fault : (name w : Text) → fault_of rex_app (name ∷ codes "run" ∷ journal_words w) ≡ or_else (level_fault run [] nothing_held (journal_words w) false []) []
+unfolding clap_on_literals
+journal_fault name w = refl
+
+journal_rows : (name w : Text) → subcommand_of rex_app (name ∷ codes "run" ∷ journal_words w) ≡ Some (codes "run", finished run.rules (walk run.rules [] nothing_held (journal_words w)).held)
+unfolding clap_on_literals
+journal_rows name w = refl
+
+journal_named : (w : Text) → IsTaken w → command_named (codes "run") (finished run.rules (given_held run journal_held w)) ≡ Some (Run (digits_value 10 (without_leading_plus w)) true)
+unfolding walked
+journal_named w t = ap (λ (o : Option ℕ). run_of o true) (number_read 1 16 w t.fits)
+
+journal_texts : (name w : Text) → IsTaken w → command_of (name ∷ codes "run" ∷ journal_words w) ≡ Some (Run (digits_value 10 (without_leading_plus w)) true)
+journal_texts name w t =
+    answer_is (name ∷ codes "run" ∷ journal_words w) (codes "run", finished run.rules (given_held run journal_held w)) (journal_fault name w ∙ ap (λ (k : Kinds). or_else k []) (journal_level_fine w t))
+    (journal_rows name w ∙ ap (λ (x : Walk). Some (codes "run", finished run.rules x.held)) (journal_walk w t))
+    ∙ journal_named w t
 
 -- ---- behind `soak` and its numbers
 
@@ -153,8 +227,11 @@ soak_texts name a b w t u =
 decimal_taken : (n : ℕ) → AreWorkers n → IsTaken (decimal n)
 decimal_taken n h = let lt : n < 2 ^ 64 = omega (arith, h.1) in record { plain = decimal_plain n lt; fits = decimal_accepted 1 16 n lt h.0 h.1 }
 
-pub run_with : (name : Text) (workers : ℕ) → AreWorkers workers → command_of (name ∷ codes "run" ∷ codes "--workers" ∷ decimal workers ∷ []) ≡ Some (Run workers)
-run_with name n h = run_texts name (decimal n) (decimal_taken n h) ∙ ap (λ (w : ℕ). Some (Run w)) (decimal_value n (omega (arith, h.1)))
+pub run_with : (name : Text) (workers : ℕ) → AreWorkers workers → command_of (name ∷ codes "run" ∷ codes "--workers" ∷ decimal workers ∷ []) ≡ Some (Run workers false)
+run_with name n h = run_texts name (decimal n) (decimal_taken n h) ∙ ap (λ (w : ℕ). Some (Run w false)) (decimal_value n (omega (arith, h.1)))
+
+pub journal_with : (name : Text) (workers : ℕ) → AreWorkers workers → command_of (name ∷ codes "run" ∷ codes "--journal" ∷ codes "--workers" ∷ decimal workers ∷ []) ≡ Some (Run workers true)
+journal_with name n h = journal_texts name (decimal n) (decimal_taken n h) ∙ ap (λ (w : ℕ). Some (Run w true)) (decimal_value n (omega (arith, h.1)))
 
 pub soak_with : (name : Text) (seed size workers : ℕ) → IsScenario seed size → AreWorkers workers
     → command_of (name ∷ codes "soak" ∷ decimal seed ∷ decimal size ∷ codes "--workers" ∷ decimal workers ∷ []) ≡ Some (Soak seed size workers)

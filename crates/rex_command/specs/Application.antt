@@ -2,7 +2,7 @@
 use Rattle.std.specs.Prelude.{ℕ, [], ◌∷◌, Some, codes, true}
 use Rattle.clap.specs.Words.{App, Rule, Text, new_app, new_rule, with_rule, with_subcommand}
 use Rattle.clap.specs.Simple.{new_shape}
-use Rattle.clap.specs.declared.builder.ArgAction.TheVariants.{Set}
+use Rattle.clap.specs.declared.builder.ArgAction.TheVariants.{Set, SetTrue}
 use Rattle.clap.specs.declared.builder.ValueParser.TheVariants.{Unsigned}
 
 -- a required number, by its place
@@ -13,9 +13,13 @@ number_rule id low high = record (new_rule id) { action = Some Set; parser = Som
 abbrev pub workers_rule : Rule
 workers_rule = record (new_rule (codes "workers")) { long = Some (codes "workers"); action = Some Set; parser = Some (Unsigned 1 16); defaults = codes "1" ∷ [] }
 
--- `run [--workers W]`
+-- `--journal`
+abbrev pub journal_rule : Rule
+journal_rule = record (new_rule (codes "journal")) { long = Some (codes "journal"); action = Some SetTrue }
+
+-- `run [--workers W] [--journal]`
 abbrev pub run_app : App
-run_app = with_rule (new_app (codes "run")) workers_rule
+run_app = with_rule (with_rule (new_app (codes "run")) workers_rule) journal_rule
 
 -- a name, then a scenario's seed and size
 abbrev pub scenario_app : Text → App

@@ -1,5 +1,5 @@
 -- What the simple forms of a command line ask for, and what is none.
-use Rattle.std.specs.Prelude.{◌≡◌, ◌≤◌, ℕ, List, [], ◌∷◌, ⊤, get_or, Some, None, IfSome, codes}
+use Rattle.std.specs.Prelude.{◌≡◌, ◌≤◌, ℕ, true, false, List, [], ◌∷◌, ⊤, get_or, Some, None, IfSome, codes}
 use Rattle.std.specs.Fmt.{decimal}
 use Rattle.clap.specs.Words.{Text}
 use Rattle.rex_command.specs.Reading.{command_of}
@@ -16,7 +16,7 @@ IsScenario seed size = (seed ≤ 4294967295) × (1 ≤ size) × (size ≤ 1000)
 
 -- the numbers of a command are in their ranges
 abbrev pub Fits : Command → Type 0
-Fits (Run workers) = AreWorkers workers
+Fits (Run workers journal) = AreWorkers workers
 Fits Trace = ⊤
 Fits Check = ⊤
 Fits (Generate seed size) = IsScenario seed size
@@ -26,10 +26,12 @@ Fits (Soak seed size workers) = IsScenario seed size × AreWorkers workers
 abbrev pub CommandsFit : Type 0
 CommandsFit = (words : List Text) → IfSome (command_of words) Fits
 
--- the program's name, a command, and each number in its place, in plain decimal
+-- the program's name, a command, and each number in its place, in plain decimal; behind `run` also `--journal`
 pub record PlainFormsAreTaken : Type 0 where
-  pub run : (name : Text) → command_of (name ∷ codes "run" ∷ []) ≡ Some (Run 1)
-  pub run_with : (name : Text) (workers : ℕ) → AreWorkers workers → command_of (name ∷ codes "run" ∷ codes "--workers" ∷ decimal workers ∷ []) ≡ Some (Run workers)
+  pub run : (name : Text) → command_of (name ∷ codes "run" ∷ []) ≡ Some (Run 1 false)
+  pub run_with : (name : Text) (workers : ℕ) → AreWorkers workers → command_of (name ∷ codes "run" ∷ codes "--workers" ∷ decimal workers ∷ []) ≡ Some (Run workers false)
+  pub journal : (name : Text) → command_of (name ∷ codes "run" ∷ codes "--journal" ∷ []) ≡ Some (Run 1 true)
+  pub journal_with : (name : Text) (workers : ℕ) → AreWorkers workers → command_of (name ∷ codes "run" ∷ codes "--journal" ∷ codes "--workers" ∷ decimal workers ∷ []) ≡ Some (Run workers true)
   pub trace : (name : Text) → command_of (name ∷ codes "trace" ∷ []) ≡ Some Trace
   pub check : (name : Text) → command_of (name ∷ codes "check" ∷ []) ≡ Some Check
   pub generate : (name : Text) (seed size : ℕ) → IsScenario seed size → command_of (name ∷ codes "gen" ∷ decimal seed ∷ decimal size ∷ []) ≡ Some (Generate seed size)

@@ -1,5 +1,6 @@
 -- What the words of a command line ask for, by `clap`'s own account of what it takes.
 use Rattle.std.specs.Prelude.{ℕ, Bool, List, [], ◌∷◌, ◌&&◌, nat_le, Option, Some, None, codes, true, false, option_map, option_and_then, if◌then◌else◌}
+use Rattle.std.specs.Option.{option_map_or}
 use Rattle.std.specs.Str.{bytes_eq}
 use Rattle.std.specs.Str.Parse.{digits_value, without_leading_plus}
 use Rattle.clap.specs.ValueTests.{accepts}
@@ -42,9 +43,13 @@ seed_in = number_in 0 4294967295 (codes "seed")
 abbrev pub size_in : List Row → Option ℕ
 size_in = number_in 1 1000 (codes "size")
 
--- `run` with a number of workers, if there is one
-abbrev pub run_of : Option ℕ → Option Command
-run_of = option_map (λ workers. Run workers)
+-- an option that takes no value was given: its text is `true`, and else `false`
+abbrev pub is_given : Text → List Row → Bool
+is_given id rows = option_map_or (λ t. bytes_eq t (codes "true")) (one_of id rows) false
+
+-- `run` with a number of workers, if there is one, and with journals or without
+abbrev pub run_of : Option ℕ → Bool → Option Command
+run_of workers journal = option_map (λ n. Run n journal) workers
 
 -- `gen` with a seed and a size, if there are both
 abbrev pub generate_of : Option ℕ → Option ℕ → Option Command
@@ -57,7 +62,7 @@ soak_of seed size workers = option_and_then (λ n. option_and_then (λ s. option
 -- the command of this name with the numbers of its arguments
 abbrev pub command_named : Text → List Row → Option Command
 command_named name rows =
-    if bytes_eq name (codes "run") then run_of (workers_in rows)
+    if bytes_eq name (codes "run") then run_of (workers_in rows) (is_given (codes "journal") rows)
     else (if bytes_eq name (codes "trace") then Some Trace
     else (if bytes_eq name (codes "check") then Some Check
     else (if bytes_eq name (codes "gen") then generate_of (seed_in rows) (size_in rows)

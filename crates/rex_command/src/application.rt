@@ -32,12 +32,24 @@ fn workers_option<'a>(alloc: Global) -> Arg<'a>
         .default_value("1")
 }
 
-// `run [--workers W]`.
+// `--journal`.
+fn journal_option<'a>(alloc: Global) -> Arg<'a>
+    ensures rule { rule_of result ≡ spec.journal_rule }
+    ensures local { result.global ≡ false }
+{
+    Arg::new(alloc, "journal")
+        .long("journal")
+        .action(ArgAction::SetTrue)
+}
+
+// `run [--workers W] [--journal]`.
 fn run_command<'a>(alloc: Global) -> Result<Command<'a>, AllocError>
     ensures app { IfOk result (λ c. app_of c ≡ spec.run_app) }
     ensures local { IfOk result (λ c. (out-Command c).has_globals ≡ false) }
 {
-    let command = Command::new(alloc, "run").arg(workers_option(alloc))?;
+    let command = Command::new(alloc, "run")
+        .arg(workers_option(alloc))?
+        .arg(journal_option(alloc))?;
     Ok(command)
 }
 

@@ -3,8 +3,9 @@
 /// What a command line asks for.
 #[derive(Clone, Copy, Debug, PartialEq, Eq)]
 pub enum Command {
-    /// To run a scenario, with this many workers (1 to 16) for each replay.
-    Run { workers: u8 },
+    /// To run a scenario, with this many workers (1 to 16) for each replay, and with each node's records in a journal on a disk
+    /// in memory, or in a list.
+    Run { workers: u8, journal: bool },
     /// To run a scenario, and write the trace that was agreed.
     Trace,
     /// To check a service.

@@ -61,10 +61,20 @@ fn workers_in(matches: &ArgMatches<'_>) -> Option<u8>
     few_workers(matches.get_one::<u8>("workers"))
 }
 
-fn run_of(workers: Option<u8>) -> Option<Command>
-    ensures { result ≡ spec.run_of workers }
+// Whether an option that takes no value was given.
+fn is_given(matches: &ArgMatches<'_>, id: &str) -> bool
+    ensures { result ≡ spec.is_given id.now (rows_of (found_of matches.now)) }
 {
-    Some(Command::Run { workers: workers? })
+    matches.get_one::<bool>(id).unwrap_or(false)
+}
+
+fn run_of(workers: Option<u8>, journal: bool) -> Option<Command>
+    ensures { result ≡ spec.run_of workers journal }
+{
+    Some(Command::Run {
+        workers: workers?,
+        journal,
+    })
 }
 
 fn generate_of(seed: Option<u32>, size: Option<u32>) -> Option<Command>
@@ -91,7 +101,7 @@ fn command_named(name: &str, matches: &ArgMatches<'_>) -> Option<Command>
     ensures { result ≡ spec.command_named name.now (rows_of (found_of matches.now)) }
 {
     if name == "run" {
-        run_of(workers_in(matches))
+        run_of(workers_in(matches), is_given(matches, "journal"))
     } else if name == "trace" {
         Some(Command::Trace)
     } else if name == "check" {

@@ -1,2 +1,3 @@
+mod Allowing
 mod Imaging
 mod Recorded

@@ -25,7 +25,7 @@ image_after fill first (Synced true ∷ earlier) = image_after fill first earlie
 
 -- ---- it is one of those that a stop may leave
 
-length-overwritten : (at : ℕ) (bytes old : List ℕ) → at ≤ length old → length (overwritten at bytes old) ≡ max (length old) (at + length bytes)
+pub length-overwritten : (at : ℕ) (bytes old : List ℕ) → at ≤ length old → length (overwritten at bytes old) ≡ max (length old) (at + length bytes)
 length-overwritten at bytes old le =
     let n = length-take-le at old le in
     let l = length-append (take at old ++ bytes) (drop (at + length bytes) old) in

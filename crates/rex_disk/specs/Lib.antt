@@ -5,4 +5,5 @@ pub mod Inside
 pub mod Memory
 pub mod Record
 pub mod RecordLaws
+pub mod Rules
 pub mod Stops

@@ -1,7 +1,9 @@
 mod Arming
-mod Closing
 mod BytesLaws
+mod Calm
+mod Closing
 mod Committing
+mod Empty
 mod Examples
 mod Making
 mod Moments

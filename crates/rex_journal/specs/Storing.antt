@@ -1,10 +1,11 @@
 -- A journal on a disk in memory, as a store whose failures are armed.
-use Rattle.std.specs.Prelude.{◌≡◌, ◌==◌, ◌&&◌, ℕ, Bool, true, false, not, List, [], ◌∷◌, Option, Some, None}
+use Rattle.std.specs.Prelude.{◌≡◌, ◌==◌, ◌&&◌, ◌+◌, ℕ, Bool, true, false, not, List, [], ◌∷◌, Option, Some, None}
 use Rattle.rex_disk.specs.Memory.{DiskValue}
 use Rattle.rex_disk.specs.Record.{are_within}
 use Rattle.rex_disk.specs.declared.plan.Plan.{Plan}
 use Rattle.rex_disk.specs.declared.plan.Plan.TheVariants.{Write, Sync}
 use Rattle.rex_journal.specs.Keeping.{JournalValue}
+use Rattle.rex_traits.specs.Stores.{StoreValue}
 use Rattle.rex_traits.specs.declared.mem_keeper.Fate.{Fate}
 use Rattle.rex_traits.specs.declared.mem_keeper.Fate.TheVariants.{Kept, Lost}
 
@@ -32,6 +33,10 @@ is_empty (n ∷ ns) = false
 -- no call of the disk is named, what is planned is what arming plans, the disk meets its model, and what it reads is known
 abbrev pub fails_as_armed : JournalValue DiskValue → Bool
 fails_as_armed k = is_empty k.disk.failing && (is_of_fate k.disk.plan && (are_within k.disk.first k.disk.done && not k.unsure))
+
+-- what contracts see of it as a store
+abbrev pub journal_value : JournalValue DiskValue → StoreValue
+journal_value k = record { records = k.records; armed = armed_by k.disk.plan; faults = k.disk.faults + k.refused; broken = k.broken; as_armed = fails_as_armed k }
 
 -- a journal that was reopened with nothing planned: its list is the same, it isn't broken, and no call of its disk is named
 pub record IsReopened (old new : JournalValue DiskValue) : Type 0 where

@@ -1,7 +1,8 @@
 //! A journal on a disk in memory, as a store whose failures are armed.
 
-ghost use Rattle.std.specs.Prelude.{◌≡◌, ◌≤◌, ◌<◌, ◌+◌, ◌-◌, ◌^◌, Some, IsTrue, IfErr, IfOk};
-ghost use Rattle.rex_traits.specs.Stores.{armed_to, reopened};
+ghost use Rattle.std.specs.Prelude.{◌≡◌, ◌≤◌, ◌<◌, ◌+◌, ◌-◌, ◌^◌, [], Some, IsTrue, IfErr, IfOk};
+ghost use Rattle.rex_disk.specs.Memory.{new_disk};
+ghost use Rattle.rex_traits.specs.Stores.{armed_to, fresh_store, reopened, value_by};
 ghost use Rattle.rex_journal.specs.Storing.{IsReopened, armed_by, fails_as_armed, plan_of};
 ghost use Rattle.rex_journal.specs.StoringLaws.{journal_counts, journal_obeys};
 ghost use Rattle.rex_traits.specs.declared.store.ReopenFault.TheVariants as reopen_fault;
@@ -9,7 +10,8 @@ ghost use Rattle.rex_journal.specs.declared.fault.OpenFault.TheVariants as open_
 
 use crate::{JournalKeeper, OpenFault};
 use rex_disk::{MemDisk, Plan};
-use rex_traits::{Fate, ReopenFault, Store};
+use rex_traits::{Fate, Keeper, ReopenFault, Store};
+use std::alloc::{AllocError, Global};
 
 // The failure that arming plans: the first write of an append fails with nothing written, or its second sync fails where all
 // is written.
@@ -32,7 +34,30 @@ fn cause_of(fault: OpenFault) -> ReopenFault
     }
 }
 
+// Opens the journal on a disk without bytes, of which no call is to fail.
+fn open_empty(alloc: Global, disk: MemDisk) -> Result<JournalKeeper<MemDisk>, OpenFault>
+    requires empty { disk ≡ new_disk [] [] }
+    ensures fresh { IfOk result (λ k. value_by ⟦<JournalKeeper<MemDisk> as Keeper>⟧.records ⟦<JournalKeeper<MemDisk> as Keeper>⟧.faults ⟦<JournalKeeper<MemDisk> as Store>⟧.armed ⟦<JournalKeeper<MemDisk> as Store>⟧.broken ⟦<JournalKeeper<MemDisk> as Store>⟧.as_armed k ≡ fresh_store) }
+    ensures memory { IfErr result (λ e. e ≡ open_fault.OutOfMemory) }
+{
+    match JournalKeeper::open(alloc, disk) {
+        Ok(keeper) => Ok(keeper),
+        Err(refused) => Err(refused.fault),
+    }
+}
+
 impl JournalKeeper<MemDisk> {
+    /// An empty journal on a disk in memory of its own, which fails only as it is armed.
+    pub fn in_memory(alloc: Global) -> Result<JournalKeeper<MemDisk>, AllocError>
+        ensures fresh { IfOk result (λ k. value_by ⟦<JournalKeeper<MemDisk> as Keeper>⟧.records ⟦<JournalKeeper<MemDisk> as Keeper>⟧.faults ⟦<JournalKeeper<MemDisk> as Store>⟧.armed ⟦<JournalKeeper<MemDisk> as Store>⟧.broken ⟦<JournalKeeper<MemDisk> as Store>⟧.as_armed k ≡ fresh_store) }
+    {
+        match open_empty(alloc, MemDisk::new(alloc, &[], &[])?) {
+            Ok(keeper) => Ok(keeper),
+            Err(OpenFault::OutOfMemory) => Err(AllocError),
+            Err(OpenFault::Failed | OpenFault::BadJournal { .. }) => unreachable!(),
+        }
+    }
+
     fn set_plan(&mut self, plan: Option<Plan>)
         ensures { self.new ≡ record self.old { disk = record self.old.disk { plan = plan } } }
     {

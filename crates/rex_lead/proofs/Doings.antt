@@ -57,7 +57,7 @@ module _ (service : Declarations) where
   after_both requests seed n w (x ∷ xs) ys = after_both requests seed n (does service requests seed n w x) xs ys
 
   -- a world did some doings, and then others
-  pub did_both : (u v w : World) (xs ys : List Doing) → Did service u v xs → Did service v w ys → Did service u w (xs ++ ys)
+  pub did_both : {S : Type 0} → (u v w : World S) (xs ys : List Doing) → Did service u v xs → Did service v w ys → Did service u w (xs ++ ys)
   did_both u v w xs ys h k = record {
     world =
         k.world
@@ -70,7 +70,7 @@ module _ (service : Declarations) where
     same = record { nodes = k.same.nodes ∙ h.same.nodes; requests = k.same.requests ∙ h.same.requests; seed = k.same.seed ∙ h.same.seed };
   }
 
-  pub did_as : (u w : World) (xs ys : List Doing) → xs ≡ ys → Did service u w xs → Did service u w ys
+  pub did_as : {S : Type 0} → (u w : World S) (xs ys : List Doing) → xs ≡ ys → Did service u w xs → Did service u w ys
   did_as u w xs ys e h = subst (Did service u w) e h
 
 -- ---- an event that node 1 is handed
@@ -116,7 +116,7 @@ whole_of (Err why.UpToDate) h = tt
 whole_of (Err why.Spent) h = tt
 
 -- where memory was not short the world is the one that the model's take leads to
-handed : (service : Declarations) (before after : World) (e : Event) (result : Result Turn Refusal) → IsWhole result → Refuses (refusal_active (node_at (world_of service before).nodes 1)) result
+handed : {S : Type 0} → (service : Declarations) (before after : World S) (e : Event) (result : Result Turn Refusal) → IsWhole result → Refuses (refusal_active (node_at (world_of service before).nodes 1)) result
     → OnOk result (world_of service after ≡ take_in service (world_of service before) 1 e) → OnErr result (world_of service after ≡ world_of service before)
     → world_of service after ≡ take_in service (world_of service before) 1 e
 handed service before after e (Ok turn) whole refuses ok err = ok
@@ -127,7 +127,7 @@ handed service before after e (Err r) whole refuses ok err = go (refusal_active 
     go None h k = absurd (subst (λ (q : Refusal). IsWhole {A = Turn} (Err q)) k whole)
 
 -- a world that isn't broken took the event as the model does
-pub took : (service : Declarations) (before after : World) (e : Event) (result : Result Turn Refusal) → after.broken ≡ false → (result ≡ Err why.OutOfMemory → after.broken ≡ true)
+pub took : {S : Type 0} → (service : Declarations) (before after : World S) (e : Event) (result : Result Turn Refusal) → after.broken ≡ false → (result ≡ Err why.OutOfMemory → after.broken ≡ true)
     → Refuses (refusal_active (node_at (world_of service before).nodes 1)) result
     → OnOk result (world_of service after ≡ take_in service (world_of service before) 1 e) → OnErr result (world_of service after ≡ world_of service before)
     → (IsWhole result → IsRunning service after) → IsSame before after → Did service before after (Takes 1 e ∷ [])

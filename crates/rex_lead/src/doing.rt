@@ -16,12 +16,13 @@ use rex_event::Event;
 use rex_replay::OneThread;
 use rex_scenario::ScheduleLine;
 use rex_syntax::checked::Checked;
+use rex_traits::MemKeeper;
 use rex_world::World;
 use std::alloc::AllocError;
 
 /// Does a schedule line, and leaves aside what it reports.
 pub(crate) fn do_line(
-    world: &mut World,
+    world: &mut World<MemKeeper>,
     svc: &Checked,
     line: &ScheduleLine,
 ) -> Result<(), AllocError>
@@ -37,7 +38,7 @@ pub(crate) fn do_line(
 }
 
 // Hands node 1 an event.
-fn hand_event(world: &mut World, svc: &Checked, event: &Event) -> Result<(), AllocError>
+fn hand_event(world: &mut World<MemKeeper>, svc: &Checked, event: &Event) -> Result<(), AllocError>
     requires running { IsRunning svc.now world.old }
     requires there { 1 ≤ nodes_of world.old }
     requires begins { BeginsInRange event.now }
@@ -53,7 +54,11 @@ fn hand_event(world: &mut World, svc: &Checked, event: &Event) -> Result<(), All
 }
 
 /// Hands node 1 the events of a block, one after the other.
-pub(crate) fn hand_over(world: &mut World, svc: &Checked, block: &[Event]) -> Result<(), AllocError>
+pub(crate) fn hand_over(
+    world: &mut World<MemKeeper>,
+    svc: &Checked,
+    block: &[Event],
+) -> Result<(), AllocError>
     requires running { IsRunning svc.now world.old }
     requires there { 1 ≤ nodes_of world.old }
     requires begins { All BeginsInRange block.now }
@@ -67,7 +72,7 @@ pub(crate) fn hand_over(world: &mut World, svc: &Checked, block: &[Event]) -> Re
 }
 
 /// What node 1 asks is handed to all others, and then what they answer to node 1.
-pub(crate) fn ask_others(world: &mut World, svc: &Checked) -> Result<(), AllocError>
+pub(crate) fn ask_others(world: &mut World<MemKeeper>, svc: &Checked) -> Result<(), AllocError>
     requires running { IsRunning svc.now world.old }
     requires count { world.old.done + 2 < 2 ^ 32 }
     ensures did { OnOk result (Did svc.now world.old world.new (Does Flush ∷ Does Flush ∷ [])) }

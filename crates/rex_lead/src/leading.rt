@@ -16,6 +16,7 @@ use crate::typed::look_at_all;
 use rex_event::Event;
 use rex_scenario::{Scenario, ScheduleLine};
 use rex_syntax::checked::Checked;
+use rex_traits::MemKeeper;
 use rex_world::World;
 use std::alloc::{AllocError, Global};
 
@@ -23,7 +24,7 @@ use std::alloc::{AllocError, Global};
 const BLOCK: usize = 4_096;
 
 // Node 1 asks to lead, and the answers of all others come back to it.
-fn elect(world: &mut World, svc: &Checked) -> Result<(), AllocError>
+fn elect(world: &mut World<MemKeeper>, svc: &Checked) -> Result<(), AllocError>
     requires running { IsRunning svc.now world.old }
     requires there { 1 ≤ nodes_of world.old }
     requires count { world.old.done + 3 < 2 ^ 32 }
@@ -35,7 +36,7 @@ fn elect(world: &mut World, svc: &Checked) -> Result<(), AllocError>
 }
 
 // Node 1 cuts its live events; all others are asked, answer, and are told.
-fn agree(world: &mut World, svc: &Checked) -> Result<(), AllocError>
+fn agree(world: &mut World<MemKeeper>, svc: &Checked) -> Result<(), AllocError>
     requires running { IsRunning svc.now world.old }
     requires there { 1 ≤ nodes_of world.old }
     requires count { world.old.done + 4 < 2 ^ 32 }
@@ -48,7 +49,7 @@ fn agree(world: &mut World, svc: &Checked) -> Result<(), AllocError>
 }
 
 // Node 1 is handed a block, and leads it to agreement.
-fn agree_on(world: &mut World, svc: &Checked, block: &[Event]) -> Result<(), AllocError>
+fn agree_on(world: &mut World<MemKeeper>, svc: &Checked, block: &[Event]) -> Result<(), AllocError>
     requires running { IsRunning svc.now world.old }
     requires there { 1 ≤ nodes_of world.old }
     requires begins { All BeginsInRange block.now }
@@ -61,7 +62,11 @@ fn agree_on(world: &mut World, svc: &Checked, block: &[Event]) -> Result<(), All
 }
 
 // The blocks of the history are handed in and agreed, one after the other.
-fn agree_on_all(world: &mut World, svc: &Checked, history: &[Event]) -> Result<(), AllocError>
+fn agree_on_all(
+    world: &mut World<MemKeeper>,
+    svc: &Checked,
+    history: &[Event],
+) -> Result<(), AllocError>
     requires running { IsRunning svc.now world.old }
     requires there { 1 ≤ nodes_of world.old }
     requires begins { All BeginsInRange history.now }
@@ -76,7 +81,7 @@ fn agree_on_all(world: &mut World, svc: &Checked, history: &[Event]) -> Result<(
 }
 
 // The nodes from 2 on replay what they know.
-fn replay(world: &mut World, svc: &Checked, nodes: u8) -> Result<(), AllocError>
+fn replay(world: &mut World<MemKeeper>, svc: &Checked, nodes: u8) -> Result<(), AllocError>
     requires running { IsRunning svc.now world.old }
     requires some { 1 ≤ nodes }
     requires there { nodes ≤ nodes_of world.old }
@@ -91,7 +96,7 @@ fn replay(world: &mut World, svc: &Checked, nodes: u8) -> Result<(), AllocError>
 
 // Node 1 is elected, leads the history to agreement, and then the others replay it.
 fn lead_world(
-    world: &mut World,
+    world: &mut World<MemKeeper>,
     svc: &Checked,
     nodes: u8,
     history: &[Event],
@@ -110,7 +115,7 @@ fn lead_world(
 }
 
 // What the nodes of a world agreed on, then their end lines.
-fn text_of(alloc: Global, svc: &Checked, world: &World) -> Result<Vec<u8>, AllocError>
+fn text_of(alloc: Global, svc: &Checked, world: &World<MemKeeper>) -> Result<Vec<u8>, AllocError>
     requires { IsRunning svc.now world.now }
     ensures { IfOk result (λ text. text.items ≡ world_text svc.now (world_of svc.now world.now)) }
 {

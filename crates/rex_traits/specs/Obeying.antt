@@ -1,5 +1,4 @@
 -- A store as a keeper in memory.
-use Rattle.std.specs.Prelude.{◌≡◌, ℕ, List, Result, Ok, Err, Option, Some, None, IsSome, IsNone}
 use Rattle.rex_traits.specs.Keeping.{KeeperValue}
 use Rattle.rex_traits.specs.Stores.{StoreValue}
 

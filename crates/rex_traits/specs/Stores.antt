@@ -1,5 +1,5 @@
 -- What an append does to a store whose failures are armed.
-use Rattle.std.specs.Prelude.{◌≡◌, ◌+◌, ℕ, Bool, false, List, [], ◌∷◌, ◌++◌, Result, Ok, Err, Option, Some, None, IsSome, IsNone}
+use Rattle.std.specs.Prelude.{◌≡◌, ◌+◌, ℕ, Bool, true, false, List, [], ◌∷◌, ◌++◌, Result, Ok, Err, Option, Some, None, IsSome, IsNone}
 use Rattle.rex_traits.specs.declared.keeper.KeepFault.{KeepFault}
 use Rattle.rex_traits.specs.declared.keeper.KeepFault.TheVariants.{Failed, OutOfMemory}
 use Rattle.rex_traits.specs.declared.mem_keeper.Fate.{Fate}
@@ -40,6 +40,10 @@ Obeys old new bytes (Err OutOfMemory) = new ≡ old
 -- What contracts see of any store.
 abbrev pub value_by : {K : Type 0} → (K → List (List ℕ)) → (K → ℕ) → (K → Option Fate) → (K → Bool) → (K → Bool) → K → StoreValue
 value_by records faults armed broken as_armed k = record { records = records k; armed = armed k; faults = faults k; broken = broken k; as_armed = as_armed k }
+
+-- A store without records, unarmed, of which no append has failed, that needn't be reopened, and that fails only as it is armed.
+abbrev pub fresh_store : StoreValue
+fresh_store = record { records = []; armed = None; faults = 0; broken = false; as_armed = true }
 
 -- Reopened, and nothing else.
 abbrev pub reopened : StoreValue → StoreValue

@@ -1,7 +1,8 @@
 ghost use Rattle.std.specs.Prelude.{◌≡◌, ◌<◌, ◌-◌, ◌^◌, ◌++◌, ◌∷◌, [], refl, OnErr, OnOk};
 ghost use Rattle.rex_traits.specs.Keeping.{FailsNever, FollowsArming, after_fault, armed_to, unused_keeper};
+ghost use Rattle.rex_traits.specs.Stores.{fresh_store, value_by};
 
-use crate::{KeepFault, Keeper};
+use crate::{KeepFault, Keeper, Store};
 use rex_list::List;
 use std::alloc::{AllocError, Global};
 use std::marker::Model;
@@ -97,7 +98,8 @@ impl Model for MemKeeper {
 impl MemKeeper {
     /// A keeper without records, not armed.
     pub fn new(alloc: Global) -> MemKeeper
-        ensures { result ≡ unused_keeper }
+        ensures value { result ≡ unused_keeper }
+        ensures fresh { value_by ⟦<MemKeeper as Keeper>⟧.records ⟦<MemKeeper as Keeper>⟧.faults ⟦<MemKeeper as Store>⟧.armed ⟦<MemKeeper as Store>⟧.broken ⟦<MemKeeper as Store>⟧.as_armed result ≡ fresh_store }
     {
         MemKeeper {
             keeper: SureKeeper::new(alloc),

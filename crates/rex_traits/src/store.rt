@@ -17,7 +17,7 @@ pub enum ReopenFault {
 }
 
 /// A keeper whose next append can be made to fail, and that is reopened where the machine was stopped.
-pub trait Store: Keeper {
+pub trait Store: Keeper + Drop {
     /// Whether the next append is to fail, and what becomes of its record then.
     ghost armed: { Self → Option Arming };
 

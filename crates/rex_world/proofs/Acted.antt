@@ -1,5 +1,5 @@
 -- What a call of a node comes to.
-use Rattle.std.proofs.Common.{◌≡◌, ℕ, Bool, true, false, List, [], ◌∷◌, length, Result, Ok, Err, Option, Some, None, IfOk, OnErr, nat_lt, nat_le, ◌≤◌, refl, sym, ap, subst, ◌∙◌, le_refl, if◌then◌else◌}
+use Rattle.std.proofs.Common.{◌≡◌, ◌^◌, ◌-◌, ◌<◌, ℕ, Bool, true, false, List, [], ◌∷◌, length, Result, Ok, Err, Option, Some, None, IfOk, OnErr, nat_lt, nat_le, ◌≤◌, refl, sym, ap, subst, ◌∙◌, arith, le_refl, if◌then◌else◌}
 use Rattle.std.specs.Prelude.{◌==◌}
 use Rattle.rex_syntax.specs.declared.service.Declarations.{Declarations}
 use Rattle.rex_event.specs.declared.event.Event.{Event}
@@ -21,8 +21,8 @@ use Rattle.rex_node.specs.Parts.{log_of, IsNode, NodeValue, StaysNode}
 use Rattle.rex_node.specs.Calls.{Does, IsSpared, Refuses, RefusesThen, if_active, if_up, refusal_of_checkpoint, refusal_of_cut, refusal_of_elect, refusal_of_lead, refusal_of_none, refusal_of_open, refusal_of_replay, refusal_up}
 use Rattle.rex_node.specs.Restarting.{CameUp, HasRightBase}
 use Rattle.rex_world.specs.declared.seats.Seat.{Seat}
-use Rattle.rex_world.specs.declared.seats.Seat.TheVariants.{Running, Stopped}
-use Rattle.rex_world.specs.Seats.{IsKeeping, IsRunner, IsSeat, StaysSeat, faults_of, here_at, keeper_in, records_of, here_in}
+use Rattle.rex_world.specs.declared.seats.Seat.TheVariants.{Running, Stopped, Empty}
+use Rattle.rex_world.specs.Seats.{HasKeeper, IsKeeping, IsRunner, IsSeat, StaysRunner, StaysSeat, faults_of, here_at, keeper_in, records_of, here_in}
 use Rattle.rex_world.specs.Calls.{Acts, IsDone, IsWhole, effect_of, Starts}
 use Rattle.rex_world.proofs.Failing.{follows, is_done, stays_keeping, stays_within}
 use Rattle.rex_world.proofs.Unseen.{Goes, checkpoint_either, cut_either, elect_either, receive_either, replay_either}
@@ -222,31 +222,31 @@ module _ (service : Declarations) (seed nodes number : ℕ) (old : NodeValue Kee
       keeping = keeping;
     }
 
-    still : new ≡ old → StaysSeat service seed nodes number (Running old) (Running new)
-    still same = subst (λ (x : NodeValue KeeperValue). StaysSeat service seed nodes number (Running old) (Running x)) (sym same) (record { seat = runner; within = le_refl (faults_of old.keeper) })
+    still : new ≡ old → StaysRunner service seed nodes number old new
+    still same = subst (λ (x : NodeValue KeeperValue). StaysRunner service seed nodes number old x) (sym same) (record { runner = runner; within = le_refl (faults_of old.keeper) })
 
     -- where the keeper is as it was
-    pub stays_same : StaysNode records_of service old new → new.keeper ≡ old.keeper → StaysSeat service seed nodes number (Running old) (Running new)
+    pub stays_same : StaysNode records_of service old new → new.keeper ≡ old.keeper → StaysRunner service seed nodes number old new
     stays_same stays same = record {
-      seat = stays_runner stays (subst (IsKeeping service) (sym same) runner.keeping);
+      runner = stays_runner stays (subst (IsKeeping service) (sym same) runner.keeping);
       within = subst (λ (k : KeeperValue). faults_of k ≤ faults_of old.keeper) (sym same) (le_refl (faults_of old.keeper));
     }
 
     -- so it stays after a call, unless memory was short
-    pub stays_seat : (call : CallHere → CallHere) (result : Result Step Refusal) → ((f : Option Failure) → Goes f call) → StaysNode records_of service old new → IfOk result (Does records_of follows (λ k. k.faults) service call old new) → IsSpared result old new → IsWhole result → StaysSeat service seed nodes number (Running old) (Running new)
-    stays_seat call (Ok step) goes stays does spared whole = record {
-      seat = stays_runner stays (stays_keeping service call goes old new step runner.keeping does);
+    pub stays_whole : (call : CallHere → CallHere) (result : Result Step Refusal) → ((f : Option Failure) → Goes f call) → StaysNode records_of service old new → IfOk result (Does records_of follows (λ k. k.faults) service call old new) → IsSpared result old new → IsWhole result → StaysRunner service seed nodes number old new
+    stays_whole call (Ok step) goes stays does spared whole = record {
+      runner = stays_runner stays (stays_keeping service call goes old new step runner.keeping does);
       within = stays_within service call goes old new step does;
     }
-    stays_seat call (Err why.OutOfMemory) goes stays does spared whole = absurd whole
-    stays_seat call (Err why.Down) goes stays does spared whole = still spared
-    stays_seat call (Err (why.NotActive role)) goes stays does spared whole = still spared
-    stays_seat call (Err (why.Open i)) goes stays does spared whole = still spared
-    stays_seat call (Err why.Ended) goes stays does spared whole = still spared
-    stays_seat call (Err why.Nothing) goes stays does spared whole = still spared
-    stays_seat call (Err (why.Live many)) goes stays does spared whole = still spared
-    stays_seat call (Err why.UpToDate) goes stays does spared whole = still spared
-    stays_seat call (Err why.Spent) goes stays does spared whole = still spared
+    stays_whole call (Err why.OutOfMemory) goes stays does spared whole = absurd whole
+    stays_whole call (Err why.Down) goes stays does spared whole = still spared
+    stays_whole call (Err (why.NotActive role)) goes stays does spared whole = still spared
+    stays_whole call (Err (why.Open i)) goes stays does spared whole = still spared
+    stays_whole call (Err why.Ended) goes stays does spared whole = still spared
+    stays_whole call (Err why.Nothing) goes stays does spared whole = still spared
+    stays_whole call (Err (why.Live many)) goes stays does spared whole = still spared
+    stays_whole call (Err why.UpToDate) goes stays does spared whole = still spared
+    stays_whole call (Err why.Spent) goes stays does spared whole = still spared
 
     pub done_if : (call : CallHere → CallHere) (result : Result Step Refusal) → ((f : Option Failure) → Goes f call) → IfOk result (Does records_of follows (λ k. k.faults) service call old new) → old.up ≡ true → IfOk result (IsDone call (here_at service old) (here_at service new))
     done_if call (Ok step) goes does up = is_done service call goes old new step up does
@@ -262,6 +262,10 @@ module _ (service : Declarations) (seed nodes number : ℕ) (old : NodeValue Kee
     node_acts call goes due result is left says does =
         named (λ n s m. Acts (call n s m) m (here_at service old) (here_at service new) result)
         (acts (call old.nodes old.seed old.id) old.id (here_at service old) (here_at service new) due result is (spared_here service result old new left) says (done_if (call old.nodes old.seed old.id) result goes does))
+
+-- a node that stays, stays in its seat
+pub in_seat : {S : Type 0} → (service : Declarations) (seed nodes number : ℕ) (seat : Seat S) (old new : NodeValue KeeperValue) → seat ≡ Running old → StaysRunner service seed nodes number old new → StaysSeat service seed nodes number seat (Running new)
+in_seat service seed nodes number seat old new is stays = record { seat = stays.runner; within = subst (λ (s : Seat _). faults_of new.keeper ≤ faults_of (keeper_in s)) (sym is) stays.within }
 
 -- ---- calls of a seat
 
@@ -303,12 +307,22 @@ module _ (service : Declarations) (seed nodes number : ℕ) (old new : NodeValue
 
 -- ---- a node that came up
 
-keeping_in : (service : Declarations) (seed nodes number : ℕ) (seat : Seat) → IsSeat service seed nodes number seat → IsKeeping service (keeper_in seat)
+keeping_in : {S : Type 0} → (service : Declarations) (seed nodes number : ℕ) (seat : Seat S) → IsSeat service seed nodes number seat → IsKeeping service (keeper_in seat)
 keeping_in service seed nodes number (Running node) runner = runner.keeping
 keeping_in service seed nodes number (Stopped keeper) keeping = keeping
+keeping_in service seed nodes number Empty none = absurd none
+
+pub has_keeper : {S : Type 0} → (service : Declarations) (seed nodes number : ℕ) (seat : Seat S) → IsSeat service seed nodes number seat → HasKeeper seat
+has_keeper service seed nodes number (Running node) runner = tt
+has_keeper service seed nodes number (Stopped keeper) keeping = tt
+has_keeper service seed nodes number Empty none = absurd none
+
+-- its failures can be counted
+pub has_room : {S : Type 0} → (service : Declarations) (seed nodes number : ℕ) (seat : Seat S) → IsSeat service seed nodes number seat → (keeper_in seat).faults < 2 ^ 64 - 1
+has_room service seed nodes number seat is = let k = (keeping_in service seed nodes number seat is).room in omega arith
 
 -- a node that came up with a seat's keeper is kept in the seat
-pub comes_up : (service : Declarations) (seed nodes number : ℕ) (seat : Seat) (node : NodeValue KeeperValue) → IsSeat service seed nodes number seat → CameUp records_of service number nodes seed (keeper_in seat) node → IsNode records_of service node → StaysSeat service seed nodes number seat (Running node)
+pub comes_up : {S : Type 0} → (service : Declarations) (seed nodes number : ℕ) (seat : Seat S) (node : NodeValue KeeperValue) → IsSeat service seed nodes number seat → CameUp records_of service number nodes seed (keeper_in seat) node → IsNode records_of service node → StaysSeat service seed nodes number seat (Running node)
 comes_up service seed nodes number seat node is up kept = record {
   seat = record {
     id = up.id_is;
@@ -321,12 +335,13 @@ comes_up service seed nodes number seat node is up kept = record {
 }
 
 -- the records of a seat are its keeper's
-log_in : (service : Declarations) (seat : Seat) → (here_in service seat).log ≡ log_of service (records_of (keeper_in seat))
+log_in : {S : Type 0} → (service : Declarations) (seat : Seat S) → (here_in service seat).log ≡ log_of service (records_of (keeper_in seat))
 log_in service (Running node) = refl
 log_in service (Stopped keeper) = refl
+log_in service Empty = refl
 
 -- what holds where a node starts holds of its keeper
-pub starts_kept : (service : Declarations) (seat : Seat) (keeper : KeeperValue) (P : Type 0) → keeper ≡ keeper_in seat → Starts service (here_in service seat)
+pub starts_kept : {S : Type 0} → (service : Declarations) (seat : Seat S) (keeper : KeeperValue) (P : Type 0) → keeper ≡ keeper_in seat → Starts service (here_in service seat)
     → (values_fit service (known (log_of service (records_of keeper))) ≡ true → HasRightBase service (log_of service (records_of keeper)) → P) → P
 starts_kept service seat keeper P e h go =
     let logs : (here_in service seat).log ≡ log_of service (records_of keeper) = log_in service seat ∙ ap (λ (k : KeeperValue). log_of service (records_of k)) (sym e) in

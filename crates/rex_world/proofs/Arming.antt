@@ -24,12 +24,13 @@ use Rattle.rex_safety.specs.Kept.{IsKept}
 use Rattle.rex_safety.proofs.Keeps.{row_kept}
 use Rattle.rex_node.proofs.Ending.{node_with_keeper}
 use Rattle.rex_world.specs.declared.seats.Seat.{Seat}
-use Rattle.rex_world.specs.declared.seats.Seat.TheVariants.{Running, Stopped}
+use Rattle.rex_world.specs.declared.seats.Seat.TheVariants.{Running, Stopped, Empty}
 use Rattle.rex_world.specs.declared.world.World.{World}
-use Rattle.rex_world.specs.Seats.{AreSeats, AreWithin, IsKeeping, IsSeat, armed_in, faults_of, here_in, heres, keeper_in, records_of}
+use Rattle.rex_world.specs.Seats.{AreSeats, AreWithin, HasKeeper, IsKeeping, IsSeat, armed_in, faults_of, here_in, heres, keeper_in, records_of}
 use Rattle.rex_world.specs.World.{nodes_of, world_of}
 use Rattle.rex_world.specs.Kept.{IsRunning, IsSame}
 use Rattle.rex_world.specs.Places.{IsArmedAt}
+use Rattle.rex_world.proofs.Acted.{has_keeper}
 use Rattle.rex_world.proofs.Coming.{same_world}
 use Rattle.rex_world.proofs.Seated.{here_is, put_is, seat_is, set_seats, set_within, within_is, within_more}
 
@@ -39,20 +40,22 @@ use Rattle.rex_world.proofs.Seated.{here_is, put_is, seat_is, set_seats, set_wit
 abbrev pub fate_if : Bool → Fate
 fate_if kept = if kept then fate.Kept else fate.Lost
 
-here_armed : (service : Declarations) (kept : Bool) (seat : Seat) → here_in service (armed_in (fate_if kept) seat) ≡ record (here_in service seat) { armed = Some (After 0 kept) }
-here_armed service true (Running node) = refl
-here_armed service false (Running node) = refl
-here_armed service true (Stopped keeper) = refl
-here_armed service false (Stopped keeper) = refl
+here_armed : {S : Type 0} → (service : Declarations) (kept : Bool) (seat : Seat S) → HasKeeper seat → here_in service (armed_in (fate_if kept) seat) ≡ record (here_in service seat) { armed = Some (After 0 kept) }
+here_armed service true (Running node) there = refl
+here_armed service false (Running node) there = refl
+here_armed service true (Stopped keeper) there = refl
+here_armed service false (Stopped keeper) there = refl
+here_armed service kept Empty none = absurd none
 
-faults_armed : (f : Fate) (seat : Seat) → faults_of (keeper_in (armed_in f seat)) ≤ faults_of (keeper_in seat) + 1
+faults_armed : {S : Type 0} → (f : Fate) (seat : Seat S) → faults_of (keeper_in (armed_in f seat)) ≤ faults_of (keeper_in seat) + 1
 faults_armed f (Running node) = omega arith
 faults_armed f (Stopped keeper) = omega arith
+faults_armed f Empty = omega arith
 
 keeping_armed : (service : Declarations) (f : Fate) (k : KeeperValue) → IsKeeping service k → faults_of k + 1 < 2 ^ 64 - 1 → IsKeeping service (armed_to f k)
 keeping_armed service f k h l = record { read = h.read; room = omega arith }
 
-seat_armed : (service : Declarations) (seed nodes number : ℕ) (f : Fate) (seat : Seat) → IsSeat service seed nodes number seat → faults_of (keeper_in seat) + 1 < 2 ^ 64 - 1 → IsSeat service seed nodes number (armed_in f seat)
+seat_armed : {S : Type 0} → (service : Declarations) (seed nodes number : ℕ) (f : Fate) (seat : Seat S) → IsSeat service seed nodes number seat → faults_of (keeper_in seat) + 1 < 2 ^ 64 - 1 → IsSeat service seed nodes number (armed_in f seat)
 seat_armed service seed nodes number f (Running node) h l = record {
   id = h.id;
   nodes_are = h.nodes_are;
@@ -61,6 +64,7 @@ seat_armed service seed nodes number f (Running node) h l = record {
   keeping = keeping_armed service f node.keeper h.keeping l;
 }
 seat_armed service seed nodes number f (Stopped keeper) h l = keeping_armed service f keeper h l
+seat_armed service seed nodes number f Empty none l = absurd none
 
 -- ---- the row
 
@@ -76,18 +80,21 @@ module _ (service : Declarations) (requests : List Request) (seed n : ℕ) (w : 
 -- ---- the world
 
 -- what a slice of the seats came to, the seats came to
-pub armed_there : (w : World) (m : ℕ) (kept : Bool) (f : Fate) (xs ws : List Seat) → xs ≡ w.seats.items → f ≡ fate_if kept → IsArmedAt f m xs ws → IsArmedAt (fate_if kept) m w.seats.items (with_items w.seats ws).items
+pub armed_there : {S : Type 0} → (w : World S) (m : ℕ) (kept : Bool) (f : Fate) (xs ws : List (Seat S)) → xs ≡ w.seats.items → f ≡ fate_if kept → IsArmedAt f m xs ws → IsArmedAt (fate_if kept) m w.seats.items (with_items w.seats ws).items
 armed_there w m kept f xs ws e same armed =
     let many : length ws ≡ nodes_of w = ap length armed.others ∙ length-set xs (m - 1) (armed_in f armed.seat) ∙ ap length e in
     subst (IsArmedAt (fate_if kept) m w.seats.items) (sym (with_items_is w.seats ws (many ∙ sym w.seats.ok.0)))
-    (subst (λ (ys : List Seat). IsArmedAt (fate_if kept) m ys ws) e (subst (λ (g : Fate). IsArmedAt g m xs ws) same armed))
+    (subst (λ (ys : List (Seat _)). IsArmedAt (fate_if kept) m ys ws) e (subst (λ (g : Fate). IsArmedAt g m xs ws) same armed))
 
-module _ (service : Declarations) (w : World) (h : IsRunning service w) (m : ℕ) (there : IsNode (nodes_of w) m) (kept : Bool) (seats : Vec Seat) (armed : IsArmedAt (fate_if kept) m w.seats.items seats.items) (room : w.done + 1 < 2 ^ 32) where
-  abbrev after : World
+module _ {S : Type 0} (service : Declarations) (w : World S) (h : IsRunning service w) (m : ℕ) (there : IsNode (nodes_of w) m) (kept : Bool) (seats : Vec (Seat S)) (armed : IsArmedAt (fate_if kept) m w.seats.items seats.items) (room : w.done + 1 < 2 ^ 32) where
+  abbrev after : World S
   after = record w { seats = seats; done = w.done + 1 }
 
-  seat : Seat
+  seat : Seat S
   seat = armed.seat
+
+  seat_was : IsSeat service w.seed (nodes_of w) m armed.seat
+  seat_was = subst (IsSeat service w.seed (nodes_of w) m) (sym armed.seat_is) (seat_is service w.seats.items m there armed.seat w.seed (nodes_of w) h.seats)
 
   heres_after : heres service seats.items ≡ put (heres service w.seats.items) m (record (node_at (heres service w.seats.items) m) { armed = Some (After 0 kept) })
   unfolding seat
@@ -95,7 +102,7 @@ module _ (service : Declarations) (w : World) (h : IsRunning service w) (m : ℕ
       let here : node_at (heres service w.seats.items) m ≡ here_in service armed.seat = here_is service w.seats.items m there armed.seat ∙ ap (here_in service) (sym armed.seat_is) in
       ap (heres service) armed.others
       ∙ put_is service w.seats.items m there armed.seat (armed_in (fate_if kept) armed.seat)
-      ∙ ap (put (heres service w.seats.items) m) (here_armed service kept armed.seat ∙ ap (λ (x : Here). let y : Here = record x { armed = Some (After 0 kept) } in y) (sym here))
+      ∙ ap (put (heres service w.seats.items) m) (here_armed service kept armed.seat (has_keeper service w.seed (nodes_of w) m armed.seat seat_was) ∙ ap (λ (x : Here). let y : Here = record x { armed = Some (After 0 kept) } in y) (sym here))
 
   pub arming_world : world_of service after ≡ (row service w.requests w.seed (nodes_of w) (world_of service w) (KeepFail m kept)).world
   arming_world = arming_row service w.requests w.seed (nodes_of w) (world_of service w) m kept (heres service seats.items) heres_after
@@ -104,7 +111,7 @@ module _ (service : Declarations) (w : World) (h : IsRunning service w) (m : ℕ
   many = ap length armed.others ∙ length-set w.seats.items (m - 1) (armed_in (fate_if kept) armed.seat)
 
   few : faults_of (keeper_in armed.seat) ≤ w.done
-  few = subst (λ (s : Seat). faults_of (keeper_in s) ≤ w.done) (sym armed.seat_is) (within_is service w.seats.items m there armed.seat w.done h.within)
+  few = subst (λ (s : Seat S). faults_of (keeper_in s) ≤ w.done) (sym armed.seat_is) (within_is service w.seats.items m there armed.seat w.done h.within)
 
   pub arming_same : IsSame w after
   arming_same = record { nodes = many; requests = refl; seed = refl }
@@ -113,8 +120,6 @@ module _ (service : Declarations) (w : World) (h : IsRunning service w) (m : ℕ
   arming_running =
       let k = few in
       let f = faults_armed (fate_if kept) armed.seat in
-      let seat_was : IsSeat service w.seed (nodes_of w) m armed.seat =
-      subst (IsSeat service w.seed (nodes_of w) m) (sym armed.seat_is) (seat_is service w.seats.items m there armed.seat w.seed (nodes_of w) h.seats) in
       let all : AreSeats service w.seed (nodes_of w) 1 seats.items =
       subst (AreSeats service w.seed (nodes_of w) 1) (sym armed.others)
       (set_seats service w.seats.items m there armed.seat w.seed (nodes_of w) (armed_in (fate_if kept) armed.seat) h.seats (seat_armed service w.seed (nodes_of w) m (fate_if kept) armed.seat seat_was (omega arith))) in
@@ -135,7 +140,7 @@ module _ (service : Declarations) (w : World) (h : IsRunning service w) (m : ℕ
       }
 
 -- one more line is done
-pub counted_running : (service : Declarations) (w : World) → IsRunning service w → IsRunning service (record w { done = w.done + 1 })
+pub counted_running : {S : Type 0} → (service : Declarations) (w : World S) → IsRunning service w → IsRunning service (record w { done = w.done + 1 })
 counted_running service w h = record {
   service_is = h.service_is;
   checked = h.checked;

@@ -25,23 +25,23 @@ use Rattle.rex_world.specs.Kept.{IsRunning}
 use Rattle.rex_world.proofs.Endings.{heres_both}
 
 -- the nodes so far, before the first line
-pub record AreNew (service : Declarations) (seed nodes number : ℕ) (seats : List Seat) : Type 0 where
+pub record AreNew {S : Type 0} (service : Declarations) (seed nodes number : ℕ) (seats : List (Seat S)) : Type 0 where
   pub here : heres service seats ≡ replicate number new_node
   pub are : AreSeats service seed nodes 1 seats
   pub within : AreWithin 0 seats
   pub many : length seats ≡ number
 
-seats_more : (service : Declarations) (seed nodes k : ℕ) (seats : List Seat) (seat : Seat) → AreSeats service seed nodes k seats → IsSeat service seed nodes (k + length seats) seat → AreSeats service seed nodes k (seats ++ seat ∷ [])
+seats_more : {S : Type 0} → (service : Declarations) (seed nodes k : ℕ) (seats : List (Seat S)) (seat : Seat S) → AreSeats service seed nodes k seats → IsSeat service seed nodes (k + length seats) seat → AreSeats service seed nodes k (seats ++ seat ∷ [])
 seats_more service seed nodes k [] seat all one = (subst (λ (m : ℕ). IsSeat service seed nodes m seat) (add-zero k) one, tt)
 seats_more service seed nodes k (s ∷ ss) seat all one =
     let e : k + suc (length ss) ≡ suc k + length ss = omega arith in
     (all.0, seats_more service seed nodes (suc k) ss seat all.1 (subst (λ (m : ℕ). IsSeat service seed nodes m seat) e one))
 
-within_next : (seats : List Seat) (seat : Seat) → AreWithin 0 seats → faults_of (keeper_in seat) ≡ 0 → AreWithin 0 (seats ++ seat ∷ [])
+within_next : {S : Type 0} → (seats : List (Seat S)) (seat : Seat S) → AreWithin 0 seats → faults_of (keeper_in seat) ≡ 0 → AreWithin 0 (seats ++ seat ∷ [])
 within_next [] seat all one = (omega (arith, one), tt)
 within_next (s ∷ ss) seat all one = (all.0, within_next ss seat all.1 one)
 
-pub new_next : (service : Declarations) (seed nodes number : ℕ) (seats : List Seat) (seat : Seat) → AreNew service seed nodes number seats → here_in service seat ≡ new_node → IsSeat service seed nodes (number + 1) seat
+pub new_next : {S : Type 0} → (service : Declarations) (seed nodes number : ℕ) (seats : List (Seat S)) (seat : Seat S) → AreNew service seed nodes number seats → here_in service seat ≡ new_node → IsSeat service seed nodes (number + 1) seat
     → faults_of (keeper_in seat) ≡ 0 → AreNew service seed nodes (number + 1) (seats ++ seat ∷ [])
 new_next service seed nodes number seats seat h e one none =
     let n : number + 1 ≡ 1 + length seats = omega (arith, h.many) in
@@ -51,6 +51,10 @@ new_next service seed nodes number seats seat h e one none =
       within = within_next seats seat h.within none;
       many = length-append seats (seat ∷ []) ∙ ap (λ (k : ℕ). k + 1) h.many;
     }
+
+-- no node yet
+pub none_new : {S : Type 0} → (service : Declarations) (seed nodes : ℕ) (seats : List (Seat S)) → seats ≡ [] → AreNew service seed nodes 0 seats
+none_new service seed nodes seats e = subst (AreNew service seed nodes 0) (sym e) (record { here = refl; are = tt; within = tt; many = refl })
 
 both : (a b : Bool) → (a && b) ≡ true → (a ≡ true) × (b ≡ true)
 both true b e = (refl, e)
@@ -63,14 +67,14 @@ abbrev model_of : ℕ → List Here → List (Message Value) → List Bool → M
 model_of done nodes messages handed = record { done = done; nodes = nodes; messages = messages; handed = handed }
 
 -- the world of the model before the first line
-pub begins : (service : Declarations) (seed n : ℕ) (w : World) → AreNew service seed n n w.seats.items → w.net ≡ [] → w.handed.items ≡ [] → w.done ≡ 0 → world_of service w ≡ beginning n
+pub begins : {S : Type 0} → (service : Declarations) (seed n : ℕ) (w : World S) → AreNew service seed n n w.seats.items → w.net ≡ [] → w.handed.items ≡ [] → w.done ≡ 0 → world_of service w ≡ beginning n
 begins service seed n w h net handed done =
     ap (λ (d : ℕ). model_of d (heres service w.seats.items) (messages_of w.net) w.handed.items) done
     ∙ ap (λ (xs : List Here). model_of 0 xs (messages_of w.net) w.handed.items) h.here
     ∙ ap (λ (ms : List (List ℕ)). model_of 0 (replicate n new_node) (messages_of ms) w.handed.items) net
     ∙ ap (λ (hs : List Bool). model_of 0 (replicate n new_node) [] hs) handed
 
-pub new_running : (service : Declarations) (n : ℕ) (w : World) → n ≤ most_nodes → IsService service → IsChecked service → All (RequestFits service) w.requests → AreNew service w.seed n n w.seats.items
+pub new_running : {S : Type 0} → (service : Declarations) (n : ℕ) (w : World S) → n ≤ most_nodes → IsService service → IsChecked service → All (RequestFits service) w.requests → AreNew service w.seed n n w.seats.items
     → w.net ≡ [] → w.handed.items ≡ [] → w.done ≡ 0 → w.flushed ≡ 0 → w.broken ≡ false → IsRunning service w
 new_running service n w few good checked fit h net handed done flushed whole =
     record {

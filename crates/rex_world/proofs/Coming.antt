@@ -89,12 +89,12 @@ down_only w m call down = ap (λ (t : Bool). if_up t w m (call (begin (node_at w
 
 -- ---- a step that was told
 
-module _ (service : Declarations) (w w2 : World) (seats : Vec Seat) (told told2 : Told) where
-  abbrev seated : World
+module _ {S : Type 0} (service : Declarations) (w w2 : World S) (seats : Vec (Seat S)) (told told2 : Told) where
+  abbrev seated : World S
   seated = record w { seats = seats }
 
   -- a world that sent these messages
-  abbrev sent_world : World
+  abbrev sent_world : World S
   sent_world = record w { seats = seats; net = w2.net; handed = w2.handed }
 
   module _ (step : Step) (tells : TellsStep seated w2 told told2 step) where
@@ -132,7 +132,7 @@ module _ (service : Declarations) (w w2 : World) (seats : Vec Seat) (told told2 
           checked = h.checked;
           whole = h.whole;
           few = subst (λ (k : ℕ). k ≤ most_nodes) (sym many) h.few;
-          kept = subst (λ (k : ℕ). IsKept service w.seed k (world_of service sent_world)) (sym many) (subst (λ (v : World). IsKept service w.seed (nodes_of w) (world_of service v)) tells.rest kept);
+          kept = subst (λ (k : ℕ). IsKept service w.seed k (world_of service sent_world)) (sym many) (subst (λ (v : World S). IsKept service w.seed (nodes_of w) (world_of service v)) tells.rest kept);
           seats = subst (λ (k : ℕ). AreSeats service w.seed k 1 seats.items) (sym many) all.seats_are;
           within = all.within;
           spelled = subst (All IsSpelled) (sym tells.sends.net) (All-append IsSpelled w.net (map spelling_of step.sends) h.spelled (all_spelled step.sends tells.sends.spelled));
@@ -142,13 +142,13 @@ module _ (service : Declarations) (w w2 : World) (seats : Vec Seat) (told told2 
         })
 
     pub same_after : length seats.items ≡ nodes_of w → IsSame w w2
-    same_after many = record { nodes = ap nodes_of tells.rest ∙ many; requests = ap (λ (v : World). v.requests) tells.rest; seed = ap (λ (v : World). v.seed) tells.rest }
+    same_after many = record { nodes = ap nodes_of tells.rest ∙ many; requests = ap (λ (v : World S). v.requests) tells.rest; seed = ap (λ (v : World S). v.seed) tells.rest }
 
     pub done_after : w2.done ≡ w.done
-    done_after = ap (λ (v : World). v.done) tells.rest
+    done_after = ap (λ (v : World S). v.done) tells.rest
 
     pub flushed_after : w2.flushed ≡ w.flushed
-    flushed_after = ap (λ (v : World). v.flushed) tells.rest
+    flushed_after = ap (λ (v : World S). v.flushed) tells.rest
 
   -- ---- a refusal that was told
 
@@ -184,9 +184,9 @@ module _ (service : Declarations) (w w2 : World) (seats : Vec Seat) (told told2 
             flushed = h.flushed;
             handed = h.handed;
           });
-      same = record { nodes = ap nodes_of same ∙ many; requests = ap (λ (v : World). v.requests) same; seed = ap (λ (v : World). v.seed) same };
-      done = ap (λ (v : World). v.done) same;
-      flushed = ap (λ (v : World). v.flushed) same;
+      same = record { nodes = ap nodes_of same ∙ many; requests = ap (λ (v : World S). v.requests) same; seed = ap (λ (v : World S). v.seed) same };
+      done = ap (λ (v : World S). v.done) same;
+      flushed = ap (λ (v : World S). v.flushed) same;
     }
 
   -- ---- a call

@@ -20,7 +20,7 @@ use Rattle.rex_safety.specs.Lanes.{Here}
 use Rattle.rex_traits.specs.Keeping.{KeeperValue}
 use Rattle.rex_node.specs.Parts.{NodeValue, ActingValue, IsNode, IsActing, here_of, log_of, role_of, work_of, state_of, shown_of, shown_with}
 use Rattle.rex_world.specs.declared.seats.Seat.{Seat}
-use Rattle.rex_world.specs.declared.seats.Seat.TheVariants.{Running, Stopped}
+use Rattle.rex_world.specs.declared.seats.Seat.TheVariants.{Running, Stopped, Empty}
 use Rattle.rex_world.specs.Seats.{IsSeat, AreSeats, heres, here_in, records_of}
 use Rattle.rex_world.proofs.Seated.{many_here, seat_is}
 use Rattle.std.proofs.lemmas.List.{append-nil}
@@ -83,7 +83,7 @@ module _ (service : Declarations) (x : NodeValue KeeperValue) (node : IsNode rec
 
 -- ---- one line after the other
 
-pub heres_both : (service : Declarations) (xs ys : List Seat) → heres service (xs ++ ys) ≡ heres service xs ++ heres service ys
+pub heres_both : {S : Type 0} → (service : Declarations) (xs ys : List (Seat S)) → heres service (xs ++ ys) ≡ heres service xs ++ heres service ys
 heres_both service [] ys = refl
 heres_both service (x ∷ xs) ys = ap (λ (zs : List Here). here_in service x ∷ zs) (heres_both service xs ys)
 
@@ -98,14 +98,14 @@ ends_more service number (x ∷ xs) y =
     ∙ sym (append_assoc (node_text service number x) (ends_text service (suc number) xs) (node_text service (number + suc (length xs)) y))
 
 -- the lines so far, and one more
-pub ends_next : (service : Declarations) (seats : List Seat) (i number : ℕ) (seat d : Seat) (initial before after : List ℕ) → i < length seats → seat ≡ slice_index_or seats i d → number ≡ i + 1
+pub ends_next : {S : Type 0} → (service : Declarations) (seats : List (Seat S)) (i number : ℕ) (seat d : Seat S) (initial before after : List ℕ) → i < length seats → seat ≡ slice_index_or seats i d → number ≡ i + 1
     → before ≡ initial ++ ends_text service 1 (heres service (take i seats)) → after ≡ before ++ node_text service number (here_in service seat)
     → after ≡ initial ++ ends_text service 1 (heres service (take (i + 1) seats))
 ends_next service seats i number seat d initial before after l is e b h =
-    let t : take (i + 1) seats ≡ take i seats ++ seat ∷ [] = ap (λ (k : ℕ). take k seats) (add-one i) ∙ take-suc seats i d l ∙ ap (λ (y : Seat). take i seats ++ y ∷ []) (sym is) in
+    let t : take (i + 1) seats ≡ take i seats ++ seat ∷ [] = ap (λ (k : ℕ). take k seats) (add-one i) ∙ take-suc seats i d l ∙ ap (λ (y : Seat _). take i seats ++ y ∷ []) (sym is) in
     let n : 1 + length (heres service (take i seats)) ≡ number = omega (arith, many_here service (take i seats), length-take i seats, l, e) in
     let m : ends_text service 1 (heres service (take (i + 1) seats)) ≡ ends_text service 1 (heres service (take i seats)) ++ node_text service number (here_in service seat) =
-    ap (λ (ss : List Seat). ends_text service 1 (heres service ss)) t
+    ap (λ (ss : List (Seat _)). ends_text service 1 (heres service ss)) t
     ∙ ap (λ (xs : List Here). ends_text service 1 xs) (heres_both service (take i seats) (seat ∷ []))
     ∙ ends_more service 1 (heres service (take i seats)) (here_in service seat)
     ∙ ap (λ (k : ℕ). ends_text service 1 (heres service (take i seats)) ++ node_text service k (here_in service seat)) n in
@@ -114,12 +114,13 @@ ends_next service seats i number seat d initial before after l is e b h =
     ∙ ap (λ (t : List ℕ). initial ++ t) (sym m)
 
 -- a kept node has its number
-pub numbered : (service : Declarations) (seed nodes number : ℕ) (seat : Seat) → IsSeat service seed nodes number seat → IsNumbered service number seat
+pub numbered : {S : Type 0} → (service : Declarations) (seed nodes number : ℕ) (seat : Seat S) → IsSeat service seed nodes number seat → IsNumbered service number seat
 numbered service seed nodes number (Running x) h = (h.id, h.node)
 numbered service seed nodes number (Stopped k) h = tt
+numbered service seed nodes number Empty none = tt
 
-pub numbered_at : (service : Declarations) (seed nodes : ℕ) (seats : List Seat) (i number : ℕ) (seat d : Seat) → AreSeats service seed nodes 1 seats → i < length seats → seat ≡ slice_index_or seats i d → number ≡ i + 1 → IsNumbered service number seat
+pub numbered_at : {S : Type 0} → (service : Declarations) (seed nodes : ℕ) (seats : List (Seat S)) (i number : ℕ) (seat d : Seat S) → AreSeats service seed nodes 1 seats → i < length seats → seat ≡ slice_index_or seats i d → number ≡ i + 1 → IsNumbered service number seat
 numbered_at service seed nodes seats i number seat d all l is e =
     let n : number - 1 ≡ i = omega (arith, e) in
     numbered service seed nodes number seat
-    (subst (λ (s : Seat). IsSeat service seed nodes number s) (ap (λ (k : ℕ). slice_index_or seats k d) n ∙ sym is) (seat_is service seats number (omega (arith, e), omega (arith, l, e)) d seed nodes all))
+    (subst (λ (s : Seat _). IsSeat service seed nodes number s) (ap (λ (k : ℕ). slice_index_or seats k d) n ∙ sym is) (seat_is service seats number (omega (arith, e), omega (arith, l, e)) d seed nodes all))

@@ -62,8 +62,8 @@ down_handed service e x down = record {
 
 -- ---- among the nodes
 
-module _ (service : Declarations) (seats : List Seat) (number : ℕ) (here : IsNode (length seats) number) (d : Seat) where
-  pub handed_at : (seed : ℕ) (e : Event) (seat : Seat) (outcome : Result Turn Refusal)
+module _ {S : Type 0} (service : Declarations) (seats : List (Seat S)) (number : ℕ) (here : IsNode (length seats) number) (d : Seat S) where
+  pub handed_at : (seed : ℕ) (e : Event) (seat : Seat S) (outcome : Result Turn Refusal)
       → IsHanded service e (here_in service (slice_index_or seats (number - 1) d)) (here_in service seat) outcome → StaysSeat service seed (length seats) number (slice_index_or seats (number - 1) d) seat
       → IsHandedAt service seed number e seats (slice_set seats (number - 1) seat) outcome
   handed_at seed e seat outcome h kept = record {
@@ -83,7 +83,7 @@ takes_kept : TakesAreKept
 takes_kept service seed n w m e few good checked there begins k = take_kept service good checked [] (All-nil (RequestFits service)) seed n few w k m there e begins
 
 -- a node that isn't refused is up and active
-none_refused : (h : Here) → refusal_active h ≡ None → (h.up ≡ true) × (is_active h.role ≡ true)
+pub none_refused : (h : Here) → refusal_active h ≡ None → (h.up ≡ true) × (is_active h.role ≡ true)
 none_refused h none = by h.up h.role none
   where
     by_lead : (l : Lead Value) (b : Bool) → (if b then None else Some (why.NotActive (role_name (Leads l)))) ≡ None → b ≡ true
@@ -101,7 +101,7 @@ ok_none (Some r) t h = absurd (cc)
 
 module _ (service : Declarations) (w : ModelWorld) (m : ℕ) (e : Event) where
   -- an active node that is handed an event is the only one that changes
-  take_is : (node_at w.nodes m).up ≡ true → is_active (node_at w.nodes m).role ≡ true
+  pub take_is : (node_at w.nodes m).up ≡ true → is_active (node_at w.nodes m).role ≡ true
       → (let v : ModelWorld = record w { nodes = put w.nodes m (taken (taken_in service (node_at w.nodes m) e) (begin (node_at w.nodes m))).node } in v) ≡ take service w m e
   take_is up active =
       same_world w.done w.done (put w.nodes m (taken (taken_in service (node_at w.nodes m) e) (begin (node_at w.nodes m))).node) (put w.nodes m (taken (taken_in service (node_at w.nodes m) e) (begin (node_at w.nodes m))).node)
@@ -110,15 +110,15 @@ module _ (service : Declarations) (w : ModelWorld) (m : ℕ) (e : Event) where
       ∙ sym (ap (λ (t : Bool). (if_up t w m (active_only (is_active (node_at w.nodes m).role) (begin (node_at w.nodes m)) (take_event service e (begin (node_at w.nodes m))))).world) up)
 
 -- what a slice of the seats came to, the seats came to
-pub handed_there : (service : Declarations) (w : World) (m : ℕ) (e : Event) (xs ws : List Seat) (outcome : Result Turn Refusal) → xs ≡ w.seats.items → IsHandedAt service w.seed m e xs ws outcome
+pub handed_there : {S : Type 0} → (service : Declarations) (w : World S) (m : ℕ) (e : Event) (xs ws : List (Seat S)) (outcome : Result Turn Refusal) → xs ≡ w.seats.items → IsHandedAt service w.seed m e xs ws outcome
     → IsHandedAt service w.seed m e w.seats.items (with_items w.seats ws).items outcome
 handed_there service w m e xs ws outcome is a =
     let many : length ws ≡ nodes_of w = a.many ∙ ap length is in
-    subst (λ (ys : List Seat). IsHandedAt service w.seed m e w.seats.items ys outcome) (sym (with_items_is w.seats ws (many ∙ sym w.seats.ok.0)))
-    (subst (λ (ys : List Seat). IsHandedAt service w.seed m e ys ws outcome) is a)
+    subst (λ (ys : List (Seat _)). IsHandedAt service w.seed m e w.seats.items ys outcome) (sym (with_items_is w.seats ws (many ∙ sym w.seats.ok.0)))
+    (subst (λ (ys : List (Seat _)). IsHandedAt service w.seed m e ys ws outcome) is a)
 
-module _ (service : Declarations) (w : World) (h : IsRunning service w) (m : ℕ) (there : IsNode (nodes_of w) m) (e : Event) (seats : Vec Seat) where
-  abbrev later : Bool → World
+module _ {S : Type 0} (service : Declarations) (w : World S) (h : IsRunning service w) (m : ℕ) (there : IsNode (nodes_of w) m) (e : Event) (seats : Vec (Seat S)) where
+  abbrev later : Bool → World S
   later broken = record w { seats = seats; broken = broken }
 
   pub given_world : (broken : Bool) (outcome : Result Turn Refusal) → IsHandedAt service w.seed m e w.seats.items seats.items outcome → OnOk outcome (world_of service (later broken) ≡ take service (world_of service w) m e)

@@ -75,7 +75,7 @@ all_still (b ∷ hs) (suc f) (suc i) h =
     let rest = all_still hs f i p.1 in
     ap (λ (t : Bool). t && list_all (λ (c : Bool). c) (take f (slice_set hs i true))) p.0 ∙ rest
 
-module _ (service : Declarations) (w w1 : World) (number : ℕ) (marked : IsMarked number w w1) where
+module _ {S : Type 0} (service : Declarations) (w w1 : World S) (number : ℕ) (marked : IsMarked number w w1) where
   pub marked_world : world_of service w1 ≡ with_handed (world_of service w) number
   marked_world =
       ap (world_of service) marked.rest
@@ -106,7 +106,7 @@ module _ (service : Declarations) (w w1 : World) (number : ℕ) (marked : IsMark
 
 -- ---- a message that is handed over
 
-module _ (service : Declarations) (w : World) (h : IsRunning service w) (number : ℕ) (m : Said) (sent : IsSent w.net number m) where
+module _ {S : Type 0} (service : Declarations) (w : World S) (h : IsRunning service w) (number : ℕ) (m : Said) (sent : IsSent w.net number m) where
   is_there : IsIn (message_in m) (messages_of w.net)
   is_there = go number (sent_at w.net number m sent)
     where
@@ -117,27 +117,27 @@ module _ (service : Declarations) (w : World) (h : IsRunning service w) (number 
   fits : MessageFits (nodes_of w) (message_in m)
   fits = h.kept.numbers.messages (message_in m) is_there
 
-  module _ (xs : List Seat) (e : xs ≡ w.seats.items) where
+  module _ (xs : List (Seat S)) (e : xs ≡ w.seats.items) where
     pub hand_there : IsNode (length xs) m.to
-    hand_there = subst (λ (ys : List Seat). IsNode (length ys) m.to) (sym e) fits.to
+    hand_there = subst (λ (ys : List (Seat S)). IsNode (length ys) m.to) (sym e) fits.to
 
     pub hand_fits : MessageFits (length xs) (message_in m)
-    hand_fits = subst (λ (ys : List Seat). MessageFits (length ys) (message_in m)) (sym e) fits
+    hand_fits = subst (λ (ys : List (Seat S)). MessageFits (length ys) (message_in m)) (sym e) fits
 
     pub hand_runs : RunsOn service (receive (length xs) (service_of service w.seed) m.to m.from (content_in m.content)) (begin (disarmed (node_at (heres service xs) m.to)))
     hand_runs =
-        subst (λ (ys : List Seat). RunsOn service (receive (length ys) (service_of service w.seed) m.to m.from (content_in m.content)) (begin (disarmed (node_at (heres service ys) m.to)))) (sym e)
+        subst (λ (ys : List (Seat S)). RunsOn service (receive (length ys) (service_of service w.seed) m.to m.from (content_in m.content)) (begin (disarmed (node_at (heres service ys) m.to)))) (sym e)
         (runs_after service w h m.to fits.to (receive (nodes_of w) (service_of service w.seed) m.to m.from (content_in m.content))
         (λ d good. receive_good (nodes_of w) (service_of service w.seed) (logs (world_of service w)) (roles (world_of service w)) (messages_of w.net) m.to fits.to m.from (content_in m.content) d good (good.old (message_in m) is_there)))
 
   -- the row of the node's call, without the message's own effect
-  abbrev hand_row : World → Row
+  abbrev hand_row : World S → Row
   hand_row v = at_node (world_of service v) m.to (receive (nodes_of v) (service_of service v.seed) m.to m.from (content_in m.content))
 
   delivered : Effect
   delivered = Delivered number (kind_of (content_in m.content)) m.from m.to
 
-  module _ (w1 : World) (marked : IsMarked number w w1) where
+  module _ (w1 : World S) (marked : IsMarked number w w1) where
     marked_row : hand_row w1 ≡ at_node (with_handed (world_of service w) number) m.to (receive (nodes_of w) (service_of service w.seed) m.to m.from (content_in m.content))
     marked_row =
         ap hand_row marked.rest
@@ -152,9 +152,9 @@ module _ (service : Declarations) (w : World) (h : IsRunning service w) (number 
     pub hand_kept : IsKept service w1.seed (nodes_of w1) (hand_row w1).world
     hand_kept =
         let k : IsKept service w.seed (nodes_of w) (hand_row w1).world = subst (λ (r : Row). IsKept service w.seed (nodes_of w) r.world) line_row (kept_next service w h (line.Deliver number) (sent_within w.net number m sent).0) in
-        subst (λ (v : World). IsKept service v.seed (nodes_of v) (hand_row w1).world) (sym marked.rest) k
+        subst (λ (v : World S). IsKept service v.seed (nodes_of v) (hand_row w1).world) (sym marked.rest) k
 
-    pub hand_came : (w2 : World) (told told1 told2 : Told) → told1.effects.items ≡ told.effects.items ++ Delivered number (kind_of (content_in m.content)) m.from m.to ∷ [] → told1.sent.items ≡ told.sent.items
+    pub hand_came : (w2 : World S) (told told1 told2 : Told) → told1.effects.items ≡ told.effects.items ++ Delivered number (kind_of (content_in m.content)) m.from m.to ∷ [] → told1.sent.items ≡ told.sent.items
         → ComesTo service w1 w2 told1 told2 (hand_row w1) → Comes service w w2 told told2 (line.Deliver number)
     unfolding delivered
     hand_came w2 told told1 told2 effects sent-same c =
@@ -164,20 +164,20 @@ module _ (service : Declarations) (w : World) (h : IsRunning service w) (number 
             world = c.did.world;
             effects = c.did.effects ∙ ap (λ (es : List Effect). es ++ (hand_row w1).effects) effects ∙ append_assoc told.effects.items (delivered ∷ []) (hand_row w1).effects;
             sent = c.did.sent ∙ ap (λ (es : List Effect). es ++ sent_from (suc (length (messages_of w1.net))) (drop (length (messages_of w1.net)) (hand_row w1).world.messages)) sent-same
-                ∙ ap (λ (v : World). told.sent.items ++ sent_from (suc (length (messages_of v.net))) (drop (length (messages_of v.net)) (hand_row w1).world.messages)) marked.rest;
+                ∙ ap (λ (v : World S). told.sent.items ++ sent_from (suc (length (messages_of v.net))) (drop (length (messages_of v.net)) (hand_row w1).world.messages)) marked.rest;
           };
           running = c.running;
           same = record {
             nodes = c.same.nodes ∙ ap nodes_of marked.rest;
-            requests = c.same.requests ∙ ap (λ (v : World). v.requests) marked.rest;
-            seed = c.same.seed ∙ ap (λ (v : World). v.seed) marked.rest;
+            requests = c.same.requests ∙ ap (λ (v : World S). v.requests) marked.rest;
+            seed = c.same.seed ∙ ap (λ (v : World S). v.seed) marked.rest;
           };
-          done = c.done ∙ ap (λ (v : World). v.done) marked.rest;
-          flushed = c.flushed ∙ ap (λ (v : World). v.flushed) marked.rest;
+          done = c.done ∙ ap (λ (v : World S). v.done) marked.rest;
+          flushed = c.flushed ∙ ap (λ (v : World S). v.flushed) marked.rest;
         })
 
 -- where there is no message of the number
-pub missed : (service : Declarations) (w : World) (told told2 : Told) (number : ℕ) → IsRunning service w → net.message_at w.net number ≡ None → told2.effects.items ≡ told.effects.items ++ NoMessage number ∷ []
+pub missed : {S : Type 0} → (service : Declarations) (w : World S) (told told2 : Told) (number : ℕ) → IsRunning service w → net.message_at w.net number ≡ None → told2.effects.items ≡ told.effects.items ++ NoMessage number ∷ []
     → told2.sent.items ≡ told.sent.items → Comes service w w told told2 (line.Deliver number)
 missed service w told told2 number h none effects sent =
     let row : step_in service w (line.Deliver number) ≡ only (world_of service w) (NoMessage number) = ap (deliver_found service w.seed (nodes_of w) (world_of service w) number) (missed_at w.net number none) in
@@ -195,9 +195,9 @@ missed service w told told2 number h none effects sent =
     })
 
 -- the message stays under its number
-pub sent_on : (number : ℕ) (w w1 : World) (m : Said) → IsMarked number w w1 → IsSent w.net number m → IsSent w1.net number m
-sent_on number w w1 m marked sent = subst (λ (v : World). IsSent v.net number m) (sym marked.rest) sent
+pub sent_on : {S : Type 0} → (number : ℕ) (w w1 : World S) (m : Said) → IsMarked number w w1 → IsSent w.net number m → IsSent w1.net number m
+sent_on number w w1 m marked sent = subst (λ (v : World _). IsSent v.net number m) (sym marked.rest) sent
 
 -- it is known of each message whether it was handed over
-pub sent_handed : (service : Declarations) (w : World) → IsRunning service w → (number : ℕ) → number ≤ length w.net → number ≤ length w.handed.items
+pub sent_handed : {S : Type 0} → (service : Declarations) (w : World S) → IsRunning service w → (number : ℕ) → number ≤ length w.net → number ≤ length w.handed.items
 sent_handed service w h number l = omega (arith, h.kept.handed, messages_many w.net, l)

@@ -272,12 +272,12 @@ module _ (service : Declarations) (requests : List Request) (seed n : ℕ) where
 
 -- ---- the same requests, seed and nodes
 
-pub over_as : (service : Declarations) (before after : World) (v u : ModelWorld) (b c : Told) (place : ℕ) (waited waits : Bool) → IsSame before after
+pub over_as : {S : Type 0} → (service : Declarations) (before after : World S) (v u : ModelWorld) (b c : Told) (place : ℕ) (waited waits : Bool) → IsSame before after
     → HandsOver service after.requests after.seed (nodes_of after) v u b c place waited waits → HandsOver service before.requests before.seed (nodes_of before) v u b c place waited waits
 over_as service before after v u b c place waited waits same h =
     subst (λ (k : ℕ). HandsOver service before.requests before.seed k v u b c place waited waits) same.nodes
     (subst (λ (s : ℕ). HandsOver service before.requests s (nodes_of after) v u b c place waited waits) same.seed
     (subst (λ (rs : List Request). HandsOver service rs after.seed (nodes_of after) v u b c place waited waits) same.requests h))
 
-pub same_both : (a b c : World) → IsSame a b → IsSame b c → IsSame a c
+pub same_both : {S : Type 0} → (a b c : World S) → IsSame a b → IsSame b c → IsSame a c
 same_both a b c s t = record { nodes = t.nodes ∙ s.nodes; requests = t.requests ∙ s.requests; seed = t.seed ∙ s.seed }

@@ -1,3 +1,4 @@
+pub mod Blocks
 pub mod Acted
 pub mod Starting
 pub mod Arming

@@ -15,11 +15,11 @@ use Rattle.rex_world.specs.World.{nodes_of, world_of}
 use Rattle.rex_world.proofs.Runs.{next_of}
 
 -- what the next line reports
-abbrev pub told_of : Declarations → World → ScheduleLine → List Effect
+abbrev pub told_of : {S : Type 0} → Declarations → World S → ScheduleLine → List Effect
 told_of service w line = (row service w.requests w.seed (nodes_of w) (world_of service w) line).effects
 
 -- the releases of the next line come first, and then those of the other lines
-releases_next : (service : Declarations) (s : Scenario) (w : World) (line : ScheduleLine) (rest left : List ScheduleLine) → IsOf s w → left ≡ line ∷ rest
+releases_next : {S : Type 0} → (service : Declarations) (s : Scenario) (w : World S) (line : ScheduleLine) (rest left : List ScheduleLine) → IsOf s w → left ≡ line ∷ rest
     → releases_from service s (world_of service w) left ≡ filter is_release (told_of service w line) ++ releases_from service s (next_of service w line) rest
 releases_next service s w line rest left of l =
     subst (λ (n : ℕ). filter is_release (effects_of service s.requests s.seed n (world_of service w) left) ≡ first ++ filter is_release (effects_of service s.requests s.seed n (next_of service w line) rest)) of.nodes
@@ -32,7 +32,7 @@ releases_next service s w line rest left of l =
     first = filter is_release (told_of service w line)
 
 -- with the releases of one line more
-pub releases_more : (service : Declarations) (s : Scenario) (w after : World) (line : ScheduleLine) (rest left : List ScheduleLine) (had now told whole : List Effect) → IsOf s w → left ≡ line ∷ rest
+pub releases_more : {S : Type 0} → (service : Declarations) (s : Scenario) (w after : World S) (line : ScheduleLine) (rest left : List ScheduleLine) (had now told whole : List Effect) → IsOf s w → left ≡ line ∷ rest
     → world_of service after ≡ next_of service w line → told ≡ told_of service w line → now ≡ had ++ filter is_release told
     → had ++ releases_from service s (world_of service w) left ≡ whole → now ++ releases_from service s (world_of service after) rest ≡ whole
 releases_more service s w after line rest left had now told whole of l world told_is now_is before =
@@ -43,6 +43,6 @@ releases_more service s w after line rest left had now told whole of l world tol
     ∙ before
 
 -- none are left at the end
-pub releases_all : (service : Declarations) (s : Scenario) (w : World) (left : List ScheduleLine) (had whole : List Effect) → left ≡ [] → had ++ releases_from service s (world_of service w) left ≡ whole → had ≡ whole
+pub releases_all : {S : Type 0} → (service : Declarations) (s : Scenario) (w : World S) (left : List ScheduleLine) (had whole : List Effect) → left ≡ [] → had ++ releases_from service s (world_of service w) left ≡ whole → had ≡ whole
 releases_all service s w left had whole none before =
     sym (append-nil had) ∙ ap (λ (ls : List ScheduleLine). had ++ releases_from service s (world_of service w) ls) (sym none) ∙ before

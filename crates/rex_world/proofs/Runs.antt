@@ -30,11 +30,11 @@ drop_end {X} xs same i e le = subst (λ (ys : List X). drop i ys ≡ []) e (past
     past (y ∷ ys) (suc j) h = past ys j (omega arith)
 
 -- the world that a schedule line makes of a world
-abbrev pub next_of : Declarations → World → ScheduleLine → ModelWorld
+abbrev pub next_of : {S : Type 0} → Declarations → World S → ScheduleLine → ModelWorld
 next_of service w line = (row service w.requests w.seed (nodes_of w) (world_of service w) line).world
 
 -- the report goes on with the lines of the next schedule line
-pub report_next : (service : Declarations) (s : Scenario) (w : World) (line : ScheduleLine) (rest left : List ScheduleLine) → IsOf s w → left ≡ line ∷ rest
+pub report_next : {S : Type 0} → (service : Declarations) (s : Scenario) (w : World S) (line : ScheduleLine) (rest left : List ScheduleLine) → IsOf s w → left ≡ line ∷ rest
     → report_from service s.requests s.seed s.nodes (world_of service w) left
     ≡ effects_text service (w.done + 1) (row service w.requests w.seed (nodes_of w) (world_of service w) line).effects ++ report_from service s.requests s.seed s.nodes (next_of service w line) rest
 report_next service s w line rest left of l =
@@ -47,9 +47,9 @@ report_next service s w line rest left of l =
     text = effects_text service (w.done + 1) (row service w.requests w.seed (nodes_of w) (world_of service w) line).effects
 
 -- the same requests, seed and nodes after a line
-pub still_of : (s : Scenario) (w after : World) → IsOf s w → IsSame w after → IsOf s after
+pub still_of : {S : Type 0} → (s : Scenario) (w after : World S) → IsOf s w → IsSame w after → IsOf s after
 still_of s w after of same = record { nodes = same.nodes ∙ of.nodes; requests = same.requests ∙ of.requests; seed = same.seed ∙ of.seed }
 
 -- one more line is done
-pub done_next : (service : Declarations) (w after : World) (line : ScheduleLine) → world_of service after ≡ next_of service w line → after.done ≡ w.done + 1
+pub done_next : {S : Type 0} → (service : Declarations) (w after : World S) (line : ScheduleLine) → world_of service after ≡ next_of service w line → after.done ≡ w.done + 1
 done_next service w after line e = ap (λ (x : ModelWorld). x.done) e

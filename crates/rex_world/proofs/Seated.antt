@@ -25,34 +25,34 @@ later_put : (x : Here) (xs : List Here) (i : ℕ) (y : Here) → put (x ∷ xs) 
 later_put x xs i y = let e : suc (suc i) - 1 ≡ suc i = omega arith in rw (ne_eqb (suc (suc i)) 1 (past_one i), e) refl
 
 module _ (service : Declarations) where
-  pub many_here : (seats : List Seat) → length (heres service seats) ≡ length seats
+  pub many_here : {S : Type 0} → (seats : List (Seat S)) → length (heres service seats) ≡ length seats
   many_here [] = refl
   many_here (s ∷ ss) = ap suc (many_here ss)
 
-  pub here_index : (seats : List Seat) (i : ℕ) (d : Seat) → i < length seats → node_at (heres service seats) (suc i) ≡ here_in service (get_or seats i d)
+  pub here_index : {S : Type 0} → (seats : List (Seat S)) (i : ℕ) (d : Seat S) → i < length seats → node_at (heres service seats) (suc i) ≡ here_in service (get_or seats i d)
   here_index [] i d l = absurd (omega arith)
   here_index (s ∷ ss) zero d l = refl
   here_index (s ∷ ss) (suc i) d l = later_at (here_in service s) (heres service ss) i ∙ here_index ss i d (omega arith)
 
-  put_index : (seats : List Seat) (i : ℕ) (seat : Seat) → i < length seats → heres service (slice_set seats i seat) ≡ put (heres service seats) (suc i) (here_in service seat)
+  put_index : {S : Type 0} → (seats : List (Seat S)) (i : ℕ) (seat : Seat S) → i < length seats → heres service (slice_set seats i seat) ≡ put (heres service seats) (suc i) (here_in service seat)
   put_index [] i seat l = absurd (omega arith)
   put_index (s ∷ ss) zero seat l = refl
   put_index (s ∷ ss) (suc i) seat l = ap (λ (xs : List Here). here_in service s ∷ xs) (put_index ss i seat (omega arith)) ∙ sym (later_put (here_in service s) (heres service ss) i (here_in service seat))
 
-  new_index : (seats : List Seat) (i : ℕ) (seat : Seat) → i < length seats → node_at (heres service (slice_set seats i seat)) (suc i) ≡ here_in service seat
+  new_index : {S : Type 0} → (seats : List (Seat S)) (i : ℕ) (seat : Seat S) → i < length seats → node_at (heres service (slice_set seats i seat)) (suc i) ≡ here_in service seat
   new_index [] i seat l = absurd (omega arith)
   new_index (s ∷ ss) zero seat l = refl
   new_index (s ∷ ss) (suc i) seat l = later_at (here_in service s) (heres service (slice_set ss i seat)) i ∙ new_index ss i seat (omega arith)
 
   module _ (seed nodes : ℕ) where
-    seat_from : (k : ℕ) (seats : List Seat) (i : ℕ) (d : Seat) → AreSeats service seed nodes k seats → i < length seats → IsSeat service seed nodes (k + i) (get_or seats i d)
+    seat_from : {S : Type 0} → (k : ℕ) (seats : List (Seat S)) (i : ℕ) (d : Seat S) → AreSeats service seed nodes k seats → i < length seats → IsSeat service seed nodes (k + i) (get_or seats i d)
     seat_from k [] i d all l = absurd (omega arith)
     seat_from k (s ∷ ss) zero d all l = let e : k + 0 ≡ k = omega arith in subst (λ (m : ℕ). IsSeat service seed nodes m s) (sym e) all.0
     seat_from k (s ∷ ss) (suc i) d all l =
         let e : suc k + i ≡ k + suc i = omega arith in
         subst (λ (m : ℕ). IsSeat service seed nodes m (get_or ss i d)) e (seat_from (suc k) ss i d all.1 (omega arith))
 
-    seats_from : (k : ℕ) (seats : List Seat) (i : ℕ) (seat : Seat) → AreSeats service seed nodes k seats → IsSeat service seed nodes (k + i) seat → AreSeats service seed nodes k (slice_set seats i seat)
+    seats_from : {S : Type 0} → (k : ℕ) (seats : List (Seat S)) (i : ℕ) (seat : Seat S) → AreSeats service seed nodes k seats → IsSeat service seed nodes (k + i) seat → AreSeats service seed nodes k (slice_set seats i seat)
     seats_from k [] i seat all one = tt
     seats_from k (s ∷ ss) zero seat all one = let e : k + 0 ≡ k = omega arith in (subst (λ (m : ℕ). IsSeat service seed nodes m seat) e one, all.1)
     seats_from k (s ∷ ss) (suc i) seat all one =
@@ -61,21 +61,21 @@ module _ (service : Declarations) where
 
   -- ---- how often keepers fail
 
-  within_from : (most : ℕ) (seats : List Seat) (i : ℕ) (seat : Seat) → AreWithin most seats → faults_of (keeper_in seat) ≤ most → AreWithin most (slice_set seats i seat)
+  within_from : {S : Type 0} → (most : ℕ) (seats : List (Seat S)) (i : ℕ) (seat : Seat S) → AreWithin most seats → faults_of (keeper_in seat) ≤ most → AreWithin most (slice_set seats i seat)
   within_from most [] i seat all one = tt
   within_from most (s ∷ ss) zero seat all one = (one, all.1)
   within_from most (s ∷ ss) (suc i) seat all one = (all.0, within_from most ss i seat all.1 one)
 
-  within_at : (most : ℕ) (seats : List Seat) (i : ℕ) (d : Seat) → AreWithin most seats → i < length seats → faults_of (keeper_in (get_or seats i d)) ≤ most
+  within_at : {S : Type 0} → (most : ℕ) (seats : List (Seat S)) (i : ℕ) (d : Seat S) → AreWithin most seats → i < length seats → faults_of (keeper_in (get_or seats i d)) ≤ most
   within_at most [] i d all l = absurd (omega arith)
   within_at most (s ∷ ss) zero d all l = all.0
   within_at most (s ∷ ss) (suc i) d all l = within_at most ss i d all.1 (omega arith)
 
-  pub within_more : (most more : ℕ) (seats : List Seat) → AreWithin most seats → most ≤ more → AreWithin more seats
+  pub within_more : {S : Type 0} → (most more : ℕ) (seats : List (Seat S)) → AreWithin most seats → most ≤ more → AreWithin more seats
   within_more most more [] all l = tt
   within_more most more (s ∷ ss) all l = (let h = all.0 in omega arith, within_more most more ss all.1 l)
 
-  module _ (seats : List Seat) (number : ℕ) (here : IsNode (length seats) number) (d : Seat) where
+  module _ {S : Type 0} (seats : List (Seat S)) (number : ℕ) (here : IsNode (length seats) number) (d : Seat S) where
     is_next : number ≡ suc (number - 1)
     is_next = omega (arith, here.0)
 
@@ -93,22 +93,22 @@ module _ (service : Declarations) where
     pub within_is : (most : ℕ) → AreWithin most seats → faults_of (keeper_in (slice_index_or seats (number - 1) d)) ≤ most
     within_is most all = within_at most seats (number - 1) d all inside
 
-    pub set_within : (most : ℕ) (seat : Seat) → AreWithin most seats → faults_of (keeper_in seat) ≤ most → AreWithin most (slice_set seats (number - 1) seat)
+    pub set_within : (most : ℕ) (seat : Seat S) → AreWithin most seats → faults_of (keeper_in seat) ≤ most → AreWithin most (slice_set seats (number - 1) seat)
     set_within most seat all one = within_from most seats (number - 1) seat all one
 
-    pub new_is : (seat : Seat) → node_at (heres service (slice_set seats (number - 1) seat)) number ≡ here_in service seat
+    pub new_is : (seat : Seat S) → node_at (heres service (slice_set seats (number - 1) seat)) number ≡ here_in service seat
     new_is seat = subst (λ (m : ℕ). node_at (heres service (slice_set seats (number - 1) seat)) m ≡ here_in service seat) (sym is_next) (new_index seats (number - 1) seat inside)
 
-    pub put_is : (seat : Seat) → heres service (slice_set seats (number - 1) seat) ≡ put (heres service seats) number (here_in service seat)
+    pub put_is : (seat : Seat S) → heres service (slice_set seats (number - 1) seat) ≡ put (heres service seats) number (here_in service seat)
     put_is seat = subst (λ (m : ℕ). heres service (slice_set seats (number - 1) seat) ≡ put (heres service seats) m (here_in service seat)) (sym is_next) (put_index seats (number - 1) seat inside)
 
-    pub set_seats : (seed nodes : ℕ) (seat : Seat) → AreSeats service seed nodes 1 seats → IsSeat service seed nodes number seat → AreSeats service seed nodes 1 (slice_set seats (number - 1) seat)
+    pub set_seats : (seed nodes : ℕ) (seat : Seat S) → AreSeats service seed nodes 1 seats → IsSeat service seed nodes number seat → AreSeats service seed nodes 1 (slice_set seats (number - 1) seat)
     set_seats seed nodes seat all one =
         let e : number ≡ 1 + (number - 1) = omega (arith, here.0) in
         seats_from seed nodes 1 seats (number - 1) seat all (subst (λ (m : ℕ). IsSeat service seed nodes m seat) e one)
 
     -- only this node is another one
-    changed_at : (seed : ℕ) (seat : Seat) (outcome : Result Step Refusal) → (IsWhole outcome → StaysSeat service seed (length seats) number (slice_index_or seats (number - 1) d) seat)
+    changed_at : (seed : ℕ) (seat : Seat S) (outcome : Result Step Refusal) → (IsWhole outcome → StaysSeat service seed (length seats) number (slice_index_or seats (number - 1) d) seat)
         → IsChangedAt service seed number seats (slice_set seats (number - 1) seat) outcome
     changed_at seed seat outcome kept = record {
       others = put_is seat ∙ ap (λ (y : Here). put (heres service seats) number y) (sym (new_is seat));
@@ -120,7 +120,7 @@ module _ (service : Declarations) where
     }
 
     -- what a seat's call did, the world's node did
-    pub acts_at : (seed : ℕ) (call : CallHere → CallHere) (seat : Seat) (outcome : Result Step Refusal)
+    pub acts_at : (seed : ℕ) (call : CallHere → CallHere) (seat : Seat S) (outcome : Result Step Refusal)
         → Acts call number (here_in service (slice_index_or seats (number - 1) d)) (here_in service seat) outcome → (IsWhole outcome → StaysSeat service seed (length seats) number (slice_index_or seats (number - 1) d) seat)
         → ActsAt service seed call number seats (slice_set seats (number - 1) seat) outcome
     acts_at seed call seat outcome acts kept = record {
@@ -129,7 +129,7 @@ module _ (service : Declarations) where
       changed = changed_at seed seat outcome kept;
     }
 
-    pub starts_at : (seed : ℕ) (seat : Seat) (outcome : Result Step Refusal)
+    pub starts_at : (seed : ℕ) (seat : Seat S) (outcome : Result Step Refusal)
         → IsStarted (service_of service seed) number (here_in service (slice_index_or seats (number - 1) d)) (here_in service seat) outcome → (IsWhole outcome → StaysSeat service seed (length seats) number (slice_index_or seats (number - 1) d) seat)
         → StartsAt service seed number seats (slice_set seats (number - 1) seat) outcome
     starts_at seed seat outcome starts kept = record {

@@ -28,10 +28,10 @@ use Rattle.rex_node.specs.Messages.{message_in}
 use Rattle.rex_node.specs.Restarting.{CameUp}
 use Rattle.rex_node.specs.Parts.{NodeValue, StaysNode, here_of, log_of}
 use Rattle.rex_world.specs.declared.seats.Seat.{Seat}
-use Rattle.rex_world.specs.declared.seats.Seat.TheVariants.{Running, Stopped}
+use Rattle.rex_world.specs.declared.seats.Seat.TheVariants.{Running, Stopped, Empty}
 use Rattle.rex_world.specs.Calls.{CameBack, HasStarted, IsDone, IsWhole, StartsIf}
-use Rattle.rex_world.specs.Seats.{IsRunner, StaysSeat, armed_of, faults_of, here_at, here_in, is_up_in, keeper_in, records_of}
-use Rattle.rex_world.proofs.Acted.{done_if, stays_seat}
+use Rattle.rex_world.specs.Seats.{IsRunner, StaysRunner, StaysSeat, armed_of, faults_of, here_at, here_in, is_up_in, keeper_in, records_of}
+use Rattle.rex_world.proofs.Acted.{done_if, stays_whole}
 use Rattle.rex_world.proofs.Failing.{follows}
 use Rattle.rex_world.proofs.Unseen.{migrate_either}
 
@@ -129,9 +129,9 @@ module _ (service : Declarations) (seed nodes number : ℕ) (old : NodeValue Kee
   migrates new migrated does =
       done_if service seed nodes number old runner new (migrate (service_of service old.seed) old.id) (Ok migrated) (λ f. migrate_either f (service_of service old.seed) old.id) does up
 
-  pub migrate_stays : (new : NodeValue KeeperValue) (migrated : Step) → StaysNode records_of service old new → Does records_of follows (λ k. k.faults) service (migrate (service_of service old.seed) old.id) old new migrated → StaysSeat service seed nodes number (Running old) (Running new)
+  pub migrate_stays : (new : NodeValue KeeperValue) (migrated : Step) → StaysNode records_of service old new → Does records_of follows (λ k. k.faults) service (migrate (service_of service old.seed) old.id) old new migrated → StaysRunner service seed nodes number old new
   migrate_stays new migrated stays does =
-      stays_seat service seed nodes number old runner new (migrate (service_of service old.seed) old.id) (Ok migrated) (λ f. migrate_either f (service_of service old.seed) old.id) stays does tt tt
+      stays_whole service seed nodes number old runner new (migrate (service_of service old.seed) old.id) (Ok migrated) (λ f. migrate_either f (service_of service old.seed) old.id) stays does tt tt
 
   -- what both steps did
   pub joined_back : (new : NodeValue KeeperValue) (first migrated : Step) (result : Result Step Refusal) → Does records_of follows (λ k. k.faults) service (migrate (service_of service old.seed) old.id) old new migrated
@@ -140,28 +140,31 @@ module _ (service : Declarations) (seed nodes number : ℕ) (old : NodeValue Kee
   joined_back new first migrated (Ok step) does first_is effects sends = comes_migrated new first migrated step (migrates new migrated does) first_is effects sends
   joined_back new first migrated (Err refusal) does first_is effects sends = tt
 
-  pub still_there : StaysSeat service seed nodes number (Running old) (Running old)
-  still_there = record { seat = runner; within = le_refl (faults_of old.keeper) }
+  pub still_there : StaysRunner service seed nodes number old old
+  still_there = record { runner = runner; within = le_refl (faults_of old.keeper) }
 
 -- ---- a node that came up in a seat
 
-up_in : (service : Declarations) (seat : Seat) → (here_in service seat).up ≡ is_up_in seat
+up_in : {S : Type 0} → (service : Declarations) (seat : Seat S) → (here_in service seat).up ≡ is_up_in seat
 up_in service (Running node) = refl
 up_in service (Stopped keeper) = refl
+up_in service Empty = refl
 
-armed_in_seat : (service : Declarations) (seat : Seat) → (here_in service seat).armed ≡ armed_of (keeper_in seat).armed
+armed_in_seat : {S : Type 0} → (service : Declarations) (seat : Seat S) → (here_in service seat).armed ≡ armed_of (keeper_in seat).armed
 armed_in_seat service (Running node) = refl
 armed_in_seat service (Stopped keeper) = refl
+armed_in_seat service Empty = refl
 
-log_in_seat : (service : Declarations) (seat : Seat) → (here_in service seat).log ≡ log_of service (records_of (keeper_in seat))
+log_in_seat : {S : Type 0} → (service : Declarations) (seat : Seat S) → (here_in service seat).log ≡ log_of service (records_of (keeper_in seat))
 log_in_seat service (Running node) = refl
 log_in_seat service (Stopped keeper) = refl
+log_in_seat service Empty = refl
 
 -- a node with these records, whose keeper is armed so, and that is up
 abbrev restarted : List (Rec Value StateValue) → Option Failure → Here
 restarted log armed = record (down_node log armed) { up = true }
 
-module _ (service : Declarations) (seed nodes number : ℕ) (seat : Seat) (node : NodeValue KeeperValue) (up : CameUp records_of service number nodes seed (keeper_in seat) node) where
+module _ {S : Type 0} (service : Declarations) (seed nodes number : ℕ) (seat : Seat S) (node : NodeValue KeeperValue) (up : CameUp records_of service number nodes seed (keeper_in seat) node) where
   pub comes_up_up : node.up ≡ true
   comes_up_up = ap (λ (h : Here). h.up) up.node
 
@@ -179,8 +182,8 @@ module _ (service : Declarations) (seed nodes number : ℕ) (seat : Seat) (node 
       (has_started (service_of service seed) number (here_in service seat) (here_at service node) (here_at service new) step restarts_as back)
 
 -- where a node stays that came up in a seat, the seat stays
-pub stays_on : (service : Declarations) (seed nodes number : ℕ) (seat : Seat) (node new : NodeValue KeeperValue) → StaysSeat service seed nodes number seat (Running node) → StaysSeat service seed nodes number (Running node) (Running new) → StaysSeat service seed nodes number seat (Running new)
-stays_on service seed nodes number seat node new first second = record { seat = second.seat; within = omega (arith, first.within, second.within) }
+pub stays_on : {S : Type 0} → (service : Declarations) (seed nodes number : ℕ) (seat : Seat S) (node new : NodeValue KeeperValue) → StaysSeat service seed nodes number seat (Running node) → StaysRunner service seed nodes number node new → StaysSeat service seed nodes number seat (Running new)
+stays_on service seed nodes number seat node new first second = record { seat = second.runner; within = omega (arith, first.within, second.within) }
 
 -- a line's version is one that the service's states have
 pub form_version : (service : Declarations) (node : ℕ) (version : Version) → FormFits (has_old_form service) (line.Checkpoint node version) → has_version service version ≡ true

@@ -53,7 +53,7 @@ pub on_ok : {A B : Type 0} (r : Result (Unit {0}) AllocError) → (A → B) → 
 on_ok (Ok x) f h = f h
 on_ok (Err e) f h = tt
 
-module _ (service : Declarations) (w : World) (h : IsRunning service w) where
+module _ {S : Type 0} (service : Declarations) (w : World S) (h : IsRunning service w) where
   abbrev model : ModelWorld
   model = world_of service w
 
@@ -121,53 +121,53 @@ module _ (service : Declarations) (w : World) (h : IsRunning service w) where
       inside x i = is_behind model.messages d.sends x (subst (IsIn x) acts.sends i)
 
   -- as many seats as there were are the world's
-  seats_are : (ws : List Seat) → length ws ≡ nodes_of w → (with_items w.seats ws).items ≡ ws
+  seats_are : (ws : List (Seat S)) → length ws ≡ nodes_of w → (with_items w.seats ws).items ≡ ws
   seats_are ws many = with_items_is w.seats ws (many ∙ sym w.seats.ok.0)
 
   -- a call of the nodes came to a row of the model
-  pub came : (m : ℕ) (xs : List Seat) (e : xs ≡ w.seats.items) (call : List Seat → CallHere → CallHere) (ws : List Seat) (outcome : Result Step Refusal) (w2 : World) (told told2 : Told) (r : Result (Unit {0}) AllocError)
+  pub came : (m : ℕ) (xs : List (Seat S)) (e : xs ≡ w.seats.items) (call : List (Seat S) → CallHere → CallHere) (ws : List (Seat S)) (outcome : Result Step Refusal) (w2 : World S) (told told2 : Told) (r : Result (Unit {0}) AllocError)
       → ActsAt service w.seed (call xs) m xs ws outcome → IsKept service w.seed (nodes_of w) (at_node model m (call w.seats.items)).world
       → OnOk r (IsTold m (record w { seats = with_items w.seats ws }) w2 told told2 outcome) → OnOk r (ComesTo service w w2 told told2 (at_node model m (call w.seats.items)))
   came m xs e call ws outcome w2 told told2 r acts kept told-is =
       let many : length ws ≡ nodes_of w = acts.changed.many ∙ ap length e in
-      let b : ActsAt service w.seed (call w.seats.items) m w.seats.items ws outcome = subst (λ (ys : List Seat). ActsAt service w.seed (call ys) m ys ws outcome) e acts in
+      let b : ActsAt service w.seed (call w.seats.items) m w.seats.items ws outcome = subst (λ (ys : List (Seat S)). ActsAt service w.seed (call ys) m ys ws outcome) e acts in
       let a : ActsAt service w.seed (call w.seats.items) m w.seats.items (with_items w.seats ws).items outcome =
-      subst (λ (ys : List Seat). ActsAt service w.seed (call w.seats.items) m w.seats.items ys outcome) (sym (seats_are ws many)) b in
+      subst (λ (ys : List (Seat S)). ActsAt service w.seed (call w.seats.items) m w.seats.items ys outcome) (sym (seats_are ws many)) b in
       on_ok r (λ t. comes service w w2 (with_items w.seats ws) told told2 h m (call w.seats.items) kept a.changed.others a.changed.many outcome a.acts (λ whole. a.changed.seats whole w.done (record { seats_are = h.seats; within = h.within })) t) told-is
 
   -- the messages of a call have their numbers in their ranges
-  pub call_fits : (m : ℕ) (xs : List Seat) (e : xs ≡ w.seats.items) (call : List Seat → CallHere → CallHere) (ws : List Seat) (outcome : Result Step Refusal)
+  pub call_fits : (m : ℕ) (xs : List (Seat S)) (e : xs ≡ w.seats.items) (call : List (Seat S) → CallHere → CallHere) (ws : List (Seat S)) (outcome : Result Step Refusal)
       → ActsAt service w.seed (call xs) m xs ws outcome → IsKept service w.seed (nodes_of w) (at_node model m (call w.seats.items)).world → IfOk outcome (λ (step : Step). All IsMessage step.sends)
   call_fits m xs e call ws outcome acts kept =
-      let a : ActsAt service w.seed (call w.seats.items) m w.seats.items ws outcome = subst (λ (ys : List Seat). ActsAt service w.seed (call ys) m ys ws outcome) e acts in
+      let a : ActsAt service w.seed (call w.seats.items) m w.seats.items ws outcome = subst (λ (ys : List (Seat S)). ActsAt service w.seed (call ys) m ys ws outcome) e acts in
       sends_fit m (call w.seats.items) (node_at (heres service ws) m) outcome a.acts kept
 
   -- ---- what each kind of call needs
 
-  module _ (xs : List Seat) (e : xs ≡ w.seats.items) (m : ℕ) (there : IsNode (nodes_of w) m) where
+  module _ (xs : List (Seat S)) (e : xs ≡ w.seats.items) (m : ℕ) (there : IsNode (nodes_of w) m) where
     -- a fact of the world's nodes
-    among : (P : List Seat → Type 0) → P w.seats.items → P xs
+    among : (P : List (Seat S) → Type 0) → P w.seats.items → P xs
     among P h = subst P (sym e) h
 
     pub elect_runs : RunsOn service (calls.elect (length xs) sv m) (begin (disarmed (node_at (heres service xs) m)))
     elect_runs =
-        among (λ (ys : List Seat). RunsOn service (calls.elect (length ys) sv m) (begin (disarmed (node_at (heres service ys) m))))
+        among (λ (ys : List (Seat S)). RunsOn service (calls.elect (length ys) sv m) (begin (disarmed (node_at (heres service ys) m))))
         (runs_after m there (calls.elect (nodes_of w) sv m) (elect_good (nodes_of w) sv (logs model) (roles model) model.messages m there h.few))
 
     pub cut_runs : (limits : Option (List ℕ)) → RunsOn service (lanes.cut service w.seed (length xs) m (counts_for service (node_at (heres service xs) m) limits)) (begin (disarmed (node_at (heres service xs) m)))
     cut_runs limits =
-        among (λ (ys : List Seat). RunsOn service (lanes.cut service w.seed (length ys) m (counts_for service (node_at (heres service ys) m) limits)) (begin (disarmed (node_at (heres service ys) m))))
+        among (λ (ys : List (Seat S)). RunsOn service (lanes.cut service w.seed (length ys) m (counts_for service (node_at (heres service ys) m) limits)) (begin (disarmed (node_at (heres service ys) m))))
         (runs_after m there (lanes.cut service w.seed (nodes_of w) m (counts_for service (node_at model.nodes m) limits))
         (λ d good. cut_good service w.seed (nodes_of w) (logs model) (roles model) model.messages m there (counts_for service (node_at model.nodes m) limits) d good))
 
     pub can_cut : (limits : Option (List ℕ)) → AreLimits service limits → (node_at (heres service xs) m).up ≡ true → CanBeCut (node_at (heres service xs) m) (counts_for service (node_at (heres service xs) m) limits)
-    can_cut limits l = among (λ (ys : List Seat). (node_at (heres service ys) m).up ≡ true → CanBeCut (node_at (heres service ys) m) (counts_for service (node_at (heres service ys) m) limits)) (can_be_cut service w h m there limits l)
+    can_cut limits l = among (λ (ys : List (Seat S)). (node_at (heres service ys) m).up ≡ true → CanBeCut (node_at (heres service ys) m) (counts_for service (node_at (heres service ys) m) limits)) (can_be_cut service w h m there limits l)
 
     pub has_room : (lane : ℕ) → (node_at (heres service xs) m).up ≡ true → (lane_of (lanes.live_state service (node_at (heres service xs) m)) lane).done + 1 < 2 ^ 32
-    has_room lane = among (λ (ys : List Seat). (node_at (heres service ys) m).up ≡ true → (lane_of (lanes.live_state service (node_at (heres service ys) m)) lane).done + 1 < 2 ^ 32) (room service w h m there lane)
+    has_room lane = among (λ (ys : List (Seat S)). (node_at (heres service ys) m).up ≡ true → (lane_of (lanes.live_state service (node_at (heres service ys) m)) lane).done + 1 < 2 ^ 32) (room service w h m there lane)
 
     pub starts_from : Starts service (node_at (heres service xs) m)
-    starts_from = among (λ (ys : List Seat). Starts service (node_at (heres service ys) m)) (record { fit = fit service w h m there; base = λ s e. base_is_right service w.seed (nodes_of w) model h.kept.world m s there e })
+    starts_from = among (λ (ys : List (Seat S)). Starts service (node_at (heres service ys) m)) (record { fit = fit service w h m there; base = λ s e. base_is_right service w.seed (nodes_of w) model h.kept.world m s there e })
 
   -- the row of a cut
   pub cut_row : (m : ℕ) (limits : Option (List ℕ)) → step_in service w (cut_line m limits) ≡ at_node model m (lanes.cut service w.seed (nodes_of w) m (counts_for service (node_at model.nodes m) limits))
@@ -182,7 +182,7 @@ module _ (service : Declarations) (w : World) (h : IsRunning service w) where
       → IsKept service w.seed (nodes_of w) (at_node model m (lanes.cut service w.seed (nodes_of w) m (counts_for service (node_at model.nodes m) limits))).world
   cut_kept m limits there l = subst (λ (r : Row). IsKept service w.seed (nodes_of w) r.world) (cut_row m limits) (kept_next (cut_line m limits) (cut_fits m limits there l))
 
-  pub cut_came : (m : ℕ) (limits : Option (List ℕ)) (w2 : World) (told told2 : Told) (r : Result (Unit {0}) AllocError)
+  pub cut_came : (m : ℕ) (limits : Option (List ℕ)) (w2 : World S) (told told2 : Told) (r : Result (Unit {0}) AllocError)
       → OnOk r (ComesTo service w w2 told told2 (at_node model m (lanes.cut service w.seed (nodes_of w) m (counts_for service (node_at model.nodes m) limits))))
       → OnOk r (ComesTo service w w2 told told2 (step_in service w (cut_line m limits)))
   cut_came m limits w2 told told2 r c = subst (λ (x : Row). OnOk r (ComesTo service w w2 told told2 x)) (sym (cut_row m limits)) c
@@ -192,7 +192,7 @@ module _ (service : Declarations) (w : World) (h : IsRunning service w) where
   abbrev submits : Option Request → CallHere → CallHere
   submits request d = lanes.active_only (is_active d.node.role) d (lanes.submit_request service request d)
 
-  pub submit_acts : (m k : ℕ) (requests : List Request) (x : Request) (xs ws : List Seat) (outcome : Result Step Refusal) → requests ≡ w.requests → x ≡ slice_index_or requests k x → k < length w.requests
+  pub submit_acts : (m k : ℕ) (requests : List Request) (x : Request) (xs ws : List (Seat S)) (outcome : Result Step Refusal) → requests ≡ w.requests → x ≡ slice_index_or requests k x → k < length w.requests
       → ActsAt service w.seed (λ (d : CallHere). lanes.active_only (is_active d.node.role) d (lanes.submit_request service (Some x) d)) m xs ws outcome
       → ActsAt service w.seed (λ (d : CallHere). lanes.active_only (is_active d.node.role) d (lanes.submit_request service (slice_get w.requests k) d)) m xs ws outcome
   submit_acts m k requests x xs ws outcome e is l acts =
@@ -202,11 +202,11 @@ module _ (service : Declarations) (w : World) (h : IsRunning service w) where
 
   -- ---- starts
 
-  pub start_came : (m : ℕ) (xs : List Seat) (e : xs ≡ w.seats.items) (ws : List Seat) (outcome : Result Step Refusal) (w2 : World) (told told2 : Told) (r : Result (Unit {0}) AllocError)
+  pub start_came : (m : ℕ) (xs : List (Seat S)) (e : xs ≡ w.seats.items) (ws : List (Seat S)) (outcome : Result Step Refusal) (w2 : World S) (told told2 : Told) (r : Result (Unit {0}) AllocError)
       → IsNode (nodes_of w) m → StartsAt service w.seed m xs ws outcome
       → OnOk r (IsTold m (record w { seats = with_items w.seats ws }) w2 told told2 outcome) → OnOk r (ComesTo service w w2 told told2 (step_in service w (line.Start m)))
   start_came m xs e ws outcome w2 told told2 r there starts told-is =
       let many : length ws ≡ nodes_of w = starts.changed.many ∙ ap length e in
-      let b : StartsAt service w.seed m w.seats.items ws outcome = subst (λ (ys : List Seat). StartsAt service w.seed m ys ws outcome) e starts in
-      let a : StartsAt service w.seed m w.seats.items (with_items w.seats ws).items outcome = subst (λ (ys : List Seat). StartsAt service w.seed m w.seats.items ys outcome) (sym (seats_are ws many)) b in
+      let b : StartsAt service w.seed m w.seats.items ws outcome = subst (λ (ys : List (Seat S)). StartsAt service w.seed m ys ws outcome) e starts in
+      let a : StartsAt service w.seed m w.seats.items (with_items w.seats ws).items outcome = subst (λ (ys : List (Seat S)). StartsAt service w.seed m w.seats.items ys outcome) (sym (seats_are ws many)) b in
       on_ok r (λ t. comes_started service w w2 (with_items w.seats ws) told told2 h m outcome a.starts a.changed.others a.changed.many (λ whole. a.changed.seats whole w.done (record { seats_are = h.seats; within = h.within })) (kept_next (line.Start m) there) t) told-is

@@ -33,7 +33,7 @@ values_more service values i value had before after there is before_is after_is 
     ∙ ap (values_text service 1) (ap (λ (v : Value). take i values ++ v ∷ []) is ∙ sym (take_more values i value there)))
 
 -- the other lines lead on from the world that the next one makes
-pub follow_next : (service : Declarations) (s : Scenario) (w : World) (line : ScheduleLine) (rest left : List ScheduleLine) → IsOf s w → left ≡ line ∷ rest
+pub follow_next : {S : Type 0} → (service : Declarations) (s : Scenario) (w : World S) (line : ScheduleLine) (rest left : List ScheduleLine) → IsOf s w → left ≡ line ∷ rest
     → after_lines service s.requests s.seed s.nodes (world_of service w) left ≡ after_lines service s.requests s.seed s.nodes (next_of service w line) rest
 follow_next service s w line rest left of l =
     subst (λ (n : ℕ). after_lines service s.requests s.seed n (world_of service w) left ≡ after_lines service s.requests s.seed n (next_of service w line) rest) of.nodes

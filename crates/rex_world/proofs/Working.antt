@@ -27,7 +27,7 @@ use Rattle.rex_safety.proofs.Spelled.{kept_room, kept_cut}
 use Rattle.rex_node.specs.Parts.{ActingValue, IsActing, role_of, work_of}
 use Rattle.rex_node.specs.Calls.{AreLimits, CanBeCut, counts_for}
 use Rattle.rex_world.specs.declared.seats.Seat.{Seat}
-use Rattle.rex_world.specs.declared.seats.Seat.TheVariants.{Running, Stopped}
+use Rattle.rex_world.specs.declared.seats.Seat.TheVariants.{Running, Stopped, Empty}
 use Rattle.rex_world.specs.declared.world.World.{World}
 use Rattle.rex_world.specs.Seats.{IsSeat, here_in, heres}
 use Rattle.rex_world.specs.World.{world_of, nodes_of}
@@ -44,16 +44,17 @@ parts_work service values a p None h = inr refl
 parts_work service values a None (Some x) h = absurd h
 parts_work service values a (Some p) (Some x) h = inl (_, refl, refl)
 
-seat_works : (service : Declarations) (seed nodes number : ℕ) (seat : Seat) → IsSeat service seed nodes number seat → (here_in service seat).up ≡ true → Works (here_in service seat).role (here_in service seat).work
+seat_works : {S : Type 0} → (service : Declarations) (seed nodes number : ℕ) (seat : Seat S) → IsSeat service seed nodes number seat → (here_in service seat).up ≡ true → Works (here_in service seat).role (here_in service seat).work
 seat_works service seed nodes number (Running node) h up = parts_work service node.known node.acceptor node.proposer node.acting ((h.node.up up).acting)
 seat_works service seed nodes number (Stopped keeper) h up = absurd (cc)
+seat_works service seed nodes number Empty h up = absurd h
 
 -- a seat of a world that has some
-spare : (xs : List Seat) → 0 < length xs → Seat
+spare : {S : Type 0} → (xs : List (Seat S)) → 0 < length xs → Seat S
 spare [] l = absurd (omega arith)
 spare (x ∷ xs) l = x
 
-module _ (service : Declarations) (w : World) (h : IsRunning service w) (m : ℕ) (there : IsNode (nodes_of w) m) where
+module _ {S : Type 0} (service : Declarations) (w : World S) (h : IsRunning service w) (m : ℕ) (there : IsNode (nodes_of w) m) where
   abbrev here : Here
   here = node_at (heres service w.seats.items) m
 

@@ -123,29 +123,29 @@ pub record Sends (sends : List Sent) (before after : List (List ℕ)) (old_hande
   pub sent : new_sent ≡ old_sent ++ sent_from (suc (length before)) (map message_in sends)
 
 -- a node's step was told, and its messages were sent; nothing else of the world changed
-pub record TellsStep (before after : World) (old new : Told) (step : Step) : Type 0 where
+pub record TellsStep {S : Type 0} (before after : World S) (old new : Told) (step : Step) : Type 0 where
   pub sends : Sends step.sends before.net after.net before.handed.items after.handed.items old.sent.items new.sent.items
   pub effects : new.effects.items ≡ old.effects.items ++ step.effects
   pub rest : after ≡ record before { net = after.net; handed = after.handed }
 
 -- a refusal of a node was told; the world is as it was
-pub record TellsRefusal (number : ℕ) (before after : World) (old new : Told) (refusal : Refusal) : Type 0 where
+pub record TellsRefusal {S : Type 0} (number : ℕ) (before after : World S) (old new : Told) (refusal : Refusal) : Type 0 where
   pub same : after ≡ before
   pub effects : new.effects.items ≡ old.effects.items ++ effect_of number refusal ∷ []
   pub sent : new.sent.items ≡ old.sent.items
 
 -- what a call of a node came to was told
-abbrev pub Tells : ℕ → (before after : World) → (old new : Told) → Result Step Refusal → Type 0
+abbrev pub Tells : {S : Type 0} → ℕ → (before after : World S) → (old new : Told) → Result Step Refusal → Type 0
 Tells number before after old new (Ok step) = TellsStep before after old new step
 Tells number before after old new (Err why.OutOfMemory) = ⊥
 Tells number before after old new (Err refusal) = TellsRefusal number before after old new refusal
 
 -- the same, so that its parts can be read off
-pub record IsTold (number : ℕ) (before after : World) (old new : Told) (outcome : Result Step Refusal) : Type 0 where
+pub record IsTold {S : Type 0} (number : ℕ) (before after : World S) (old new : Told) (outcome : Result Step Refusal) : Type 0 where
   pub tells : Tells number before after old new outcome
 
 -- so it did, with the world running before and after, over the same nodes, requests and seed, and with the same counts of lines and of flushed messages
-pub record ComesTo (service : Declarations) (before after : World) (old new : Told) (r : Row) : Type 0 where
+pub record ComesTo {S : Type 0} (service : Declarations) (before after : World S) (old new : Told) (r : Row) : Type 0 where
   pub did : Did (world_of service before) (world_of service after) old new r
   pub running : IsRunning service after
   pub same : IsSame before after
@@ -153,10 +153,10 @@ pub record ComesTo (service : Declarations) (before after : World) (old new : To
   pub flushed : after.flushed ≡ before.flushed
 
 -- a step of the model of the world
-abbrev pub step_in : Declarations → World → ScheduleLine → Row
+abbrev pub step_in : {S : Type 0} → Declarations → World S → ScheduleLine → Row
 step_in service w line = step service w.requests w.seed (nodes_of w) (world_of service w) line
 
-abbrev pub Comes : Declarations → (before after : World) → (old new : Told) → ScheduleLine → Type 0
+abbrev pub Comes : {S : Type 0} → Declarations → (before after : World S) → (old new : Told) → ScheduleLine → Type 0
 Comes service before after old new line = ComesTo service before after old new (step_in service before line)
 
 -- the same of steps one after the other

@@ -16,6 +16,6 @@ IsFound net number None = message_at net number ≡ None
 IsFound net number (Some message) = IsSent net number message
 
 -- the message of this number was handed over, and nothing else changed
-pub record IsMarked (number : ℕ) (before after : World) : Type 0 where
+pub record IsMarked {S : Type 0} (number : ℕ) (before after : World S) : Type 0 where
   pub handed : after.handed.items ≡ slice_set before.handed.items (number - 1) true
   pub rest : after ≡ record before { handed = after.handed }

@@ -13,7 +13,7 @@ use Rattle.rex_world.specs.Seats.{AreSeats, AreWithin}
 use Rattle.rex_world.specs.World.{IsSpelled, nodes_of, world_of}
 
 -- the service is a checked one; memory was never short; the world of the model is one that lines lead to; each node is kept, and its keeper has failed, and will, in no more appends than lines were done; each message is spelled; requests fit; and each message below the flushed ones was handed over
-pub record IsRunning (service : Declarations) (w : World) : Type 0 where
+pub record IsRunning {S : Type 0} (service : Declarations) (w : World S) : Type 0 where
   pub service_is : IsService service
   pub checked : IsChecked service
   pub whole : w.broken ≡ false
@@ -27,13 +27,13 @@ pub record IsRunning (service : Declarations) (w : World) : Type 0 where
   pub handed : list_all (λ (b : Bool). b) (take w.flushed w.handed.items) ≡ true
 
 -- the same nodes, requests and seed
-pub record IsSame (before after : World) : Type 0 where
+pub record IsSame {S : Type 0} (before after : World S) : Type 0 where
   pub nodes : nodes_of after ≡ nodes_of before
   pub requests : after.requests ≡ before.requests
   pub seed : after.seed ≡ before.seed
 
 -- the world is one of the scenario's
-pub record IsOf (s : Scenario) (w : World) : Type 0 where
+pub record IsOf {S : Type 0} (s : Scenario) (w : World S) : Type 0 where
   pub nodes : nodes_of w ≡ s.nodes
   pub requests : w.requests ≡ s.requests
   pub seed : w.seed ≡ s.seed

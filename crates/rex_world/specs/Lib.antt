@@ -1,3 +1,4 @@
+pub mod Blocks
 pub mod Seats
 pub mod World
 pub mod Kept

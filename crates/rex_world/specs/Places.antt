@@ -16,24 +16,24 @@ use Rattle.rex_world.specs.Seats.{AreKept, armed_in, heres}
 use Rattle.rex_world.specs.Calls.{Acts, IsWhole, IsStarted}
 
 -- only the node of this number is another one, and where memory wasn't short each node is kept, and no keeper fails more often
-pub record IsChangedAt (service : Declarations) (seed number : ℕ) (before after : List Seat) (outcome : Result Step Refusal) : Type 0 where
+pub record IsChangedAt {S : Type 0} (service : Declarations) (seed number : ℕ) (before after : List (Seat S)) (outcome : Result Step Refusal) : Type 0 where
   pub others : heres service after ≡ put (heres service before) number (node_at (heres service after) number)
   pub many : length after ≡ length before
   pub seats : IsWhole outcome → (most : ℕ) → AreKept service seed (length before) most before → AreKept service seed (length before) most after
 
 -- the node of this number did this call of the model, or refused it
-pub record ActsAt (service : Declarations) (seed : ℕ) (call : CallHere → CallHere) (number : ℕ) (before after : List Seat) (outcome : Result Step Refusal) : Type 0 where
+pub record ActsAt {S : Type 0} (service : Declarations) (seed : ℕ) (call : CallHere → CallHere) (number : ℕ) (before after : List (Seat S)) (outcome : Result Step Refusal) : Type 0 where
   pub acts : Acts call number (node_at (heres service before) number) (node_at (heres service after) number) outcome
   pub changed : IsChangedAt service seed number before after outcome
 
 -- the node of this number was started, or was up
-pub record StartsAt (service : Declarations) (seed number : ℕ) (before after : List Seat) (outcome : Result Step Refusal) : Type 0 where
+pub record StartsAt {S : Type 0} (service : Declarations) (seed number : ℕ) (before after : List (Seat S)) (outcome : Result Step Refusal) : Type 0 where
   pub starts : IsStarted (service_of service seed) number (node_at (heres service before) number) (node_at (heres service after) number) outcome
   pub changed : IsChangedAt service seed number before after outcome
 
 -- only the keeper of the node of this number is armed
-pub record IsArmedAt (fate : Fate) (number : ℕ) (before after : List Seat) : Type 0 where
-  pub seat : Seat
+pub record IsArmedAt {S : Type 0} (fate : Fate) (number : ℕ) (before after : List (Seat S)) : Type 0 where
+  pub seat : Seat S
   pub seat_is : seat ≡ slice_index_or before (number - 1) seat
   pub others : after ≡ slice_set before (number - 1) (armed_in fate seat)
 
@@ -47,7 +47,7 @@ pub record IsHanded (service : Declarations) (e : Event) (before after : Here) (
   pub same : OnErr outcome (after ≡ before)
 
 -- only the node of this number is handed it
-pub record IsHandedAt (service : Declarations) (seed number : ℕ) (e : Event) (before after : List Seat) (outcome : Result Turn Refusal) : Type 0 where
+pub record IsHandedAt {S : Type 0} (service : Declarations) (seed number : ℕ) (e : Event) (before after : List (Seat S)) (outcome : Result Turn Refusal) : Type 0 where
   pub handed : IsHanded service e (node_at (heres service before) number) (node_at (heres service after) number) outcome
   pub others : heres service after ≡ put (heres service before) number (node_at (heres service after) number)
   pub many : length after ≡ length before

@@ -18,7 +18,7 @@ use Rattle.rex_safety.specs.Lanes.{Here, live_state}
 use Rattle.rex_safety.specs.World.{World, beginning, row}
 use Rattle.rex_node.specs.Parts.{NodeValue, IsNode, role_of, work_of}
 use Rattle.rex_world.specs.declared.seats.Seat.{Seat}
-use Rattle.rex_world.specs.declared.seats.Seat.TheVariants.{Running, Stopped}
+use Rattle.rex_world.specs.declared.seats.Seat.TheVariants.{Running, Stopped, Empty}
 use Rattle.rex_world.specs.Seats.{records_of}
 
 -- the report lines of a schedule line
@@ -63,9 +63,10 @@ up_end_of x = record {
 }
 
 -- a node that was started has this number, and is kept
-abbrev pub IsNumbered : Declarations → ℕ → Seat → Type 0
+abbrev pub IsNumbered : {S : Type 0} → Declarations → ℕ → Seat S → Type 0
 IsNumbered service number (Running node) = (node.id ≡ number) × IsNode records_of service node
 IsNumbered service number (Stopped keeper) = Unit {0}
+IsNumbered service number Empty = Unit {0}
 
 -- the lines of the nodes from this number on
 abbrev pub ends_text : Declarations → ℕ → List Here → List ℕ

@@ -1,7 +1,8 @@
 -- The nodes of a world, running or stopped, as the cluster's model has them.
 use Rattle.std.specs.Prelude.{◌≡◌, ◌<◌, ◌≤◌, ◌+◌, ◌-◌, ◌^◌, ℕ, suc, Bool, true, false, List, [], ◌∷◌, Option, Some, None}
 use Rattle.rex_syntax.specs.declared.service.Declarations.{Declarations}
-use Rattle.rex_traits.specs.Keeping.{KeeperValue, armed_to}
+use Rattle.rex_traits.specs.Keeping.{KeeperValue, armed_to, unused_keeper}
+use Rattle.rex_traits.specs.Stores.{StoreValue, fresh_store}
 use Rattle.rex_traits.specs.declared.mem_keeper.Fate.{Fate}
 use Rattle.rex_traits.specs.declared.mem_keeper.Fate.TheVariants.{Kept, Lost}
 use Rattle.rex_safety.specs.Node.{Failure, down_node}
@@ -9,7 +10,7 @@ use Rattle.rex_safety.specs.Node.Failure.{After}
 use Rattle.rex_safety.specs.Lanes.{Here}
 use Rattle.rex_node.specs.Parts.{AreRead, NodeValue, IsNode, here_of, log_of}
 use Rattle.rex_world.specs.declared.seats.Seat.{Seat}
-use Rattle.rex_world.specs.declared.seats.Seat.TheVariants.{Running, Stopped}
+use Rattle.rex_world.specs.declared.seats.Seat.TheVariants.{Running, Stopped, Empty}
 
 -- the records of a keeper in memory
 abbrev pub records_of : KeeperValue → List (List ℕ)
@@ -25,31 +26,41 @@ armed_of (Some Lost) = Some (After 0 false)
 abbrev pub here_at : Declarations → NodeValue KeeperValue → Here
 here_at service x = record (here_of records_of service x) { armed = armed_of x.keeper.armed }
 
--- a node that runs is what its parts are; of one that was stopped its keeper has the records
-abbrev pub here_in : Declarations → Seat → Here
+-- a node that runs is what its parts are; of one that was stopped its keeper has the records; an empty seat has none
+abbrev pub here_in : {S : Type 0} → Declarations → Seat S → Here
 here_in service (Running node) = here_at service node
 here_in service (Stopped keeper) = down_node (log_of service keeper.records) (armed_of keeper.armed)
+here_in service Empty = down_node [] None
 
 -- the same node over a keeper that isn't armed
 abbrev pub disarmed : Here → Here
 disarmed x = record x { armed = None }
 
 -- the seat's node runs and is up
-abbrev pub is_up_in : Seat → Bool
+abbrev pub is_up_in : {S : Type 0} → Seat S → Bool
 is_up_in (Running node) = node.up
 is_up_in (Stopped keeper) = false
+is_up_in Empty = false
 
--- the keeper of its node
-abbrev pub keeper_in : Seat → KeeperValue
+-- the keeper of its node; of an empty seat one that was never used
+abbrev pub keeper_in : {S : Type 0} → Seat S → KeeperValue
 keeper_in (Running node) = node.keeper
 keeper_in (Stopped keeper) = keeper
+keeper_in Empty = unused_keeper
+
+-- the seat isn't empty
+abbrev pub HasKeeper : {S : Type 0} → Seat S → Type 0
+HasKeeper (Running node) = Unit {0}
+HasKeeper (Stopped keeper) = Unit {0}
+HasKeeper Empty = ⊥
 
 -- the keeper is armed, and nothing else has changed
-abbrev pub armed_in : Fate → Seat → Seat
+abbrev pub armed_in : {S : Type 0} → Fate → Seat S → Seat S
 armed_in fate (Running node) = Running (record node { keeper = armed_to fate node.keeper })
 armed_in fate (Stopped keeper) = Stopped (armed_to fate keeper)
+armed_in fate Empty = Empty
 
-abbrev pub heres : Declarations → List Seat → List Here
+abbrev pub heres : {S : Type 0} → Declarations → List (Seat S) → List Here
 heres service [] = []
 heres service (seat ∷ seats) = here_in service seat ∷ heres service seats
 
@@ -75,32 +86,42 @@ pub record IsRunner (service : Declarations) (seed nodes number : ℕ) (x : Node
   pub node : IsNode records_of service x
   pub keeping : IsKeeping service x.keeper
 
--- the node of this number is kept, or the keeper of one that was stopped keeps its records
-abbrev pub IsSeat : Declarations → (seed nodes number : ℕ) → Seat → Type 0
+-- the node of this number is kept, or the keeper of one that was stopped keeps its records; the seat isn't empty
+abbrev pub IsSeat : {S : Type 0} → Declarations → (seed nodes number : ℕ) → Seat S → Type 0
 IsSeat service seed nodes number (Running node) = IsRunner service seed nodes number node
 IsSeat service seed nodes number (Stopped keeper) = IsKeeping service keeper
+IsSeat service seed nodes number Empty = ⊥
 
 -- the nodes from this number on
-abbrev pub AreSeats : Declarations → (seed nodes number : ℕ) → List Seat → Type 0
+abbrev pub AreSeats : {S : Type 0} → Declarations → (seed nodes number : ℕ) → List (Seat S) → Type 0
 AreSeats service seed nodes number [] = Unit {0}
 AreSeats service seed nodes number (seat ∷ seats) = IsSeat service seed nodes number seat × AreSeats service seed nodes (suc number) seats
 
--- each record of these nodes' keepers is read again
-abbrev pub AreReadAll : Declarations → List Seat → Type 0
+-- these nodes have keepers, whose records are all read again
+abbrev pub AreReadAll : {S : Type 0} → Declarations → List (Seat S) → Type 0
 AreReadAll service [] = Unit {0}
-AreReadAll service (seat ∷ seats) = AreRead service (records_of (keeper_in seat)) × AreReadAll service seats
+AreReadAll service (seat ∷ seats) = HasKeeper seat × AreRead service (records_of (keeper_in seat)) × AreReadAll service seats
 
 -- no keeper of these nodes fails more often
-abbrev pub AreWithin : ℕ → List Seat → Type 0
+abbrev pub AreWithin : {S : Type 0} → ℕ → List (Seat S) → Type 0
 AreWithin most [] = Unit {0}
 AreWithin most (seat ∷ seats) = (faults_of (keeper_in seat) ≤ most) × AreWithin most seats
 
 -- the nodes are kept, and no keeper of theirs fails more often
-pub record AreKept (service : Declarations) (seed nodes most : ℕ) (seats : List Seat) : Type 0 where
+pub record AreKept {S : Type 0} (service : Declarations) (seed nodes most : ℕ) (seats : List (Seat S)) : Type 0 where
   pub seats_are : AreSeats service seed nodes 1 seats
   pub within : AreWithin most seats
 
--- the node of this number is kept, and its keeper won't fail more often than it was to
-pub record StaysSeat (service : Declarations) (seed nodes number : ℕ) (before after : Seat) : Type 0 where
+-- a node of this number is kept, and its keeper won't fail more often than it was to
+pub record StaysRunner (service : Declarations) (seed nodes number : ℕ) (before after : NodeValue KeeperValue) : Type 0 where
+  pub runner : IsRunner service seed nodes number after
+  pub within : faults_of after.keeper ≤ faults_of before.keeper
+
+-- the same of what has this seat
+pub record StaysSeat {S : Type 0} (service : Declarations) (seed nodes number : ℕ) (before after : Seat S) : Type 0 where
   pub seat : IsSeat service seed nodes number after
   pub within : faults_of (keeper_in after) ≤ faults_of (keeper_in before)
+
+-- a store of a node that never was: it has no records, no append of it failed, none is to, and it fails only as it is armed
+pub record IsFresh {K : Type 0} (value : K → StoreValue) (store : K) : Type 0 where
+  pub is : value store ≡ fresh_store

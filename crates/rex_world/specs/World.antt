@@ -31,7 +31,7 @@ pub record IsSpelled (bytes : List ℕ) : Type 0 where
   pub is : bytes ≡ spelling_of message
 
 -- the world of the model
-abbrev pub world_of : Declarations → World → ModelWorld
+abbrev pub world_of : {S : Type 0} → Declarations → World S → ModelWorld
 world_of service w = record {
   done = w.done;
   nodes = heres service w.seats.items;
@@ -40,5 +40,5 @@ world_of service w = record {
 }
 
 -- so many nodes it has
-abbrev pub nodes_of : World → ℕ
+abbrev pub nodes_of : {S : Type 0} → World S → ℕ
 nodes_of w = length w.seats.items

@@ -14,11 +14,15 @@ use rex_ballot::Value;
 use rex_durable::{RecoverFault, recover};
 use rex_list::List;
 use rex_syntax::checked::Checked;
-use rex_traits::MemKeeper;
+use rex_traits::{Obedient, Store};
 use std::alloc::{AllocError, Global};
 
 // What a keeper's records say that its node knows.
-fn known_in(alloc: Global, svc: &Checked, keeper: &MemKeeper) -> Result<List<Value>, AllocError>
+fn known_in<S: Store>(
+    alloc: Global,
+    svc: &Checked,
+    keeper: &Obedient<S>,
+) -> Result<List<Value>, AllocError>
     requires { AreRead svc.now (records_of keeper.now) }
     ensures { IfOk result (λ values. values ≡ known (log_of svc.now (records_of keeper.now))) }
 {
@@ -42,7 +46,11 @@ fn longer_of(first: List<Value>, second: List<Value>) -> List<Value>
 }
 
 // The longest of what nodes know.
-fn longest(alloc: Global, svc: &Checked, seats: &[Seat]) -> Result<List<Value>, AllocError>
+fn longest<S: Store>(
+    alloc: Global,
+    svc: &Checked,
+    seats: &[Seat<S>],
+) -> Result<List<Value>, AllocError>
     requires { AreReadAll svc.now seats.now }
     ensures { IfOk result (λ values. values ≡ model.longest (heres svc.now seats.now)) }
 {
@@ -55,7 +63,7 @@ fn longest(alloc: Global, svc: &Checked, seats: &[Seat]) -> Result<List<Value>, 
     Ok(longest)
 }
 
-impl World {
+impl<S: Store> World<S> {
     /// What the nodes agreed on: the longest list of values of those that nodes know, down or not. It takes memory, since what
     /// a stopped node knows stands in its keeper's records.
     pub fn agreed(&self, svc: &Checked) -> Result<List<Value>, AllocError>

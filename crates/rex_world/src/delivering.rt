@@ -13,9 +13,10 @@ use crate::world::World;
 use rex_replay::Replayer;
 use rex_report::Effect;
 use rex_syntax::checked::Checked;
+use rex_traits::Store;
 use std::alloc::AllocError;
 
-impl World {
+impl<S: Store> World<S> {
     // Hands over the message at a place, from 0 on, where no line did; whether it waited, or one did before.
     fn hand_over<R: Replayer>(
         &mut self,

@@ -13,11 +13,11 @@ use crate::world::World;
 use rex_node::Node;
 use rex_report::{End, Role, UpEnd, push_end};
 use rex_syntax::checked::Checked;
-use rex_traits::MemKeeper;
+use rex_traits::{Obedient, Store};
 use std::alloc::AllocError;
 
 // How many events are live at an active node; how many deltas another one has replayed.
-fn count_of(node: &Node<MemKeeper>) -> u32
+fn count_of<S: Store>(node: &Node<Obedient<S>>) -> u32
     requires { length (work_of node.now.acting).live ≤ 4096 }
     ensures { result ≡ specs.count_of node.now }
 {
@@ -28,7 +28,7 @@ fn count_of(node: &Node<MemKeeper>) -> u32
 }
 
 // What a node that is up came to.
-fn up_end_of(node: &Node<MemKeeper>) -> UpEnd
+fn up_end_of<S: Store>(node: &Node<Obedient<S>>) -> UpEnd
     requires live { length (work_of node.now.acting).live ≤ 4096 }
     requires known { length node.now.known ≤ 65535 }
     ensures { result ≡ specs.up_end_of node.now }
@@ -43,7 +43,11 @@ fn up_end_of(node: &Node<MemKeeper>) -> UpEnd
 }
 
 // Appends the line of a node that was started.
-fn push_running(out: &mut Vec<u8>, svc: &Checked, node: &Node<MemKeeper>) -> Result<(), AllocError>
+fn push_running<S: Store>(
+    out: &mut Vec<u8>,
+    svc: &Checked,
+    node: &Node<Obedient<S>>,
+) -> Result<(), AllocError>
     requires { IsNode records_of svc.now node.now }
     ensures { OnOk result (out.new.items ≡ out.old.items ++ node_text svc.now node.now.id (here_of records_of svc.now node.now)) }
 {
@@ -56,13 +60,18 @@ fn push_running(out: &mut Vec<u8>, svc: &Checked, node: &Node<MemKeeper>) -> Res
 }
 
 // Appends the line of the node of this number.
-fn push_seat(out: &mut Vec<u8>, svc: &Checked, number: u8, seat: &Seat) -> Result<(), AllocError>
+fn push_seat<S: Store>(
+    out: &mut Vec<u8>,
+    svc: &Checked,
+    number: u8,
+    seat: &Seat<S>,
+) -> Result<(), AllocError>
     requires { IsNumbered svc.now number seat.now }
     ensures { OnOk result (out.new.items ≡ out.old.items ++ node_text svc.now number (here_in svc.now seat.now)) }
 {
     match seat {
         Seat::Running(node) => push_running(out, svc, node),
-        Seat::Stopped(_) => {
+        Seat::Stopped(_) | Seat::Empty => {
             let service = svc.declarations();
             push_end(out, &End::Down { node: number }, service, &[], &[])
         }
@@ -70,7 +79,11 @@ fn push_seat(out: &mut Vec<u8>, svc: &Checked, number: u8, seat: &Seat) -> Resul
 }
 
 // Appends the lines of nodes of a world.
-fn push_seats(out: &mut Vec<u8>, svc: &Checked, world: &World) -> Result<(), AllocError>
+fn push_seats<S: Store>(
+    out: &mut Vec<u8>,
+    svc: &Checked,
+    world: &World<S>,
+) -> Result<(), AllocError>
     requires { IsRunning svc.now world.now }
     ensures { OnOk result (out.new.items ≡ out.old.items ++ ends_text svc.now 1 (world_of svc.now world.now).nodes) }
 {
@@ -82,7 +95,7 @@ fn push_seats(out: &mut Vec<u8>, svc: &Checked, world: &World) -> Result<(), All
     Ok(())
 }
 
-impl World {
+impl<S: Store> World<S> {
     /// Appends the end line of each node.
     pub fn push_ends(&self, svc: &Checked, out: &mut Vec<u8>) -> Result<(), AllocError>
         requires { IsRunning svc.now self.now }

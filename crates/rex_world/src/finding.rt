@@ -18,6 +18,7 @@ use rex_msg::{DecodeError, Message, decode};
 use rex_replay::Replayer;
 use rex_report::Effect;
 use rex_syntax::checked::Checked;
+use rex_traits::Store;
 use std::alloc::{AllocError, Global};
 
 // The message that bytes spell.
@@ -33,7 +34,7 @@ fn read(alloc: Global, bytes: &[u8]) -> Result<Message, AllocError>
     }
 }
 
-impl World {
+impl<S: Store> World<S> {
     /// The message of a number, if there is one.
     pub(crate) fn find(&self, number: u64) -> Result<Option<Message>, AllocError>
         requires { All IsSpelled self.now.net }

@@ -13,6 +13,7 @@ use rex_replay::Replayer;
 use rex_report::Effect;
 use rex_scenario::Scenario;
 use rex_syntax::checked::Checked;
+use rex_traits::Store;
 use std::alloc::AllocError;
 
 // Whether an effect is the release of a reply.
@@ -38,7 +39,7 @@ fn push_releases(releases: &mut Vec<Effect>, effects: &[Effect]) -> Result<(), A
     Ok(())
 }
 
-impl World {
+impl<S: Store> World<S> {
     /// Does the lines of a scenario's schedule from the world as it stands, and answers the releases that they report.
     pub(crate) fn follow<R: Replayer>(
         &mut self,

@@ -24,10 +24,11 @@ use rex_node::{Refusal, Step};
 use rex_replay::Replayer;
 use rex_scenario::ScheduleLine;
 use rex_syntax::checked::Checked;
+use rex_traits::Store;
 use rex_version::Version;
 use std::alloc::AllocError;
 
-impl World {
+impl<S: Store> World<S> {
     /// Tells what a call of a node came to, and sends its messages.
     pub(crate) fn tell(
         &mut self,

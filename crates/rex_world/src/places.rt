@@ -1,12 +1,13 @@
 //! Calls of the node of a number, among the nodes of a world.
 
-ghost use Rattle.std.specs.Prelude.{◌≡◌, ◌<◌, ◌≤◌, ◌+◌, ◌^◌, true, length, Some};
+ghost use Rattle.std.specs.Prelude.{◌≡◌, ◌<◌, ◌≤◌, ◌+◌, ◌^◌, true, length, Some, IsSome};
 ghost use Rattle.std.specs.Option.{option_copied};
 ghost use Rattle.rex_ballot.specs.Limits.{most_nodes};
 ghost use Rattle.rex_msg.specs.Spelling.{HasSpelling};
 ghost use Rattle.rex_version.specs.Versions.{has_version};
 ghost use Rattle.rex_scenario.specs.Fits.{IsNode, RequestFits};
-ghost use Rattle.rex_state.specs.Machine.{lane_of};
+ghost use Rattle.rex_state.specs.Machine.{lane_of, run};
+ghost use Rattle.rex_state.specs.Counts.{AreCounted};
 ghost use Rattle.rex_safety.specs.Node.{is_active};
 ghost use Rattle.rex_safety.specs.Calls as calls;
 ghost use Rattle.rex_safety.specs.Calls.{begin};
@@ -17,6 +18,7 @@ ghost use Rattle.rex_safety.specs.World.{node_at};
 ghost use Rattle.rex_node.specs.Calls.{AreLimits, CanBeCut, counts_for};
 ghost use Rattle.rex_node.specs.Going.{RunsOn};
 ghost use Rattle.rex_node.specs.Messages.{content_in, message_in};
+ghost use Rattle.rex_world.specs.Blocks.{IsHandedBlockAt};
 ghost use Rattle.rex_world.specs.Seats.{AreSeats, disarmed, heres};
 ghost use Rattle.rex_world.specs.Calls.{Starts};
 ghost use Rattle.rex_world.specs.Places.{ActsAt, IsArmedAt, IsHandedAt, StartsAt};
@@ -29,13 +31,13 @@ use rex_record::Turn;
 use rex_replay::Replayer;
 use rex_syntax::checked::Checked;
 use rex_syntax::request::Request;
-use rex_traits::Fate;
+use rex_traits::{Fate, Store};
 use rex_version::Version;
 use std::alloc::Global;
 
 /// The node asks to lead.
-pub(crate) fn elect_at<R: Replayer>(
-    seats: &mut [Seat],
+pub(crate) fn elect_at<S: Store, R: Replayer>(
+    seats: &mut [Seat<S>],
     svc: &Checked,
     replayer: &mut R,
     seed: u32,
@@ -54,8 +56,8 @@ pub(crate) fn elect_at<R: Replayer>(
 }
 
 /// The node to which a message goes gets it.
-pub(crate) fn on_message_at<R: Replayer>(
-    seats: &mut [Seat],
+pub(crate) fn on_message_at<S: Store, R: Replayer>(
+    seats: &mut [Seat<S>],
     svc: &Checked,
     replayer: &mut R,
     seed: u32,
@@ -76,8 +78,8 @@ pub(crate) fn on_message_at<R: Replayer>(
 }
 
 /// A client hands a request to the node.
-pub(crate) fn submit_at(
-    seats: &mut [Seat],
+pub(crate) fn submit_at<S: Store>(
+    seats: &mut [Seat<S>],
     alloc: Global,
     svc: &Checked,
     seed: u32,
@@ -95,8 +97,8 @@ pub(crate) fn submit_at(
 }
 
 /// A lane of the node has its turn, after so many schedule lines.
-pub(crate) fn lane_at(
-    seats: &mut [Seat],
+pub(crate) fn lane_at<S: Store>(
+    seats: &mut [Seat<S>],
     alloc: Global,
     svc: &Checked,
     seed: u32,
@@ -116,8 +118,8 @@ pub(crate) fn lane_at(
 }
 
 /// The node is handed an event that was made elsewhere.
-pub(crate) fn take_at(
-    seats: &mut [Seat],
+pub(crate) fn take_at<S: Store>(
+    seats: &mut [Seat<S>],
     svc: &Checked,
     seed: u32,
     number: u8,
@@ -133,9 +135,31 @@ pub(crate) fn take_at(
     seats[number as usize - 1].take_event(svc, seed, nodes, number, event)
 }
 
+/// The node is handed a block of events that were made elsewhere.
+pub(crate) fn take_block_at<S: Store, R: Replayer>(
+    seats: &mut [Seat<S>],
+    svc: &Checked,
+    replayer: &mut R,
+    seed: u32,
+    number: u8,
+    events: &[Event],
+) -> Result<(), Refusal>
+    requires there { IsNode (length seats.old) number }
+    requires few { length seats.old ≤ most_nodes }
+    requires seats { AreSeats svc.now seed (length seats.old) 1 seats.old }
+    requires runs { (node_at (heres svc.now seats.old) number).up ≡ true → IsSome (run svc.now (lanes.live_state svc.now (node_at (heres svc.now seats.old) number)) events.now) }
+    requires counted { AreCounted events.now }
+    requires ready { R.ready replayer.old }
+    ensures handed { IsHandedBlockAt svc.now seed number events.now seats.old seats.new result }
+    ensures ready { R.ready replayer.new }
+{
+    let nodes = seats.len() as u8;
+    seats[number as usize - 1].take_block(svc, replayer, seed, nodes, number, events)
+}
+
 /// The node proposes live events: all of them, or at most so many of each lane.
-pub(crate) fn cut_at(
-    seats: &mut [Seat],
+pub(crate) fn cut_at<S: Store>(
+    seats: &mut [Seat<S>],
     svc: &Checked,
     seed: u32,
     number: u8,
@@ -154,8 +178,8 @@ pub(crate) fn cut_at(
 }
 
 /// The node replays what it knows.
-pub(crate) fn replay_at<R: Replayer>(
-    seats: &mut [Seat],
+pub(crate) fn replay_at<S: Store, R: Replayer>(
+    seats: &mut [Seat<S>],
     svc: &Checked,
     replayer: &mut R,
     seed: u32,
@@ -173,8 +197,8 @@ pub(crate) fn replay_at<R: Replayer>(
 }
 
 /// The node writes down the state that it has replayed, in a version.
-pub(crate) fn checkpoint_at(
-    seats: &mut [Seat],
+pub(crate) fn checkpoint_at<S: Store>(
+    seats: &mut [Seat<S>],
     svc: &Checked,
     seed: u32,
     number: u8,
@@ -191,8 +215,8 @@ pub(crate) fn checkpoint_at(
 }
 
 /// The node asks another one for what it doesn't know.
-pub(crate) fn ask_at(
-    seats: &mut [Seat],
+pub(crate) fn ask_at<S: Store>(
+    seats: &mut [Seat<S>],
     svc: &Checked,
     seed: u32,
     number: u8,
@@ -208,8 +232,8 @@ pub(crate) fn ask_at(
 }
 
 /// The node is stopped.
-pub(crate) fn stop_at(
-    seats: &mut [Seat],
+pub(crate) fn stop_at<S: Store>(
+    seats: &mut [Seat<S>],
     alloc: Global,
     svc: &Checked,
     seed: u32,
@@ -225,8 +249,8 @@ pub(crate) fn stop_at(
 }
 
 /// The node is started.
-pub(crate) fn start_at(
-    seats: &mut [Seat],
+pub(crate) fn start_at<S: Store>(
+    seats: &mut [Seat<S>],
     alloc: Global,
     svc: &Checked,
     seed: u32,
@@ -243,7 +267,7 @@ pub(crate) fn start_at(
 }
 
 /// The next append of the node's keeper will fail.
-pub(crate) fn arm_at(seats: &mut [Seat], number: u8, fate: Fate)
+pub(crate) fn arm_at<S: Store>(seats: &mut [Seat<S>], number: u8, fate: Fate)
     requires { IsNode (length seats.old) number }
     ensures { IsArmedAt fate number seats.old seats.new }
 {

@@ -20,7 +20,7 @@ use rex_replay::Replayer;
 use rex_scenario::{Scenario, ScheduleLine};
 use rex_streams::write_all;
 use rex_syntax::checked::Checked;
-use rex_traits::{Sink, SinkFault};
+use rex_traits::{Sink, SinkFault, Store};
 use std::alloc::AllocError;
 
 /// So many bytes of a report wait at most before they are written, and the lines of one schedule line more.
@@ -64,7 +64,7 @@ fn write_waiting<K: Sink>(sink: &mut K, waiting: &mut Vec<u8>, least: usize) -> 
     }
 }
 
-impl World {
+impl<S: Store> World<S> {
     // Does a schedule line, and tells what it reports behind what waits to be written.
     fn tell_line<R: Replayer>(
         &mut self,

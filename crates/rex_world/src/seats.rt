@@ -1,12 +1,13 @@
 //! The places of nodes: a node that was started, or the keeper of one that was stopped.
 
-ghost use Rattle.std.specs.Prelude.{◌≡◌, ◌<◌, ◌≤◌, ◌+◌, ◌^◌, ◌∷◌, ◌++◌, [], length, true, Some, IfOk, IfErr};
+ghost use Rattle.std.specs.Prelude.{◌≡◌, ◌<◌, ◌≤◌, ◌+◌, ◌^◌, ◌∷◌, ◌++◌, [], length, true, Some, IsSome, IfOk, IfErr};
 ghost use Rattle.std.specs.Option.{option_copied};
 ghost use Rattle.rex_ballot.specs.Limits.{most_nodes};
 ghost use Rattle.rex_msg.specs.Spelling.{HasSpelling};
 ghost use Rattle.rex_version.specs.Versions.{has_version};
 ghost use Rattle.rex_scenario.specs.Fits.{RequestFits};
-ghost use Rattle.rex_state.specs.Machine.{lane_of};
+ghost use Rattle.rex_state.specs.Machine.{lane_of, run};
+ghost use Rattle.rex_state.specs.Counts.{AreCounted};
 ghost use Rattle.rex_safety.specs.Node.{is_active};
 ghost use Rattle.rex_safety.specs.Calls as calls;
 ghost use Rattle.rex_safety.specs.Calls.{begin};
@@ -18,8 +19,8 @@ ghost use Rattle.rex_node.specs.Calls.{AreLimits, CanBeCut, counts_for};
 ghost use Rattle.rex_node.specs.Going.{RunsOn};
 ghost use Rattle.rex_node.specs.Messages.{content_in, message_in};
 ghost use Rattle.rex_report.specs.declared.effect.Effect.TheVariants as effect;
-ghost use Rattle.rex_world.specs.Seats.{IsRunner, IsSeat, StaysSeat, armed_in, disarmed, here_at, here_in, is_up_in, keeper_in};
-ghost use Rattle.rex_world.specs.declared.seats.Seat.TheVariants.{Running};
+ghost use Rattle.rex_world.specs.Blocks.{IsHandedBlock};
+ghost use Rattle.rex_world.specs.Seats.{HasKeeper, IsRunner, IsSeat, StaysRunner, StaysSeat, armed_in, disarmed, here_at, here_in, is_up_in, keeper_in};
 ghost use Rattle.rex_world.specs.Calls.{Acts, CameBack, IsWhole, Starts, IsStarted, TellsOf};
 ghost use Rattle.rex_world.specs.Places.{IsHanded};
 
@@ -33,16 +34,18 @@ use rex_replay::Replayer;
 use rex_report::Effect;
 use rex_syntax::checked::Checked;
 use rex_syntax::request::Request;
-use rex_traits::{Fate, MemKeeper};
+use rex_traits::{Fate, Obedient, Store};
 use rex_version::Version;
 use std::alloc::{AllocError, Global};
 use std::mem;
 
 /// A node that was started, or the keeper of one that was stopped.
 #[derive(Drop)]
-pub enum Seat {
-    Running(Node<MemKeeper>),
-    Stopped(MemKeeper),
+pub enum Seat<S: Store> {
+    Running(Node<Obedient<S>>),
+    Stopped(Obedient<S>),
+    /// Neither: memory was short while the keeper was in hand.
+    Empty,
 }
 
 // A step that reports this, and sends nothing.
@@ -118,7 +121,7 @@ fn turned(alloc: Global, lane: u8, outcome: Result<Turn, Refusal>) -> Result<Ste
 }
 
 // The step of a node that has come up.
-fn started(alloc: Global, node: &Node<MemKeeper>) -> Result<Step, Refusal>
+fn started<S: Store>(alloc: Global, node: &Node<Obedient<S>>) -> Result<Step, Refusal>
     requires few { length node.now.known < 2 ^ 32 }
     ensures effects { IfOk result (λ step. step.effects ≡ effect.Started node.now.id node.now.acceptor.promised (length node.now.known) node.now.replayed ∷ []) }
     ensures sends { IfOk result (λ step. step.sends ≡ []) }
@@ -152,19 +155,19 @@ fn joined(alloc: Global, first: Step, second: Step) -> Result<Step, Refusal>
 }
 
 // What a node does that has come up: it says so, and writes its last checkpoint down again where that is in the old version.
-fn come_back(
+fn come_back<S: Store>(
     alloc: Global,
     svc: &Checked,
     seed: u32,
     nodes: u8,
     number: u8,
-    node: &mut Node<MemKeeper>,
+    node: &mut Node<Obedient<S>>,
 ) -> Result<Step, Refusal>
     requires runner { IsRunner svc.now seed nodes number node.old }
     requires up { node.old.up ≡ true }
     ensures back { IfOk result (CameBack (service_of svc.now seed) number (here_at svc.now node.old) (here_at svc.now node.new)) }
     ensures memory { IfErr result (λ e. e ≡ Refusal.OutOfMemory) }
-    ensures stays { IsWhole result → StaysSeat svc.now seed nodes number (Running node.old) (Running node.new) }
+    ensures stays { IsWhole result → StaysRunner svc.now seed nodes number node.old node.new }
 {
     let step = started(alloc, node)?;
     if !node.has_old_base() {
@@ -174,34 +177,38 @@ fn come_back(
     joined(alloc, step, migrated)
 }
 
-impl Seat {
+impl<S: Store> Seat<S> {
     // Whether the node is up.
     fn is_up(&self) -> bool
         ensures { result ≡ is_up_in self.now }
     {
         match self {
             Seat::Running(node) => node.is_up(),
-            Seat::Stopped(_) => false,
+            Seat::Stopped(_) | Seat::Empty => false,
         }
     }
 
     /// The keeper of the node.
-    pub(crate) fn keeper(&self) -> &MemKeeper
+    pub(crate) fn keeper(&self) -> &Obedient<S>
+        requires { HasKeeper self.now }
         ensures { result.now ≡ keeper_in self.now }
     {
         match self {
             Seat::Running(node) => node.keeper(),
             Seat::Stopped(keeper) => keeper,
+            Seat::Empty => unreachable!(),
         }
     }
 
-    // The keeper of the node; one without records is left in its place.
-    fn take_keeper(&mut self, alloc: Global) -> MemKeeper
+    // The keeper of the node; the seat is left empty.
+    fn take_keeper(&mut self) -> Obedient<S>
+        requires { HasKeeper self.old }
         ensures { result ≡ keeper_in self.old }
     {
-        match mem::replace(self, Seat::Stopped(MemKeeper::new(alloc))) {
+        match mem::replace(self, Seat::Empty) {
             Seat::Running(node) => node.stop(),
             Seat::Stopped(keeper) => keeper,
+            Seat::Empty => unreachable!(),
         }
     }
 
@@ -223,7 +230,7 @@ impl Seat {
     {
         match self {
             Seat::Running(node) => node.elect(svc, replayer),
-            Seat::Stopped(_) => Err(Refusal::Down),
+            Seat::Stopped(_) | Seat::Empty => Err(Refusal::Down),
         }
     }
 
@@ -247,7 +254,7 @@ impl Seat {
     {
         match self {
             Seat::Running(node) => node.on_message(svc, replayer, message),
-            Seat::Stopped(_) => Err(Refusal::Down),
+            Seat::Stopped(_) | Seat::Empty => Err(Refusal::Down),
         }
     }
 
@@ -268,7 +275,7 @@ impl Seat {
     {
         match self {
             Seat::Running(node) => answered(alloc, request, node.submit(svc, request)),
-            Seat::Stopped(_) => Err(Refusal::Down),
+            Seat::Stopped(_) | Seat::Empty => Err(Refusal::Down),
         }
     }
 
@@ -294,7 +301,7 @@ impl Seat {
         }
         match self {
             Seat::Running(node) => turned(alloc, lane, node.lane(svc, lane, done as i64)),
-            Seat::Stopped(_) => Err(Refusal::Down),
+            Seat::Stopped(_) | Seat::Empty => Err(Refusal::Down),
         }
     }
 
@@ -317,7 +324,34 @@ impl Seat {
         }
         match self {
             Seat::Running(node) => node.take_event(svc, event),
-            Seat::Stopped(_) => Err(Refusal::Down),
+            Seat::Stopped(_) | Seat::Empty => Err(Refusal::Down),
+        }
+    }
+
+    /// The node is handed a block of events that were made elsewhere.
+    pub(crate) fn take_block<R: Replayer>(
+        &mut self,
+        svc: &Checked,
+        replayer: &mut R,
+        seed: u32,
+        nodes: u8,
+        number: u8,
+        events: &[Event],
+    ) -> Result<(), Refusal>
+        requires seat { IsSeat svc.now seed nodes number self.old }
+        requires runs { (here_in svc.now self.old).up ≡ true → IsSome (run svc.now (lanes.live_state svc.now (here_in svc.now self.old)) events.now) }
+        requires counted { AreCounted events.now }
+        requires ready { R.ready replayer.old }
+        ensures handed { IsHandedBlock svc.now events.now (here_in svc.now self.old) (here_in svc.now self.new) result }
+        ensures seat { StaysSeat svc.now seed nodes number self.old self.new }
+        ensures ready { R.ready replayer.new }
+    {
+        if !self.is_up() {
+            return Err(Refusal::Down);
+        }
+        match self {
+            Seat::Running(node) => node.take_block(svc, replayer, events),
+            Seat::Stopped(_) | Seat::Empty => Err(Refusal::Down),
         }
     }
 
@@ -342,7 +376,7 @@ impl Seat {
         }
         match self {
             Seat::Running(node) => node.cut(svc, limits),
-            Seat::Stopped(_) => Err(Refusal::Down),
+            Seat::Stopped(_) | Seat::Empty => Err(Refusal::Down),
         }
     }
 
@@ -363,7 +397,7 @@ impl Seat {
     {
         match self {
             Seat::Running(node) => node.replay(svc, replayer),
-            Seat::Stopped(_) => Err(Refusal::Down),
+            Seat::Stopped(_) | Seat::Empty => Err(Refusal::Down),
         }
     }
 
@@ -383,7 +417,7 @@ impl Seat {
     {
         match self {
             Seat::Running(node) => node.checkpoint_in(svc, version),
-            Seat::Stopped(_) => Err(Refusal::Down),
+            Seat::Stopped(_) | Seat::Empty => Err(Refusal::Down),
         }
     }
 
@@ -394,6 +428,7 @@ impl Seat {
         match self {
             Seat::Running(node) => node.arm(fate),
             Seat::Stopped(keeper) => keeper.arm(fate),
+            Seat::Empty => {}
         }
     }
 
@@ -412,7 +447,7 @@ impl Seat {
     {
         match self {
             Seat::Running(node) => node.ask(svc, other),
-            Seat::Stopped(_) => Err(Refusal::Down),
+            Seat::Stopped(_) | Seat::Empty => Err(Refusal::Down),
         }
     }
 
@@ -433,12 +468,12 @@ impl Seat {
             return Err(Refusal::Down);
         }
         let step = step_of(alloc, Effect::Stopped { node: number })?;
-        *self = Seat::Stopped(self.take_keeper(alloc));
+        *self = Seat::Stopped(self.take_keeper());
         Ok(step)
     }
 
-    /// The node is started from what its keeper has. These are its own records, so none is bad, and a start that doesn't
-    /// come up is short of memory.
+    /// The node is started from what its keeper has, which is reopened first. These are its own records, so none is bad, and a
+    /// start that doesn't come up is short of memory.
     pub(crate) fn start(
         &mut self,
         alloc: Global,
@@ -457,7 +492,7 @@ impl Seat {
         if self.is_up() {
             return step_of(alloc, Effect::IsUp { node: number });
         }
-        let keeper = self.take_keeper(alloc);
+        let keeper = self.take_keeper().reopen()?;
         match Node::restart(alloc, number, nodes, seed, svc, keeper) {
             Ok(mut node) => {
                 let step = come_back(alloc, svc, seed, nodes, number, &mut node)?;

@@ -20,6 +20,7 @@ use rex_report::push_delta;
 use rex_scenario::Scenario;
 use rex_syntax::checked::Checked;
 use rex_syntax::service::Declarations;
+use rex_traits::Store;
 use std::alloc::{AllocError, Global};
 
 // Appends the lines of an agreed value.
@@ -67,7 +68,7 @@ fn push_values(
     Ok(())
 }
 
-impl World {
+impl<S: Store> World<S> {
     /// Appends the agreed trace: for each value that the nodes agreed on its delta, with its causes.
     pub fn push_trace(&self, svc: &Checked, out: &mut Vec<u8>) -> Result<(), AllocError>
         requires { IsRunning svc.now self.now }

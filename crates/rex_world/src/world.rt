@@ -1,23 +1,30 @@
 //! The world.
 
-ghost use Rattle.std.specs.Prelude.{◌≡◌, ◌<◌, ◌≤◌, ◌+◌, ◌^◌, Err, false, true, length, replicate, IfOk, OnOk, OnErr, if◌then◌else◌};
+ghost use Rattle.std.specs.Prelude.{◌≡◌, ◌<◌, ◌≤◌, ◌+◌, ◌^◌, Err, false, true, length, replicate, IsSome, IfOk, OnOk, OnErr, if◌then◌else◌};
+ghost use Rattle.std.specs.List.{All};
 ghost use Rattle.rex_ballot.specs.Limits.{most_nodes};
+ghost use Rattle.rex_state.specs.Machine.{run};
+ghost use Rattle.rex_state.specs.Counts.{AreCounted};
 ghost use Rattle.rex_version.specs.Versions.{has_old_form};
 ghost use Rattle.rex_scenario.specs.Fits.{FormFits, IsNode, LineFits, ScenarioFits};
+ghost use Rattle.rex_traits.specs.StoreLaws.{memory_value};
+ghost use Rattle.rex_traits.specs.Stores.{value_by};
 ghost use Rattle.rex_traits.specs.declared.mem_keeper.Fate.TheVariants as fate;
 ghost use Rattle.rex_safety.specs.Node.{new_node};
 ghost use Rattle.rex_safety.specs.World.{beginning, node_at, row, steps_of};
-ghost use Rattle.rex_safety.specs.Takes.{BeginsInRange, take, taken_in};
+ghost use Rattle.rex_safety.specs.Lanes.{live_state};
+ghost use Rattle.rex_safety.specs.Takes.{BeginsInRange, after_doings, take, taken_in};
 ghost use Rattle.rex_node.specs.Calls.{Refuses, refusal_active};
 ghost use Rattle.rex_node.specs.declared.refusal.Refusal.TheVariants as why;
 ghost use Rattle.rex_scenario.specs.declared.scenario.ScheduleLine.TheVariants as line;
+ghost use Rattle.rex_world.specs.Blocks.{takes_at};
 ghost use Rattle.rex_world.specs.Calls.{ArmsNone, DidSteps, IsWhole};
-ghost use Rattle.rex_world.specs.Seats.{AreSeats, AreWithin, IsSeat, faults_of, here_in, heres, keeper_in};
+ghost use Rattle.rex_world.specs.Seats.{AreSeats, AreWithin, IsFresh, IsSeat, faults_of, here_in, heres, keeper_in};
 ghost use Rattle.rex_world.specs.World.{nodes_of, world_of};
 ghost use Rattle.rex_world.specs.Kept.{IsRunning, IsSame};
 
 use crate::calls::tell_all;
-use crate::places::{arm_at, take_at};
+use crate::places::{arm_at, take_at, take_block_at};
 use crate::seats::Seat;
 use crate::told::Told;
 use rex_event::{Event, Kind};
@@ -30,16 +37,16 @@ use rex_report::Effect;
 use rex_scenario::{Scenario, ScheduleLine};
 use rex_syntax::checked::Checked;
 use rex_syntax::request::Request;
-use rex_traits::{Fate, MemKeeper};
+use rex_traits::{Fate, MemKeeper, Obedient, Store};
 use std::alloc::{AllocError, Global};
 
 /// The nodes of a cluster, and the messages between them. After an `Err`, which is want of memory, it is broken, and given up.
 #[derive(Drop)]
-pub struct World {
+pub struct World<S: Store> {
     pub(crate) alloc: Global,
     pub(crate) seed: u32,
     pub(crate) requests: List<Request>,
-    pub(crate) seats: Vec<Seat>,
+    pub(crate) seats: Vec<Seat<S>>,
     /// The messages that were sent, as bytes.
     pub(crate) net: Net,
     /// For each of them whether a line handed it over.
@@ -50,21 +57,23 @@ pub struct World {
     pub(crate) broken: bool,
 }
 
-// A node before the first line, over a keeper without records.
-fn new_seat(
+// A node before the first line, over a fresh keeper.
+fn new_seat<S: Store>(
     alloc: Global,
     svc: &Checked,
     seed: u32,
     nodes: u8,
     number: u8,
-) -> Result<Seat, AllocError>
+    keeper: S,
+) -> Result<Seat<S>, AllocError>
     requires there { (0 < number) × (number ≤ nodes) }
     requires few { nodes ≤ most_nodes }
+    requires fresh { IsFresh (value_by S.records S.faults S.armed S.broken S.as_armed) keeper }
     ensures here { IfOk result (λ seat. here_in svc.now seat ≡ new_node) }
     ensures seat { IfOk result (IsSeat svc.now seed nodes number) }
     ensures within { IfOk result (λ seat. faults_of (keeper_in seat) ≡ 0) }
 {
-    match Node::restart(alloc, number, nodes, seed, svc, MemKeeper::new(alloc)) {
+    match Node::restart(alloc, number, nodes, seed, svc, Obedient::new(keeper)) {
         Ok(node) => Ok(Seat::Running(node)),
         Err(not_started) => match not_started.fault {
             RestartFault::OutOfMemory => Err(AllocError),
@@ -73,20 +82,49 @@ fn new_seat(
     }
 }
 
-// The nodes before the first line.
-fn new_seats(alloc: Global, svc: &Checked, seed: u32, nodes: u8) -> Result<Vec<Seat>, AllocError>
-    requires { nodes ≤ most_nodes }
+// The nodes before the first line, each over its keeper.
+fn new_seats<S: Store>(
+    alloc: Global,
+    svc: &Checked,
+    seed: u32,
+    nodes: u8,
+    keepers: Vec<S>,
+) -> Result<Vec<Seat<S>>, AllocError>
+    requires few { nodes ≤ most_nodes }
+    requires many { length keepers.items ≡ nodes }
+    requires fresh { All (IsFresh (value_by S.records S.faults S.armed S.broken S.as_armed)) keepers.items }
     ensures heres { IfOk result (λ seats. heres svc.now seats.items ≡ replicate nodes new_node) }
     ensures seats { IfOk result (λ seats. AreSeats svc.now seed nodes 1 seats.items) }
     ensures within { IfOk result (λ seats. AreWithin 0 seats.items) }
     ensures many { IfOk result (λ seats. length seats.items ≡ nodes) }
 {
     let mut seats = Vec::new(alloc);
-    for number in 0..nodes {
-        let seat = new_seat(alloc, svc, seed, nodes, number + 1)?;
+    let mut number = 0;
+    for keeper in keepers {
+        number += 1;
+        let seat = new_seat(alloc, svc, seed, nodes, number, keeper)?;
         seats.push(seat)?;
     }
     Ok(seats)
+}
+
+// A copy of requests.
+fn copied(alloc: Global, requests: &List<Request>) -> Result<List<Request>, AllocError>
+    ensures { IfOk result (λ copy. copy ≡ requests.now) }
+{
+    Ok(List::from_vec(requests.as_slice().to_vec(alloc)?))
+}
+
+// A keeper in memory for each node.
+fn memory_keepers(alloc: Global, nodes: u8) -> Result<Vec<MemKeeper>, AllocError>
+    ensures many { IfOk result (λ keepers. length keepers.items ≡ nodes) }
+    ensures fresh { IfOk result (λ keepers. All (IsFresh memory_value) keepers.items) }
+{
+    let mut keepers = Vec::new(alloc);
+    for _ in 0..nodes {
+        keepers.push(MemKeeper::new(alloc))?;
+    }
+    Ok(keepers)
 }
 
 // What becomes of the record of an append that fails.
@@ -104,9 +142,21 @@ fn is_short(turn: &Result<Turn, Refusal>) -> bool
     matches!(turn, Err(Refusal::OutOfMemory))
 }
 
-impl World {
-    /// Before the first line of a schedule: each node follows, and knows nothing.
-    pub fn new(alloc: Global, svc: &Checked, scenario: &Scenario) -> Result<World, AllocError>
+// The same of a block.
+fn is_block_short(taken: &Result<(), Refusal>) -> bool
+    ensures whole { IsWhole taken.now → result ≡ false }
+    ensures short { taken.now ≡ Err why.OutOfMemory → result ≡ true }
+{
+    matches!(taken, Err(Refusal::OutOfMemory))
+}
+
+impl World<MemKeeper> {
+    /// Before the first line of a schedule, with the nodes' records in memory: each node follows, and knows nothing.
+    pub fn new(
+        alloc: Global,
+        svc: &Checked,
+        scenario: &Scenario,
+    ) -> Result<World<MemKeeper>, AllocError>
         requires { ScenarioFits svc.now scenario.now }
         ensures world { IfOk result (λ w. world_of svc.now w ≡ beginning scenario.now.nodes) }
         ensures nodes { IfOk result (λ w. nodes_of w ≡ scenario.now.nodes) }
@@ -114,9 +164,33 @@ impl World {
         ensures seed { IfOk result (λ w. w.seed ≡ scenario.now.seed) }
         ensures running { IfOk result (λ w. IsRunning svc.now w) }
     {
+        let keepers = memory_keepers(alloc, scenario.nodes)?;
+        World::with_keepers(alloc, svc, scenario, keepers)
+    }
+}
+
+impl<S: Store> World<S> {
+    /// Before the first line of a schedule, with each node's records in one of these keepers, in the order of the nodes: each
+    /// node follows, and knows nothing. The keepers are fresh: one for each node, without records, unarmed, and none of their
+    /// appends failed. Each fails only as it is armed.
+    pub fn with_keepers(
+        alloc: Global,
+        svc: &Checked,
+        scenario: &Scenario,
+        keepers: Vec<S>,
+    ) -> Result<World<S>, AllocError>
+        requires fits { ScenarioFits svc.now scenario.now }
+        requires many { length keepers.items ≡ scenario.now.nodes }
+        requires fresh { All (IsFresh (value_by S.records S.faults S.armed S.broken S.as_armed)) keepers.items }
+        ensures world { IfOk result (λ w. world_of svc.now w ≡ beginning scenario.now.nodes) }
+        ensures nodes { IfOk result (λ w. nodes_of w ≡ scenario.now.nodes) }
+        ensures requests { IfOk result (λ w. w.requests ≡ scenario.now.requests) }
+        ensures seed { IfOk result (λ w. w.seed ≡ scenario.now.seed) }
+        ensures running { IfOk result (λ w. IsRunning svc.now w) }
+    {
         let _service = svc.declarations();
-        let requests = List::from_vec(scenario.requests.as_slice().to_vec(alloc)?);
-        let seats = new_seats(alloc, svc, scenario.seed, scenario.nodes)?;
+        let requests = copied(alloc, &scenario.requests)?;
+        let seats = new_seats(alloc, svc, scenario.seed, scenario.nodes, keepers)?;
         Ok(World {
             alloc,
             seed: scenario.seed,
@@ -129,7 +203,9 @@ impl World {
             broken: false,
         })
     }
+}
 
+impl<S: Store> World<S> {
     /// How many schedule lines were done.
     pub fn done(&self) -> u32
         ensures { result ≡ self.now.done }
@@ -234,6 +310,35 @@ impl World {
         let turn = take_at(&mut self.seats, svc, self.seed, node, event);
         self.broken = is_short(&turn);
         turn
+    }
+
+    /// Hands a node a block of events that were made elsewhere and run from its live state: an active node takes them among its
+    /// live ones, one after the other, as far as they can be taken. No schedule line spells this, and none is counted.
+    pub fn take_block<R: Replayer>(
+        &mut self,
+        svc: &Checked,
+        replayer: &mut R,
+        node: u8,
+        events: &[Event],
+    ) -> Result<(), Refusal>
+        requires running { IsRunning svc.now self.old }
+        requires there { IsNode (nodes_of self.old) node }
+        requires begins { All BeginsInRange events.now }
+        requires runs { (node_at (world_of svc.now self.old).nodes node).up ≡ true → IsSome (run svc.now (live_state svc.now (node_at (world_of svc.now self.old).nodes node)) events.now) }
+        requires counted { AreCounted events.now }
+        requires ready { R.ready replayer.old }
+        ensures refused { Refuses (refusal_active (node_at (world_of svc.now self.old).nodes node)) result }
+        ensures world { OnOk result (world_of svc.now self.new ≡ after_doings svc.now self.old.requests self.old.seed (nodes_of self.old) (world_of svc.now self.old) (takes_at node events.now)) }
+        ensures unchanged { OnErr result (world_of svc.now self.new ≡ world_of svc.now self.old) }
+        ensures running { IsWhole result → IsRunning svc.now self.new }
+        ensures same { IsSame self.old self.new }
+        ensures done { self.new.done ≡ self.old.done }
+        ensures broken { result ≡ Err why.OutOfMemory → self.new.broken ≡ true }
+        ensures ready { R.ready replayer.new }
+    {
+        let taken = take_block_at(&mut self.seats, svc, replayer, self.seed, node, events);
+        self.broken = is_block_short(&taken);
+        taken
     }
 
     /// Does a schedule line, and answers what it reports.

@@ -19,9 +19,9 @@ returns-in-Ok-response_to-clause-judges g c =
     (subst (λ (bytes : List ℕ). JudgesCommand c.args.command bytes (due_of c.in-Ok-response_to.response).status) c.deref.ensures.value c.in-Ok-response_to.ensures.judges)
 
 pub returns-in-Ok-response_to-clause-headline : goal.returns-in-Ok-response_to-clause-headline
-returns-in-Ok-response_to-clause-headline g c workers runs zero =
+returns-in-Ok-response_to-clause-headline g c workers journal runs zero =
     whole_committed (g.S.Source.left c.args.source.now) (g.S.Source.left c.read_input.new.source) c.in-Ok.input.bytes.items c.in-Ok.ensures.taken
-    c.in-Ok.ensures.whole (subst Committed c.deref.ensures.value (c.in-Ok-response_to.ensures.headline workers runs zero))
+    c.in-Ok.ensures.whole (subst Committed c.deref.ensures.value (c.in-Ok-response_to.ensures.headline workers journal runs zero))
 
 pub returns-in-Ok-response_to-clause-whole : goal.returns-in-Ok-response_to-clause-whole
 returns-in-Ok-response_to-clause-whole g c zero =

@@ -5,4 +5,4 @@ use Rattle.rex_world.proofs.agreed.longest.Given as goal
 
 -- the longest of what the last nodes know
 abbrev pub invariant-loop-back : goal.invariant-loop-back
-invariant-loop-back l = l.longest ≡ model.longest (heres l.svc (drop (length l.seats - l.back) l.seats))
+invariant-loop-back g l = l.longest ≡ model.longest (heres l.svc (drop (length l.seats - l.back) l.seats))

@@ -7,14 +7,14 @@ use Rattle.rex_world.proofs.Seated.{here_is, seat_is, acts_at}
 use Rattle.rex_world.proofs.places.lane_at.Goals as goal
 
 pub lane-requires-clause-seat : goal.lane-requires-clause-seat
-lane-requires-clause-seat c = seat_is c.args.svc.now c.args.seats.now c.args.number c.requires.there c.index-seats-number.result c.args.seed (length c.args.seats.now) c.requires.seats
+lane-requires-clause-seat g c = seat_is c.args.svc.now c.args.seats.now c.args.number c.requires.there c.index-seats-number.result c.args.seed (length c.args.seats.now) c.requires.seats
 
 pub lane-requires-clause-count : goal.lane-requires-clause-count
-lane-requires-clause-count c =
+lane-requires-clause-count g c =
     subst (λ (x : Here). x.up ≡ true → (lane_of (live_state c.args.svc.now x) c.args.lane).done + 1 < 2 ^ 32)
     (here_is c.args.svc.now c.args.seats.now c.args.number c.requires.there c.index-seats-number.result) c.requires.count
 
 pub returns : goal.returns
-returns c = record {
+returns g c = record {
   acts = acts_at c.args.svc.now c.args.seats.now c.args.number c.requires.there c.index-seats-number.result c.args.seed _ c.lane.new.self c.lane.result c.lane.ensures.acts c.lane.ensures.seat;
 }

@@ -3,9 +3,9 @@ use Rattle.rex_world.proofs.Seated.{seat_is, acts_at}
 use Rattle.rex_world.proofs.places.submit_at.Goals as goal
 
 pub submit-requires-clause-seat : goal.submit-requires-clause-seat
-submit-requires-clause-seat c = seat_is c.args.svc.now c.args.seats.now c.args.number c.requires.there c.index-seats-number.result c.args.seed (length c.args.seats.now) c.requires.seats
+submit-requires-clause-seat g c = seat_is c.args.svc.now c.args.seats.now c.args.number c.requires.there c.index-seats-number.result c.args.seed (length c.args.seats.now) c.requires.seats
 
 pub returns : goal.returns
-returns c = record {
+returns g c = record {
   acts = acts_at c.args.svc.now c.args.seats.now c.args.number c.requires.there c.index-seats-number.result c.args.seed _ c.submit.new.self c.submit.result c.submit.ensures.acts c.submit.ensures.seat;
 }

@@ -1,21 +1,20 @@
 use Rattle.std.proofs.Common.{subst, sym}
 use Rattle.rex_safety.specs.Calls.{replay}
 use Rattle.rex_world.specs.declared.seats.Seat.{Seat}
-use Rattle.rex_world.specs.declared.seats.Seat.TheVariants.{Running}
-use Rattle.rex_world.specs.Seats.{IsSeat, StaysSeat, here_at, here_in}
+use Rattle.rex_world.specs.Seats.{IsSeat, here_at, here_in}
 use Rattle.rex_world.specs.Calls.{Acts}
-use Rattle.rex_world.proofs.Acted.{replays, spared_if, stays_seat}
+use Rattle.rex_world.proofs.Acted.{in_seat, replays, spared_if, stays_whole}
 use Rattle.rex_world.proofs.Unseen.{replay_either}
 use Rattle.rex_world.proofs.seats.Seat.replay.Goals as goal
 
 pub returns-in-Running-clause-acts : goal.returns-in-Running-clause-acts
 returns-in-Running-clause-acts g c =
     let runner = subst (IsSeat c.args.svc.now c.args.seed c.args.nodes c.args.number) c.in-Running.is c.requires.seat in
-    subst (λ (seat : Seat). Acts (replay c.args.number) c.args.number (here_in c.args.svc.now seat) (here_at c.args.svc.now c.replay.new.self) c.replay.result) (sym c.in-Running.is)
+    subst (λ (seat : Seat _). Acts (replay c.args.number) c.args.number (here_in c.args.svc.now seat) (here_at c.args.svc.now c.replay.new.self) c.replay.result) (sym c.in-Running.is)
     (replays c.args.svc.now c.args.seed c.args.nodes c.args.number c.in-Running.node c.replay.new.self runner c.replay.result c.replay.ensures.refused c.replay.ensures.told (spared_if c.replay.result _ _ c.replay.ensures.same))
 
 pub returns-in-Running-clause-seat : goal.returns-in-Running-clause-seat
 returns-in-Running-clause-seat g c =
     let runner = subst (IsSeat c.args.svc.now c.args.seed c.args.nodes c.args.number) c.in-Running.is c.requires.seat in
-    λ whole. subst (λ (seat : Seat). StaysSeat c.args.svc.now c.args.seed c.args.nodes c.args.number seat (Running c.replay.new.self)) (sym c.in-Running.is)
-    (stays_seat c.args.svc.now c.args.seed c.args.nodes c.args.number c.in-Running.node runner c.replay.new.self (replay c.in-Running.node.id) c.replay.result (λ f. replay_either f c.in-Running.node.id) c.replay.ensures.kept c.replay.ensures.told (spared_if c.replay.result _ _ c.replay.ensures.same) whole)
+    λ whole. in_seat c.args.svc.now c.args.seed c.args.nodes c.args.number c.args.self.now c.in-Running.node c.replay.new.self c.in-Running.is
+    (stays_whole c.args.svc.now c.args.seed c.args.nodes c.args.number c.in-Running.node runner c.replay.new.self (replay c.in-Running.node.id) c.replay.result (λ f. replay_either f c.in-Running.node.id) c.replay.ensures.kept c.replay.ensures.told (spared_if c.replay.result _ _ c.replay.ensures.same) whole)

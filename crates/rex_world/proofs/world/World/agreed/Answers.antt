@@ -4,5 +4,5 @@ use Rattle.rex_world.proofs.Longest.{seats_read}
 use Rattle.rex_world.proofs.world.World.agreed.Goals as goal
 
 pub longest-requires : goal.longest-requires
-longest-requires c =
+longest-requires g c =
     subst (AreReadAll c.args.svc.now) (sym c.deref.ensures.value) (seats_read c.args.svc.now c.args.self.now.seed (length c.args.self.now.seats.items) 1 c.args.self.now.seats.items c.requires.seats)

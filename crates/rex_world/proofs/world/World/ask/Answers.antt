@@ -6,14 +6,14 @@ use Rattle.rex_world.proofs.Stepping.{kept_next, call_fits, came}
 use Rattle.rex_world.proofs.world.World.ask.Goals as goal
 
 pub tell-requires : goal.tell-requires
-tell-requires c =
+tell-requires g c =
     call_fits c.args.svc.now c.args.self.now c.requires.running c.args.node c.deref_mut.result.now c.deref_mut.ensures.value
-    (λ (ys : List Seat). calls.ask c.args.node c.args.other)
+    (λ (ys : List (Seat _)). calls.ask c.args.node c.args.other)
     c.ask_at-outcome.new.seats c.ask_at-outcome.result c.ask_at-outcome.ensures.acts (kept_next c.args.svc.now c.args.self.now c.requires.running (line.Ask c.args.node c.args.other) (c.requires.there, c.requires.other))
 
 pub returns : goal.returns
-returns c = record {
+returns g c = record {
   comes = came c.args.svc.now c.args.self.now c.requires.running c.args.node c.deref_mut.result.now c.deref_mut.ensures.value
-      (λ (ys : List Seat). calls.ask c.args.node c.args.other)
+      (λ (ys : List (Seat _)). calls.ask c.args.node c.args.other)
       c.ask_at-outcome.new.seats c.ask_at-outcome.result c.tell.new.self c.args.told.now c.tell.new.told c.tell.result c.ask_at-outcome.ensures.acts (kept_next c.args.svc.now c.args.self.now c.requires.running (line.Ask c.args.node c.args.other) (c.requires.there, c.requires.other)) c.tell.ensures;
 }

@@ -7,14 +7,14 @@ use Rattle.rex_world.proofs.Stepping.{kept_next, call_fits, came}
 use Rattle.rex_world.proofs.world.World.checkpoint.Goals as goal
 
 pub tell-requires : goal.tell-requires
-tell-requires c =
+tell-requires g c =
     call_fits c.args.svc.now c.args.self.now c.requires.running c.args.node c.deref_mut.result.now c.deref_mut.ensures.value
-    (λ (ys : List Seat). calls.checkpoint c.args.version (service_of c.args.svc.now c.args.self.now.seed) c.args.node)
+    (λ (ys : List (Seat _)). calls.checkpoint c.args.version (service_of c.args.svc.now c.args.self.now.seed) c.args.node)
     c.checkpoint_at-outcome.new.seats c.checkpoint_at-outcome.result c.checkpoint_at-outcome.ensures.acts (kept_next c.args.svc.now c.args.self.now c.requires.running (line.Checkpoint c.args.node c.args.version) c.requires.there)
 
 pub returns : goal.returns
-returns c = record {
+returns g c = record {
   comes = came c.args.svc.now c.args.self.now c.requires.running c.args.node c.deref_mut.result.now c.deref_mut.ensures.value
-      (λ (ys : List Seat). calls.checkpoint c.args.version (service_of c.args.svc.now c.args.self.now.seed) c.args.node)
+      (λ (ys : List (Seat _)). calls.checkpoint c.args.version (service_of c.args.svc.now c.args.self.now.seed) c.args.node)
       c.checkpoint_at-outcome.new.seats c.checkpoint_at-outcome.result c.tell.new.self c.args.told.now c.tell.new.told c.tell.result c.checkpoint_at-outcome.ensures.acts (kept_next c.args.svc.now c.args.self.now c.requires.running (line.Checkpoint c.args.node c.args.version) c.requires.there) c.tell.ensures;
 }

@@ -8,21 +8,21 @@ use Rattle.rex_world.proofs.Stepping.{call_fits, came, can_cut, cut_runs, cut_ke
 use Rattle.rex_world.proofs.world.World.cut.Goals as goal
 
 pub cut_at-outcome-requires-clause-runs : goal.cut_at-outcome-requires-clause-runs
-cut_at-outcome-requires-clause-runs c = cut_runs c.args.svc.now c.args.self.now c.requires.running c.deref_mut.result.now c.deref_mut.ensures.value c.args.node c.requires.there (option_copied c.args.limits)
+cut_at-outcome-requires-clause-runs g c = cut_runs c.args.svc.now c.args.self.now c.requires.running c.deref_mut.result.now c.deref_mut.ensures.value c.args.node c.requires.there (option_copied c.args.limits)
 
 pub cut_at-outcome-requires-clause-spelling : goal.cut_at-outcome-requires-clause-spelling
-cut_at-outcome-requires-clause-spelling c = can_cut c.args.svc.now c.args.self.now c.requires.running c.deref_mut.result.now c.deref_mut.ensures.value c.args.node c.requires.there (option_copied c.args.limits) c.requires.limits
+cut_at-outcome-requires-clause-spelling g c = can_cut c.args.svc.now c.args.self.now c.requires.running c.deref_mut.result.now c.deref_mut.ensures.value c.args.node c.requires.there (option_copied c.args.limits) c.requires.limits
 
 pub tell-requires : goal.tell-requires
-tell-requires c =
+tell-requires g c =
     call_fits c.args.svc.now c.args.self.now c.requires.running c.args.node c.deref_mut.result.now c.deref_mut.ensures.value
-    (λ (ys : List Seat). lanes.cut c.args.svc.now c.args.self.now.seed (length ys) c.args.node (counts_for c.args.svc.now (node_at (heres c.args.svc.now ys) c.args.node) (option_copied c.args.limits)))
+    (λ (ys : List (Seat _)). lanes.cut c.args.svc.now c.args.self.now.seed (length ys) c.args.node (counts_for c.args.svc.now (node_at (heres c.args.svc.now ys) c.args.node) (option_copied c.args.limits)))
     c.cut_at-outcome.new.seats c.cut_at-outcome.result c.cut_at-outcome.ensures.acts (cut_kept c.args.svc.now c.args.self.now c.requires.running c.args.node (option_copied c.args.limits) c.requires.there c.requires.limits)
 
 pub returns : goal.returns
-returns c = record {
+returns g c = record {
   comes = cut_came c.args.svc.now c.args.self.now c.requires.running c.args.node (option_copied c.args.limits) c.tell.new.self c.args.told.now c.tell.new.told c.tell.result
       (came c.args.svc.now c.args.self.now c.requires.running c.args.node c.deref_mut.result.now c.deref_mut.ensures.value
-      (λ (ys : List Seat). lanes.cut c.args.svc.now c.args.self.now.seed (length ys) c.args.node (counts_for c.args.svc.now (node_at (heres c.args.svc.now ys) c.args.node) (option_copied c.args.limits)))
+      (λ (ys : List (Seat _)). lanes.cut c.args.svc.now c.args.self.now.seed (length ys) c.args.node (counts_for c.args.svc.now (node_at (heres c.args.svc.now ys) c.args.node) (option_copied c.args.limits)))
       c.cut_at-outcome.new.seats c.cut_at-outcome.result c.tell.new.self c.args.told.now c.tell.new.told c.tell.result c.cut_at-outcome.ensures.acts (cut_kept c.args.svc.now c.args.self.now c.requires.running c.args.node (option_copied c.args.limits) c.requires.there c.requires.limits) c.tell.ensures);
 }

@@ -12,11 +12,11 @@ elect_at-outcome-requires-clause-runs g c = elect_runs c.args.svc.now c.args.sel
 pub tell-requires : goal.tell-requires
 tell-requires g c =
     call_fits c.args.svc.now c.args.self.now c.requires.running c.args.node c.deref_mut.result.now c.deref_mut.ensures.value
-    (λ (ys : List Seat). calls.elect (length ys) (service_of c.args.svc.now c.args.self.now.seed) c.args.node)
+    (λ (ys : List (Seat _)). calls.elect (length ys) (service_of c.args.svc.now c.args.self.now.seed) c.args.node)
     c.elect_at-outcome.new.seats c.elect_at-outcome.result c.elect_at-outcome.ensures.acts (kept_next c.args.svc.now c.args.self.now c.requires.running (line.Elect c.args.node) c.requires.there)
 
 pub returns-clause-comes : goal.returns-clause-comes
 returns-clause-comes g c =
     came c.args.svc.now c.args.self.now c.requires.running c.args.node c.deref_mut.result.now c.deref_mut.ensures.value
-    (λ (ys : List Seat). calls.elect (length ys) (service_of c.args.svc.now c.args.self.now.seed) c.args.node)
+    (λ (ys : List (Seat _)). calls.elect (length ys) (service_of c.args.svc.now c.args.self.now.seed) c.args.node)
     c.elect_at-outcome.new.seats c.elect_at-outcome.result c.tell.new.self c.args.told.now c.tell.new.told c.tell.result c.elect_at-outcome.ensures.acts (kept_next c.args.svc.now c.args.self.now c.requires.running (line.Elect c.args.node) c.requires.there) c.tell.ensures

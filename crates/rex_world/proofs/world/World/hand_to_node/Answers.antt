@@ -27,7 +27,7 @@ on_message_at-outcome-requires-clause-runs g c = hand_runs c.args.svc.now c.mark
 pub tell-requires : goal.tell-requires
 tell-requires g c =
     call_fits c.args.svc.now c.mark.new.self (marked_running c.args.svc.now c.args.self.now c.mark.new.self c.args.number c.mark.ensures c.requires.running) c.args.message.now.to c.deref_mut.result.now c.deref_mut.ensures.value
-    (λ (ys : List Seat). receive (length ys) (service_of c.args.svc.now c.mark.new.self.seed) c.args.message.now.to c.args.message.now.from (content_in c.args.message.now.content))
+    (λ (ys : List (Seat _)). receive (length ys) (service_of c.args.svc.now c.mark.new.self.seed) c.args.message.now.to c.args.message.now.from (content_in c.args.message.now.content))
     c.on_message_at-outcome.new.seats c.on_message_at-outcome.result c.on_message_at-outcome.ensures.acts (hand_kept c.args.svc.now c.args.self.now c.requires.running c.args.number c.args.message.now c.requires.sent c.mark.new.self c.mark.ensures)
 
 pub returns-clause-comes : goal.returns-clause-comes
@@ -36,5 +36,5 @@ returns-clause-comes g c =
     (hand_came c.args.svc.now c.args.self.now c.requires.running c.args.number c.args.message.now c.requires.sent c.mark.new.self c.mark.ensures c.tell.new.self c.args.told.now _ c.tell.new.told
     (c.in_ok-push.ensures.items ∙ ap (λ (k : MessageKind). c.args.told.now.effects.items ++ Delivered c.args.number k c.args.message.now.from c.args.message.now.to ∷ []) c.kind_of.ensures) refl)
     (came c.args.svc.now c.mark.new.self (marked_running c.args.svc.now c.args.self.now c.mark.new.self c.args.number c.mark.ensures c.requires.running) c.args.message.now.to c.deref_mut.result.now c.deref_mut.ensures.value
-    (λ (ys : List Seat). receive (length ys) (service_of c.args.svc.now c.mark.new.self.seed) c.args.message.now.to c.args.message.now.from (content_in c.args.message.now.content))
+    (λ (ys : List (Seat _)). receive (length ys) (service_of c.args.svc.now c.mark.new.self.seed) c.args.message.now.to c.args.message.now.from (content_in c.args.message.now.content))
     c.on_message_at-outcome.new.seats c.on_message_at-outcome.result c.tell.new.self _ c.tell.new.told c.tell.result c.on_message_at-outcome.ensures.acts (hand_kept c.args.svc.now c.args.self.now c.requires.running c.args.number c.args.message.now c.requires.sent c.mark.new.self c.mark.ensures) c.tell.ensures)

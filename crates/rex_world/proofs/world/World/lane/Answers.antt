@@ -8,17 +8,17 @@ use Rattle.rex_world.proofs.Stepping.{kept_next, call_fits, came, has_room}
 use Rattle.rex_world.proofs.world.World.lane.Goals as goal
 
 pub lane_at-outcome-requires-clause-count : goal.lane_at-outcome-requires-clause-count
-lane_at-outcome-requires-clause-count c = has_room c.args.svc.now c.args.self.now c.requires.running c.deref_mut.result.now c.deref_mut.ensures.value c.args.node c.requires.there c.args.lane
+lane_at-outcome-requires-clause-count g c = has_room c.args.svc.now c.args.self.now c.requires.running c.deref_mut.result.now c.deref_mut.ensures.value c.args.node c.requires.there c.args.lane
 
 pub tell-requires : goal.tell-requires
-tell-requires c =
+tell-requires g c =
     call_fits c.args.svc.now c.args.self.now c.requires.running c.args.node c.deref_mut.result.now c.deref_mut.ensures.value
-    (λ (ys : List Seat). λ (d : CallHere). lanes.active_only (is_active d.node.role) d (lanes.lane_turn c.args.svc.now c.args.self.now.done c.args.lane d))
+    (λ (ys : List (Seat _)). λ (d : CallHere). lanes.active_only (is_active d.node.role) d (lanes.lane_turn c.args.svc.now c.args.self.now.done c.args.lane d))
     c.lane_at-outcome.new.seats c.lane_at-outcome.result c.lane_at-outcome.ensures.acts (kept_next c.args.svc.now c.args.self.now c.requires.running (line.Lane c.args.node c.args.lane) (c.requires.there, c.requires.lane))
 
 pub returns : goal.returns
-returns c = record {
+returns g c = record {
   comes = came c.args.svc.now c.args.self.now c.requires.running c.args.node c.deref_mut.result.now c.deref_mut.ensures.value
-      (λ (ys : List Seat). λ (d : CallHere). lanes.active_only (is_active d.node.role) d (lanes.lane_turn c.args.svc.now c.args.self.now.done c.args.lane d))
+      (λ (ys : List (Seat _)). λ (d : CallHere). lanes.active_only (is_active d.node.role) d (lanes.lane_turn c.args.svc.now c.args.self.now.done c.args.lane d))
       c.lane_at-outcome.new.seats c.lane_at-outcome.result c.tell.new.self c.args.told.now c.tell.new.told c.tell.result c.lane_at-outcome.ensures.acts (kept_next c.args.svc.now c.args.self.now c.requires.running (line.Lane c.args.node c.args.lane) (c.requires.there, c.requires.lane)) c.tell.ensures;
 }

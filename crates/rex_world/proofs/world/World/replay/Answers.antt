@@ -8,11 +8,11 @@ use Rattle.rex_world.proofs.world.World.replay.Goals as goal
 pub tell-requires : goal.tell-requires
 tell-requires g c =
     call_fits c.args.svc.now c.args.self.now c.requires.running c.args.node c.deref_mut.result.now c.deref_mut.ensures.value
-    (λ (ys : List Seat). calls.replay c.args.node)
+    (λ (ys : List (Seat _)). calls.replay c.args.node)
     c.replay_at-outcome.new.seats c.replay_at-outcome.result c.replay_at-outcome.ensures.acts (kept_next c.args.svc.now c.args.self.now c.requires.running (line.Replay c.args.node) c.requires.there)
 
 pub returns-clause-comes : goal.returns-clause-comes
 returns-clause-comes g c =
     came c.args.svc.now c.args.self.now c.requires.running c.args.node c.deref_mut.result.now c.deref_mut.ensures.value
-    (λ (ys : List Seat). calls.replay c.args.node)
+    (λ (ys : List (Seat _)). calls.replay c.args.node)
     c.replay_at-outcome.new.seats c.replay_at-outcome.result c.tell.new.self c.args.told.now c.tell.new.told c.tell.result c.replay_at-outcome.ensures.acts (kept_next c.args.svc.now c.args.self.now c.requires.running (line.Replay c.args.node) c.requires.there) c.tell.ensures

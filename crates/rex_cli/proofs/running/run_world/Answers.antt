@@ -1,0 +1,39 @@
+use Rattle.std.proofs.Common.{ℕ, List, refl, ap, subst, arith}
+use Rattle.std.specs.Io.KnownBytes.{Appends}
+use Rattle.rex_streams.specs.Front.{AppendsFront}
+use Rattle.rex_safety.specs.World.{World as ModelWorld}
+use Rattle.rex_world.specs.Report.{report_from}
+use Rattle.rex_cli.proofs.running.run_world.Goals as goal
+
+pub returns-in-Ok-clause-gives : goal.returns-in-Ok-clause-gives
+returns-in-Ok-clause-gives g c =
+    let s = c.args.plan.now.scenario in
+    record {
+      exact = λ low. (
+        refl,
+        subst (λ (text : List ℕ). Appends (g.K.Sink.held c.args.sink.now) (g.K.Sink.held c.run.new.sink) text)
+            (ap (λ (w : ModelWorld). report_from c.args.plan.now.service s.requests s.seed s.nodes w s.schedule) c.requires.begins) c.in-Ok.ensures.whole,
+      );
+      nothing = λ e. absurd (omega (arith, e));
+      front = λ l. absurd (omega (arith, l));
+    }
+
+pub returns-in-Err-Failed-clause-gives : goal.returns-in-Err-Failed-clause-gives
+returns-in-Err-Failed-clause-gives g c =
+    let s = c.args.plan.now.scenario in
+    record {
+      exact = λ low. absurd (omega (arith, low));
+      nothing = λ e. absurd (omega (arith, e));
+      front = λ l. subst (λ (text : List ℕ). AppendsFront (g.K.Sink.held c.args.sink.now) (g.K.Sink.held c.run.new.sink) text)
+          (ap (λ (w : ModelWorld). report_from c.args.plan.now.service s.requests s.seed s.nodes w s.schedule) c.requires.begins) c.in-Err-Failed.ensures.front;
+    }
+
+pub returns-clause-gives : goal.returns-clause-gives
+returns-clause-gives g c =
+    let s = c.args.plan.now.scenario in
+    record {
+      exact = λ low. absurd (omega (arith, low));
+      nothing = λ e. absurd (omega (arith, e));
+      front = λ l. subst (λ (text : List ℕ). AppendsFront (g.K.Sink.held c.args.sink.now) (g.K.Sink.held c.run.new.sink) text)
+          (ap (λ (w : ModelWorld). report_from c.args.plan.now.service s.requests s.seed s.nodes w s.schedule) c.requires.begins) c.in-Err-OutOfMemory.ensures.front;
+    }

@@ -1,0 +1,178 @@
+-- A block of events that a node is handed.
+use Rattle.std.proofs.Common.{◌≡◌, ℕ, ◌-◌, ◌≤◌, Bool, true, false, cond, eqb, eq-eqb, List, [], ◌∷◌, length, Result, Ok, Err, Option, Some, None, OnErr, OnOk, refl, sym, ap, subst, ◌∙◌, arith, length-set}
+use Rattle.std.specs.Prelude.{slice_index_or, slice_set}
+use Rattle.std.specs.Global.{Vec}
+use Rattle.std.specs.List.{All}
+use Rattle.std.specs.Vec.{with_items}
+use Rattle.std.proofs.lemmas.List.{with_items_is}
+use Rattle.std.proofs.lemmas.List.Elements.{All-nil, All-head, All-tail}
+use Rattle.rex_ballot.specs.Limits.{most_nodes}
+use Rattle.rex_syntax.specs.declared.request.Request.{Request}
+use Rattle.rex_syntax.specs.declared.service.Declarations.{Declarations}
+use Rattle.rex_syntax.specs.Service.{IsService}
+use Rattle.rex_syntax.specs.Check.{IsChecked}
+use Rattle.rex_event.specs.declared.event.Event.{Event}
+use Rattle.rex_scenario.specs.Fits.{IsNode, RequestFits}
+use Rattle.rex_traits.specs.Keeping.{KeeperValue}
+use Rattle.rex_safety.specs.Node.{Failure, is_active}
+use Rattle.rex_safety.specs.Calls.{begin}
+use Rattle.rex_safety.specs.Lanes.{Here}
+use Rattle.rex_safety.specs.World.{World as ModelWorld, node_at, put}
+use Rattle.rex_safety.specs.Takes.{BeginsInRange, after_doings, take, take_event}
+use Rattle.rex_safety.specs.Kept.{IsKept}
+use Rattle.rex_safety.proofs.Nodes.{node_put, put_length}
+use Rattle.rex_safety.proofs.Takes.{take_kept}
+use Rattle.rex_node.specs.declared.refusal.Refusal.{Refusal}
+use Rattle.rex_node.specs.declared.refusal.Refusal.TheVariants as why
+use Rattle.rex_node.specs.Blocks.{take_each}
+use Rattle.rex_node.specs.Parts.{NodeValue, here_of}
+use Rattle.rex_node.specs.Calls as calls
+use Rattle.rex_node.specs.Calls.{LeadsTo, Refuses, refusal_active, if_active}
+use Rattle.rex_world.specs.declared.seats.Seat.{Seat}
+use Rattle.rex_world.specs.declared.world.World.{World}
+use Rattle.rex_world.specs.Blocks.{IsHandedBlock, IsHandedBlockAt, takes_at}
+use Rattle.rex_world.specs.Seats.{AreSeats, StaysSeat, armed_of, here_at, here_in, heres, records_of}
+use Rattle.rex_world.specs.World.{nodes_of, world_of}
+use Rattle.rex_world.specs.Kept.{IsRunning, IsSame}
+use Rattle.rex_world.proofs.Coming.{put_same}
+use Rattle.rex_world.proofs.Given.{take_is, none_refused}
+use Rattle.rex_world.proofs.Seated.{here_is, many_here, new_is, put_is, set_seats, set_within, within_is}
+
+-- ---- the node
+
+-- which append will fail doesn't matter to events that are taken
+armed_each : (service : Declarations) (es : List Event) (h : Here) (a : Option Failure)
+    → (take_each service es (begin (let m : Here = record h { armed = a } in m))).node ≡ (let m : Here = record (take_each service es (begin h)).node { armed = a } in m)
+armed_each service [] h a = refl
+armed_each service (e ∷ es) h a = armed_each service es (take_event service e (begin h)).node a
+
+module _ (service : Declarations) (x y : NodeValue KeeperValue) (es : List Event) (keeper : y.keeper ≡ x.keeper) where
+  leads : LeadsTo (take_each service es) (here_of records_of service x) (here_of records_of service y) → LeadsTo (take_each service es) (here_at service x) (here_at service y)
+  leads h =
+      ap (λ (n : Here). let m : Here = record n { armed = armed_of y.keeper.armed } in m) h
+      ∙ ap (λ (k : KeeperValue). let m : Here = record (take_each service es (begin (here_of records_of service x))).node { armed = armed_of k.armed } in m) keeper
+      ∙ sym (armed_each service es (here_of records_of service x) (armed_of x.keeper.armed))
+
+  pub block_handed : (outcome : Result (Unit {0}) Refusal) → Refuses (refusal_active (here_of records_of service x)) outcome
+      → OnOk outcome (LeadsTo (take_each service es) (here_of records_of service x) (here_of records_of service y)) → OnErr outcome (y ≡ x) → IsHandedBlock service es (here_at service x) (here_at service y) outcome
+  block_handed (Ok t) refused takes same = record { refused = refused; takes = leads takes; same = tt }
+  block_handed (Err r) refused takes same = record { refused = refused; takes = tt; same = ap (here_at service) same }
+
+-- a node that is down refuses it
+pub block_down : (service : Declarations) (es : List Event) (x : Here) → x.up ≡ false → IsHandedBlock service es x x (Err why.Down)
+block_down service es x down = record {
+  refused = subst (λ (u : Bool). Refuses {A = Unit {0}} (calls.if_up u (if_active x.role None)) (Err why.Down)) (sym down) refl;
+  takes = tt;
+  same = refl;
+}
+
+-- ---- among the nodes
+
+module _ {S : Type 0} (service : Declarations) (seats : List (Seat S)) (number : ℕ) (here : IsNode (length seats) number) (d : Seat S) where
+  pub block_at : (seed : ℕ) (es : List Event) (seat : Seat S) (outcome : Result (Unit {0}) Refusal)
+      → IsHandedBlock service es (here_in service (slice_index_or seats (number - 1) d)) (here_in service seat) outcome → StaysSeat service seed (length seats) number (slice_index_or seats (number - 1) d) seat
+      → IsHandedBlockAt service seed number es seats (slice_set seats (number - 1) seat) outcome
+  block_at seed es seat outcome h kept = record {
+    handed = subst (λ (x : Here). IsHandedBlock service es x (node_at (heres service (slice_set seats (number - 1) seat)) number) outcome) (sym (here_is service seats number here d))
+        (subst (λ (y : Here). IsHandedBlock service es (here_in service (slice_index_or seats (number - 1) d)) y outcome) (sym (new_is service seats number here d seat)) h);
+    others = put_is service seats number here d seat ∙ ap (λ (y : Here). put (heres service seats) number y) (sym (new_is service seats number here d seat));
+    many = length-set seats (number - 1) seat;
+    seats = λ most all. let l = within_is service seats number here d most all.within in let k = kept.within in record {
+      seats_are = set_seats service seats number here d seed (length seats) seat all.seats_are kept.seat;
+      within = set_within service seats number here d most seat all.within (omega (arith, l, k));
+    };
+  }
+
+-- ---- the world
+
+-- of two nodes that are put at a number the second one stays
+put_again : (xs : List Here) (m : ℕ) (y z : Here) → put (put xs m y) m z ≡ put xs m z
+put_again [] m y z = refl
+put_again (x ∷ xs) m y z = go (eqb m 1) refl (put_again xs (m - 1) y z)
+  where
+    go : (t : Bool) → eqb m 1 ≡ t → put (put xs (m - 1) y) (m - 1) z ≡ put xs (m - 1) z → put (cond t (y ∷ xs) (x ∷ put xs (m - 1) y)) m z ≡ cond t (z ∷ xs) (x ∷ put xs (m - 1) z)
+    go true e h = ap (λ (b : Bool). cond b (z ∷ xs) (y ∷ put xs (m - 1) z)) e
+    go false e h = ap (λ (b : Bool). cond b (z ∷ put xs (m - 1) y) (x ∷ put (put xs (m - 1) y) (m - 1) z)) e ∙ ap (λ (ys : List Here). x ∷ ys) h
+
+abbrev with_node : ModelWorld → ℕ → Here → ModelWorld
+with_node w m y = record w { nodes = put w.nodes m y }
+
+module _ (service : Declarations) (requests : List Request) (seed n m : ℕ) where
+  -- an active node that is handed events is the only one that changes
+  takes_are : (es : List Event) (w : ModelWorld) → IsNode (length w.nodes) m → (node_at w.nodes m).up ≡ true → is_active (node_at w.nodes m).role ≡ true
+      → with_node w m (take_each service es (begin (node_at w.nodes m))).node ≡ after_doings service requests seed n w (takes_at m es)
+  takes_are [] w there up active = ap (λ (xs : List Here). let v : ModelWorld = record w { nodes = xs } in v) (put_same w.nodes m)
+  takes_are (e ∷ es) w there up active =
+      ap (λ (xs : List Here). let v : ModelWorld = record w { nodes = xs } in v) (sym (put_again w.nodes m (take_event service e (begin (node_at w.nodes m))).node (take_each service es (begin (take_event service e (begin (node_at w.nodes m))).node)).node))
+      ∙ ap (λ (h : Here). with_node (with_node w m (take_event service e (begin (node_at w.nodes m))).node) m (take_each service es (begin h)).node) (sym at_first)
+      ∙ takes_are es (with_node w m (take_event service e (begin (node_at w.nodes m))).node) (subst (λ (k : ℕ). IsNode k m) (sym (put_length w.nodes m (take_event service e (begin (node_at w.nodes m))).node)) there)
+      (ap (λ (h : Here). h.up) at_first ∙ up) (ap (λ (h : Here). is_active h.role) at_first ∙ active)
+      ∙ ap (λ (v : ModelWorld). after_doings service requests seed n v (takes_at m es)) (take_is service w m e up active)
+    where
+      at_first : node_at (put w.nodes m (take_event service e (begin (node_at w.nodes m))).node) m ≡ (take_event service e (begin (node_at w.nodes m))).node
+      at_first =
+          node_put w.nodes m (take_event service e (begin (node_at w.nodes m))).node m there
+          ∙ ap (λ (b : Bool). cond b (take_event service e (begin (node_at w.nodes m))).node (node_at w.nodes m)) (eq-eqb m m refl)
+
+-- a kept world of which a node is handed events is kept
+block_kept : (service : Declarations) (requests : List Request) (seed n m : ℕ) (es : List Event) (w : ModelWorld) → n ≤ most_nodes → IsService service → IsChecked service → IsNode n m → All BeginsInRange es
+    → IsKept service seed n w → IsKept service seed n (after_doings service requests seed n w (takes_at m es))
+block_kept service requests seed n m [] w few good checked there begins k = k
+block_kept service requests seed n m (e ∷ es) w few good checked there begins k =
+    block_kept service requests seed n m es (take service w m e) few good checked there (All-tail BeginsInRange e es begins) (take_kept service good checked [] (All-nil (RequestFits service)) seed n few w k m there e (All-head BeginsInRange e es begins))
+
+ok_due : (due : Option Refusal) (t : Unit {0}) → Refuses due (Ok t) → due ≡ None
+ok_due None t h = refl
+ok_due (Some r) t h = absurd (cc)
+
+-- what a slice of the seats came to, the seats came to
+pub block_there : {S : Type 0} → (service : Declarations) (w : World S) (m : ℕ) (es : List Event) (xs ws : List (Seat S)) (outcome : Result (Unit {0}) Refusal) → xs ≡ w.seats.items → IsHandedBlockAt service w.seed m es xs ws outcome
+    → IsHandedBlockAt service w.seed m es w.seats.items (with_items w.seats ws).items outcome
+block_there service w m es xs ws outcome is a =
+    let many : length ws ≡ nodes_of w = a.many ∙ ap length is in
+    subst (λ (ys : List (Seat _)). IsHandedBlockAt service w.seed m es w.seats.items ys outcome) (sym (with_items_is w.seats ws (many ∙ sym w.seats.ok.0)))
+    (subst (λ (ys : List (Seat _)). IsHandedBlockAt service w.seed m es ys ws outcome) is a)
+
+module _ {S : Type 0} (service : Declarations) (w : World S) (h : IsRunning service w) (m : ℕ) (there : IsNode (nodes_of w) m) (es : List Event) (seats : Vec (Seat S)) where
+  abbrev later : Bool → World S
+  later broken = record w { seats = seats; broken = broken }
+
+  pub block_world : (broken : Bool) (outcome : Result (Unit {0}) Refusal) → IsHandedBlockAt service w.seed m es w.seats.items seats.items outcome
+      → OnOk outcome (world_of service (later broken) ≡ after_doings service w.requests w.seed (nodes_of w) (world_of service w) (takes_at m es))
+  block_world broken (Err r) a = tt
+  block_world broken (Ok t) a =
+      let n = none_refused (node_at (heres service w.seats.items) m) (ok_due (refusal_active (node_at (heres service w.seats.items) m)) t a.handed.refused) in
+      ap (λ (xs : List Here). let v : ModelWorld = record (world_of service w) { nodes = xs } in v) (a.others ∙ ap (put (heres service w.seats.items) m) a.handed.takes)
+      ∙ takes_are service w.requests w.seed (nodes_of w) m es (world_of service w) (subst (λ (k : ℕ). IsNode k m) (sym (many_here service w.seats.items)) there) n.0 n.1
+
+  pub block_unchanged : (broken : Bool) (outcome : Result (Unit {0}) Refusal) → IsHandedBlockAt service w.seed m es w.seats.items seats.items outcome → OnErr outcome (world_of service (later broken) ≡ world_of service w)
+  block_unchanged broken (Ok t) a = tt
+  block_unchanged broken (Err r) a =
+      ap (λ (xs : List Here). let v : ModelWorld = record (world_of service w) { nodes = xs } in v)
+      (a.others ∙ ap (put (heres service w.seats.items) m) a.handed.same ∙ put_same (heres service w.seats.items) m)
+
+  pub block_same : (broken : Bool) (outcome : Result (Unit {0}) Refusal) → IsHandedBlockAt service w.seed m es w.seats.items seats.items outcome → IsSame w (later broken)
+  block_same broken outcome a = record { nodes = a.many; requests = refl; seed = refl }
+
+  module _ (begins : All BeginsInRange es) where
+    kept_later : (outcome : Result (Unit {0}) Refusal) → IsHandedBlockAt service w.seed m es w.seats.items seats.items outcome → IsKept service w.seed (nodes_of w) (world_of service (later w.broken))
+    kept_later (Ok t) a =
+        subst (IsKept service w.seed (nodes_of w)) (sym (block_world w.broken (Ok t) a)) (block_kept service w.requests w.seed (nodes_of w) m es (world_of service w) h.few h.service_is h.checked there begins h.kept)
+    kept_later (Err r) a = subst (IsKept service w.seed (nodes_of w)) (sym (block_unchanged w.broken (Err r) a)) h.kept
+
+    pub block_running : (outcome : Result (Unit {0}) Refusal) → IsHandedBlockAt service w.seed m es w.seats.items seats.items outcome → IsRunning service (later w.broken)
+    block_running outcome a =
+        let all = a.seats w.done (record { seats_are = h.seats; within = h.within }) in
+        record {
+          service_is = h.service_is;
+          checked = h.checked;
+          whole = h.whole;
+          few = subst (λ (n : ℕ). n ≤ most_nodes) (sym a.many) h.few;
+          kept = subst (λ (n : ℕ). IsKept service w.seed n (world_of service (later w.broken))) (sym a.many) (kept_later outcome a);
+          seats = subst (λ (n : ℕ). AreSeats service w.seed n 1 seats.items) (sym a.many) all.seats_are;
+          within = all.within;
+          spelled = h.spelled;
+          requests = h.requests;
+          flushed = h.flushed;
+          handed = h.handed;
+        }

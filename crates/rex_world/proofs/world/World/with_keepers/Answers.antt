@@ -1,0 +1,13 @@
+use Rattle.std.proofs.Common.{List, refl, subst, sym}
+use Rattle.std.specs.List.{All}
+use Rattle.rex_syntax.specs.declared.request.Request.{Request}
+use Rattle.rex_scenario.specs.Fits.{RequestFits}
+use Rattle.rex_world.proofs.Beginning.{few_nodes, new_running}
+use Rattle.rex_world.proofs.world.World.with_keepers.Goals as goal
+
+pub returns-clause-running : goal.returns-clause-running
+returns-clause-running g c =
+    new_running c.args.svc.now c.args.scenario.now.nodes _ (few_nodes c.args.scenario.now.nodes c.requires.fits.nodes) c.declarations-service.ensures.sound c.declarations-service.ensures.checked
+    (subst (λ (rs : List Request). All (RequestFits c.args.svc.now) rs) (sym c.in_ok-requests.ensures) c.requires.fits.requests)
+    (record { here = c.in_ok-seats.ensures.heres; are = c.in_ok-seats.ensures.seats; within = c.in_ok-seats.ensures.within; many = c.in_ok-seats.ensures.many })
+    c.new.ensures c.new-2.ensures.items refl refl refl
