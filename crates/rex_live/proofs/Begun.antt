@@ -1,5 +1,5 @@
 -- A floor at its start: nothing is out, and nothing was done.
-use Rattle.std.proofs.Common.{◌≡◌, ℕ, zero, suc, Bool, true, false, List, [], ◌∷◌, length, refl, sym, ap, subst, ◌∙◌, arith, true≢false}
+use Rattle.std.proofs.Common.{◌≡◌, ℕ, zero, suc, Bool, false, List, [], ◌∷◌, length, refl, sym, ap, subst, ◌∙◌, arith, true≢false}
 use Rattle.std.specs.Prelude.{replicate}
 use Rattle.rand_pcg.specs.Lcg.{Lcg}
 use Rattle.rex_syntax.specs.declared.request.Request.{Request}
@@ -10,7 +10,7 @@ use Rattle.rex_state.specs.Start.{start_of}
 use Rattle.rex_state.specs.Sound.{IsSound}
 use Rattle.rex_live.specs.Floor.{FloorValue, opened}
 use Rattle.rex_live.specs.Lent.{is_out, state_of, IsLending}
-use Rattle.rex_live.specs.Desk.{DeskValue, IsDesk}
+use Rattle.rex_live.specs.Desk.{IsDesk}
 use Rattle.rex_live.specs.declared.places.Places.{Places}
 use Rattle.rex_live.specs.Places.{HasPlaces}
 
@@ -39,11 +39,11 @@ lends_start service sound = record {
 }
 
 -- what the floor came to
-abbrev pub begun_desk : Declarations → List Event → Lcg → List Bool → DeskValue
-begun_desk service history dice out = record { floor = record { history = history; state = state_of service history; dice = dice }; out = out }
+abbrev pub begun_floor : Declarations → List Event → Lcg → FloorValue
+begun_floor service history dice = record { history = history; state = state_of service history; dice = dice }
 
 pub is_begun : (service : Declarations) (handed requests : List Request) (first dice : Lcg) (history : List Event) (total : ℕ) (places : Places) (kept : StateValue) (out : List Bool) → IsSound service kept → kept ≡ start_of service → requests ≡ handed → dice ≡ first → total ≡ 0 → history ≡ [] → out ≡ replicate 64 false
-    → HasPlaces service requests kept.clients places → IsDesk service handed requests first total places kept (begun_desk service history dice out)
+    → HasPlaces service requests kept.clients places → IsDesk service handed requests first total places kept (begun_floor service history dice) out
 is_begun service handed requests first dice (e ∷ es) total places kept out sound start same dice_is none history_is out_is noted = absurd (cc)
 is_begun service handed requests first dice [] total places kept out sound start same dice_is none history_is out_is noted =
     let lends = lends_start service (subst (IsSound service) start sound) in

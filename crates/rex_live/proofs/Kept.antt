@@ -128,10 +128,10 @@ pub record IsBegun (service : Declarations) (handed requests : List Request) (di
   pub state : state_of service (d.floor.history ++ e ∷ []) ≡ (recorded service d.floor e).state
   pub had : HadPlaces service requests e.kind (begun service kept e).clients places
   pub desk : (later : Places) → HasPlaces service requests (begun service kept e).clients later
-      → IsDesk service handed requests dice (total + 1) later (begun service kept e) (record { floor = recorded service d.floor e; out = set d.out e.lane true })
+      → IsDesk service handed requests dice (total + 1) later (begun service kept e) (recorded service d.floor e) (set d.out e.lane true)
 
 pub is_begun : (service : Declarations) (handed requests : List Request) (dice : Lcg) (total : ℕ) (places : Places) (kept : StateValue) (d : DeskValue) (e : Event) → IsService service → IsChecked service
-    → d.floor.state ≡ state_of service d.floor.history → IsDesk service handed requests dice total places kept d
+    → d.floor.state ≡ state_of service d.floor.history → IsDesk service handed requests dice total places kept d.floor d.out
     → length d.floor.history < 268431360 → e.lane < service.lanes → is_out d.out e.lane ≡ false → next_event service handed d.floor e.lane ≡ Some e → IsBegun service handed requests dice total places kept d e
 is_begun service handed requests dice total places kept d e good checked state desk few there back is =
     let r : IsRecorded service handed dice d.floor e = is_recorded service handed dice d.floor e good checked desk.made few there is in
@@ -160,25 +160,25 @@ is_begun service handed requests dice total places kept d e good checked state d
     }
 
 -- the desk once a lane's lines are run
-pub desk_run : (service d : Declarations) (handed requests : List Request) (dice : Lcg) (total : ℕ) (places : Places) (kept now : StateValue) (v : DeskValue) (lane : ℕ) → d ≡ service → IsService d → IsDesk service handed requests dice total places kept v
-    → is_out v.out lane ≡ true → lane < service.lanes → now ≡ lines_run d kept lane → IsDesk service handed requests dice total places now (record { floor = v.floor; out = set v.out lane false })
-desk_run service d handed requests dice total places kept now v lane same good desk is there run =
+pub desk_run : (service d : Declarations) (handed requests : List Request) (dice : Lcg) (total : ℕ) (places : Places) (kept now : StateValue) (f : FloorValue) (out : List Bool) (lane : ℕ) → d ≡ service → IsService d
+    → IsDesk service handed requests dice total places kept f out → is_out out lane ≡ true → lane < service.lanes → now ≡ lines_run d kept lane → IsDesk service handed requests dice total places now f (set out lane false)
+desk_run service d handed requests dice total places kept now f out lane same good desk is there run =
     let good_here : IsService service = subst IsService same good in
     let run_here : now ≡ lines_run service kept lane = run ∙ ap (λ (x : Declarations). lines_run x kept lane) same in
     record {
       made = desk.made;
       same = desk.same;
       counted = desk.counted;
-      lanes = length-set v.out lane false ∙ desk.lanes;
+      lanes = length-set out lane false ∙ desk.lanes;
       lending =
-          subst (λ (x : StateValue). IsLending service (set v.out lane false) x v.floor.state) (sym run_here)
-          (lending_run service good_here v.out kept v.floor.state desk.lending lane is there (omega (arith, good_here.lanes, desk.lanes)));
+          subst (λ (x : StateValue). IsLending service (set out lane false) x f.state) (sym run_here)
+          (lending_run service good_here out kept f.state desk.lending lane is there (omega (arith, good_here.lanes, desk.lanes)));
       noted = subst (λ (x : StateValue). HasPlaces service requests x.clients places) (sym run_here) desk.noted;
     }
 
 -- what an event needs and keeps, as the code finds it
 pub found_begun : (service d : Declarations) (handed requests : List Request) (dice : Lcg) (total : ℕ) (places : Places) (kept : StateValue) (v w : DeskValue) (e : Event) → d ≡ service → IsService d → IsChecked d → v ≡ w
-    → v.floor.state ≡ state_of service v.floor.history → IsDesk service handed requests dice total places kept v
+    → v.floor.state ≡ state_of service v.floor.history → IsDesk service handed requests dice total places kept v.floor v.out
     → length w.floor.history < 268431360 → e.lane < service.lanes → is_out w.out e.lane ≡ false → next_event service handed w.floor e.lane ≡ Some e → IsBegun service handed requests dice total places kept v e
 found_begun service d handed requests dice total places kept v w e same good checked view state desk few there back is =
     is_begun service handed requests dice total places kept v e (subst IsService same good) (subst IsChecked same checked) state desk
@@ -217,20 +217,20 @@ floor_as service f e history dice h s d =
 
 -- the same desk, by equal parts
 pub desk_as : (service : Declarations) (handed requests : List Request) (dice : Lcg) (total count : ℕ) (places : Places) (kept now : StateValue) (f g : FloorValue) (out : List Bool) → count ≡ total → now ≡ kept → g ≡ f
-    → IsDesk service handed requests dice total places kept (record { floor = f; out = out }) → IsDesk service handed requests dice count places now (record { floor = g; out = out })
+    → IsDesk service handed requests dice total places kept f out → IsDesk service handed requests dice count places now g out
 desk_as service handed requests dice total count places kept now f g out t k v desk =
-    let one : IsDesk service handed requests dice count places kept (record { floor = f; out = out }) = subst (λ (x : ℕ). IsDesk service handed requests dice x places kept (record { floor = f; out = out })) (sym t) desk in
-    let two : IsDesk service handed requests dice count places now (record { floor = f; out = out }) = subst (λ (x : StateValue). IsDesk service handed requests dice count places x (record { floor = f; out = out })) (sym k) one in
-    subst (λ (x : FloorValue). IsDesk service handed requests dice count places now (record { floor = x; out = out })) (sym v) two
+    let one : IsDesk service handed requests dice count places kept f out = subst (λ (x : ℕ). IsDesk service handed requests dice x places kept f out) (sym t) desk in
+    let two : IsDesk service handed requests dice count places now f out = subst (λ (x : StateValue). IsDesk service handed requests dice count places x f out) (sym k) one in
+    subst (λ (x : FloorValue). IsDesk service handed requests dice count places now x out) (sym v) two
 
 -- a lane that is back stands at its line, and makes its next event, as the code finds it
-pub found_stands : (service d : Declarations) (handed requests : List Request) (dice : Lcg) (total : ℕ) (places : Places) (kept : StateValue) (v w : DeskValue) (lane : ℕ) → d ≡ service → IsService d → v ≡ w → IsDesk service handed requests dice total places kept v
+pub found_stands : (service d : Declarations) (handed requests : List Request) (dice : Lcg) (total : ℕ) (places : Places) (kept : StateValue) (v w : DeskValue) (lane : ℕ) → d ≡ service → IsService d → v ≡ w → IsDesk service handed requests dice total places kept v.floor v.out
     → is_out w.out lane ≡ false → IfSome (frame_at kept lane) (StandsAt d kept)
 found_stands service d handed requests dice total places kept v w lane same good view desk back =
     subst (λ (x : Declarations). IfSome (frame_at kept lane) (StandsAt x kept)) (sym same)
     (stands_kept service (subst IsService same good) v.out kept v.floor.state desk.lending lane (subst (λ (x : DeskValue). is_out x.out lane ≡ false) (sym view) back))
 
-pub found_event : (service d : Declarations) (handed requests rs : List Request) (dice now : Lcg) (total : ℕ) (places : Places) (kept : StateValue) (v w : DeskValue) (lane : ℕ) (clock : ℤ) → d ≡ service → IsService d → v ≡ w → IsDesk service handed requests dice total places kept v
+pub found_event : (service d : Declarations) (handed requests rs : List Request) (dice now : Lcg) (total : ℕ) (places : Places) (kept : StateValue) (v w : DeskValue) (lane : ℕ) (clock : ℤ) → d ≡ service → IsService d → v ≡ w → IsDesk service handed requests dice total places kept v.floor v.out
     → lane < service.lanes → is_out w.out lane ≡ false → rs ≡ requests → clock ≡ pos (length w.floor.history) → now ≡ w.floor.dice
     → lane_event d rs kept lane clock (pcg32 now).0 (frame_at kept lane) ≡ next_event service handed w.floor lane
 found_event service d handed requests rs dice now total places kept v w lane clock same good view desk there back list time drawn =

@@ -1,18 +1,20 @@
 //! What lies under a floor's lock.
 
-ghost use Rattle.std.specs.Prelude.{◌≡◌, ◌+◌, ◌^◌, ◌<◌, ◌≤◌, IfOk, OnErr, OnOk, length, nat_le, replicate, slice_set, Some, None, true, false};
+ghost use Rattle.std.specs.Prelude.{◌≡◌, ◌+◌, ◌^◌, ◌<◌, ◌≤◌, IfOk, IsErrOf, IsSome, OnErr, OnOk, length, nat_le, replicate, slice_set, Some, None, true, false};
 ghost use Rattle.rex_state.specs.Machine.{lane_of};
+ghost use Rattle.rex_live.specs.Desk.{MayGoOn};
 ghost use Rattle.rex_live.specs.Floor as spec;
 ghost use Rattle.rex_live.specs.Lent.{is_out};
 ghost use Rattle.rex_live.specs.Places.{HasPlaces};
 
 use crate::events::lane_event;
-use crate::lending::{begin_event, bring_back};
+use crate::lending::{begin_event, bring_back, has_lines};
+use crate::needs::{Need, lane_after, left_by, needs};
 use crate::places::Places;
 use crate::segment::{Brought, Segment};
 use crate::setting::Setting;
 use rand_pcg::Lcg64Xsh32;
-use rex_event::Event;
+use rex_event::{Event, Kind};
 use rex_list::List;
 use rex_state::state::State;
 use rex_syntax::checked::Checked;
@@ -28,14 +30,24 @@ pub const LONGEST: usize = 268_431_360;
 /// The ballot of node 1's first election, from which random numbers are drawn.
 const BALLOT: u64 = 17;
 
-/// What came of a lane's try.
-pub(crate) enum Step<S: Setting> {
-    /// It made an event. Its lines up to the next one are lent to its thread, unless there are none.
-    Done(Option<Segment<S>>),
-    /// It can't go on, and another lane can.
+/// What a lane's event leaves to do outside the lock.
+#[derive(Drop)]
+pub(crate) struct Made<S: Setting> {
+    /// The lane's lines up to its next event, which are lent to its thread, unless there are none.
+    pub(crate) lent: Option<Segment<S>>,
+    /// A lane that waited and can go on now, if there is one. It has to be woken.
+    pub(crate) woken: Option<u8>,
+}
+
+/// Why a lane made no event.
+#[derive(Clone, Copy, PartialEq, Eq)]
+pub(crate) enum Halt {
+    /// It can't go on, and another lane may. It waits.
     Stays,
-    /// It ends, and the others with it.
+    /// No lane can go on, or the history is as long as may be. The lane ends, and the others with it.
     Over,
+    /// A lane found no memory, this one or another. The lane ends, and the others with it.
+    GaveUp,
 }
 
 /// The history that the lanes made so far, what is kept of the state after it, and the requests that were handed in.
@@ -46,6 +58,8 @@ pub(crate) struct Desk<S: Setting> {
     kept: State,
     /// Per lane, whether its lines up to its next event are out.
     out: [bool; LANES],
+    /// Per lane, whether it waits and nobody woke it.
+    waits: [bool; LANES],
     dice: Lcg64Xsh32,
     requests: List<Request>,
     places: Places,
@@ -60,9 +74,9 @@ impl<S: Setting> Model for Desk<S> {
 
     ghost Value = { DeskValue };
 
-    ghost view = { λ d. record { floor = record { history = d.history.items; state = state_of S.service d.history.items; dice = d.dice }; out = d.out } };
+    ghost view = { λ d. record { floor = record { history = d.history.items; state = state_of S.service d.history.items; dice = d.dice }; out = d.out; given_up = d.is_given_up } };
 
-    ghost invariant = { λ d. IsDesk S.service S.requests d.requests S.dice d.events.total d.places d.kept (record { floor = record { history = d.history.items; state = state_of S.service d.history.items; dice = d.dice }; out = d.out }) };
+    ghost invariant = { λ d. IsDesk S.service S.requests d.requests S.dice d.events.total d.places d.kept (record { history = d.history.items; state = state_of S.service d.history.items; dice = d.dice }) d.out };
 }
 
 /// The places of the requests at a service's start.
@@ -93,6 +107,7 @@ impl<S: Setting> Desk<S> {
         requires events { events.total ≡ 0 }
         ensures floor { IfOk result (λ d. d.floor ≡ spec.opened S.service S.dice) }
         ensures out { IfOk result (λ d. d.out ≡ replicate LANES false) }
+        ensures given_up { IfOk result (λ d. d.given_up ≡ false) }
     {
         let kept = State::start(alloc, svc)?;
         let places = first_places(alloc, svc, &kept, requests.as_slice())?;
@@ -100,6 +115,7 @@ impl<S: Setting> Desk<S> {
             history: Vec::new(alloc),
             kept,
             out: [false; LANES],
+            waits: [false; LANES],
             dice: Lcg64Xsh32::new(seed, BALLOT),
             requests,
             places,
@@ -170,6 +186,7 @@ impl<S: Setting> Desk<S> {
         requires few { length self.old.floor.history < 268431360 }
         requires part { 0 < mine.old.parts }
         ensures recorded { OnOk result (self.new.floor ≡ spec.recorded S.service self.old.floor event.now) }
+        ensures given_up { self.new.given_up ≡ self.old.given_up }
         ensures amount { OnOk result (mine.new.amount ≡ mine.old.amount + 1) }
         ensures parts { mine.new.parts ≡ mine.old.parts }
         ensures err { OnErr result ((self.new ≡ self.old) × (mine.new.amount ≡ mine.old.amount)) }
@@ -195,6 +212,7 @@ impl<S: Setting> Desk<S> {
         requires there { lane < S.service.lanes }
         ensures floor { self.new.floor ≡ self.old.floor }
         ensures back { self.new.out ≡ slice_set self.old.out lane false }
+        ensures given_up { self.new.given_up ≡ self.old.given_up }
     {
         let _service = svc.declarations();
         if self.out[lane as usize] {
@@ -208,6 +226,8 @@ impl<S: Setting> Desk<S> {
         requires service { svc.now ≡ S.service }
         requires there { lane < S.service.lanes }
         ensures floor { self.new.floor ≡ self.old.floor }
+        ensures back { self.new.out ≡ slice_set self.old.out lane false }
+        ensures given_up { self.new.given_up ≡ self.old.given_up }
     {
         let _service = svc.declarations();
         if self.out[lane as usize] {
@@ -221,6 +241,7 @@ impl<S: Setting> Desk<S> {
         requires service { svc.now ≡ S.service }
         requires there { lane < S.service.lanes }
         ensures floor { self.new.floor ≡ self.old.floor }
+        ensures given_up { self.new.given_up ≡ self.old.given_up }
     {
         match self.segment(alloc, svc, lane) {
             Some(segment) => Some(segment),
@@ -237,7 +258,7 @@ impl<S: Setting> Desk<S> {
     {
         let _service = svc.declarations();
         let frame = self.kept.copied_frame(lane)?;
-        if !frame.is_running() {
+        if !has_lines(&frame, self.kept.variables(), svc) {
             return None;
         }
         match self.kept.variables().to_vec(alloc) {
@@ -260,6 +281,7 @@ impl<S: Setting> Desk<S> {
         ensures event { IfOk result (λ e. e ≡ spec.turn_at S.service S.requests self.old.floor lane) }
         ensures turned { IfOk result (λ e. self.new.floor ≡ spec.turned S.service self.old.floor e) }
         ensures answered { IfOk result (λ e. mine.new.amount ≡ mine.old.amount + spec.answered e) }
+        ensures given_up { self.new.given_up ≡ self.old.given_up }
         ensures parts { mine.new.parts ≡ mine.old.parts }
         ensures err { OnErr result ((self.new.floor ≡ self.old.floor) × (mine.new.amount ≡ mine.old.amount)) }
     {
@@ -283,21 +305,35 @@ impl<S: Setting> Desk<S> {
 
     /// Ends the lanes at their next turn.
     fn give_up(&mut self)
-        ensures { self.new ≡ self.old }
+        ensures { self.new ≡ record self.old { given_up = true } }
     {
         self.is_given_up = true;
+    }
+
+    /// Whether a lane's lines are out.
+    fn is_any_out(&self, svc: &Checked) -> bool
+        requires service { svc.now ≡ S.service }
+        ensures { result ≡ true → MayGoOn S.service S.requests self.now.floor self.now.out }
+    {
+        for lane in 0..svc.declarations().lanes {
+            if self.out[lane as usize] {
+                return true;
+            }
+        }
+        false
     }
 
     /// Whether no lane can go on, or the history is as long as may be. A lane whose lines are out may go on, which is quick
     /// to see.
     fn is_over(&self, svc: &Checked) -> Result<bool, AllocError>
         requires service { svc.now ≡ S.service }
-        ensures { IfOk result (λ over. over ≡ true → spec.IsOver S.service S.requests self.now.floor) }
+        ensures over { IfOk result (λ over. over ≡ true → spec.IsOver S.service S.requests self.now.floor) }
+        ensures goes_on { IfOk result (λ over. over ≡ false → MayGoOn S.service S.requests self.now.floor self.now.out) }
     {
         if self.is_full() {
             return Ok(true);
         }
-        if self.out.contains(&true) {
+        if self.is_any_out(svc) {
             return Ok(false);
         }
         for lane in 0..svc.declarations().lanes {
@@ -312,7 +348,8 @@ impl<S: Setting> Desk<S> {
     fn may_go_on(&self, svc: &Checked, lane: u8) -> Result<bool, AllocError>
         requires service { svc.now ≡ S.service }
         requires there { lane < S.service.lanes }
-        ensures { IfOk result (λ may. may ≡ false → spec.next_event S.service S.requests self.now.floor lane ≡ None) }
+        ensures stays { IfOk result (λ may. may ≡ false → spec.next_event S.service S.requests self.now.floor lane ≡ None) }
+        ensures goes_on { IfOk result (λ may. may ≡ true → MayGoOn S.service S.requests self.now.floor self.now.out) }
     {
         let _service = svc.declarations();
         if self.out[lane as usize] {
@@ -322,43 +359,111 @@ impl<S: Setting> Desk<S> {
         Ok(next.is_some())
     }
 
-    /// Whether a lane that can't go on waits, or ends.
-    fn stay(&mut self, svc: &Checked) -> Step<S>
+    /// Why a lane that can't go on makes no event.
+    fn stay(&mut self, svc: &Checked, lane: u8) -> Halt
         requires service { svc.now ≡ S.service }
-        ensures { self.new ≡ self.old }
+        requires there { lane < S.service.lanes }
+        ensures floor { self.new.floor ≡ self.old.floor }
+        ensures out { self.new.out ≡ self.old.out }
+        ensures stays { result ≡ Halt.Stays → MayGoOn S.service S.requests self.old.floor self.old.out }
+        ensures over { result ≡ Halt.Over → spec.IsOver S.service S.requests self.old.floor }
+        ensures gave_up { result ≡ Halt.GaveUp → self.new.given_up ≡ true }
+        ensures given_up { self.old.given_up ≡ false → self.new.given_up ≡ true → result ≡ Halt.GaveUp }
     {
+        let _service = svc.declarations();
         match self.is_over(svc) {
-            Ok(true) => Step::Over,
-            Ok(false) => Step::Stays,
+            Ok(true) => Halt::Over,
+            Ok(false) => {
+                self.waits[lane as usize] = true;
+                Halt::Stays
+            }
             Err(_) => {
                 self.give_up();
-                Step::Over
+                Halt::GaveUp
             }
         }
     }
 
-    /// A lane's try: its turn, and whether it waits or ends where it makes no event.
+    /// Whether a lane waits that can go on by what an event left.
+    fn can_take(&self, svc: &Checked, lane: u8, left: Need) -> bool
+        requires service { svc.now ≡ S.service }
+        requires there { lane < S.service.lanes }
+    {
+        let _service = svc.declarations();
+        if !self.waits[lane as usize] || self.out[lane as usize] {
+            return false;
+        }
+        match self.next_event(svc, lane) {
+            Ok((Some(event), _)) => needs(&event.kind, left),
+            Ok((None, _)) => false,
+            Err(_) => true,
+        }
+    }
+
+    /// The first lane after another one that waits and can go on by what an event of that one left, if there is one. It is
+    /// awake from now on.
+    fn woken_by(&mut self, svc: &Checked, lane: u8, kind: &Kind) -> Option<u8>
+        requires service { svc.now ≡ S.service }
+        requires there { lane < S.service.lanes }
+        ensures { self.new ≡ self.old }
+    {
+        let left = left_by(kind)?;
+        let lanes = svc.declarations().lanes;
+        for places in 1..lanes {
+            let other = lane_after(lane, places, lanes);
+            if self.can_take(svc, other, left) {
+                self.waits[other as usize] = false;
+                return Some(other);
+            }
+        }
+        None
+    }
+
+    /// What an event of a lane leaves to do.
+    fn made(&mut self, alloc: Global, svc: &Checked, lane: u8, event: &Event) -> Made<S>
+        requires service { svc.now ≡ S.service }
+        requires there { lane < S.service.lanes }
+        ensures floor { self.new.floor ≡ self.old.floor }
+        ensures given_up { self.new.given_up ≡ self.old.given_up }
+    {
+        let lent = self.lend(alloc, svc, lane);
+        let woken = self.woken_by(svc, lane, &event.kind);
+        Made { lent, woken }
+    }
+
+    /// A lane's try: its turn, what is left to do where it makes an event, and why it makes none.
     pub(crate) fn step(
         &mut self,
         alloc: Global,
         svc: &Checked,
         lane: u8,
         mine: &mut Share<S>,
-    ) -> Step<S>
+    ) -> Result<Made<S>, Halt>
         requires service { svc.now ≡ S.service }
         requires there { lane < S.service.lanes }
         requires part { 0 < mine.old.parts }
+        ensures event { OnOk result (IsSome (spec.turn_at S.service S.requests self.old.floor lane)) }
+        ensures turned { OnOk result (self.new.floor ≡ spec.turned S.service self.old.floor (spec.turn_at S.service S.requests self.old.floor lane)) }
+        ensures answered { OnOk result (mine.new.amount ≡ mine.old.amount + 1) }
         ensures parts { mine.new.parts ≡ mine.old.parts }
+        ensures same { OnErr result ((self.new.floor ≡ self.old.floor) × (mine.new.amount ≡ mine.old.amount)) }
+        ensures none { IsErrOf result Halt.Stays → spec.turn_at S.service S.requests self.old.floor lane ≡ None }
+        ensures stays { IsErrOf result Halt.Stays → MayGoOn S.service S.requests self.new.floor self.new.out }
+        ensures over { IsErrOf result Halt.Over → spec.IsOver S.service S.requests self.old.floor }
+        ensures gave_up { IsErrOf result Halt.GaveUp → self.new.given_up ≡ true }
+        ensures given_up { self.new.given_up ≡ true → IsErrOf result Halt.GaveUp }
     {
+        let _service = svc.declarations();
+        self.waits[lane as usize] = false;
         if self.is_given_up {
-            return Step::Over;
+            return Err(Halt::GaveUp);
         }
         match self.turn(svc, lane, mine) {
-            Ok(Some(_)) => Step::Done(self.lend(alloc, svc, lane)),
-            Ok(None) => self.stay(svc),
+            Ok(Some(event)) => Ok(self.made(alloc, svc, lane, &event)),
+            Ok(None) => Err(self.stay(svc, lane)),
             Err(_) => {
                 self.give_up();
-                Step::Over
+                Err(Halt::GaveUp)
             }
         }
     }
@@ -375,7 +480,7 @@ impl<S: Setting> Desk<S> {
         ensures history { IfOk result (λ h. spec.IsHistory S.service S.requests S.dice h) }
         ensures answered { IfOk result (λ h. length h ≡ all.new.amount) }
         ensures parts { all.new.parts ≡ all.old.parts }
-        ensures same { self.new ≡ self.old }
+        ensures same { self.new ≡ record self.old { given_up = false } }
     {
         self.is_given_up = false;
         self.events.audit(all);

@@ -4,9 +4,10 @@ ghost use Rattle.std.specs.Prelude.{◌≡◌, ◌+◌, ◌<◌, ◌≤◌, IfOk
 ghost use Rattle.rex_live.specs.Floor as spec;
 ghost use Rattle.rex_live.specs.Tally.{Tally};
 
-use crate::desk::{Desk, Step};
-use crate::segment::Segment;
+use crate::desk::{Desk, Halt, Made};
+use crate::segment::{Brought, Segment};
 use crate::setting::Setting;
+use crate::wakers::Wakers;
 use rex_event::Event;
 use rex_list::List;
 use rex_syntax::checked::Checked;
@@ -15,7 +16,7 @@ use rex_traits::Gate;
 use std::alloc::{AllocError, Global};
 use std::marker::Model;
 use std::sync::ledger::{Blank, Share};
-use std::sync::{Condvar, Mutex, Wait};
+use std::sync::{Mutex, Wait};
 use std::thread::{Threads, join};
 
 /// One lock over the history, the state and the requests of a service whose lanes are threads. Contracts see how many parts
@@ -23,8 +24,6 @@ use std::thread::{Threads, join};
 #[derive(Drop)]
 pub struct Floor<S: Setting> {
     desk: Mutex<Desk<S>>,
-    /// It is notified after each change under the lock.
-    changed: Condvar,
     share: Share<S>,
 }
 
@@ -58,43 +57,35 @@ impl<S: Setting> Floor<S> {
         let requests = List::from_vec(requests.to_vec(alloc)?);
         Ok(Floor {
             desk: Mutex::new(Desk::open(alloc, svc, requests, seed, events)?),
-            changed: Condvar::new(),
             share,
         })
     }
 }
 
-/// Runs the lines that a lane is lent, outside the lock, and brings back what they lead to. Where memory is short the lines
-/// are left to the floor.
-fn run_outside<S: Setting, R: Wait>(
-    wait: &R,
+/// Runs the lines that a lane is lent, outside the lock, for what they lead to. Where memory is short the lines are left to
+/// the floor.
+fn run_outside<S: Setting>(
     alloc: Global,
     svc: &Checked,
-    desk: &Mutex<Desk<S>>,
-    changed: &Condvar,
-    lane: u8,
     lent: Option<Segment<S>>,
-)
-    requires service { svc.now ≡ S.service }
-    requires there { lane < S.service.lanes }
+) -> Option<Brought<S>>
+    requires { svc.now ≡ S.service }
 {
-    let Some(segment) = lent else {
-        return;
-    };
-    if let Ok(brought) = segment.run(alloc, svc) {
-        desk.lock(wait).bring_back(svc, lane, brought);
-        changed.notify_all();
+    let segment = lent?;
+    match segment.run(alloc, svc) {
+        Ok(brought) => Some(brought),
+        Err(_) => None,
     }
 }
 
-/// One lane's loop: it passes the gate, tries its next event under the lock, and waits where it can't go on. It ends when
-/// no lane can go on, or a lane found no memory.
+/// One lane's loop: it passes the gate, takes the lock, brings back what its lines led to, and tries its next event. Where it
+/// can't go on it sleeps. It ends when no lane can go on, or a lane found no memory.
 fn work<S: Setting, R: Wait, G: Gate>(
     wait: &R,
     alloc: Global,
     svc: &Checked,
     desk: &Mutex<Desk<S>>,
-    changed: &Condvar,
+    wakers: &Wakers,
     gate: &G,
     lane: u8,
     share: Share<S>,
@@ -104,22 +95,27 @@ fn work<S: Setting, R: Wait, G: Gate>(
     requires part { 0 < share.parts }
     ensures { result.parts ≡ share.parts }
 {
+    let _service = svc.declarations();
     let mut mine = share;
     let mut index = desk.lock(wait).done(lane);
+    let mut brought = None;
     for _ in wait.forever() {
         gate.enter(lane, lane, index);
         let mut guard = desk.lock(wait);
+        if let Some(brought) = brought.take() {
+            guard.bring_back(svc, lane, brought);
+        }
         match guard.step(alloc, svc, lane, &mut mine) {
-            Step::Done(lent) => {
+            Ok(Made { lent, woken }) => {
                 index = guard.done(lane);
                 drop(guard);
-                changed.notify_all();
-                run_outside(wait, alloc, svc, desk, changed, lane, lent);
+                wakers.wake(woken);
+                brought = run_outside(alloc, svc, lent);
             }
-            Step::Stays => drop(changed.wait(wait, guard)),
-            Step::Over => {
+            Err(Halt::Stays) => wakers.sleep(wait, lane, guard),
+            Err(_) => {
                 drop(guard);
-                changed.notify_all();
+                wakers.wake_all();
                 break;
             }
         }
@@ -134,7 +130,7 @@ fn work_from<S: Setting + Send + Sync, T: Threads + Sync, R: Wait + Sync, G: Gat
     alloc: Global,
     svc: &Checked,
     desk: &Mutex<Desk<S>>,
-    changed: &Condvar,
+    wakers: &Wakers,
     gate: &G,
     lane: u8,
     share: Share<S>,
@@ -146,7 +142,7 @@ fn work_from<S: Setting + Send + Sync, T: Threads + Sync, R: Wait + Sync, G: Gat
 {
     let lanes = svc.declarations().lanes;
     if lanes - lane <= 1 {
-        return work(wait, alloc, svc, desk, changed, gate, lane, share);
+        return work(wait, alloc, svc, desk, wakers, gate, lane, share);
     }
     let next = lane + 1;
     let mut others = share;
@@ -158,13 +154,13 @@ fn work_from<S: Setting + Send + Sync, T: Threads + Sync, R: Wait + Sync, G: Gat
             requires there { lane < S.service.lanes }
             requires part { 0 < mine.parts }
             ensures { result.parts ≡ mine.parts }
-        { work(wait, alloc, svc, desk, changed, gate, lane, mine) },
+        { work(wait, alloc, svc, desk, wakers, gate, lane, mine) },
         || -> Share<S>
             requires service { svc.now ≡ S.service }
             requires there { next < S.service.lanes }
             requires parts { S.service.lanes ≤ next + others.parts }
             ensures { result.parts ≡ others.parts }
-        { work_from(rt, wait, alloc, svc, desk, changed, gate, next, others) },
+        { work_from(rt, wait, alloc, svc, desk, wakers, gate, next, others) },
     );
     first.merge(rest);
     first
@@ -190,13 +186,10 @@ pub fn run_lanes<S: Setting + Send + Sync, T: Threads + Sync, R: Wait + Sync, G:
     ensures whole { floor.new.parts ≡ S.parts }
 {
     let lanes = svc.declarations().lanes;
-    let Floor {
-        desk,
-        changed,
-        share,
-    } = floor;
+    let Floor { desk, share } = floor;
+    let wakers = Wakers::new();
     let theirs = share.split_off(lanes as u64, 0);
-    let theirs = work_from(rt, wait, alloc, svc, desk, changed, gate, 0, theirs);
+    let theirs = work_from(rt, wait, alloc, svc, desk, &wakers, gate, 0, theirs);
     share.merge(theirs);
     desk.lock(wait).history(alloc, svc, share)
 }

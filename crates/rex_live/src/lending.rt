@@ -6,6 +6,9 @@ ghost use Rattle.rex_syntax.specs.Leads.{guard_of};
 ghost use Rattle.rex_syntax.specs.Locks.{mode_of};
 ghost use Rattle.rex_frame.specs.Guarded.{Agree};
 ghost use Rattle.rex_frame.specs.Guarded as guarded;
+ghost use Rattle.rex_frame.specs.Handlers.{FitsIn};
+ghost use Rattle.rex_frame.specs.Segment.{LinesFit};
+ghost use Rattle.rex_frame.specs.Weights.{IsInside};
 ghost use Rattle.rex_state.specs.Machine.{frame_at};
 ghost use Rattle.rex_state.specs.Put.{lines_run};
 ghost use Rattle.rex_state.specs.Room.{CanApply};
@@ -19,6 +22,7 @@ use rex_frame::frame::Frame;
 use rex_state::start_lane;
 use rex_state::state::State;
 use rex_syntax::checked::Checked;
+use rex_syntax::line::Line;
 use rex_syntax::locks::{Lockset, Mode};
 use rex_syntax::service::Declarations;
 
@@ -33,6 +37,26 @@ pub(crate) fn begin_event(kept: &mut State, svc: &Checked, event: &Event)
     start_lane(&mut own, svc, &event.kind);
     kept.put_lane(event.lane, done, own);
     kept.note(event);
+}
+
+/// Whether a frame stands at a line of its own event.
+fn stands_in(frame: &Frame, lines: &[Line], variables: &[i64]) -> bool
+    requires fits { LinesFit (length frame.now.locals.items) (length variables.now) lines.now }
+    requires inside { IsInside lines.now frame.now }
+{
+    frame.stands(&lines[frame.place as usize], variables)
+}
+
+/// Whether a frame has lines to run before its lane's next event.
+pub(crate) fn has_lines(frame: &Frame, variables: &[i64], svc: &Checked) -> bool
+    requires fits { FitsIn svc.now frame.now }
+    requires variables { length variables.now ≡ length svc.now.variables }
+{
+    if !frame.is_running() {
+        return false;
+    }
+    let handler = &svc.declarations().handlers.as_slice()[frame.handler as usize];
+    !stands_in(frame, handler.lines.as_slice(), variables)
 }
 
 /// The mode in which a variable's guard is held.

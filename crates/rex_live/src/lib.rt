@@ -7,9 +7,11 @@ mod events;
 mod floor;
 pub mod laws;
 mod lending;
+mod needs;
 mod places;
 mod segment;
 mod setting;
+mod wakers;
 
 pub use desk::LONGEST;
 pub use floor::{Floor, run_lanes};

@@ -21,7 +21,7 @@ use Rattle.rex_scenario.specs.declared.scenario.Stage.{Stage}
 use Rattle.rex_scenario.specs.declared.scenario.Stage.TheVariants as stage
 use Rattle.rex_scenario.proofs.Placed.{good_first, requests_fit, schedule_fits}
 
-good_service : (o : Option ServiceCode) → of_service o ≡ None → o ≡ None
+pub good_service : (o : Option ServiceCode) → of_service o ≡ None → o ≡ None
 good_service None e = refl
 good_service (Some c) e = absurd cc
 

@@ -6,6 +6,7 @@ use Rattle.rex_parse.specs.Above.{nothing}
 use Rattle.rex_parse.specs.Reading.{raw_code, raw_after, end_code}
 use Rattle.rex_parse.specs.declared.language.ServiceCode.{ServiceCode}
 use Rattle.rex_version.specs.Versions.{is_old_size}
+use Rattle.rex_scenario.specs.Beyond.{beyond_after}
 use Rattle.rex_scenario.specs.Headings.{is_heading, heading_code, after_heading}
 use Rattle.rex_scenario.specs.Requests.{or_code, request_code, request_of}
 use Rattle.rex_scenario.specs.Schedule.{schedule_code, step_of, with_step}
@@ -18,7 +19,7 @@ use Rattle.rex_scenario.specs.declared.scenario.Stage.TheVariants as stage
 
 -- before the first line of a text whose schedule may have lines, or may not
 abbrev pub start : Bool → Sections
-start scheduled = record { stage = stage.Start; scheduled = scheduled; nodes = 0; seed = 0; service = nothing; requests = []; schedule = [] }
+start scheduled = record { stage = stage.Start; scheduled = scheduled; nodes = 0; seed = 0; service = nothing; requests = []; schedule = []; beyond = None }
 
 -- each byte of a line is allowed
 abbrev pub is_clean : List ℕ → Bool
@@ -67,7 +68,7 @@ line_code s line = code_in s.stage s line
 
 -- what a good line of the service says, or the heading that ends it
 abbrev pub service_line_after : Sections → ℕ → List ℕ → Sections
-service_line_after s number line = if is_heading (words_of line) then after_heading s (words_of line) else record s { service = raw_after s.service number line }
+service_line_after s number line = if is_heading (words_of line) then after_heading s (words_of line) else record s { service = raw_after s.service number line; beyond = beyond_after s.beyond number (words_of line) }
 
 -- what a good line with words outside the service that is no heading says
 abbrev pub after_words : Sections → Stage → List Word → Sections
@@ -119,6 +120,6 @@ answer_of bytes = answer_to true bytes
 abbrev pub unscheduled_answer_of : List ℕ → Result Sections (ℕ × ScenarioCode)
 unscheduled_answer_of bytes = answer_to false bytes
 
--- the nodes, the seed, the requests and the schedule of a good text
+-- the nodes, the seed, the requests, the schedule and the line beyond lock words of a good text
 abbrev pub scenario_of : Sections → Scenario
-scenario_of s = record { nodes = s.nodes; seed = s.seed; requests = s.requests; schedule = s.schedule }
+scenario_of s = record { nodes = s.nodes; seed = s.seed; requests = s.requests; schedule = s.schedule; beyond = s.beyond }

@@ -1,6 +1,7 @@
 //! Scenarios: a service, requests, and a schedule of steps, read from a text.
 #![tactic(auto)]
 
+mod beyond;
 mod headings;
 mod reader;
 mod reading;

@@ -1,8 +1,10 @@
 //! A whole scenario from its text.
 
-ghost use Rattle.std.specs.Prelude.{◌≡◌, ◌+◌, ◌<◌, ◌^◌, [], false, None, Ok, IfErr, IfOk, OnOk, length};
+ghost use Rattle.std.specs.Prelude.{◌≡◌, ◌↔◌, ◌+◌, ◌<◌, ◌^◌, [], false, None, Ok, IfErr, IfOk, OnOk, length};
 ghost use Rattle.rex_text.specs.Text.{lines_of, numbered};
 ghost use Rattle.rex_scenario.specs.Answers.{Refuses, Says};
+ghost use Rattle.rex_parse.specs.After.{service_of};
+ghost use Rattle.rex_scenario.specs.Beyond.{IsPlain, beyond_words};
 ghost use Rattle.rex_scenario.specs.Fits.{ScenarioFits};
 ghost use Rattle.rex_scenario.specs.Keeps.{SectionsFit};
 ghost use Rattle.rex_scenario.specs.Reading.{answer_from, answer_of, answer_to, end_of, start, unscheduled_answer_of};
@@ -21,6 +23,8 @@ pub fn read_scenario(alloc: Global, bytes: &[u8]) -> Result<(Scenario, Service),
     requires { length bytes.now + 1 < 2 ^ 32 }
     ensures says { IfOk result (λ read. Says (answer_of bytes.now) read.0 read.1) }
     ensures fits { IfOk result (λ read. ScenarioFits read.1 read.0) }
+    ensures beyond { IfOk result (λ read. read.0.beyond ≡ beyond_words bytes.now) }
+    ensures plain { IfOk result (λ read. (read.0.beyond ≡ None) ↔ IsPlain read.1) }
     ensures refuses { IfErr result (Refuses (answer_of bytes.now)) }
 {
     read(alloc, bytes, true)
@@ -32,6 +36,8 @@ pub fn read_unscheduled(alloc: Global, bytes: &[u8]) -> Result<(Scenario, Servic
     ensures says { IfOk result (λ read. Says (unscheduled_answer_of bytes.now) read.0 read.1) }
     ensures fits { IfOk result (λ read. ScenarioFits read.1 read.0) }
     ensures empty { IfOk result (λ read. read.0.schedule ≡ []) }
+    ensures beyond { IfOk result (λ read. read.0.beyond ≡ beyond_words bytes.now) }
+    ensures plain { IfOk result (λ read. (read.0.beyond ≡ None) ↔ IsPlain read.1) }
     ensures refuses { IfErr result (Refuses (unscheduled_answer_of bytes.now)) }
 {
     read(alloc, bytes, false)
@@ -46,6 +52,8 @@ fn read_text(reader: &mut Reader, bytes: &[u8], _scheduled: bool) -> Result<(), 
     ensures ended { OnOk result (end_of reader.new reader.new.stage ≡ None) }
     ensures mode { OnOk result (reader.new.scheduled ≡ _scheduled) }
     ensures fit { OnOk result (SectionsFit reader.new) }
+    ensures beyond { OnOk result (reader.new.beyond ≡ beyond_words bytes.now) }
+    ensures plain { OnOk result ((reader.new.beyond ≡ None) ↔ IsPlain (service_of reader.new.service)) }
     ensures refused { IfErr result (Refuses (answer_from (start _scheduled) 1 (numbered 1 (lines_of bytes.now)))) }
 {
     let mut lines = raw_lines(bytes);
@@ -71,6 +79,8 @@ fn read(alloc: Global, bytes: &[u8], scheduled: bool) -> Result<(Scenario, Servi
     ensures says { IfOk result (λ read. Says (answer_to scheduled bytes.now) read.0 read.1) }
     ensures fits { IfOk result (λ read. ScenarioFits read.1 read.0) }
     ensures empty { scheduled ≡ false → IfOk result (λ read. read.0.schedule ≡ []) }
+    ensures beyond { IfOk result (λ read. read.0.beyond ≡ beyond_words bytes.now) }
+    ensures plain { IfOk result (λ read. (read.0.beyond ≡ None) ↔ IsPlain read.1) }
     ensures refuses { IfErr result (Refuses (answer_to scheduled bytes.now)) }
 {
     if bytes.len() > SCENARIO_BYTES {

@@ -46,6 +46,20 @@ pub struct Scenario {
     pub seed: u32,
     pub requests: List<Request>,
     pub schedule: List<ScheduleLine>,
+    /// The line of the first `rwlock`, `cond` or `sem`.
+    pub beyond: Option<u32>,
+}
+
+impl Scenario {
+    ghost use Rattle.std.specs.Prelude.{◌≡◌};
+
+    /// The line, counted over the whole input, of the service's first readers-writer lock, condition or semaphore: what its
+    /// lanes can't record by lock words.
+    pub fn beyond_words(&self) -> Option<u32>
+        ensures { result ≡ self.now.beyond }
+    {
+        self.beyond
+    }
 }
 
 /// Why a line of a scenario is refused.
@@ -137,4 +151,6 @@ pub struct Sections {
     pub service: Above,
     pub requests: List<Request>,
     pub schedule: List<ScheduleLine>,
+    /// The line of the first readers-writer lock, condition or semaphore.
+    pub beyond: Option<u32>,
 }

@@ -47,8 +47,8 @@ counter_passes = refl
 
 -- three nodes, the seed, the service and these requests, and no schedule yet
 abbrev pub requesting : ℕ → List Request → Sections
-requesting seed requests = record { stage = stage.Requests; scheduled = true; nodes = 3; seed = seed; service = counter; requests = requests; schedule = [] }
+requesting seed requests = record { stage = stage.Requests; scheduled = true; nodes = 3; seed = seed; service = counter; requests = requests; schedule = []; beyond = None }
 
 -- the same with this schedule
 abbrev pub scheduling : ℕ → List Request → List ScheduleLine → Sections
-scheduling seed requests schedule = record { stage = stage.Schedule; scheduled = true; nodes = 3; seed = seed; service = counter; requests = requests; schedule = schedule }
+scheduling seed requests schedule = record { stage = stage.Schedule; scheduled = true; nodes = 3; seed = seed; service = counter; requests = requests; schedule = schedule; beyond = None }

@@ -27,7 +27,7 @@ service_lines =
 
 -- three nodes and the seed
 abbrev seeded : ℕ → Sections
-seeded seed = record { stage = stage.Seed; scheduled = true; nodes = 3; seed = seed; service = nothing; requests = []; schedule = [] }
+seeded seed = record { stage = stage.Seed; scheduled = true; nodes = 3; seed = seed; service = nothing; requests = []; schedule = []; beyond = None }
 
 service_is : text_of service_lines ≡ codes "%service\n" ++ (service_text ++ codes "%requests\n")
 unfolding service_lines service_text
@@ -41,7 +41,7 @@ service_read seed = refl
 
 -- three nodes
 abbrev noded : Sections
-noded = record { stage = stage.Nodes; scheduled = true; nodes = 3; seed = 0; service = nothing; requests = []; schedule = [] }
+noded = record { stage = stage.Nodes; scheduled = true; nodes = 3; seed = 0; service = nothing; requests = []; schedule = []; beyond = None }
 
 nodes_read : read_lines (start true) 1 (codes "%nodes 3" ∷ []) ≡ Some noded
 unfolding digits

@@ -1,4 +1,5 @@
 pub mod Whole
 pub mod Gives
+pub mod Worded
 pub mod Played
 pub mod Said

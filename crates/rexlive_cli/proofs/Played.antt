@@ -1,5 +1,5 @@
 -- A history that lanes made may be led to agreement.
-use Rattle.std.proofs.Common.{◌≡◌, ℕ, ◌≤◌, List, [], ◌∷◌, ◌++◌, length, inl, inr, refl, sym, subst, ◌∙◌, arith, Some}
+use Rattle.std.proofs.Common.{◌≡◌, ℕ, ◌≤◌, List, [], ◌∷◌, ◌++◌, length, inl, inr, refl, sym, subst, ◌∙◌, arith, Some, le_trans}
 use Rattle.std.specs.List.{All}
 use Rattle.std.proofs.lemmas.List.{append_assoc}
 use Rattle.std.proofs.lemmas.List.Elements.{All-nil, All-cons, All-head, All-tail}
@@ -17,8 +17,12 @@ use Rattle.rex_state.specs.Start.{start_of}
 use Rattle.rex_state.specs.Machine.{run}
 use Rattle.rex_scenario.specs.Fits.{RequestFits}
 use Rattle.rex_safety.specs.Takes.{KindBeginsInRange, BeginsInRange}
-use Rattle.rex_live.specs.Floor.{FloorValue, IsHistory}
+use Rattle.rex_live.specs.Floor.{FloorValue, IsHistory, dice_of}
 use Rattle.rex_live.specs.Laws.{HistoriesRun, EventsAreTold, IsTold}
+use Rattle.rexlive_cli.specs.Recording.{IsHistoryBy}
+use Rattle.rexlive_cli.specs.declared.recording.Recording.{Recording}
+use Rattle.rexlive_cli.specs.declared.recording.Recording.TheVariants.{Floor, Words}
+use Rattle.rexlive_cli.proofs.Worded as words
 
 -- ---- the events of a list, one by one
 
@@ -41,16 +45,40 @@ module _ (service : Declarations) (requests : List Request) (fit : All (RequestF
   begins f _ told = tt
 
   -- what is begun is one of the requests, so it is in its ranges
-  pub begun : (dice : Lcg) (history : List Event) → EventsAreTold → IsHistory service requests dice history → All BeginsInRange history
+  begun : (dice : Lcg) (history : List Event) → EventsAreTold → IsHistory service requests dice history → All BeginsInRange history
   begun dice history told h =
       each BeginsInRange history [] history refl
       (λ front rest e is. let t = told service requests dice h.floor front rest e h.made (h.events ∙ is) in record { kind = begins t.floor e.kind t.told })
 
 -- ---- the run
 
-pub ran : (service : Declarations) (requests : List Request) (dice : Lcg) (history : List Event) → HistoriesRun → IsService service → IsChecked service → (h : IsHistory service requests dice history)
+ran : (service : Declarations) (requests : List Request) (dice : Lcg) (history : List Event) → HistoriesRun → IsService service → IsChecked service → (h : IsHistory service requests dice history)
     → run service (start_of service) history ≡ Some h.floor.state
 ran service requests dice history runs good checked h = subst (λ es. run service (start_of service) es ≡ Some h.floor.state) h.events (runs service requests dice h.floor good checked h.made).runs
 
-pub short : (service : Declarations) (requests : List Request) (dice : Lcg) (history : List Event) → IsHistory service requests dice history → length history ≤ 268431360
+short : (service : Declarations) (requests : List Request) (dice : Lcg) (history : List Event) → IsHistory service requests dice history → length history ≤ 268431360
 short service requests dice history h = subst (λ es. length es ≤ 268431360) h.events h.made.few
+
+-- ---- however lanes recorded it
+
+-- a history runs to a state, isn't longer than may be, and begins what is in range
+pub record MayBeLed (service : Declarations) (history : List Event) : Type 0 where
+  pub state : StateValue
+  pub runs : run service (start_of service) history ≡ Some state
+  pub few : length history ≤ 268431360
+  pub begins : All BeginsInRange history
+
+pub may_be_led : (recording : Recording) (service : Declarations) (requests : List Request) (seed : ℕ) (history : List Event) → All (RequestFits service) requests → HistoriesRun → EventsAreTold → IsService service → IsChecked service
+    → IsHistoryBy recording service requests seed history → MayBeLed service history
+may_be_led Floor service requests seed history fit runs told good checked h = record {
+  state = h.floor.state;
+  runs = ran service requests (dice_of seed) history runs good checked h;
+  few = short service requests (dice_of seed) history h;
+  begins = begun service requests fit (dice_of seed) history told h;
+}
+may_be_led Words service requests seed history fit runs told good checked h = record {
+  state = h.recorded.state;
+  runs = words.ran service h.assignment h.seats history h.of.service_is h.recorded;
+  few = le_trans h.recorded.short (omega arith);
+  begins = words.begun service requests fit h.assignment h.of.requests_are h.seats history h.recorded;
+}

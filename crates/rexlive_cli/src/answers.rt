@@ -1,13 +1,16 @@
 //! What an input is answered.
 
-ghost use Rattle.std.specs.Prelude.{◌≡◌, ◌≤◌, Some, IfOk, length};
+ghost use Rattle.std.specs.Prelude.{◌≡◌, ◌≤◌, Some, None, IfOk, length};
 ghost use Rattle.rex_lockset.specs.Refusal.{refusal_of as refusal};
+ghost use Rattle.rex_scenario.specs.Beyond.{IsPlain, beyond_words};
 ghost use Rattle.rex_scenario.specs.Fits.{ScenarioFits};
-ghost use Rattle.rex_scenario.specs.Reading.{unscheduled_answer_of};
-ghost use Rattle.rex_answer.specs.Causes.{Judges, scenario_service};
+ghost use Rattle.rex_answer.specs.Causes.{Judges};
+ghost use Rattle.rexlive_cli.specs.declared.recording.Recording.TheVariants.{Words};
 ghost use Rattle.rexlive_cli.specs.Due as due;
+ghost use Rattle.rexlive_cli.specs.Outcome.{played_service, unless_beyond};
 
-use crate::histories::history;
+use crate::histories::history_by;
+use crate::recording::Recording;
 use rex_answer::{Answer, refused, scenario_code, unchecked};
 use rex_lead::laws::histories_are_led;
 use rex_lead::lead;
@@ -24,43 +27,48 @@ use std::thread::Threads;
 pub(crate) fn usage(alloc: Global) -> Result<Answer, AllocError>
     ensures { IfOk result (λ a. a ≡ due.due_usage) }
 {
-    let text = Vec::from_slice(alloc, b"usage: rexlive\n")?;
+    let text = Vec::from_slice(alloc, b"usage: rexlive [--words]\n")?;
     Ok(Answer { status: 2, text })
 }
 
-// What a scenario is answered whose service is checked: its lanes make a history, which is led to agreement.
+// What a scenario is answered whose service is checked: its lanes record a history, which is led to agreement.
 fn play_scenario<R: Threads + Sync, W: Wait + Sync, G: Gate + Sync>(
     rt: &R,
     wait: &W,
     alloc: Global,
+    recording: Recording,
     svc: &Checked,
     scenario: &Scenario,
     gate: &G,
 ) -> Result<Answer, AllocError>
-    requires { ScenarioFits svc.now scenario.now }
-    ensures { IfOk result (due.IsPlayed svc.now scenario.now) }
+    requires fits { ScenarioFits svc.now scenario.now }
+    requires plain { recording ≡ Words → IsPlain svc.now }
+    ensures { IfOk result (due.IsPlayed recording svc.now scenario.now) }
 {
     histories_run();
     events_are_told();
     histories_are_led();
     let _service = svc.declarations();
     let requests = scenario.requests.as_slice();
-    let events = history(rt, wait, alloc, svc, requests, scenario.seed as u64, gate)?;
+    let seed = scenario.seed as u64;
+    let events = history_by(rt, wait, alloc, recording, svc, requests, seed, gate)?;
     let text = lead(alloc, svc, scenario, events.as_slice())?;
     Ok(Answer { status: 0, text })
 }
 
-// What a scenario is answered.
-fn answer_scenario<R: Threads + Sync, W: Wait + Sync, G: Gate + Sync>(
+// What a scenario is answered whose lanes can record so.
+fn answer_service<R: Threads + Sync, W: Wait + Sync, G: Gate + Sync>(
     rt: &R,
     wait: &W,
     alloc: Global,
+    recording: Recording,
     scenario: &Scenario,
     service: Service,
     gate: &G,
 ) -> Result<Answer, AllocError>
-    requires { ScenarioFits service scenario.now }
-    ensures due { IfOk result (due.IsDueTo scenario.now service (refusal service)) }
+    requires fits { ScenarioFits service scenario.now }
+    requires plain { recording ≡ Words → IsPlain service }
+    ensures due { IfOk result (due.IsDueTo recording scenario.now service (refusal service)) }
     ensures judges { IfOk result (λ a. Judges (Some service) a.status) }
 {
     if let Some(answer) = unchecked(alloc, service.declarations())? {
@@ -68,23 +76,58 @@ fn answer_scenario<R: Threads + Sync, W: Wait + Sync, G: Gate + Sync>(
     }
     let service = Checked::of(service);
     let _service = service.declarations();
-    play_scenario(rt, wait, alloc, &service, scenario, gate)
+    play_scenario(rt, wait, alloc, recording, &service, scenario, gate)
 }
 
-/// What an input is answered.
+// The line of a scenario that its lanes can't record so.
+fn line_beyond(recording: Recording, scenario: &Scenario) -> Option<u32>
+    ensures line { result ≡ due.line_beyond recording scenario.now.beyond }
+    ensures words { result ≡ None → recording ≡ Words → scenario.now.beyond ≡ None }
+{
+    match recording {
+        Recording::Floor => None,
+        Recording::Words => scenario.beyond_words(),
+    }
+}
+
+// What a scenario is answered.
+fn answer_scenario<R: Threads + Sync, W: Wait + Sync, G: Gate + Sync>(
+    rt: &R,
+    wait: &W,
+    alloc: Global,
+    recording: Recording,
+    scenario: &Scenario,
+    service: Service,
+    gate: &G,
+) -> Result<Answer, AllocError>
+    requires fits { ScenarioFits service scenario.now }
+    requires plain { scenario.now.beyond ≡ None → IsPlain service }
+    ensures due { IfOk result (due.IsDueAt recording scenario.now service (due.line_beyond recording scenario.now.beyond)) }
+    ensures judges { IfOk result (λ a. Judges (unless_beyond service (due.line_beyond recording scenario.now.beyond)) a.status) }
+{
+    match line_beyond(recording, scenario) {
+        Some(line) => refused(alloc, line, b"W1"),
+        None => answer_service(rt, wait, alloc, recording, scenario, service, gate),
+    }
+}
+
+/// What an input is answered, whose lanes are to record so.
 pub(crate) fn answer_input<R: Threads + Sync, W: Wait + Sync, G: Gate + Sync>(
     rt: &R,
     wait: &W,
     alloc: Global,
+    recording: Recording,
     input: &[u8],
     gate: &G,
 ) -> Result<Answer, AllocError>
     requires { length input.now ≤ 4194305 }
-    ensures due { IfOk result (due.IsDueIn (unscheduled_answer_of input.now)) }
-    ensures judges { IfOk result (λ a. Judges (scenario_service (unscheduled_answer_of input.now)) a.status) }
+    ensures due { IfOk result (due.IsDue recording input.now) }
+    ensures judges { IfOk result (λ a. Judges (played_service recording input.now) a.status) }
 {
     match read_unscheduled(alloc, input) {
-        Ok((scenario, service)) => answer_scenario(rt, wait, alloc, &scenario, service, gate),
+        Ok((scenario, service)) => {
+            answer_scenario(rt, wait, alloc, recording, &scenario, service, gate)
+        }
         Err(ScenarioError::Refused { line, code }) => refused(alloc, line, scenario_code(code)),
         Err(ScenarioError::OutOfMemory) => Err(AllocError),
     }

@@ -2,13 +2,18 @@
 
 ghost use Rattle.std.specs.Prelude.{◌≡◌, ◌<◌, IfOk};
 ghost use Rattle.rex_live.specs.Floor.{IsHistory, dice_of};
+ghost use Rattle.rex_words.specs.Dealing.{CanRecord};
+ghost use Rattle.rexlive_cli.specs.Recording.{IsHistoryBy};
+ghost use Rattle.rexlive_cli.specs.declared.recording.Recording.TheVariants.{Words};
 
+use crate::recording::Recording;
 use rex_event::Event;
 use rex_list::List;
 use rex_live::{Floor, Setting, run_lanes};
 use rex_syntax::checked::Checked;
 use rex_syntax::request::Request;
 use rex_traits::Gate;
+use rex_words::run_words;
 use std::alloc::{AllocError, Global};
 use std::marker::Brand;
 use std::sync::Wait;
@@ -38,9 +43,9 @@ fn play<S: Setting + Send + Sync, R: Threads + Sync, W: Wait + Sync, G: Gate + S
     run_lanes(rt, wait, alloc, svc, &mut floor, gate)
 }
 
-/// The history that a service's lanes make of requests, each lane a thread, until none can go on. Random numbers are drawn
-/// with this seed.
-pub(crate) fn history<R: Threads + Sync, W: Wait + Sync, G: Gate + Sync>(
+// The history that a service's lanes make of requests on a floor, each lane a thread, until none can go on. Random numbers are
+// drawn with this seed.
+fn history<R: Threads + Sync, W: Wait + Sync, G: Gate + Sync>(
     rt: &R,
     wait: &W,
     alloc: Global,
@@ -62,4 +67,24 @@ pub(crate) fn history<R: Threads + Sync, W: Wait + Sync, G: Gate + Sync>(
         seed,
         gate,
     )
+}
+
+/// The history that a service's lanes record of requests, each lane a thread. Random numbers are drawn with this seed.
+pub(crate) fn history_by<R: Threads + Sync, W: Wait + Sync, G: Gate + Sync>(
+    rt: &R,
+    wait: &W,
+    alloc: Global,
+    recording: Recording,
+    svc: &Checked,
+    requests: &[Request],
+    seed: u64,
+    gate: &G,
+) -> Result<List<Event>, AllocError>
+    requires { recording ≡ Words → CanRecord svc.now requests.now }
+    ensures { IfOk result (IsHistoryBy recording svc.now requests.now seed) }
+{
+    match recording {
+        Recording::Floor => history(rt, wait, alloc, svc, requests, seed, gate),
+        Recording::Words => run_words(rt, wait, alloc, svc, requests, seed, gate),
+    }
 }

@@ -3,6 +3,8 @@
 
 mod answers;
 mod histories;
+mod recording;
 mod running;
 
+pub use recording::Recording;
 pub use running::live_main;

@@ -1,18 +1,19 @@
 //! The top call.
 
-ghost use Rattle.std.specs.Prelude.{◌≡◌, ◌≤◌, ◌<◌, ◌⊎◌, ℕ, IfOk, IfSome, IsErrOf, Some, length};
+ghost use Rattle.std.specs.Prelude.{◌≡◌, ◌≤◌, ◌<◌, ◌⊎◌, ℕ, IfOk, IfSome, IsErrOf, Some, None, map, string_bytes};
 ghost use Rattle.std.specs.Io.KnownBytes.{IsAtEnd};
 ghost use Rattle.rex_traits.specs.Causes.{Rose};
 ghost use Rattle.rex_syntax.specs.declared.service.Declarations.{Declarations};
 ghost use Rattle.rex_syntax.specs.Check.{IsChecked};
-ghost use Rattle.rex_scenario.specs.Reading.{unscheduled_answer_of};
 ghost use Rattle.rex_streams.specs.declared.reading.ReadFault.TheVariants as fault;
-ghost use Rattle.rex_answer.specs.Causes.{Judges, scenario_service};
+ghost use Rattle.rex_answer.specs.Causes.{Judges};
 ghost use Rattle.rex_answer.specs.Outcome.{Gives};
 ghost use Rattle.rexlive_cli.specs.Due as due;
-ghost use Rattle.rexlive_cli.specs.Outcome.{GivesSome, IsCaused};
+ghost use Rattle.rexlive_cli.specs.Outcome.{GivesSome, IsCaused, played_service};
+ghost use Rattle.rexlive_cli.specs.Recording as spec;
 
 use crate::answers::{answer_input, usage};
+use crate::recording::{Recording, recording_of};
 use rex_answer::Answer;
 use rex_streams::{ReadFault, read_input};
 use rex_traits::{Gate, Sink, Source};
@@ -25,11 +26,12 @@ fn read_and_answer<R: Threads + Sync, W: Wait + Sync, S: Source, G: Gate + Sync>
     rt: &R,
     wait: &W,
     alloc: Global,
+    recording: Recording,
     source: &mut S,
     gate: &G,
 ) -> Result<Answer, ReadFault>
-    ensures due { IfOk result (λ a. IfSome (S.left source.old) (λ input. due.IsDue input a)) }
-    ensures judges { IfOk result (λ a. IfSome (S.left source.old) (λ input. Judges (scenario_service (unscheduled_answer_of input)) a.status)) }
+    ensures due { IfOk result (λ a. IfSome (S.left source.old) (λ input. due.IsDue recording input a)) }
+    ensures judges { IfOk result (λ a. IfSome (S.left source.old) (λ input. Judges (played_service recording input) a.status)) }
     ensures whole { IfOk result (λ a. a.status ≡ 0 → IsAtEnd (S.left source.new)) }
     ensures low { IfOk result (λ a. a.status < 4) }
     ensures used { IfOk result (λ a. a.status ≡ 2 → ⊥) }
@@ -37,7 +39,7 @@ fn read_and_answer<R: Threads + Sync, W: Wait + Sync, S: Source, G: Gate + Sync>
     ensures failed { IsErrOf result fault.Failed → Rose (S.faults source.old) (S.faults source.new) }
 {
     match read_input(alloc, source) {
-        Ok(input) => match answer_input(rt, wait, alloc, &input.bytes, gate) {
+        Ok(input) => match answer_input(rt, wait, alloc, recording, &input.bytes, gate) {
             Ok(answer) => Ok(answer),
             Err(_) => Err(ReadFault::OutOfMemory),
         },
@@ -50,22 +52,23 @@ fn play_input<R: Threads + Sync, W: Wait + Sync, S: Source, K: Sink, G: Gate + S
     rt: &R,
     wait: &W,
     alloc: Global,
+    recording: Recording,
     source: &mut S,
     sink: &mut K,
     gate: &G,
 ) -> u8
-    ensures run { IfSome (S.left source.old) (λ input. GivesSome (due.IsDue input) (K.held sink.old) (K.held sink.new) result) }
-    ensures causes { result < 4 → IfSome (S.left source.old) (λ input. IsCaused (scenario_service (unscheduled_answer_of input)) result) }
+    ensures run { IfSome (S.left source.old) (λ input. GivesSome (due.IsDue recording input) (K.held sink.old) (K.held sink.new) result) }
+    ensures causes { result < 4 → IfSome (S.left source.old) (λ input. IsCaused (played_service recording input) result) }
     ensures whole { result ≡ 0 → IsAtEnd (S.left source.new) }
     ensures read_fault { result ≡ 4 → Rose (S.faults source.old) (S.faults source.new) }
     ensures write_fault { result ≡ 5 → Rose (K.faults sink.old) (K.faults sink.new) }
     ensures known { result ≤ 6 }
     ensures used { result ≡ 2 → ⊥ }
-    ensures complete { IfSome (S.left source.old) (λ input. (service : Declarations) → scenario_service (unscheduled_answer_of input) ≡ Some service → IsChecked service
+    ensures complete { IfSome (S.left source.old) (λ input. (service : Declarations) → played_service recording input ≡ Some service → IsChecked service
         → (Rose (S.faults source.old) (S.faults source.new) → ⊥) → (Rose (K.faults sink.old) (K.faults sink.new) → ⊥)
         → (result ≡ 0) ⊎ (result ≡ 6)) }
 {
-    match read_and_answer(rt, wait, alloc, source, gate) {
+    match read_and_answer(rt, wait, alloc, recording, source, gate) {
         Ok(answer) => answer.give(sink),
         Err(ReadFault::Failed) => 4,
         Err(ReadFault::OutOfMemory) => 6,
@@ -73,14 +76,15 @@ fn play_input<R: Threads + Sync, W: Wait + Sync, S: Source, K: Sink, G: Gate + S
 }
 
 /// Does all that the program `rexlive` does, and answers its status: 0 where all output was written; 1 where the input is no
-/// scenario with an empty schedule; 2 where the words are no command line; 3 where the service isn't checked; 4 where a read
-/// failed, and nothing was written; 5 where a write failed; 6 for want of memory. After 5 and 6 a front of the output was
-/// written. The words are the program's name alone.
+/// scenario with an empty schedule, or lock words can't record it; 2 where the words are no command line; 3 where the service
+/// isn't checked; 4 where a read failed, and nothing was written; 5 where a write failed; 6 for want of memory. After 5 and 6 a
+/// front of the output was written. The words are the program's name, alone or with `--words`.
 ///
 /// Each lane of the service is a thread, given by the runtime `rt`; they wait for each other by `wait`, and each passes the
-/// gate before it tries an event. What they recorded, in whatever order that came, is led to agreement by node 1 of the
-/// scenario's nodes, in blocks of 4,096 events; the other nodes replay it. The output is the agreed trace, and what each node
-/// came to. That the lanes get on isn't promised: the clauses hold where the call returns.
+/// gate before it tries an event. With `--words` they record by lock words, else on a floor under one lock. What they recorded,
+/// in whatever order that came, is led to agreement by node 1 of the scenario's nodes, in blocks of 4,096 events; the other
+/// nodes replay it. The output is the agreed trace, and what each node came to. That the lanes get on isn't promised: the
+/// clauses hold where the call returns.
 pub fn live_main<R: Threads + Sync, W: Wait + Sync, S: Source, K: Sink, G: Gate + Sync>(
     rt: &R,
     wait: &W,
@@ -90,15 +94,16 @@ pub fn live_main<R: Threads + Sync, W: Wait + Sync, S: Source, K: Sink, G: Gate 
     sink: &mut K,
     gate: &G,
 ) -> u8
-    // Below 4 the status and what was written are what is due to the input, for one of the histories that lanes may make.
-    ensures run { length words.now ≡ 1 → IfSome (S.left source.old) (λ input. GivesSome (due.IsDue input) (K.held sink.old) (K.held sink.new) result) }
+    // Below 4 the status and what was written are what is due to the input, for one of the histories that lanes may record so.
+    ensures run { IfSome (spec.recording_of (map string_bytes words.now)) (λ recording. IfSome (S.left source.old) (λ input. GivesSome (due.IsDue recording input) (K.held sink.old) (K.held sink.new) result)) }
 
-    // Below 4 it is 1 exactly where the input is no scenario without schedule lines, and 3 exactly where its service isn't checked.
-    ensures causes { length words.now ≡ 1 → result < 4 → IfSome (S.left source.old) (λ input. IsCaused (scenario_service (unscheduled_answer_of input)) result) }
+    // Below 4 it is 1 exactly where the input is no scenario without schedule lines, or has a line that lock words can't record and
+    // are to record, and 3 exactly where its service isn't checked.
+    ensures causes { result < 4 → IfSome (spec.recording_of (map string_bytes words.now)) (λ recording. IfSome (S.left source.old) (λ input. IsCaused (played_service recording input) result)) }
 
     // Words that are no command line are answered whatever the source, which stays as it was; others are not answered so.
-    ensures usage { (length words.now ≡ 1 → ⊥) → Gives due.due_usage (K.held sink.old) (K.held sink.new) result × (source.new ≡ source.old) × (result ≡ 4 → ⊥) }
-    ensures used { result ≡ 2 → length words.now ≡ 1 → ⊥ }
+    ensures usage { spec.recording_of (map string_bytes words.now) ≡ None → Gives due.due_usage (K.held sink.old) (K.held sink.new) result × (source.new ≡ source.old) × (result ≡ 4 → ⊥) }
+    ensures used { result ≡ 2 → spec.recording_of (map string_bytes words.now) ≡ None }
 
     // At 0 the input was read to its end.
     ensures whole { result ≡ 0 → IsAtEnd (S.left source.new) }
@@ -108,14 +113,14 @@ pub fn live_main<R: Threads + Sync, W: Wait + Sync, S: Source, K: Sink, G: Gate 
     ensures write_fault { result ≡ 5 → Rose (K.faults sink.old) (K.faults sink.new) }
     ensures known { result ≤ 6 }
 
-    // Where the input is a scenario with a checked service and no schedule line, and no fault was counted, the status is 0, or
-    // want of memory.
-    ensures complete { length words.now ≡ 1 → IfSome (S.left source.old) (λ input. (service : Declarations) → scenario_service (unscheduled_answer_of input) ≡ Some service → IsChecked service
+    // Where the input is a scenario with a checked service, no schedule line and no line that can't be recorded so, and no fault
+    // was counted, the status is 0, or want of memory.
+    ensures complete { IfSome (spec.recording_of (map string_bytes words.now)) (λ recording. IfSome (S.left source.old) (λ input. (service : Declarations) → played_service recording input ≡ Some service → IsChecked service
         → (Rose (S.faults source.old) (S.faults source.new) → ⊥) → (Rose (K.faults sink.old) (K.faults sink.new) → ⊥)
-        → (result ≡ 0) ⊎ (result ≡ 6)) }
+        → (result ≡ 0) ⊎ (result ≡ 6))) }
 {
-    if words.len() == 1 {
-        return play_input(rt, wait, alloc, source, sink, gate);
+    if let Some(recording) = recording_of(words) {
+        return play_input(rt, wait, alloc, recording, source, sink, gate);
     }
     match usage(alloc) {
         Ok(answer) => answer.give(sink),

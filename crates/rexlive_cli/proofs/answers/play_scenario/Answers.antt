@@ -5,27 +5,40 @@ use Rattle.rex_syntax.specs.declared.request.Request.{Request}
 use Rattle.rex_delta.specs.Spelling.{HasTypedKind}
 use Rattle.rex_safety.specs.Takes.{BeginsInRange}
 use Rattle.rex_lead.specs.Lead.{blocks_of, live_text}
-use Rattle.rex_live.specs.Floor.{IsHistory, dice_of}
-use Rattle.rexlive_cli.proofs.Played.{begun, ran, short}
+use Rattle.rex_words.specs.Dealing.{CanRecord}
+use Rattle.rexlive_cli.specs.Recording.{IsHistoryBy}
+use Rattle.rexlive_cli.proofs.Played.{may_be_led}
+use Rattle.rexlive_cli.proofs.Worded.{can_record}
 use Rattle.rexlive_cli.proofs.answers.play_scenario.Goals as goal
+
+pub history_by-requires-after_bounds : goal.history_by-requires-after_bounds
+history_by-requires-after_bounds g c lifetimes bounds words =
+    subst (CanRecord c.args.svc.now) (sym c.as_slice-requests.ensures) (can_record c.args.svc.now c.args.scenario.now.requests (c.requires.plain words) c.requires.fits.requests)
+
+pub lead-requires-clause-few : goal.lead-requires-clause-few
+lead-requires-clause-few g c =
+    let made = subst (λ (requests : List Request). IsHistoryBy c.args.recording c.args.svc.now requests c.args.scenario.now.seed c.in_ok-events.events) c.as_slice-requests.ensures c.in_ok-events.ensures in
+    let led = may_be_led c.args.recording c.args.svc.now c.args.scenario.now.requests c.args.scenario.now.seed c.in_ok-events.events c.requires.fits.requests c.histories_run.ensures c.events_are_told.ensures
+    c.declarations-service.ensures.sound c.declarations-service.ensures.checked made in
+    rw c.as_slice.ensures led.few
 
 pub lead-requires-clause-begins : goal.lead-requires-clause-begins
 lead-requires-clause-begins g c =
-    subst (All BeginsInRange) (sym c.as_slice.ensures)
-    (begun c.args.svc.now c.args.scenario.now.requests c.requires.requests (dice_of c.args.scenario.now.seed) c.in_ok-events.events c.events_are_told.ensures
-    (subst (λ (requests : List Request). IsHistory c.args.svc.now requests (dice_of c.args.scenario.now.seed) c.in_ok-events.events) c.as_slice-requests.ensures c.in_ok-events.ensures))
+    let made = subst (λ (requests : List Request). IsHistoryBy c.args.recording c.args.svc.now requests c.args.scenario.now.seed c.in_ok-events.events) c.as_slice-requests.ensures c.in_ok-events.ensures in
+    let led = may_be_led c.args.recording c.args.svc.now c.args.scenario.now.requests c.args.scenario.now.seed c.in_ok-events.events c.requires.fits.requests c.histories_run.ensures c.events_are_told.ensures
+    c.declarations-service.ensures.sound c.declarations-service.ensures.checked made in
+    subst (All BeginsInRange) (sym c.as_slice.ensures) led.begins
 
 pub returns : goal.returns
 returns g c =
-    let made = subst (λ (requests : List Request). IsHistory c.args.svc.now requests (dice_of c.args.scenario.now.seed) c.in_ok-events.events) c.as_slice-requests.ensures c.in_ok-events.ensures in
+    let made = subst (λ (requests : List Request). IsHistoryBy c.args.recording c.args.svc.now requests c.args.scenario.now.seed c.in_ok-events.events) c.as_slice-requests.ensures c.in_ok-events.ensures in
+    let led = may_be_led c.args.recording c.args.svc.now c.args.scenario.now.requests c.args.scenario.now.seed c.in_ok-events.events c.requires.fits.requests c.histories_run.ensures c.events_are_told.ensures
+    c.declarations-service.ensures.sound c.declarations-service.ensures.checked made in
     record {
       history = c.in_ok-events.events;
       made = made;
-      led = c.histories_are_led.ensures c.args.svc.now c.args.scenario.now c.in_ok-events.events made.floor.state c.declarations-service.ensures.sound c.declarations-service.ensures.checked c.requires
-          (short c.args.svc.now c.args.scenario.now.requests (dice_of c.args.scenario.now.seed) c.in_ok-events.events made)
-          (begun c.args.svc.now c.args.scenario.now.requests c.requires.requests (dice_of c.args.scenario.now.seed) c.in_ok-events.events c.events_are_told.ensures made)
-          (subst (All HasTypedKind) c.as_slice.ensures c.in_ok-text.ensures.typed)
-          (ran c.args.svc.now c.args.scenario.now.requests (dice_of c.args.scenario.now.seed) c.in_ok-events.events c.histories_run.ensures c.declarations-service.ensures.sound c.declarations-service.ensures.checked made);
+      led = c.histories_are_led.ensures c.args.svc.now c.args.scenario.now c.in_ok-events.events led.state c.declarations-service.ensures.sound c.declarations-service.ensures.checked c.requires.fits led.few led.begins
+          (subst (All HasTypedKind) c.as_slice.ensures c.in_ok-text.ensures.typed) led.runs;
       status = refl;
       text = subst (λ (es : List Event). c.in_ok-text.text.items ≡ live_text c.args.svc.now c.args.scenario.now (blocks_of es)) c.as_slice.ensures c.in_ok-text.ensures.text;
     }

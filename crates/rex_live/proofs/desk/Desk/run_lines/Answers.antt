@@ -5,4 +5,4 @@ use Rattle.rex_live.proofs.desk.Desk.run_lines.Goals as goal
 pub invariant_of-self : goal.invariant_of-self
 invariant_of-self g c =
     let d = c.declarations-service.ensures in
-    desk_run _ c.args.svc.now _ _ _ _ _ c.self.inside.kept c.run_lines.new.self _ c.args.lane c.requires.service d.sound c.self.invariant c.if-self-lane.true c.requires.there c.run_lines.ensures
+    desk_run _ c.args.svc.now _ _ _ _ _ c.self.inside.kept c.run_lines.new.self _ _ c.args.lane c.requires.service d.sound c.self.invariant c.if-self-lane.true c.requires.there c.run_lines.ensures

@@ -1,0 +1,6 @@
+use Rattle.rex_scenario.proofs.Fitting.{scenario_fits}
+use Rattle.rex_scenario.proofs.reading.read.Goals as goal
+
+pub returns-clause-fits : goal.returns-clause-fits
+returns-clause-fits c =
+    rw (c.finish.ensures.scenario, c.finish.ensures.service) (scenario_fits c.read_text.new.reader c.in_ok-read_text.ensures.fit c.in_ok-read_text.ensures.ended)
