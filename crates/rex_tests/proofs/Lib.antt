@@ -2,3 +2,4 @@ pub mod Begins
 pub mod Boards
 pub mod Elected
 pub mod Fronts
+pub mod WordSeats

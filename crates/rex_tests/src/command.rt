@@ -11,12 +11,56 @@ fn asked(alloc: Global, line: &str) -> Result<Option<Command>, Fail> {
     Ok(command_of(alloc, &words)?)
 }
 
-const RUNS: [(&str, Command); 7] = [
-    ("rex run", Command::Run { workers: 1 }),
-    ("rex run --workers 16", Command::Run { workers: 16 }),
-    ("rex run --workers=2", Command::Run { workers: 2 }),
-    ("rex run --workers +7", Command::Run { workers: 7 }),
-    ("rex run --", Command::Run { workers: 1 }),
+const RUNS: [(&str, Command); 9] = [
+    (
+        "rex run",
+        Command::Run {
+            workers: 1,
+            journal: false,
+        },
+    ),
+    (
+        "rex run --workers 16",
+        Command::Run {
+            workers: 16,
+            journal: false,
+        },
+    ),
+    (
+        "rex run --workers=2",
+        Command::Run {
+            workers: 2,
+            journal: false,
+        },
+    ),
+    (
+        "rex run --workers +7",
+        Command::Run {
+            workers: 7,
+            journal: false,
+        },
+    ),
+    (
+        "rex run --",
+        Command::Run {
+            workers: 1,
+            journal: false,
+        },
+    ),
+    (
+        "rex run --journal",
+        Command::Run {
+            workers: 1,
+            journal: true,
+        },
+    ),
+    (
+        "rex run --workers 3 --journal",
+        Command::Run {
+            workers: 3,
+            journal: true,
+        },
+    ),
     ("rex trace", Command::Trace),
     ("rex check", Command::Check),
 ];

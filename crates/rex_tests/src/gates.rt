@@ -7,11 +7,13 @@ use std::sync::atomic::{AtomicU64, Ordering};
 const LOOKS: u64 = 1 << 30;
 
 /// A gate for two lanes that begin with no events done. It holds one worker until another one enters with index 1: the
-/// second event of its lane.
+/// second event of its lane. There the other one stays until the first one has entered, so that it is held.
 #[derive(Drop)]
 pub struct HoldingGate {
     held: u8,
     until: u8,
+    /// Whether the worker that is held entered: 1, or else 0.
+    entered: AtomicU64,
     /// Whether the other worker came: 1, or else 0.
     came: AtomicU64,
     /// How many holds ended with no sight of the other worker.
@@ -34,6 +36,7 @@ impl HoldingGate {
         HoldingGate {
             held,
             until,
+            entered: zero(),
             came: zero(),
             gave_up: zero(),
             last: [zero(), zero()],
@@ -42,13 +45,13 @@ impl HoldingGate {
         }
     }
 
-    /// Waits for the other worker, up to a bound.
-    fn hold(&self) {
+    /// Waits until another worker was seen, up to a bound.
+    fn hold(&self, seen: &AtomicU64) {
         if self.gave_up.load(Ordering::SeqCst) > 0 {
             return;
         }
         for _ in 0..LOOKS {
-            if self.came.load(Ordering::SeqCst) > 0 {
+            if seen.load(Ordering::SeqCst) > 0 {
                 return;
             }
         }
@@ -70,9 +73,13 @@ impl HoldingGate {
         }
     }
 
-    /// Whether each hold ended as the other worker came, and no lane's entered index fell or skipped.
+    /// Whether both workers came, the one that was held before the other one went on from its lane's second event; each
+    /// hold ended as the other worker came; and no lane's entered index fell or skipped.
     pub fn is_kept(&self) -> bool {
-        self.gave_up.load(Ordering::SeqCst) == 0 && self.astray.load(Ordering::SeqCst) == 0
+        self.entered.load(Ordering::SeqCst) == 1
+            && self.came.load(Ordering::SeqCst) == 1
+            && self.gave_up.load(Ordering::SeqCst) == 0
+            && self.astray.load(Ordering::SeqCst) == 0
     }
 
     /// Whether worker 0 entered each of the events 0, 1 and 2 of lane 0 once.
@@ -92,10 +99,12 @@ impl Gate for HoldingGate {
             }
         }
         if worker == self.until && index == 1 {
+            self.hold(&self.entered);
             self.came.store(1, Ordering::SeqCst);
         }
         if worker == self.held {
-            self.hold();
+            self.entered.store(1, Ordering::SeqCst);
+            self.hold(&self.came);
         }
     }
 }

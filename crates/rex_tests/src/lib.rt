@@ -33,6 +33,8 @@ mod gates;
 #[cfg(test)]
 mod generator;
 #[cfg(test)]
+mod journal;
+#[cfg(test)]
 mod list;
 #[cfg(test)]
 mod live;
@@ -76,3 +78,5 @@ mod text;
 mod traits;
 #[cfg(test)]
 mod wire;
+#[cfg(test)]
+mod words;

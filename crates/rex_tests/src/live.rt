@@ -9,7 +9,7 @@ use std::test::*;
 use std::thread::Threads;
 
 /// Two lanes that add to a variable under its lock, and two requests.
-const BOTH: &[u8] = b"%nodes 1
+pub(crate) const BOTH: &[u8] = b"%nodes 1
 %service
 lanes 2
 lock L
@@ -27,7 +27,7 @@ reply r
 ";
 
 /// How its output ends, whatever the trace.
-const BOTH_END: &[u8] = b"\nend node 1 active promised 17 known 1 live 0 a=12\n";
+pub(crate) const BOTH_END: &[u8] = b"\nend node 1 active promised 17 known 1 live 0 a=12\n";
 
 /// One lane, and one request, among three nodes.
 const ONE: &[u8] = b"%nodes 3
@@ -59,7 +59,7 @@ end node 3 follower promised 17 known 1 replayed 1 a=5
 
 /// Runs the program with these words over memory, behind a gate. The read and the write of these numbers, from 1, fail; 0
 /// is none.
-fn live<R: Threads + Wait + Sync + AllocGlobal, G: Gate + Sync>(
+pub(crate) fn live<R: Threads + Wait + Sync + AllocGlobal, G: Gate + Sync>(
     rt: &R,
     line: &str,
     input: &[u8],
@@ -82,7 +82,7 @@ fn live<R: Threads + Wait + Sync + AllocGlobal, G: Gate + Sync>(
 /// Words, an input, the read and the write that fail, the status, and the output.
 type Case = (&'static str, &'static [u8], (u64, u64), u8, &'static [u8]);
 
-static CASES: [Case; 8] = [
+static CASES: [Case; 12] = [
     ("rexlive", ONE, (0, 0), 0, ONE_TOLD),
     ("rexlive", b"", (0, 0), 1, b"refused line 1 S3\n"),
     (
@@ -106,7 +106,29 @@ static CASES: [Case; 8] = [
         0,
         b"end node 1 active promised 17 known 0 live 0\n",
     ),
-    ("rexlive run", ONE, (0, 0), 2, b"usage: rexlive\n"),
+    ("rexlive --words", ONE, (0, 0), 0, ONE_TOLD),
+    (
+        "rexlive --words",
+        b"%nodes 1\n%service\nlanes 1\nlock L\nhandler h\nacquire L\nreply 0\n%requests\n%schedule\n",
+        (0, 0),
+        3,
+        b"refused handler h line 7 C7\n",
+    ),
+    ("rexlive run", ONE, (0, 0), 2, b"usage: rexlive [--words]\n"),
+    (
+        "rexlive --words --words",
+        ONE,
+        (0, 0),
+        2,
+        b"usage: rexlive [--words]\n",
+    ),
+    (
+        "rexlive --word",
+        ONE,
+        (0, 0),
+        2,
+        b"usage: rexlive [--words]\n",
+    ),
     ("rexlive", ONE, (1, 0), 4, b""),
     ("rexlive", ONE, (0, 1), 5, b""),
 ];

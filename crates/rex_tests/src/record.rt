@@ -2,6 +2,7 @@ ghost use Rattle.std.specs.Prelude.{◌<◌, ◌≤◌, ◌+◌, IsTrue};
 ghost use Rattle.rex_event.specs.Cuts.{IsConsistent};
 ghost use Rattle.rex_record.specs.Kept.{CanBegin, IsRecorder};
 
+use crate::replay::are_counted;
 use crate::services::checked;
 use rand_pcg::Lcg64Xsh32;
 use rex_event::{Cut, Event, Kind};
@@ -246,10 +247,27 @@ fn events_are_taken(rt: &impl Abort, alloc: Global, svc: &Checked) {
     assert!(rt; recorder.trace().len() == 1 && recorder.queued(1) == Some(1));
 }
 
+/// What one recorder made another one takes as a block, with the state after it.
+fn blocks_are_taken(rt: &impl Abort, alloc: Global, svc: &Checked) {
+    let mut maker = two_rolls(rt, alloc, svc);
+    run(rt, &mut maker, svc, &TURNS);
+    let start = maker.start().copy(alloc).expect(rt, "memory");
+    let state = maker.state().copy(alloc).expect(rt, "memory");
+    let mut taker = Recorder::new(alloc, start).expect(rt, "memory");
+    assert!(rt; are_counted(maker.trace()));
+    taker
+        .take_block(svc, maker.trace(), state)
+        .expect(rt, "memory");
+    assert!(rt;
+        taker.trace().len() == 7 && taker.state().done(0) == 5 && taker.state().done(1) == 2
+    );
+}
+
 #[test]
 fn handed_events_are_taken(rt: HostRuntime) {
     let svc = checked(&rt, rt.alloc(), ROLLER);
     events_are_taken(&rt, rt.alloc(), &svc);
+    blocks_are_taken(&rt, rt.alloc(), &svc);
 }
 
 #[test]

@@ -1,0 +1,152 @@
+ghost use Rattle.std.specs.Prelude.{◌≡◌, ◌<◌, length};
+ghost use Rattle.rex_words.specs.Dealing.{CanRecord};
+ghost use Rattle.rex_words.specs.Histories.{AreSeats};
+ghost use Rattle.rex_words.specs.Tables.{IsWords, assignment_of, table_of};
+
+use crate::gates::HoldingGate;
+use crate::live::{BOTH, BOTH_END, live};
+use rex_lockset::check;
+use rex_scenario::read_unscheduled;
+use rex_syntax::checked::Checked;
+use rex_syntax::request::Request;
+use rex_traits::OpenGate;
+use rex_words::{WordSeat, WordTurn, Words};
+use std::alloc::{AllocGlobal, Global};
+use std::process::Abort;
+use std::sync::Wait;
+use std::test::*;
+use std::thread::Threads;
+
+/// Takes a step of a lane.
+fn step(words: &Words, seats: &mut [WordSeat], lane: usize) -> WordTurn
+    requires words { IsWords words.now }
+    requires seats { AreSeats (assignment_of words.now) (table_of words.now) (length seats.old) seats.old }
+    requires lane { lane < length seats.old }
+    ensures { AreSeats (assignment_of words.now) (table_of words.now) (length seats.old) seats.new }
+{
+    words.step(&mut seats[lane])
+}
+
+/// Takes a step of a lane, which has to do an event with this stamp.
+fn step_to(rt: &impl Abort, words: &Words, seats: &mut [WordSeat], lane: usize, stamp: u64)
+    requires words { IsWords words.now }
+    requires seats { AreSeats (assignment_of words.now) (table_of words.now) (length seats.old) seats.old }
+    ensures { AreSeats (assignment_of words.now) (table_of words.now) (length seats.old) seats.new }
+{
+    assert!(rt; lane < seats.len());
+    assert!(rt; matches!(step(words, seats, lane), WordTurn::Done(_)));
+    assert!(rt; seats[lane].stamp == stamp);
+}
+
+/// Two lanes meet at a lock. The first acquires it with stamp 2, so its word is 2 * 128 + 1; it releases it with stamp 3, so its
+/// word is 3 * 128; then the second acquires it with stamp 4, so its word is 4 * 128 + 2, as the first finds for its next request.
+fn meet(rt: &impl Abort, words: &Words, seats: &mut [WordSeat])
+    requires words { IsWords words.now }
+    requires seats { AreSeats (assignment_of words.now) (table_of words.now) (length seats.old) seats.old }
+    ensures { AreSeats (assignment_of words.now) (table_of words.now) (length seats.old) seats.new }
+{
+    assert!(rt; seats.len() == 2);
+    step_to(rt, words, seats, 0, 1);
+    step_to(rt, words, seats, 0, 2);
+    step_to(rt, words, seats, 1, 1);
+    let first_holds = WordTurn::Held { by: 1, seen: 257 };
+    assert!(rt; step(words, seats, 1) == first_holds);
+    step_to(rt, words, seats, 0, 3);
+    step_to(rt, words, seats, 1, 4);
+    step_to(rt, words, seats, 0, 4);
+    step_to(rt, words, seats, 0, 5);
+    let second_holds = WordTurn::Held { by: 2, seen: 514 };
+    assert!(rt; step(words, seats, 0) == second_holds);
+}
+
+/// Lanes of a service meet at a lock, with these requests.
+fn meet_for(rt: &impl Abort, alloc: Global, svc: &Checked, requests: &[Request])
+    requires { CanRecord svc.now requests.now }
+{
+    let (words, _host, mut seats) = Words::new(alloc, svc, requests, 0).expect(rt, "memory");
+    meet(rt, &words, &mut seats);
+}
+
+/// The counter, with two requests of the first lane and one of the second.
+const MEETING: &[u8] = b"%nodes 1
+%service
+lanes 2
+lock L
+var a on L = 0
+handler add x
+acquire L
+set a = a + x
+let r = a
+release L
+reply r
+%requests
+1 1 add 5
+2 1 add 7
+1 2 add 1
+%schedule
+";
+
+#[test]
+fn a_lane_finds_who_holds_a_lock(rt: HostRuntime) {
+    let alloc = rt.alloc();
+    let (scenario, service) = read_unscheduled(alloc, MEETING)
+        .ok()
+        .expect(&rt, "a scenario");
+    assert!(rt; scenario.beyond_words().is_none());
+    let svc = check(alloc, service).ok().expect(&rt, "a checked service");
+    meet_for(&rt, alloc, &svc, scenario.requests.as_slice());
+}
+
+/// A service with a condition, at line 6.
+const WAITING: &[u8] = b"%nodes 1
+%service
+lanes 2
+lock L
+var a on L = 0
+cond C on L
+handler put
+acquire L
+set a = 1
+signal C
+release L
+reply 0
+%requests
+%schedule
+";
+
+#[test]
+fn a_condition_is_beyond_words(rt: HostRuntime) -> Result<(), Fail> {
+    let outcome = live(&rt, "rexlive --words", WAITING, (0, 0), &OpenGate)?;
+    assert!(rt;
+        outcome.status == 1 && outcome.written.as_slice() == b"refused line 6 W1\n".as_slice()
+    );
+    Ok(())
+}
+
+#[test]
+fn two_lanes_end_alike_by_words(rt: HostRuntime) -> Result<(), Fail> {
+    for _ in 0..10 {
+        let outcome = live(&rt, "rexlive --words", BOTH, (0, 0), &OpenGate)?;
+        assert!(rt; outcome.status == 0 && outcome.written.ends_with(BOTH_END));
+    }
+    Ok(())
+}
+
+/// Two lanes, of which one's thread is held until the other one tries its second event.
+fn words_held<R: Threads + Wait + Sync + AllocGlobal + Abort>(
+    rt: &R,
+    held: u8,
+    until: u8,
+) -> Result<(), Fail> {
+    let gate = HoldingGate::new(held, until);
+    let outcome = live(rt, "rexlive --words", BOTH, (0, 0), &gate)?;
+    assert!(rt; outcome.status == 0 && outcome.written.ends_with(BOTH_END));
+    assert!(rt; gate.is_kept(), "{held} was held");
+    Ok(())
+}
+
+#[test]
+fn lanes_run_beside_each_other_by_words(rt: HostRuntime) -> Result<(), Fail> {
+    words_held(&rt, 0, 1)?;
+    words_held(&rt, 1, 0)
+}
