@@ -178,10 +178,14 @@ SCENARIO = {
         "a checkpoint in version 1, where the service has more than 16 lanes or 256 variables",
         "`old` left over from a smaller service",
     ),
+    "W1": (
+        "of `rexlive --words` alone: the service's first `rwlock`, `cond` or `sem`; this comes after all lines are read, and before the check",
+        "a service for `rexlive` without `--words`, which takes them all",
+    ),
 }
 PLACES = [(SERVICE, LANGUAGE, "Refusals"), (CHECK, LANGUAGE, "The check"), (SCENARIO, SCENARIOS, "Refusals")]
 
-REFUSED = re.compile(rb"refused (?:handler (\w+) )?line (\d+) ([PCS]\d+)\n")
+REFUSED = re.compile(rb"refused (?:handler (\w+) )?line (\d+) ([PCSW]\d+)\n")
 
 
 def tables():

@@ -18,8 +18,8 @@ NUMBERS = ["0", "1", "2", "7", "-1", "-9223372036854775808", "922337203685477580
 class Bodies:
     """Random lines of handlers that pass the check: each piece holds nothing at its ends."""
 
-    def __init__(self, dice, locals_):
-        self.dice, self.locals = dice, locals_
+    def __init__(self, dice, locals_, is_plain=False):
+        self.dice, self.locals, self.is_plain = dice, locals_, is_plain
 
     def value(self, *variables):
         """An expression of locals, numbers and these variables."""
@@ -72,19 +72,21 @@ class Bodies:
         return ["repeat %d" % self.dice.randint(1, 3), *self.piece(depth), "endrepeat"]
 
     def piece(self, depth):
-        kinds = [self.write, self.write, self.look, self.both, self.take, self.give, self.give, self.down, self.up, self.up, self.hold, self.meet, self.attempt, self.read]
+        plain = [self.write, self.write, self.both, self.attempt, self.read]
+        kinds = plain if self.is_plain else [self.write, self.write, self.look, self.both, self.take, self.give, self.give, self.down, self.up, self.up, self.hold, self.meet, self.attempt, self.read]
         if depth and self.dice.random() < 0.35:
             return self.dice.choice([self.branch, self.loop])(depth - 1)
         return self.dice.choice(kinds)()
 
 
-def make_service(dice):
-    """The lines of a service, and how many parameters each handler has."""
-    lines = ["lanes %d" % dice.choice([1, 2, 2, 3, 4, 16, 64])] + DECLARATIONS
+def make_service(dice, is_plain=False):
+    """The lines of a service, which may be one of plain locks and variables, and how many parameters each handler has."""
+    plain = ["lock R" if line == "rwlock R" else line for line in DECLARATIONS if line.split()[0] not in ("cond", "sem")]
+    lines = ["lanes %d" % dice.choice([1, 2, 2, 3, 4, 16, 64])] + (plain if is_plain else DECLARATIONS)
     handlers = {}
     for name in ["first", "second", "third"][:dice.randint(1, 3)]:
         parameters = ["x", "z"][:dice.randint(0, 2)]
-        bodies = Bodies(dice, parameters + ["y", "t"])
+        bodies = Bodies(dice, parameters + ["y", "t"], is_plain)
         lines += [" ".join(["handler", name, *parameters]), "let y = %s" % (parameters or ["4"])[0], "let t = 1"]
         for _ in range(dice.randint(1, 3)):
             lines += bodies.piece(2)

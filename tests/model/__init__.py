@@ -8,7 +8,7 @@ tests/compare-models, tests/keepfails and tests/live-traces run it beside the pr
 `bin/rex --draft` and `bin/rexlive --draft` are it. Nothing is proved of it.
 
 texts, values: lines, words, names, arithmetic. services, check, scenarios: the readers, with their codes. states: events and what
-they do. cluster: nodes, messages and the schedule. live: lanes as threads, of whose histories it draws one. answers, words: what a command
+they do. cluster: nodes, messages and the schedule. live: lanes as threads, under one lock or by lock words, of whose histories it draws one. answers, words: what a command
 answers, and the words that ask for it."""
 from .answers import report
 from .cluster import World

@@ -66,6 +66,8 @@ class Service:
     def __init__(self):
         self.lanes, self.kinds, self.locks, self.lock_of, self.variables, self.guards, self.handlers = 0, {}, [], {}, {}, {}, {}
         self.semaphores = {}
+        # the line of the first declaration that lanes can't record by lock words
+        self.beyond_words = None
         self.within = None
 
     def take(self, number, line):
@@ -96,6 +98,8 @@ class Service:
 
     def declare(self, words, number):
         self.kinds[words[1]] = words[0]
+        if words[0] in ("rwlock", "cond", "sem") and self.beyond_words is None:
+            self.beyond_words = number
         if words[0] in ("lock", "rwlock"):
             self.locks.append(words[1])
         elif words[0] == "sem":

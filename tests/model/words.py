@@ -6,9 +6,10 @@ from .answers import answered, check_lines, generated, run_lines, soak_lines, tr
 from .live import live_lines
 from .texts import MOST_BYTES, natural
 
-USAGE, LIVE_USAGE = "usage: rex run|trace|check|gen|soak\n", "usage: rexlive\n"
-# whether a command takes `--workers`, and the ranges of its numbers
-COMMANDS = {"run": (True, []), "trace": (False, []), "check": (False, []), "gen": (False, [(0, 2 ** 32 - 1), (1, 1000)]), "soak": (True, [(0, 2 ** 32 - 1), (1, 1000)])}
+USAGE, LIVE_USAGE = "usage: rex run|trace|check|gen|soak\n", "usage: rexlive [--words]\n"
+SCENARIO = [(0, 2 ** 32 - 1), (1, 1000)]
+# the options that a command takes, and the ranges of its numbers
+COMMANDS = {"run": (["--workers", "--journal"], []), "trace": ([], []), "check": ([], []), "gen": ([], SCENARIO), "soak": (["--workers"], SCENARIO)}
 WORKERS = 1, 16
 
 
@@ -24,19 +25,21 @@ def taken(words):
     """The command and its numbers that the words behind the program's name ask for, or None."""
     if not words or words[0] not in COMMANDS:
         return None
-    has_workers, ranges = COMMANDS[words[0]]
-    numbers, workers, rest = [], [], list(words[1:])
+    options, ranges = COMMANDS[words[0]]
+    numbers, workers, journals, rest = [], [], 0, list(words[1:])
     while rest:
         word = rest.pop(0)
         if word == "--":
             numbers, rest = numbers + rest, []
-        elif has_workers and word == "--workers" and rest:
+        elif "--workers" in options and word == "--workers" and rest:
             workers.append(rest.pop(0))
-        elif has_workers and word.startswith("--workers="):
+        elif "--workers" in options and word.startswith("--workers="):
             workers.append(word[len("--workers="):])
+        elif word in options and word == "--journal":
+            journals += 1
         else:
             numbers.append(word)
-    if len(workers) > 1 or len(numbers) != len(ranges) or any(number(word, *WORKERS) is None for word in workers):
+    if len(workers) > 1 or journals > 1 or len(numbers) != len(ranges) or any(number(word, *WORKERS) is None for word in workers):
         return None
     values = [number(word, *limits) for word, limits in zip(numbers, ranges)]
     return None if None in values else (words[0], values)
@@ -56,7 +59,9 @@ def answer(words, source):
 
 def live_answer(words, source):
     """The same for `rexlive`, of which this is one answer of many."""
-    return (2, LIVE_USAGE) if words else answer_to(source, live_lines)
+    if words not in ([], ["--words"]):
+        return 2, LIVE_USAGE
+    return answer_to(source, lambda text: live_lines(text, by_words=bool(words)))
 
 
 def answer_to(source, lines_of):
