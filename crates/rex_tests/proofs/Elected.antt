@@ -1,5 +1,5 @@
 -- A node without records that asks to lead.
-use Rattle.std.proofs.Common.{◌≡◌, ℕ, true, List, [], None, refl, sym, subst}
+use Rattle.std.proofs.Common.{ℕ, List, [], None, refl, sym, subst}
 use Rattle.rex_syntax.specs.declared.service.Declarations.{Declarations}
 use Rattle.rex_traits.specs.declared.mem_keeper.Fate.{Fate}
 use Rattle.rex_traits.specs.Keeping.{KeeperValue, armed_to, unused_keeper}

@@ -1,4 +1,6 @@
-ghost use Rattle.std.specs.Prelude.{◌≡◌, ◌<◌, length};
+ghost use Rattle.std.specs.Prelude.{◌≡◌, ◌<◌, None, length};
+ghost use Rattle.rex_scenario.specs.Beyond.{IsPlain};
+ghost use Rattle.rex_scenario.specs.Fits.{ScenarioFits};
 ghost use Rattle.rex_words.specs.Dealing.{CanRecord};
 ghost use Rattle.rex_words.specs.Histories.{AreSeats};
 ghost use Rattle.rex_words.specs.Tables.{IsWords, assignment_of, table_of};
@@ -6,9 +8,10 @@ ghost use Rattle.rex_words.specs.Tables.{IsWords, assignment_of, table_of};
 use crate::gates::HoldingGate;
 use crate::live::{BOTH, BOTH_END, live};
 use rex_lockset::check;
-use rex_scenario::read_unscheduled;
+use rex_scenario::{Scenario, read_unscheduled};
 use rex_syntax::checked::Checked;
 use rex_syntax::request::Request;
+use rex_syntax::service::Service;
 use rex_traits::OpenGate;
 use rex_words::{WordSeat, WordTurn, Words};
 use std::alloc::{AllocGlobal, Global};
@@ -86,15 +89,35 @@ reply r
 %schedule
 ";
 
+/// Lanes of a service of plain locks and variables meet at a lock, with a scenario's requests.
+fn meet_plainly(rt: &impl Abort, alloc: Global, scenario: &Scenario, service: Service)
+    requires fits { ScenarioFits service scenario.now }
+    requires plain { IsPlain service }
+{
+    match check(alloc, service) {
+        Ok(svc) => meet_for(rt, alloc, &svc, scenario.requests.as_slice()),
+        Err(_) => panic!(rt; "the service passes the check"),
+    }
+}
+
+/// Lanes of a scenario's service meet at a lock, with its requests.
+fn meet_in(rt: &impl Abort, alloc: Global, scenario: &Scenario, service: Service)
+    requires fits { ScenarioFits service scenario.now }
+    requires plain { scenario.now.beyond ≡ None → IsPlain service }
+{
+    match scenario.beyond_words() {
+        None => meet_plainly(rt, alloc, scenario, service),
+        Some(_) => panic!(rt; "lock words can record it"),
+    }
+}
+
 #[test]
 fn a_lane_finds_who_holds_a_lock(rt: HostRuntime) {
     let alloc = rt.alloc();
-    let (scenario, service) = read_unscheduled(alloc, MEETING)
-        .ok()
-        .expect(&rt, "a scenario");
-    assert!(rt; scenario.beyond_words().is_none());
-    let svc = check(alloc, service).ok().expect(&rt, "a checked service");
-    meet_for(&rt, alloc, &svc, scenario.requests.as_slice());
+    match read_unscheduled(alloc, MEETING) {
+        Ok((scenario, service)) => meet_in(&rt, alloc, &scenario, service),
+        Err(_) => panic!(&rt; "a scenario"),
+    }
 }
 
 /// A service with a condition, at line 6.
