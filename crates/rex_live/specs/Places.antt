@@ -94,6 +94,10 @@ pub record IsOffered (clients : List Entry) (wanted : List ℕ) (place : ℕ) : 
   pub may : may_begin (entry_at clients client) ≡ true
   pub is : place ≡ place_at wanted client
 
+-- the client may not begin a request, or no place before this one is noted for it
+abbrev pub IsPast : List Entry → List ℕ → ℕ → ℕ → Type 0
+IsPast clients wanted place client = client < 257 → may_begin (entry_at clients client) ≡ true → place ≤ place_at wanted client
+
 -- the least of the places that are noted for the first clients, of those that may begin a request; the end, where there is none
 pub record IsLeastBelow (clients : List Entry) (wanted : List ℕ) (end bound place : ℕ) : Type 0 where
   pub most : place ≤ end

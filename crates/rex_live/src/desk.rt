@@ -252,15 +252,26 @@ impl<S: Setting> Desk<S> {
         }
     }
 
+    /// Whether a lane has lines to run before its next event.
+    fn has_lines(&self, svc: &Checked, lane: u8) -> bool
+        requires service { svc.now ≡ S.service }
+    {
+        match self.kept.frame(lane) {
+            Some(frame) => has_lines(frame, self.kept.variables(), svc),
+            None => false,
+        }
+    }
+
     /// What a lane is lent, unless it has no lines to run or memory is short.
     fn segment(&self, alloc: Global, svc: &Checked, lane: u8) -> Option<Segment<S>>
         requires service { svc.now ≡ S.service }
     {
         let _service = svc.declarations();
-        let frame = self.kept.copied_frame(lane)?;
-        if !has_lines(&frame, self.kept.variables(), svc) {
+        // A frame is copied only where it is lent.
+        if !self.has_lines(svc, lane) {
             return None;
         }
+        let frame = self.kept.copied_frame(lane)?;
         match self.kept.variables().to_vec(alloc) {
             Ok(values) => Some(Segment::new(frame, values)),
             Err(_) => None,

@@ -1,6 +1,7 @@
 //! A floor, and its lanes as threads.
 
-ghost use Rattle.std.specs.Prelude.{◌≡◌, ◌+◌, ◌<◌, ◌≤◌, IfOk, length};
+ghost use Rattle.std.specs.Prelude.{◌≡◌, ◌+◌, ◌<◌, ◌≤◌, IfOk, IsErrOf, length, true};
+ghost use Rattle.rex_live.specs.Desk.{MayGoOn};
 ghost use Rattle.rex_live.specs.Floor as spec;
 ghost use Rattle.rex_live.specs.Tally.{Tally};
 
@@ -8,22 +9,35 @@ use crate::desk::{Desk, Halt, Made};
 use crate::segment::{Brought, Segment};
 use crate::setting::Setting;
 use crate::wakers::Wakers;
+use crossbeam_utils::CachePadded;
 use rex_event::Event;
 use rex_list::List;
 use rex_syntax::checked::Checked;
 use rex_syntax::request::Request;
 use rex_traits::Gate;
 use std::alloc::{AllocError, Global};
+use std::hint::spin_loop;
 use std::marker::Model;
 use std::sync::ledger::{Blank, Share};
-use std::sync::{Mutex, Wait};
-use std::thread::{Threads, join};
+use std::sync::{Mutex, MutexGuard, Wait};
+use std::thread::{Threads, join, yield_now};
+
+/// How often a lane looks whether the lock is free before it lets other threads run. The looks take about half a millisecond:
+/// far longer than the lock is held, and less than a thread's turn on a processor that others want, too.
+const LOOKS: u32 = 2_000;
+
+/// How many turns of a loop a lane waits between two looks. Each look takes the lock's cache line from the lane that has the lock.
+const PAUSES: u32 = 4;
+
+/// The most events that a lane makes before it gives the lock up, so that others get it, too.
+const TRIES: u32 = 16;
 
 /// One lock over the history, the state and the requests of a service whose lanes are threads. Contracts see how many parts
 /// of the ledger it has, and how many events its lanes were answered.
 #[derive(Drop)]
 pub struct Floor<S: Setting> {
-    desk: Mutex<Desk<S>>,
+    /// Lanes that look for the lock don't slow the one that has it, since nothing that it writes is beside the lock.
+    desk: Mutex<CachePadded<Desk<S>>>,
     share: Share<S>,
 }
 
@@ -56,7 +70,7 @@ impl<S: Setting> Floor<S> {
         let (events, share) = blank.open::<S>();
         let requests = List::from_vec(requests.to_vec(alloc)?);
         Ok(Floor {
-            desk: Mutex::new(Desk::open(alloc, svc, requests, seed, events)?),
+            desk: Mutex::new(CachePadded::new(Desk::open(alloc, svc, requests, seed, events)?)),
             share,
         })
     }
@@ -78,13 +92,85 @@ fn run_outside<S: Setting>(
     }
 }
 
-/// One lane's loop: it passes the gate, takes the lock, brings back what its lines led to, and tries its next event. Where it
-/// can't go on it sleeps. It ends when no lane can go on, or a lane found no memory.
+/// Takes the lock, if it is free at one of so many looks.
+fn look_for_lock<S: Setting>(
+    desk: &Mutex<CachePadded<Desk<S>>>,
+) -> Option<MutexGuard<'_, CachePadded<Desk<S>>>> {
+    for _ in 0..LOOKS {
+        if let Some(guard) = desk.try_lock() {
+            return Some(guard);
+        }
+        for _ in 0..PAUSES {
+            spin_loop();
+        }
+    }
+    None
+}
+
+/// Takes the lock. It is held for less time than a thread takes to fall asleep and to wake, so a lane looks for it, and lets other
+/// threads run now and then.
+fn take_lock<'a, S: Setting, R: Wait>(
+    wait: &R,
+    desk: &'a Mutex<CachePadded<Desk<S>>>,
+) -> MutexGuard<'a, CachePadded<Desk<S>>> {
+    for _ in wait.forever() {
+        if let Some(guard) = look_for_lock(desk) {
+            return guard;
+        }
+        yield_now();
+    }
+    unreachable!()
+}
+
+/// Whether a try made an event that leaves nothing to do outside the lock.
+fn leaves_nothing<S: Setting>(turn: &Result<Made<S>, Halt>) -> bool {
+    match turn {
+        Ok(made) => made.lent.is_none() && made.woken.is_none(),
+        Err(_) => false,
+    }
+}
+
+/// A lane's tries under the lock, so many at most: a further one where the one before made an event that leaves nothing to do
+/// outside. The answer is the last one's.
+fn try_on<S: Setting>(
+    alloc: Global,
+    svc: &Checked,
+    desk: &mut Desk<S>,
+    lane: u8,
+    mine: &mut Share<S>,
+    tries: u32,
+) -> Result<Made<S>, Halt>
+    requires service { svc.now ≡ S.service }
+    requires there { lane < S.service.lanes }
+    requires part { 0 < mine.old.parts }
+    ensures parts { mine.new.parts ≡ mine.old.parts }
+    ensures stays { IsErrOf result Halt.Stays → MayGoOn S.service S.requests desk.new.floor desk.new.out }
+    ensures over { IsErrOf result Halt.Over → spec.IsOver S.service S.requests desk.new.floor }
+    ensures gave_up { IsErrOf result Halt.GaveUp → desk.new.given_up ≡ true }
+{
+    let mut turn = desk.step(alloc, svc, lane, mine);
+    for _ in 1..tries {
+        if !leaves_nothing(&turn) {
+            return turn;
+        }
+        turn = desk.step(alloc, svc, lane, mine);
+    }
+    turn
+}
+
+/// How many tries a lane makes before it gives the lock up: one, where it passes the gate before each.
+fn tries_at<G: Gate>(gate: &G) -> u32 {
+    if gate.is_open() { TRIES } else { 1 }
+}
+
+/// One lane's loop: it passes the gate, takes the lock, brings back what its lines led to, and tries its next event. Where the gate is
+/// open it tries the ones after it, too, as long as there is nothing to do outside the lock. Where it can't go on it sleeps. It
+/// ends when no lane can go on, or a lane found no memory.
 fn work<S: Setting, R: Wait, G: Gate>(
     wait: &R,
     alloc: Global,
     svc: &Checked,
-    desk: &Mutex<Desk<S>>,
+    desk: &Mutex<CachePadded<Desk<S>>>,
     wakers: &Wakers,
     gate: &G,
     lane: u8,
@@ -97,17 +183,19 @@ fn work<S: Setting, R: Wait, G: Gate>(
 {
     let _service = svc.declarations();
     let mut mine = share;
-    let mut index = desk.lock(wait).done(lane);
+    let tries = tries_at(gate);
+    let mut index = take_lock(wait, desk).done(lane);
     let mut brought = None;
     for _ in wait.forever() {
         gate.enter(lane, lane, index);
-        let mut guard = desk.lock(wait);
+        let mut guard = take_lock(wait, desk);
         if let Some(brought) = brought.take() {
             guard.bring_back(svc, lane, brought);
         }
-        match guard.step(alloc, svc, lane, &mut mine) {
+        let turn = try_on(alloc, svc, &mut guard, lane, &mut mine, tries);
+        index = guard.done(lane);
+        match turn {
             Ok(Made { lent, woken }) => {
-                index = guard.done(lane);
                 drop(guard);
                 wakers.wake(woken);
                 brought = run_outside(alloc, svc, lent);
@@ -129,7 +217,7 @@ fn work_from<S: Setting + Send + Sync, T: Threads + Sync, R: Wait + Sync, G: Gat
     wait: &R,
     alloc: Global,
     svc: &Checked,
-    desk: &Mutex<Desk<S>>,
+    desk: &Mutex<CachePadded<Desk<S>>>,
     wakers: &Wakers,
     gate: &G,
     lane: u8,

@@ -1,8 +1,9 @@
 //! Where the clients' next requests stand.
 
-ghost use Rattle.std.specs.Prelude.{◌≡◌, ◌≢◌, ℕ, ◌+◌, ◌<◌, ◌≤◌, IfOk, length, replicate, true, false, slice_index_or};
+ghost use Rattle.std.specs.Prelude.{◌≡◌, ◌≢◌, ℕ, ◌+◌, ◌<◌, ◌≤◌, IfOk, length, replicate, true, false, Some, slice_index_or};
+ghost use Rattle.rex_event.specs.Conflict.{named_client};
 ghost use Rattle.rex_state.specs.Machine.{no_entry};
-ghost use Rattle.rex_live.specs.Places.{request_at, place_at, last_of, IsOf, IsLinkedFrom, IsLinked, ArePassed, IsWantedAt, AreNoted, ArePlaces, HasPlaces, HadPlaces, IsLeastBelow};
+ghost use Rattle.rex_live.specs.Places.{request_at, place_at, last_of, IsOf, IsPast, IsOffered, IsLinkedFrom, IsLinked, ArePassed, IsWantedAt, AreNoted, ArePlaces, HasPlaces, HadPlaces, IsLeastBelow};
 ghost use Rattle.rex_live.specs.Places as spec;
 
 use rex_event::Kind;
@@ -15,6 +16,9 @@ use std::alloc::{AllocError, Global};
 
 /// How many entries of clients there are: those of the numbers 0 to 256.
 const ENTRIES: usize = CLIENTS + 1;
+
+/// So many requests are looked at for the next one that may begin, before all clients are.
+const LOOKS: usize = 8;
 
 /// For each client the place of its next request in the order of the file, so that it isn't sought for among all.
 #[derive(Drop)]
@@ -178,6 +182,75 @@ fn least(entries: &[Entry], wanted: &[usize], end: usize) -> usize
     place
 }
 
+/// Whether a place is noted for a client that may begin a request.
+fn is_offered(entries: &[Entry], wanted: &[usize], client: u16, place: usize) -> bool
+    requires entries { length entries.now ≡ 257 }
+    requires wanted { length wanted.now ≡ 257 }
+    ensures offered { result ≡ true → IsOffered entries.now wanted.now place }
+    ensures isnt { result ≡ false → IsPast entries.now wanted.now place client → IsPast entries.now wanted.now (place + 1) client }
+{
+    let client = client as usize;
+    client < ENTRIES && wanted[client] == place && may_begin(&entries[client])
+}
+
+/// The first of some places that is noted for a client that may begin a request, or their end. None is noted for such a client before
+/// them.
+fn seek_offered(
+    requests: &[Request],
+    entries: &[Entry],
+    wanted: &[usize],
+    from: usize,
+    till: usize,
+) -> usize
+    requires entries { length entries.now ≡ 257 }
+    requires wanted { length wanted.now ≡ 257 }
+    requires own { (client : ℕ) → client < 257 → IsOf requests.now client (place_at wanted.now client) }
+    requires some { from ≤ till }
+    requires there { till ≤ length requests.now }
+    requires none { (client : ℕ) → IsPast entries.now wanted.now from client }
+    ensures most { result ≤ till }
+    ensures offered { result < till → IsOffered entries.now wanted.now result }
+    ensures none { (client : ℕ) → IsPast entries.now wanted.now result client }
+{
+    let mut place = from;
+    while place < till && !is_offered(entries, wanted, requests[place].client, place) {
+        place += 1;
+    }
+    place
+}
+
+/// The least of the places that are noted for clients that may begin a request, or the end, where none of them is before a place. It
+/// mostly is one of the next few, so that not all clients have to be looked at.
+fn least_from(requests: &[Request], entries: &[Entry], wanted: &[usize], from: usize) -> usize
+    requires entries { length entries.now ≡ 257 }
+    requires wanted { length wanted.now ≡ 257 }
+    requires own { (client : ℕ) → client < 257 → IsOf requests.now client (place_at wanted.now client) }
+    requires there { from ≤ length requests.now }
+    requires none { (client : ℕ) → IsPast entries.now wanted.now from client }
+    ensures { IsLeastBelow entries.now wanted.now (length requests.now) 257 result }
+{
+    let end = requests.len();
+    let till = from + (end - from).min(LOOKS);
+    let place = seek_offered(requests, entries, wanted, from, till);
+    if place < till || till == end {
+        place
+    } else {
+        least(entries, wanted, end)
+    }
+}
+
+/// The earlier of a place and the one that is noted for a client, if there is one.
+fn earlier(wanted: &[usize], client: u16, place: usize) -> usize
+    requires wanted { length wanted.now ≡ 257 }
+    ensures most { result ≤ place }
+    ensures client { client < 257 → result ≤ place_at wanted.now client }
+{
+    match wanted.get(client as usize) {
+        Some(own) => place.min(*own),
+        None => place,
+    }
+}
+
 impl Places {
     /// The places in a list of requests, where the clients' entries are these.
     pub(crate) fn new(
@@ -216,11 +289,11 @@ impl Places {
         ensures { HasPlaces service.now requests.now entries.now self.new }
     {
         match kind {
-            Kind::Begin { .. } => {
+            Kind::Begin { client, .. } => {
                 self.pass_begun(service, requests, entries, kind);
-                self.open_at = least(entries, &self.wanted, requests.len());
+                self.reopen(service, requests, entries, *client);
             }
-            Kind::Reply { .. } => self.open_at = least(entries, &self.wanted, requests.len()),
+            Kind::Reply { client, .. } => self.reopen(service, requests, entries, *client),
             _ => {}
         }
     }
@@ -234,13 +307,33 @@ impl Places {
         kind: &Kind,
     )
         requires { HadPlaces service.now requests.now kind.now entries.now self.old }
-        ensures { ArePlaces service.now requests.now entries.now self.new.nexts.items self.new.passed.items self.new.wanted.items }
+        ensures places { ArePlaces service.now requests.now entries.now self.new.nexts.items self.new.passed.items self.new.wanted.items }
+        ensures others { (client : ℕ) → named_client kind.now ≡ Some client → (other : ℕ) → other ≢ client → place_at self.new.wanted.items other ≡ place_at self.old.wanted.items other }
+        ensures open_at { self.new.open_at ≡ self.old.open_at }
     {
         if let Kind::Begin { client, .. } = kind
             && (*client as usize) < ENTRIES
         {
             self.renew(service, requests, entries, *client);
         }
+    }
+
+    /// Seeks the first request that may begin, where no other client than one may begin a request before the one that was the first.
+    fn reopen(
+        &mut self,
+        service: &Declarations,
+        requests: &[Request],
+        entries: &[Entry],
+        client: u16,
+    )
+        requires places { ArePlaces service.now requests.now entries.now self.old.nexts.items self.old.passed.items self.old.wanted.items }
+        requires entries { length entries.now ≡ 257 }
+        requires most { self.old.open_at ≤ length requests.now }
+        requires others { (other : ℕ) → other ≢ client → IsPast entries.now self.old.wanted.items self.old.open_at other }
+        ensures { HasPlaces service.now requests.now entries.now self.new }
+    {
+        let from = earlier(&self.wanted, client, self.open_at);
+        self.open_at = least_from(requests, entries, &self.wanted, from);
     }
 
     /// Passes a client's requests up to its last one, and seeks the next one.
@@ -256,6 +349,7 @@ impl Places {
         requires noted { AreNoted requests.now entries.now self.old.passed.items }
         requires long { length self.old.wanted.items ≡ 257 }
         ensures nexts { self.new.nexts ≡ self.old.nexts }
+        ensures open_at { self.new.open_at ≡ self.old.open_at }
         ensures noted { AreNoted requests.now entries.now self.new.passed.items }
         ensures long { length self.new.wanted.items ≡ 257 }
         ensures here { IsWantedAt service.now requests.now entries.now client (place_at self.new.wanted.items client) }

@@ -4,6 +4,7 @@ ghost use Rattle.std.specs.Prelude.{◌<◌};
 
 use crate::desk::Desk;
 use crate::setting::Setting;
+use crossbeam_utils::CachePadded;
 use rex_syntax::service::LANES;
 use std::array;
 use std::sync::{Condvar, MutexGuard, Wait};
@@ -26,7 +27,7 @@ impl Wakers {
         &self,
         wait: &R,
         lane: u8,
-        guard: MutexGuard<'_, Desk<S>>,
+        guard: MutexGuard<'_, CachePadded<Desk<S>>>,
     )
         requires { lane < LANES }
     {
