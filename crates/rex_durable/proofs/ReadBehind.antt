@@ -10,19 +10,20 @@ use Rattle.rex_durable.specs.declared.fault.RecoverFault.{RecoverFault}
 use Rattle.rex_durable.specs.declared.fault.RecoverFault.TheVariants.{BadRecord, OutOfMemory}
 use Rattle.rex_durable.specs.Spelling.{AreRecords, Follows, Spells, record_bytes}
 use Rattle.rex_durable.specs.Reading.{record_in}
-use Rattle.rex_durable.specs.Recovery.{known, recovered, after}
+use Rattle.rex_durable.specs.Recovery.{recovered, after, standing, standing_of}
+use Rattle.rex_durable.specs.declared.records.Standing.{Standing}
 use Rattle.rex_durable.specs.Kept.{Spell, IsFirstBad, IsBadRecord, Place, and_then, records_behind, told, recovered_in, Answers, Refuses, RefusesAt}
 use Rattle.rex_durable.proofs.RecordLaws.{record_spelled}
 use Rattle.rex_durable.proofs.RecordsAgain.{record_read}
-use Rattle.rex_durable.proofs.OneMore.{one_more, at_seam, spell_none, spell_more, known_few}
+use Rattle.rex_durable.proofs.OneMore.{Counts, counts_all, standing_is, one_more, at_seam, spell_none, spell_more}
 
 -- ---- one list of bytes
 
 -- what is read is spelled so
-pub record_found : (count : ℕ) (bytes : List ℕ) (r : Rec) → count ≤ 65535 → IsBytes bytes → record_in count bytes ≡ Ok r → Spells count bytes r
+pub record_found : (place : Standing) (bytes : List ℕ) (r : Rec) → place.count ≤ 65535 → IsBytes bytes → record_in place bytes ≡ Ok r → Spells place bytes r
 unfolding record_in
-record_found count bytes r few fits e =
-    let f = whole_found (record_spelled count few) bytes r fits e in
+record_found place bytes r few fits e =
+    let f = whole_found (record_spelled place few) bytes r fits e in
     record { spelling = f.has.spelling; due = f.has.due; bytes_are = f.bytes_are }
 
 -- ---- many of them
@@ -39,7 +40,7 @@ same_records rs others e = cc
 -- first some, and then others
 behind-append : (before : List Rec) (xs ys : List (List ℕ)) (rs : List Rec) → records_behind before xs ≡ Ok rs → records_behind before (xs ++ ys) ≡ records_behind rs ys
 behind-append before [] ys rs e = ap (λ (b : List Rec). records_behind b ys) (same_records before rs e)
-behind-append before (bytes ∷ xs) ys rs e = by (record_in (length (known before)) bytes) e (λ others h. behind-append others xs ys rs h)
+behind-append before (bytes ∷ xs) ys rs e = by (record_in (standing before) bytes) e (λ others h. behind-append others xs ys rs h)
   where
     by : (read : Result Rec ℕ) → and_then read before (λ others. records_behind others xs) ≡ Ok rs → ((others : List Rec) → records_behind others xs ≡ Ok rs → records_behind others (xs ++ ys) ≡ records_behind rs ys) → and_then read before (λ others. records_behind others (xs ++ ys)) ≡ records_behind rs ys
     by (Ok r) h next = next (before ++ r ∷ []) h
@@ -49,7 +50,7 @@ spelled_behind : (before rs : List Rec) → AreRecords (before ++ rs) → record
 spelled_behind before [] h = ap read_all (sym (append-nil before))
 spelled_behind before (r ∷ rs) h =
     let seam = at_seam before r rs h in
-    let one = record_read (length (known before)) r seam.spelling seam.due in
+    let one = record_read (standing before) r seam.spelling seam.due in
     let whole = append_assoc before (r ∷ []) rs in
     ap (λ read. and_then read before (λ others. records_behind others (map record_bytes rs))) one
     ∙ spelled_behind (before ++ r ∷ []) rs (rw whole h)
@@ -93,19 +94,26 @@ pub record ReadSoFar (kept : List (List ℕ)) (n : ℕ) (x : Recovered) : Type 0
 pub read_none : (kept : List (List ℕ)) (x : Recovered) → x ≡ recovered [] → ReadSoFar kept 0 x
 read_none kept x e = record { rs = []; is = e; long = refl; spelled = spell_none }
 
-count_is : (kept : List (List ℕ)) (n : ℕ) (x : Recovered) (h : ReadSoFar kept n x) → x.known ≡ known h.rs
-count_is kept n x h = ap (λ (y : Recovered). y.known) h.is
+counts : (kept : List (List ℕ)) (n : ℕ) (x : Recovered) (h : ReadSoFar kept n x) → Counts h.rs
+counts kept n x h = counts_all h.rs h.spelled.records
 
-pub count_few : (kept : List (List ℕ)) (n : ℕ) (x : Recovered) → ReadSoFar kept n x → length x.known ≤ 65535
-count_few kept n x h = rw (count_is kept n x h) (known_few h.rs h.spelled.records)
+-- where the next record stands
+place_is : (kept : List (List ℕ)) (n : ℕ) (x : Recovered) (h : ReadSoFar kept n x) → standing_of x ≡ standing h.rs
+place_is kept n x h = ap (λ (y : Recovered). standing_of y) h.is ∙ sym (standing_is h.rs (counts kept n x h))
 
-pub read_more : (kept : List (List ℕ)) (n : ℕ) (x y : Recovered) (r : Rec) → ReadSoFar kept n x → n < length kept → Spells (length x.known) (get_or kept n []) r → y ≡ after x r → ReadSoFar kept (n + 1) y
+pub count_few : (kept : List (List ℕ)) (n : ℕ) (x : Recovered) → ReadSoFar kept n x → (standing_of x).count ≤ 65535
+count_few kept n x h = subst (λ (s : Standing). s.count ≤ 65535) (sym (place_is kept n x h)) (counts kept n x h).few
+
+pub base_within : (kept : List (List ℕ)) (n : ℕ) (x : Recovered) → ReadSoFar kept n x → (standing_of x).base ≤ (standing_of x).count
+base_within kept n x h = subst (λ (s : Standing). s.base ≤ s.count) (sym (place_is kept n x h)) (counts kept n x h).high
+
+pub read_more : (kept : List (List ℕ)) (n : ℕ) (x y : Recovered) (r : Rec) → ReadSoFar kept n x → n < length kept → Spells (standing_of x) (get_or kept n []) r → y ≡ after x r → ReadSoFar kept (n + 1) y
 read_more kept n x y r h lt found next =
-    let follows : Follows h.rs r = record { spelling = found.spelling; due = rw (count_is kept n x h) at found.due } in
+    let follows : Follows h.rs r = record { spelling = found.spelling; due = rw (place_is kept n x h) at found.due } in
     let front : take (n + 1) kept ≡ take n kept ++ record_bytes r ∷ [] = take_more kept n [] lt ∙ ap (λ (b : List ℕ). take n kept ++ b ∷ []) found.bytes_are in
     record {
       rs = h.rs ++ r ∷ [];
-      is = next ∙ ap (λ (z : Recovered). after z r) h.is ∙ sym (one_more h.rs r);
+      is = next ∙ ap (λ (z : Recovered). after z r) h.is ∙ sym (one_more h.rs r (counts kept n x h) follows);
       long = let e2 = length_push h.rs r in omega (arith, h.long);
       spelled = rw front (spell_more (take n kept) h.rs r h.spelled follows);
     }
@@ -119,16 +127,16 @@ pub record ReadWhole (kept : List (List ℕ)) (x : Recovered) : Type 0 where
 pub read_whole : (kept : List (List ℕ)) (n : ℕ) (x : Recovered) → ReadSoFar kept n x → length kept ≤ n → ReadWhole kept x
 read_whole kept n x h le = record { rs = h.rs; spelled = rw (take_all n kept le) at h.spelled; is = h.is }
 
-pub read_bad : (kept : List (List ℕ)) (n at : ℕ) (x : Recovered) → ReadSoFar kept n x → n < length kept → record_in (length x.known) (get_or kept n []) ≡ Err at → IsFirstBad kept (n + 1) at
+pub read_bad : (kept : List (List ℕ)) (n at : ℕ) (x : Recovered) → ReadSoFar kept n x → n < length kept → record_in (standing_of x) (get_or kept n []) ≡ Err at → IsFirstBad kept (n + 1) at
 read_bad kept n at x h lt e =
-    let count = count_is kept n x h in
+    let place = place_is kept n x h in
     let long = h.long in
     record {
       before = h.rs;
       spelled = rw long h.spelled;
       numbered = omega arith;
       there = omega arith;
-      bad = rw (long, ← count) e;
+      bad = rw (long, ← place) e;
     }
 
 -- ---- answers
@@ -154,6 +162,6 @@ answers_bad kept (BadRecord number at) h = bad_refused kept number at h
 answers_bad kept OutOfMemory h = tt
 
 -- the record at this place is bad, unless memory ran out
-pub is_bad : (kept : List (List ℕ)) (n : ℕ) (x : Recovered) (e : RecoverFault) → ReadSoFar kept n x → n < length kept → RefusesAt e (n + 1) (record_in (length x.known) (get_or kept n [])) → IsBadRecord kept e
+pub is_bad : (kept : List (List ℕ)) (n : ℕ) (x : Recovered) (e : RecoverFault) → ReadSoFar kept n x → n < length kept → RefusesAt e (n + 1) (record_in (standing_of x) (get_or kept n [])) → IsBadRecord kept e
 is_bad kept n x (BadRecord number at) h lt r = rw r.0 (read_bad kept n at x h lt r.1)
 is_bad kept n x OutOfMemory h lt r = tt

@@ -7,6 +7,7 @@ mod fields;
 mod keeping;
 mod latest;
 pub mod laws;
+pub mod layout;
 mod read;
 mod records;
 mod recovery;
@@ -14,5 +15,5 @@ mod write;
 
 pub use fault::RecoverFault;
 pub use keeping::append;
-pub use records::Rec;
+pub use records::{Rec, Standing};
 pub use recovery::{Recovered, recover};

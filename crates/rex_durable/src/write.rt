@@ -5,6 +5,7 @@ ghost use Rattle.rex_ballot.specs.Proposals.{IsValue};
 ghost use Rattle.rex_durable.specs.Spelling.{HasSpelling, code_of, content, record_bytes};
 ghost use Rattle.rex_durable.specs.declared.records.Rec.TheVariants.{Accepted};
 
+use crate::layout::{ACCEPTED, CHECKPOINT, DROPPED, KNOWN, PROMISED, TRANSFERRED};
 use crate::records::Rec;
 use rex_wire::{Writer, write_value};
 use std::alloc::{AllocError, Global};
@@ -14,10 +15,12 @@ fn code(rec: &Rec) -> u8
     ensures { result ≡ code_of rec.now }
 {
     match rec {
-        Rec::Promised { .. } => 1,
-        Rec::Accepted { .. } => 2,
-        Rec::Known { .. } => 3,
-        Rec::Checkpoint { .. } => 4,
+        Rec::Promised { .. } => PROMISED,
+        Rec::Accepted { .. } => ACCEPTED,
+        Rec::Known { .. } => KNOWN,
+        Rec::Checkpoint { .. } => CHECKPOINT,
+        Rec::Dropped { .. } => DROPPED,
+        Rec::Transferred { .. } => TRANSFERRED,
     }
 }
 
@@ -47,6 +50,11 @@ fn fields(writer: &mut Writer, rec: &Rec) -> Result<(), AllocError>
             write_value(writer, value.as_slice())
         }
         Rec::Checkpoint { deltas, snapshot } => {
+            writer.u32(*deltas)?;
+            write_value(writer, snapshot.as_slice())
+        }
+        Rec::Dropped { deltas } => writer.u32(*deltas),
+        Rec::Transferred { deltas, snapshot } => {
             writer.u32(*deltas)?;
             write_value(writer, snapshot.as_slice())
         }

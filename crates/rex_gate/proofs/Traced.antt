@@ -34,6 +34,13 @@ noted_joined clients (d ∷ ds) = noted_joined (noted clients d.events) ds ∙ s
 pub deltas_known : (service : Declarations) (known : List Delta) (t : StateValue) → run service (start_of service) (joined known) ≡ Some t → noted_all no_entries known ≡ t.clients
 deltas_known service known t h = noted_joined no_entries known ∙ run_noted service (start_of service) t (joined known) h
 
+noted_all_append : (clients : List Entry) (ds es : List Delta) → noted_all clients (ds ++ es) ≡ noted_all (noted_all clients ds) es
+noted_all_append clients [] es = refl
+noted_all_append clients (d ∷ ds) es = noted_all_append (noted clients d.events) ds es
+
+pub noted_from : (service : Declarations) (first others : List Delta) (t : StateValue) → run service (start_of service) (joined first) ≡ Some t → noted_all t.clients others ≡ noted_all no_entries (first ++ others)
+noted_from service first others t h = sym (noted_all_append no_entries first others ∙ ap (λ (cs : List Entry). noted_all cs others) (deltas_known service first t h))
+
 answers_by : (service : Declarations) (known : List Delta) (live : List Event) (s : StateValue) (o : Option StateValue) → run service (start_of service) (joined known) ≡ o → run_from service o live ≡ Some s → AnswersOver service known live s
 answers_by service known [] s None runs h = absurd (cc)
 answers_by service known (e ∷ es) s None runs h = absurd (cc)

@@ -21,6 +21,11 @@ abbrev pub NotedDeltasAreKnown : Type 0
 NotedDeltasAreKnown =
     (service : Declarations) (known : List Delta) (t : StateValue) → run service (start_of service) (joined known) ≡ Some t → noted_all no_entries known ≡ t.clients
 
+-- where the first deltas run to a state, beginning with what it says of clients and noting the others is noting them all: so who doesn't hold the first ones any more knows as much
+abbrev pub NotingBeginsAtAState : Type 0
+NotingBeginsAtAState =
+    (service : Declarations) (first others : List Delta) (t : StateValue) → run service (start_of service) (joined first) ≡ Some t → noted_all t.clients others ≡ noted_all no_entries (first ++ others)
+
 -- the known deltas run from the start to a state from which the live events lead to the live one, and the answers are those that these two states give
 pub record AnswersOver (service : Declarations) (known : List Delta) (live : List Event) (s : StateValue) : Type 0 where
   pub state : StateValue

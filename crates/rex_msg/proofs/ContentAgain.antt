@@ -15,9 +15,9 @@ use Rattle.rex_wire.proofs.Numbers.{wide16, wide32, wide64, number_again, allowe
 use Rattle.rex_wire.proofs.Ranges.{between-is}
 use Rattle.rex_wire.proofs.Values.{value_again}
 use Rattle.rex_msg.specs.declared.message.Content.{Content}
-use Rattle.rex_msg.specs.declared.message.Content.TheVariants.{Prepare, Promise, Accept, Accepted, Chosen, Nack, Ask}
+use Rattle.rex_msg.specs.declared.message.Content.TheVariants.{Prepare, Promise, Accept, Accepted, Chosen, Nack, Ask, Snapshot}
 use Rattle.rex_msg.specs.Spelling.{kind_of, content_bytes, proposal_bytes, IsFirst, AreReported, ContentFits, IsTyped}
-use Rattle.rex_msg.specs.Reading.{is_first, proposals_at, prepare_at, promise_at, accept_at, accepted_at, chosen_at, nack_at, ask_at, content_at}
+use Rattle.rex_msg.specs.Reading.{is_first, proposals_at, prepare_at, promise_at, accept_at, accepted_at, chosen_at, nack_at, ask_at, snapshot_at, content_at}
 use Rattle.rex_msg.proofs.Proposals.{proposals_again, reported_few}
 
 -- ---- fields
@@ -80,6 +80,12 @@ ask_again : (first : ℕ) → IsFirst first → IsRead ask_at (content_bytes (As
 unfolding ask_at
 ask_again first from = IsRead-last (allowed_at w32 is_first) Ask (to_be_bytes w32 first) first (first_again first from)
 
+snapshot_again : (deltas : ℕ) (snapshot : List ℕ) → IsInstance deltas → IsValue snapshot → IsRead snapshot_at (content_bytes (Snapshot deltas snapshot)) (Snapshot deltas snapshot)
+unfolding snapshot_at
+snapshot_again deltas snapshot of few =
+    IsRead-then (allowed_at w32 is_instance) _ (to_be_bytes w32 deltas) (value_bytes snapshot) deltas (Snapshot deltas snapshot) (instance_again deltas of)
+    (IsRead-last value_at (Snapshot deltas) (value_bytes snapshot) snapshot (value_again snapshot few.few))
+
 pub content_again : (content : Content) → ContentFits content → IsTyped content → IsRead (content_at (kind_of content)) (content_bytes content) content
 content_again (Prepare ballot first) fits typed = prepare_again ballot first fits.0 fits.1
 content_again (Promise ballot accepted) fits typed = promise_again ballot accepted fits.0 fits.1
@@ -88,8 +94,9 @@ content_again (Accepted ballot instance) fits typed = accepted_again ballot inst
 content_again (Chosen instance value) fits typed = chosen_again instance value fits.0 fits.1
 content_again (Nack ballot promised) fits typed = nack_again ballot promised fits.0 fits.1 typed
 content_again (Ask first) fits typed = ask_again first fits
+content_again (Snapshot deltas snapshot) fits typed = snapshot_again deltas snapshot fits.0 fits.1
 
-pub kind_between : (content : Content) → (1 ≤ kind_of content) × (kind_of content ≤ 7)
+pub kind_between : (content : Content) → (1 ≤ kind_of content) × (kind_of content ≤ 8)
 kind_between (Prepare ballot first) = (omega arith, omega arith)
 kind_between (Promise ballot accepted) = (omega arith, omega arith)
 kind_between (Accept ballot instance value) = (omega arith, omega arith)
@@ -97,3 +104,4 @@ kind_between (Accepted ballot instance) = (omega arith, omega arith)
 kind_between (Chosen instance value) = (omega arith, omega arith)
 kind_between (Nack ballot promised) = (omega arith, omega arith)
 kind_between (Ask first) = (omega arith, omega arith)
+kind_between (Snapshot deltas snapshot) = (omega arith, omega arith)

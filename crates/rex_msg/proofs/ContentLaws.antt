@@ -12,9 +12,9 @@ use Rattle.rex_wire.proofs.Numbers.{wide16, wide32, wide64, number_spelled, allo
 use Rattle.rex_wire.proofs.Ranges.{is_between-true}
 use Rattle.rex_wire.proofs.Values.{value_spelled}
 use Rattle.rex_msg.specs.declared.message.Content.{Content}
-use Rattle.rex_msg.specs.declared.message.Content.TheVariants.{Prepare, Promise, Accept, Accepted, Chosen, Nack, Ask}
+use Rattle.rex_msg.specs.declared.message.Content.TheVariants.{Prepare, Promise, Accept, Accepted, Chosen, Nack, Ask, Snapshot}
 use Rattle.rex_msg.specs.Spelling.{kind_of, content_bytes, proposal_bytes, ContentFits, IsTyped}
-use Rattle.rex_msg.specs.Reading.{is_first, prepare_at, promise_at, accept_at, accepted_at, chosen_at, nack_at, ask_at, content_at}
+use Rattle.rex_msg.specs.Reading.{is_first, prepare_at, promise_at, accept_at, accepted_at, chosen_at, nack_at, ask_at, snapshot_at, content_at}
 use Rattle.rex_msg.proofs.Proposals.{proposals_spelled, reported_from_each}
 
 -- a content that was read after the number of its kind
@@ -116,10 +116,22 @@ ask_spelled = record {
       is_taken content_bytes (IsContent 7) l (Ask first.value, first.left) x first.next (first.takes, is);
 }
 
+snapshot_spelled : IsSpelled snapshot_at content_bytes (IsContent 8)
+unfolding snapshot_at
+snapshot_spelled = record {
+  takes = λ l x bytes e.
+      let deltas = step (allowed_spelled wide32 is_instance) l _ x bytes e in
+      let snapshot = step value_spelled deltas.left _ x deltas.takes.bytes deltas.next in
+      let t = Takes-then l deltas.left snapshot.left _ _ deltas.takes snapshot.takes in
+      let content = Snapshot deltas.value snapshot.value in
+      let is : IsContent 8 content = record { fits = (is_instance-true deltas.value deltas.may, record { few = snapshot.may.few }); typed = tt; kind_is = refl } in
+      is_taken content_bytes (IsContent 8) l (content, snapshot.left) x snapshot.next (t, is);
+}
+
 at_kind : (kind n : ℕ) {read : Left → Reading Content} → IsSpelled read content_bytes (IsContent n) → (kind == n) ≡ true → IsSpelled read content_bytes (IsContent kind)
 at_kind kind n {read} h e = subst (λ (k : ℕ). IsSpelled read content_bytes (IsContent k)) (sym (eqb-true kind n e)) h
 
-pub content_spelled : (kind : ℕ) → 1 ≤ kind → kind ≤ 7 → IsSpelled (content_at kind) content_bytes (IsContent kind)
+pub content_spelled : (kind : ℕ) → 1 ≤ kind → kind ≤ 8 → IsSpelled (content_at kind) content_bytes (IsContent kind)
 content_spelled kind least greatest =
     let may = IsContent kind in
     IsSpelled-either (kind == 1) prepare_at _ content_bytes may (at_kind kind 1 prepare_spelled) (λ n1.
@@ -128,5 +140,6 @@ content_spelled kind least greatest =
     IsSpelled-either (kind == 4) accepted_at _ content_bytes may (at_kind kind 4 accepted_spelled) (λ n4.
     IsSpelled-either (kind == 5) chosen_at _ content_bytes may (at_kind kind 5 chosen_spelled) (λ n5.
     IsSpelled-either (kind == 6) nack_at _ content_bytes may (at_kind kind 6 nack_spelled) (λ n6.
-    let last : kind ≡ 7 = omega (arith, eqb-false kind 1 n1, eqb-false kind 2 n2, eqb-false kind 3 n3, eqb-false kind 4 n4, eqb-false kind 5 n5, eqb-false kind 6 n6) in
-    subst (λ (k : ℕ). IsSpelled ask_at content_bytes (IsContent k)) (sym last) ask_spelled))))))
+    IsSpelled-either (kind == 7) ask_at _ content_bytes may (at_kind kind 7 ask_spelled) (λ n7.
+    let last : kind ≡ 8 = omega (arith, eqb-false kind 1 n1, eqb-false kind 2 n2, eqb-false kind 3 n3, eqb-false kind 4 n4, eqb-false kind 5 n5, eqb-false kind 6 n6, eqb-false kind 7 n7) in
+    subst (λ (k : ℕ). IsSpelled snapshot_at content_bytes (IsContent k)) (sym last) snapshot_spelled)))))))

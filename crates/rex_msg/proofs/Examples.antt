@@ -1,11 +1,11 @@
 -- A Prepare of node 1 to node 2, spelled and read; and bytes that are none, with the offset of the first bad field.
 use Rattle.std.proofs.Common.{◌≡◌, ℕ, List, [], ◌∷◌, ◌++◌, set, take, Ok, Err, refl}
 use Rattle.rex_wire.specs.Reading.{value_at, list_at}
-use Rattle.rex_msg.specs.declared.message.Content.TheVariants.{Prepare, Promise, Accept, Accepted, Chosen, Nack, Ask}
+use Rattle.rex_msg.specs.declared.message.Content.TheVariants.{Prepare, Promise, Accept, Accepted, Chosen, Nack, Ask, Snapshot}
 use Rattle.rex_msg.specs.declared.message.Content.{Content}
 use Rattle.rex_msg.specs.declared.message.Message.{Message}
 use Rattle.rex_msg.specs.Spelling.{spelling_of}
-use Rattle.rex_msg.specs.Reading.{proposal_at, prepare_at, promise_at, message_at, message_in}
+use Rattle.rex_msg.specs.Reading.{proposal_at, prepare_at, promise_at, snapshot_at, message_at, message_in}
 
 abbrev prepare : Message
 prepare = record { from = 1; to = 2; content = Prepare 17 1 }
@@ -86,3 +86,26 @@ nack = refl
 
 ask : spelling_of (from_to 9 8 (Ask 65536)) ≡ 1 ∷ 7 ∷ 9 ∷ 8 ∷ 0 ∷ 1 ∷ 0 ∷ 0 ∷ []
 ask = refl
+
+-- the state after one value, in two bytes
+abbrev snapshot : Message
+snapshot = from_to 1 3 (Snapshot 1 (2 ∷ 3 ∷ []))
+
+abbrev snapshot_text : List ℕ
+snapshot_text = 1 ∷ 8 ∷ 1 ∷ 3 ∷ 0 ∷ 0 ∷ 0 ∷ 1 ∷ 0 ∷ 0 ∷ 0 ∷ 2 ∷ 2 ∷ 3 ∷ []
+
+snapshot_spelled : spelling_of snapshot ≡ snapshot_text
+snapshot_spelled = refl
+
+snapshot_read : message_in snapshot_text ≡ Ok snapshot
+unfolding value_at snapshot_at message_at message_in
+snapshot_read = refl
+
+-- there is no state after no value, nor one more kind
+of_nothing : message_in (set snapshot_text 7 0) ≡ Err 4
+unfolding value_at snapshot_at message_at message_in
+of_nothing = refl
+
+no_kind : message_in (set snapshot_text 1 9) ≡ Err 1
+unfolding value_at snapshot_at message_at message_in
+no_kind = refl

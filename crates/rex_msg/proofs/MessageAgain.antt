@@ -28,7 +28,7 @@ message_again m h =
     let t2 = byte m.from ++ t3 in
     let t1 = byte kind ++ t2 in
     IsRead-then (allowed_at w8 (λ n. n == 1)) _ (byte 1) t1 1 m (allowed_again wide8 (λ n. n == 1) 1 (omega arith) refl)
-    (IsRead-then (allowed_at w8 (is_between 1 7)) _ (byte kind) t2 kind m (allowed_again wide8 (is_between 1 7) kind (omega (arith, range.1)) (between-is 1 7 kind range))
+    (IsRead-then (allowed_at w8 (is_between 1 8)) _ (byte kind) t2 kind m (allowed_again wide8 (is_between 1 8) kind (omega (arith, range.1)) (between-is 1 8 kind range))
     (IsRead-then (allowed_at w8 is_node) _ (byte m.from) t3 m.from m (allowed_again wide8 is_node m.from (omega (arith, h.message.from.last)) (node-is m.from h.message.from))
     (IsRead-then (allowed_at w8 (is_other_node m.from)) _ (byte m.to) t4 m.to m (allowed_again wide8 (is_other_node m.from) m.to (omega (arith, h.message.to.last)) (other_node-is m.from m.to h.message.to h.message.another))
     (IsRead-last (content_at kind) (λ content. let n : Message = record { from = m.from; to = m.to; content = content } in n) t4 m.content (content_again m.content h.message.content h.typed)))))

@@ -23,10 +23,10 @@ unfolding message_at
 message_spelled = record {
   takes = λ l x bytes e.
       let version = step (allowed_spelled wide8 (λ n. n == 1)) l _ x bytes e in
-      let kind = step (allowed_spelled wide8 (is_between 1 7)) version.left _ x version.takes.bytes version.next in
+      let kind = step (allowed_spelled wide8 (is_between 1 8)) version.left _ x version.takes.bytes version.next in
       let from = step (allowed_spelled wide8 is_node) kind.left _ x kind.takes.bytes kind.next in
       let to = step (allowed_spelled wide8 (is_other_node from.value)) from.left _ x from.takes.bytes from.next in
-      let range = is_between-true 1 7 kind.value kind.may in
+      let range = is_between-true 1 8 kind.value kind.may in
       let content = step (content_spelled kind.value range.0 range.1) to.left _ x to.takes.bytes to.next in
       let m : Message = record { from = from.value; to = to.value; content = content.value } in
       let first : Takes l (byte 1) version.left = subst (λ (n : ℕ). Takes l (byte n) version.left) (eqb-true version.value 1 version.may) version.takes in

@@ -6,7 +6,7 @@ use Rattle.rex_ballot.specs.Ballot.{is_node, is_ballot, is_instance}
 use Rattle.rex_wire.specs.Ranges.{is_between}
 use Rattle.rex_wire.specs.Reading.{Left, Reading, ◌>>=◌, number_at, allowed_at, value_at, list_at, whole}
 use Rattle.rex_msg.specs.declared.message.Content.{Content}
-use Rattle.rex_msg.specs.declared.message.Content.TheVariants.{Prepare, Promise, Accept, Accepted, Chosen, Nack, Ask}
+use Rattle.rex_msg.specs.declared.message.Content.TheVariants.{Prepare, Promise, Accept, Accepted, Chosen, Nack, Ask, Snapshot}
 use Rattle.rex_msg.specs.declared.message.Message.{Message}
 
 -- ---- which numbers are allowed
@@ -86,6 +86,12 @@ ask_at l = do
   first ← allowed_at w32 is_first l
   Ok (Ask first.0, first.1)
 
+unfoldable pub snapshot_at : Left → Reading Content
+snapshot_at l = do
+  deltas ← allowed_at w32 is_instance l
+  snapshot ← value_at deltas.1
+  Ok (Snapshot deltas.0 snapshot.0, snapshot.1)
+
 -- what follows the kind, the sender and the receiver
 abbrev pub content_at : ℕ → Left → Reading Content
 content_at kind l =
@@ -95,7 +101,8 @@ content_at kind l =
     else if kind == 4 then accepted_at l
     else if kind == 5 then chosen_at l
     else if kind == 6 then nack_at l
-    else ask_at l
+    else if kind == 7 then ask_at l
+    else snapshot_at l
 
 -- ---- a message
 
@@ -103,7 +110,7 @@ content_at kind l =
 unfoldable pub message_at : Left → Reading Message
 message_at l = do
   version ← allowed_at w8 (λ n. n == 1) l
-  kind ← allowed_at w8 (is_between 1 7) version.1
+  kind ← allowed_at w8 (is_between 1 8) version.1
   from ← allowed_at w8 is_node kind.1
   to ← allowed_at w8 (is_other_node from.0) from.1
   content ← content_at kind.0 to.1

@@ -8,7 +8,7 @@ use Rattle.rex_ballot.specs.Proposals.{IsValue, IsProposal, AreRising}
 use Rattle.rex_wire.specs.Ranges.{IsBetween}
 use Rattle.rex_wire.specs.Spelling.{byte, value_bytes}
 use Rattle.rex_msg.specs.declared.message.Content.{Content}
-use Rattle.rex_msg.specs.declared.message.Content.TheVariants.{Prepare, Promise, Accept, Accepted, Chosen, Nack, Ask}
+use Rattle.rex_msg.specs.declared.message.Content.TheVariants.{Prepare, Promise, Accept, Accepted, Chosen, Nack, Ask, Snapshot}
 use Rattle.rex_msg.specs.declared.message.Message.{Message}
 
 -- ---- spelling
@@ -26,6 +26,7 @@ kind_of (Accepted ballot instance) = 4
 kind_of (Chosen instance value) = 5
 kind_of (Nack ballot promised) = 6
 kind_of (Ask first) = 7
+kind_of (Snapshot deltas snapshot) = 8
 
 -- what follows the kind, the sender and the receiver
 abbrev pub content_bytes : Content → List ℕ
@@ -36,6 +37,7 @@ content_bytes (Accepted ballot instance) = to_be_bytes w64 ballot ++ to_be_bytes
 content_bytes (Chosen instance value) = to_be_bytes w32 instance ++ value_bytes value
 content_bytes (Nack ballot promised) = to_be_bytes w64 ballot ++ to_be_bytes w64 promised
 content_bytes (Ask first) = to_be_bytes w32 first
+content_bytes (Snapshot deltas snapshot) = to_be_bytes w32 deltas ++ value_bytes snapshot
 
 -- version 1, the kind, the sender, the receiver, and what the message says
 abbrev pub spelling_of : Message → List ℕ
@@ -61,6 +63,7 @@ ContentFits (Accepted ballot instance) = IsBallot ballot × IsInstance instance
 ContentFits (Chosen instance value) = IsInstance instance × IsValue value
 ContentFits (Nack ballot promised) = IsBallot ballot × (ballot < promised)
 ContentFits (Ask first) = IsFirst first
+ContentFits (Snapshot deltas snapshot) = IsInstance deltas × IsValue snapshot
 
 -- a message from one node to another, with all in its ranges
 pub record IsMessage (m : Message) : Type 0 where

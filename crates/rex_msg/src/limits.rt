@@ -4,7 +4,7 @@
 pub const VERSION: u8 = 1;
 
 /// How many kinds of messages there are.
-pub const KINDS: u8 = 7;
+pub const KINDS: u8 = 8;
 
 /// The greatest first instance that is asked for: the one after the last.
 pub const GREATEST_FIRST: u32 = 65_536;

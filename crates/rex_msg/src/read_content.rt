@@ -1,7 +1,7 @@
 //! Reading what a message says.
 
 ghost use Rattle.rex_wire.specs.Decoding.{ReadsOn};
-ghost use Rattle.rex_msg.specs.Reading.{prepare_at, promise_at, accept_at, accepted_at, chosen_at, nack_at, ask_at, content_at};
+ghost use Rattle.rex_msg.specs.Reading.{prepare_at, promise_at, accept_at, accepted_at, chosen_at, nack_at, ask_at, snapshot_at, content_at};
 
 use crate::fields::{ballot, instance, promise_above};
 use crate::limits::GREATEST_FIRST;
@@ -78,6 +78,15 @@ fn ask(reader: &mut Reader) -> Result<Content, DecodeError>
     Ok(Content::Ask { first })
 }
 
+#[tactic(auto, unfolding(crate::specs::Reading::snapshot_at))]
+fn snapshot(alloc: Global, reader: &mut Reader) -> Result<Content, DecodeError>
+    ensures { ReadsOn result reader.new (snapshot_at reader.old) }
+{
+    let deltas = instance(reader)?;
+    let snapshot = read_value(alloc, reader)?;
+    Ok(Content::Snapshot { deltas, snapshot })
+}
+
 /// The content of a message of the kind with this number.
 pub fn content(alloc: Global, reader: &mut Reader, kind: u8) -> Result<Content, DecodeError>
     ensures { ReadsOn result reader.new (content_at kind reader.old) }
@@ -89,6 +98,7 @@ pub fn content(alloc: Global, reader: &mut Reader, kind: u8) -> Result<Content, 
         4 => accepted(reader),
         5 => chosen(alloc, reader),
         6 => nack(reader),
-        _ => ask(reader),
+        7 => ask(reader),
+        _ => snapshot(alloc, reader),
     }
 }

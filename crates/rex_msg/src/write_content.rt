@@ -41,6 +41,7 @@ pub fn kind(content: &Content) -> u8
         Content::Chosen { .. } => 5,
         Content::Nack { .. } => 6,
         Content::Ask { .. } => 7,
+        Content::Snapshot { .. } => 8,
     }
 }
 
@@ -74,5 +75,9 @@ pub fn content(writer: &mut Writer, content: &Content) -> Result<(), AllocError>
             writer.u64(*promised)
         }
         Content::Ask { first } => writer.u32(*first),
+        Content::Snapshot { deltas, snapshot } => {
+            writer.u32(*deltas)?;
+            write_value(writer, snapshot.as_slice())
+        }
     }
 }

@@ -220,19 +220,19 @@ no_form : codes_of 100000 (codes "flush 1" ∷ codes "replay" ∷ codes "ask 4" 
 unfolding codes_of digits
 no_form = refl
 
--- ---- checkpoints, and keepers that fail
+-- ---- checkpoints, values that are dropped, and keepers that fail
 
 -- the steps that lines spell
 steps_of : List (List ℕ) → List (Option Step)
 steps_of lines = map (λ line. step_of (words_of line)) lines
 
-spelled : steps_of (codes "checkpoint 2" ∷ codes "keepfail 2 kept" ∷ codes "keepfail 3 lost" ∷ codes "keepfail 1" ∷ codes "keepfail 1 keep" ∷ [])
-    ≡ Some (step.Checkpoint 2 Two) ∷ Some (step.KeepFail 2 true) ∷ Some (step.KeepFail 3 false) ∷ None ∷ None ∷ []
+spelled : steps_of (codes "checkpoint 2" ∷ codes "drop 3" ∷ codes "drop" ∷ codes "keepfail 2 kept" ∷ codes "keepfail 3 lost" ∷ codes "keepfail 1" ∷ codes "keepfail 1 keep" ∷ [])
+    ≡ Some (step.Checkpoint 2 Two) ∷ Some (step.DropKnown 3) ∷ None ∷ Some (step.KeepFail 2 true) ∷ Some (step.KeepFail 3 false) ∷ None ∷ None ∷ []
 unfolding steps_of digits
 spelled = refl
 
 -- the node that they name has to be there
-of_nodes : codes_of 99999 (codes "checkpoint 1" ∷ codes "checkpoint 4" ∷ codes "keepfail 1 kept" ∷ codes "keepfail 0 lost" ∷ []) ≡ None ∷ Some code.NotThere ∷ None ∷ Some code.NotThere ∷ []
+of_nodes : codes_of 99999 (codes "checkpoint 1" ∷ codes "checkpoint 4" ∷ codes "drop 3" ∷ codes "drop 4" ∷ codes "keepfail 1 kept" ∷ codes "keepfail 0 lost" ∷ []) ≡ None ∷ Some code.NotThere ∷ None ∷ Some code.NotThere ∷ None ∷ Some code.NotThere ∷ []
 unfolding codes_of digits
 of_nodes = refl
 

@@ -9,7 +9,7 @@ use Rattle.rex_scenario.specs.Headings.{is_node_count}
 use Rattle.rex_scenario.specs.Requests.{takes_so_many}
 use Rattle.rex_scenario.specs.declared.scenario.Scenario.{Scenario}
 use Rattle.rex_scenario.specs.declared.scenario.ScheduleLine.{ScheduleLine}
-use Rattle.rex_scenario.specs.declared.scenario.ScheduleLine.TheVariants.{Elect, Submit, Lane, Cut, CutBelow, Deliver, Flush, Replay, Ask, Stop, Start, Checkpoint, KeepFail}
+use Rattle.rex_scenario.specs.declared.scenario.ScheduleLine.TheVariants.{Elect, Submit, Lane, Cut, CutBelow, Deliver, Flush, Replay, Ask, Stop, Start, Checkpoint, DropKnown, KeepFail}
 
 -- client and sequence are in their ranges, and the handler is there and takes the arguments
 pub record RequestFits (service : Declarations) (r : Request) : Type 0 where
@@ -38,6 +38,7 @@ LineFits nodes requests lanes (Ask n m) = IsNode nodes n × (IsNode nodes m × (
 LineFits nodes requests lanes (Stop n) = IsNode nodes n
 LineFits nodes requests lanes (Start n) = IsNode nodes n
 LineFits nodes requests lanes (Checkpoint n version) = IsNode nodes n
+LineFits nodes requests lanes (DropKnown n) = IsNode nodes n
 LineFits nodes requests lanes (KeepFail n kept) = IsNode nodes n
 
 -- a checkpoint is in a version that the service's states have, where these have the old one or don't

@@ -24,6 +24,7 @@ short_step w n =
     else if bytes_eq w (codes "deliver") then Some (step.Deliver n)
     else if bytes_eq w (codes "replay") then Some (step.Replay n)
     else if bytes_eq w (codes "checkpoint") then Some (step.Checkpoint n Two)
+    else if bytes_eq w (codes "drop") then Some (step.DropKnown n)
     else if bytes_eq w (codes "stop") then Some (step.Stop n)
     else if bytes_eq w (codes "start") then Some (step.Start n) else None
 
@@ -95,6 +96,7 @@ is_there nodes requests lanes (step.Ask n m) = in_range 1 nodes n && (in_range 1
 is_there nodes requests lanes (step.Stop n) = in_range 1 nodes n
 is_there nodes requests lanes (step.Start n) = in_range 1 nodes n
 is_there nodes requests lanes (step.Checkpoint n version) = in_range 1 nodes n
+is_there nodes requests lanes (step.DropKnown n) = in_range 1 nodes n
 is_there nodes requests lanes (step.KeepFail n kept) = in_range 1 nodes n
 
 -- a cut with limits has one for each lane
@@ -121,6 +123,7 @@ line_of (step.Ask n m) = line.Ask n m
 line_of (step.Stop n) = line.Stop n
 line_of (step.Start n) = line.Start n
 line_of (step.Checkpoint n version) = line.Checkpoint n version
+line_of (step.DropKnown n) = line.DropKnown n
 line_of (step.KeepFail n kept) = line.KeepFail n kept
 
 -- the code that fits a step, or words that spell none; a schedule that may have no lines has none of a form

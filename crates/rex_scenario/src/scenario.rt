@@ -33,6 +33,8 @@ pub enum ScheduleLine {
     Start { node: u8 },
     /// The node records the state that it has come to, in this version.
     Checkpoint { node: u8, version: Version },
+    /// The node forgets the values of the deltas up to its base.
+    DropKnown { node: u8 },
     /// The next record that the node appends will fail, and be kept or lost.
     KeepFail { node: u8, kept: bool },
 }

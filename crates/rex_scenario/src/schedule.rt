@@ -29,6 +29,7 @@ pub(crate) enum Step {
     Stop(u64),
     Start(u64),
     Checkpoint(u64, Version),
+    DropKnown(u64),
     KeepFail(u64, bool),
 }
 
@@ -71,6 +72,8 @@ fn short_step(word: &[u8], number: &[u8]) -> Option<Step>
         Some(Step::Replay(number))
     } else if word == b"checkpoint".as_slice() {
         Some(Step::Checkpoint(number, Version::Two))
+    } else if word == b"drop".as_slice() {
+        Some(Step::DropKnown(number))
     } else if word == b"stop".as_slice() {
         Some(Step::Stop(number))
     } else if word == b"start".as_slice() {
@@ -271,6 +274,9 @@ fn placed(step: Step, nodes: u8, requests: u64, lanes: u64) -> Option<ScheduleLi
         Step::Checkpoint(node, version) => ScheduleLine::Checkpoint {
             node: node_of(node, nodes)?,
             version,
+        },
+        Step::DropKnown(node) => ScheduleLine::DropKnown {
+            node: node_of(node, nodes)?,
         },
         Step::KeepFail(node, kept) => ScheduleLine::KeepFail {
             node: node_of(node, nodes)?,

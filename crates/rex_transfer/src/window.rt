@@ -1,0 +1,146 @@
+//! Windows.
+
+ghost use Rattle.std.specs.Prelude.{◌≡◌, ◌<◌, ◌≤◌, ◌+◌, ◌-◌, ◌∷◌, [], drop, length, OnOk, OnErr};
+ghost use Rattle.rex_transfer.specs.Window as spec;
+ghost use Rattle.rex_transfer.specs.Window.{Looks, known_of};
+
+use rex_ballot::Value;
+use rex_list::List;
+use std::alloc::{AllocError, Global};
+use std::marker::Model;
+
+/// The values that a node holds of a list of values, one for each instance from 1 on: it knows those up to an instance, and
+/// holds those past its offset, up to which it forgot them or never had them.
+#[derive(Drop)]
+pub struct Window {
+    offset: u32,
+    values: Vec<Value>,
+}
+
+impl Model for Window {
+    ghost use Rattle.rex_transfer.specs.Window.{WindowValue, IsWindow};
+
+    ghost Value = { WindowValue };
+
+    ghost view = { λ w. record { offset = w.offset; values = w.values.items } };
+
+    ghost invariant = { λ w. IsWindow (record { offset = w.offset; values = w.values.items }) };
+}
+
+/// What a window has for an instance.
+#[derive(Clone, Copy)]
+pub enum Look<'a> {
+    /// The value.
+    Value(&'a [u8]),
+    /// The window doesn't hold the value: the instance is at most its offset.
+    Gone { offset: u32 },
+    /// The window doesn't know the value: the instance is above the last one that it knows.
+    Beyond { known: u32 },
+}
+
+impl Window {
+    /// A window that knows nothing.
+    pub fn new(alloc: Global) -> Window
+        ensures { result ≡ record { offset = 0; values = [] } }
+    {
+        Window {
+            offset: 0,
+            values: Vec::new(alloc),
+        }
+    }
+
+    /// A window that holds these values past the offset. It takes no memory.
+    pub fn from_list(offset: u32, values: List<Value>) -> Window
+        requires { offset + length values ≤ 65535 }
+        ensures { result ≡ record { offset = offset; values = values } }
+    {
+        Window {
+            offset,
+            values: values.into_vec(),
+        }
+    }
+
+    /// Of how many instances the values aren't held.
+    pub fn offset(&self) -> u32
+        ensures { result ≡ self.now.offset }
+    {
+        self.offset
+    }
+
+    /// Of how many instances the values are known.
+    pub fn known(&self) -> u32
+        ensures known { result ≡ known_of self.now }
+        ensures few { result ≤ 65535 }
+    {
+        self.offset + self.values.len() as u32
+    }
+
+    /// The values that are held, from that of the instance after the offset on.
+    pub fn values(&self) -> &[Value]
+        ensures { result.now ≡ self.now.values }
+    {
+        &self.values
+    }
+
+    /// The values of the instances after this one.
+    pub fn after(&self, instance: u32) -> &[Value]
+        requires from { self.now.offset ≤ instance }
+        requires to { instance ≤ known_of self.now }
+        ensures { result.now ≡ drop (instance - self.now.offset) self.now.values }
+    {
+        let gone = (instance - self.offset) as usize;
+        &self.values[gone..]
+    }
+
+    /// Takes the value of the next instance. Where memory is short nothing changes.
+    pub fn push(&mut self, value: &[u8]) -> Result<(), AllocError>
+        requires { known_of self.old < 65535 }
+        ensures ok { OnOk result (self.new ≡ spec.pushed self.old value.now) }
+        ensures err { OnErr result (self.new ≡ self.old) }
+    {
+        let value = List::from_vec(value.to_vec(*self.values.allocator())?);
+        self.values.push(value)?;
+        Ok(())
+    }
+
+    /// What the window has for an instance. It takes no memory.
+    pub fn get(&self, instance: u32) -> Look<'_>
+        ensures { Looks self.now instance result }
+    {
+        if instance <= self.offset {
+            return Look::Gone {
+                offset: self.offset,
+            };
+        }
+        let place = (instance - self.offset - 1) as usize;
+        match self.values.get(place) {
+            Some(value) => Look::Value(value.as_slice()),
+            None => Look::Beyond {
+                known: self.known(),
+            },
+        }
+    }
+
+    /// Forgets the values of the instances up to this one, which becomes the offset. It takes no memory.
+    pub fn drop_to(&mut self, instance: u32)
+        requires from { self.old.offset ≤ instance }
+        requires to { instance ≤ known_of self.old }
+        ensures { self.new ≡ spec.dropped_to self.old instance }
+    {
+        let gone = (instance - self.offset) as usize;
+        let kept = self.values.len() - gone;
+        self.values.rotate_left(gone);
+        self.values.truncate(kept);
+        self.offset = instance;
+    }
+
+    /// Knows the values up to an instance past those that it knew, and holds none of them. It takes no memory.
+    pub fn jump(&mut self, instance: u32)
+        requires from { known_of self.old < instance }
+        requires to { instance ≤ 65535 }
+        ensures { self.new ≡ record { offset = instance; values = [] } }
+    {
+        self.values.clear();
+        self.offset = instance;
+    }
+}
