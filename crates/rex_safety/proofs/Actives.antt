@@ -1,5 +1,5 @@
 -- Each step keeps what active nodes work with.
-use Rattle.std.proofs.Common.{◌≡◌, ℕ, zero, suc, ◌<◌, ◌≤◌, Bool, true, false, cond, ◌⊎◌, List, [], ◌∷◌, length, Option, Some, None, eqb, refl, sym, ◌∙◌, ap, subst, inl, inr, arith, le_refl}
+use Rattle.std.proofs.Common.{◌≡◌, ℕ, zero, suc, ◌<◌, ◌≤◌, Bool, true, false, List, [], ◌∷◌, length, Option, Some, None, refl, sym, ◌∙◌, ap, subst, arith, le_refl}
 use Rattle.std.specs.Prelude.{map, slice_get, nat_le}
 use Rattle.rex_ballot.specs.Limits.{most_nodes}
 use Rattle.rex_syntax.specs.declared.request.Request.{Request}
@@ -12,12 +12,12 @@ use Rattle.rex_scenario.specs.declared.scenario.ScheduleLine.{ScheduleLine}
 use Rattle.rex_scenario.specs.declared.scenario.ScheduleLine.TheVariants as line
 use Rattle.rex_safety.specs.Records.{Proposal, known}
 use Rattle.rex_safety.specs.Quorum.{IsNode}
-use Rattle.rex_safety.specs.Node.{Service, Message, Lead, Role, is_active}
+use Rattle.rex_safety.specs.Node.{Service, Lead, Role, is_active}
 use Rattle.rex_safety.specs.Node.Role.{Follower, Leads}
-use Rattle.rex_safety.specs.Calls.{begin, enough, elect, receive, ask, replay, checkpoint, stop, start, arm}
+use Rattle.rex_safety.specs.Calls.{enough}
 use Rattle.rex_safety.specs.Values.{Value, service_of}
 use Rattle.rex_safety.specs.Lanes.{Here, CallHere, active_only, submit_request, lane_turn, cut_live, cut_lead, cut_role, cut, value_at, no_limits, with_limits}
-use Rattle.rex_safety.specs.World.{World, node_at, put, beginning, after, if_up, at_node, start_if, with_handed, deliver_found, message_at, step, waiting_from, flush_steps, steps_of, steps, row, after_lines}
+use Rattle.rex_safety.specs.World.{World, node_at, beginning, after, at_node, step, waiting_from, flush_steps, steps_of, steps, row, after_lines}
 use Rattle.std.specs.Prelude.{is_some}
 use Rattle.std.specs.List.{All}
 use Rattle.std.proofs.lemmas.List.Elements.{All-head, All-tail}
@@ -33,12 +33,13 @@ use Rattle.rex_safety.specs.Lanes.{is_faithful, known_state, limits_between, tur
 use Rattle.rex_safety.specs.Acting.{IsActing, HasLane}
 use Rattle.rex_safety.specs.Agreed.{world_after}
 use Rattle.rex_safety.specs.Laws.{ActsRightly}
-use Rattle.rex_safety.proofs.Nodes.{node_put, put_none, IsFresh, fresh_at}
-use Rattle.rex_safety.proofs.Worlds.{IsWorld, node_or_not, node_of_lead}
+use Rattle.rex_safety.proofs.Nodes.{fresh_at}
+use Rattle.rex_safety.proofs.Worlds.{IsWorld, node_of_lead}
 use Rattle.rex_safety.proofs.Moments.{known_run}
 use Rattle.rex_safety.proofs.Steps.{step_ok, row_ok, beginning_ok, reached_ok}
 use Rattle.rex_safety.proofs.Acting.{acting_new, acting_known, acting_answered, acting_turned, acting_proposed, IsLiveCut, live_cut, firsts_long, rises, known_is, live_is, live_runs}
-use Rattle.rex_safety.proofs.Working.{Works, passive, if_works, propose_works, settle_works, elect_works, receive_works, replay_works, checkpoint_works, start_works}
+use Rattle.rex_safety.proofs.WorkingWorlds.{AllWorks, only_works, after_works, at_works, LanesWork, step_works, fresh_works}
+use Rattle.rex_safety.proofs.Working.{Works, if_works, propose_works, settle_works}
 
 -- ---- limits between two lists of counts
 
@@ -70,8 +71,7 @@ module _ (service : Declarations) (good : IsService service) (checked : IsChecke
   WorksHere d = Works n (service_of service seed) me (IsActing service) (acting_new service good checked) (acting_known service good checked seed) d
 
   pub active_works : (t : Bool) (d e : CallHere) → WorksHere d → WorksHere e → WorksHere (active_only t d e)
-  active_works true d e w h = h
-  active_works false d e w h = record { each = w.each }
+  active_works = only_works service seed n (IsActing service) (acting_new service good checked) (acting_known service good checked seed) me
 
   found : (rs : List Request) → All (RequestFits service) rs → (k : ℕ) → (r : Request) → slice_get rs k ≡ Some r → RequestFits service r
   found [] f k r e = absurd (cc)
@@ -151,50 +151,23 @@ module _ (service : Declarations) (good : IsService service) (checked : IsChecke
 
   -- each node works with a recorder where it is active
   abbrev pub AllWork : World → Type 0
-  AllWork w = (m : ℕ) → WorksHere service good checked seed n m (begin (node_at w.nodes m))
+  AllWork w = AllWorks service seed n (IsActing service) (acting_new service good checked) (acting_known service good checked seed) w
 
   pub after_work : (w : World) → length w.nodes ≡ n → AllWork w → (m : ℕ) (d : CallHere) → WorksHere service good checked seed n m d → AllWork (after w m d).world
-  after_work w many h m d k q = go (node_or_not n m)
-    where
-      place : (t : Bool) → eqb q m ≡ t → node_at (put w.nodes m d.node) q ≡ cond t d.node (node_at w.nodes q) → WorksHere service good checked seed n q (begin (node_at (put w.nodes m d.node) q))
-      place true e p = subst (λ (y : Here). WorksHere service good checked seed n q (begin y)) (sym p) (record { each = k.each })
-      place false e p = subst (λ (y : Here). WorksHere service good checked seed n q (begin y)) (sym p) (h q)
-
-      go : IsNode n m ⊎ (IsNode n m → ⊥) → WorksHere service good checked seed n q (begin (node_at (put w.nodes m d.node) q))
-      go (inl min) = place (eqb q m) refl (node_put w.nodes m d.node q (subst (λ k. IsNode k m) (sym many) min))
-      go (inr none) = subst (λ (xs : List Here). WorksHere service good checked seed n q (begin (node_at xs q))) (sym (put_none w.nodes m d.node (λ l. none (subst (λ k. IsNode k m) many l)))) (h q)
+  after_work = after_works service seed n (IsActing service) (acting_new service good checked) (acting_known service good checked seed)
 
   at_node_work : (w : World) → length w.nodes ≡ n → AllWork w → (m : ℕ) (call : CallHere → CallHere) → ((d : CallHere) → WorksHere service good checked seed n m d → WorksHere service good checked seed n m (call d)) → AllWork (at_node w m call).world
-  at_node_work w many h m call k = go (node_at w.nodes m).up
-    where
-      go : (t : Bool) → AllWork (if_up t w m (call (begin (node_at w.nodes m)))).world
-      go true = after_work w many h m (call (begin (node_at w.nodes m))) (k (begin (node_at w.nodes m)) (h m))
-      go false = h
+  at_node_work = at_works service seed n (IsActing service) (acting_new service good checked) (acting_known service good checked seed)
 
-  deliver_work : (w : World) → length w.nodes ≡ n → AllWork w → (number : ℕ) (o : Option (Message Value)) → AllWork (deliver_found service seed n w number o).world
-  deliver_work w many h number None = h
-  deliver_work w many h number (Some y) =
-      at_node_work (with_handed w number) many h y.to (receive n sv y.to y.from y.content)
-      (λ d k. receive_works n sv y.to (IsActing service) (acting_new service good checked) (acting_known service good checked seed) y.from y.content d k)
-
-  start_work : (w : World) → length w.nodes ≡ n → AllWork w → (m : ℕ) (t : Bool) → AllWork (start_if sv t w m).world
-  start_work w many h m true = h
-  start_work w many h m false = after_work w many h m (start sv m (begin (node_at w.nodes m))) (start_works n sv m (IsActing service) (acting_new service good checked) (acting_known service good checked seed) (begin (node_at w.nodes m)))
+  lanes_work : (w : World) → length w.nodes ≡ n → AllWork w → (x : ScheduleLine) → HasLane service x → LanesWork service seed n (IsActing service) (acting_new service good checked) (acting_known service good checked seed) requests w x
+  lanes_work w many h (line.Submit m r) l = at_node_work w many h m _ (λ d k. submit_works service good checked seed n m requests fit r d k)
+  lanes_work w many h (line.Lane m lane) l = at_node_work w many h m _ (λ d k. turn_works service good checked seed n m w.done lane l d k)
+  lanes_work w many h (line.Cut m) l = at_node_work w many h m _ (λ d k. cut_works service good checked seed n m (no_limits service d.node) d (λ o a. no_limits_cut service good checked d.node o a) k)
+  lanes_work w many h (line.CutBelow m limits) l = at_node_work w many h m _ (λ d k. cut_works service good checked seed n m (with_limits service d.node limits) d (λ o a. with_limits_cut service good checked d.node o a limits l) k)
+  lanes_work w many h _ l = tt
 
   pub step_work : (w : World) → length w.nodes ≡ n → AllWork w → (x : ScheduleLine) → HasLane service x → AllWork (step service requests seed n w x).world
-  step_work w many h (line.Elect m) l = at_node_work w many h m (elect n sv m) (λ d k. elect_works n sv m (IsActing service) (acting_new service good checked) (acting_known service good checked seed) d k)
-  step_work w many h (line.Submit m r) l = at_node_work w many h m _ (λ d k. submit_works service good checked seed n m requests fit r d k)
-  step_work w many h (line.Lane m lane) l = at_node_work w many h m _ (λ d k. turn_works service good checked seed n m w.done lane l d k)
-  step_work w many h (line.Cut m) l = at_node_work w many h m _ (λ d k. cut_works service good checked seed n m (no_limits service d.node) d (λ o a. no_limits_cut service good checked d.node o a) k)
-  step_work w many h (line.CutBelow m limits) l = at_node_work w many h m _ (λ d k. cut_works service good checked seed n m (with_limits service d.node limits) d (λ o a. with_limits_cut service good checked d.node o a limits l) k)
-  step_work w many h (line.Deliver number) l = deliver_work w many h number (message_at w.messages number)
-  step_work w many h line.Flush l = h
-  step_work w many h (line.Replay m) l = at_node_work w many h m (replay m) (λ d k. replay_works n sv m (IsActing service) (acting_new service good checked) (acting_known service good checked seed) d k)
-  step_work w many h (line.Ask m other) l = at_node_work w many h m (ask m other) (λ d k. record { each = k.each })
-  step_work w many h (line.Stop m) l = at_node_work w many h m (stop m) (λ d k. passive n sv m (IsActing service) (acting_new service good checked) (acting_known service good checked seed) _ refl)
-  step_work w many h (line.Start m) l = start_work w many h m (node_at w.nodes m).up
-  step_work w many h (line.Checkpoint m version) l = at_node_work w many h m (checkpoint version sv m) (λ d k. checkpoint_works n sv m (IsActing service) (acting_new service good checked) (acting_known service good checked seed) version d k)
-  step_work w many h (line.KeepFail m kept) l = after_work w many h m (arm m kept (begin (node_at w.nodes m))) (record { each = (h m).each })
+  step_work w many h x l = step_works service seed n (IsActing service) (acting_new service good checked) (acting_known service good checked seed) requests w many h x (lanes_work w many h x l)
 
   -- the steps of a line name lanes that are there
   abbrev HaveLanes : List ScheduleLine → Type 0
@@ -222,6 +195,7 @@ module _ (service : Declarations) (good : IsService service) (checked : IsChecke
   steps_lanes w (line.Stop m) l = (l, tt)
   steps_lanes w (line.Start m) l = (l, tt)
   steps_lanes w (line.Checkpoint m version) l = (l, tt)
+  steps_lanes w (line.DropKnown m) l = (l, tt)
   steps_lanes w (line.KeepFail m kept) l = (l, tt)
 
   steps_work : (w : World) (xs : List ScheduleLine) → IsWorld n sv w → AllWork w → HaveLanes xs → AllWork (steps service requests seed n w xs).world
@@ -234,10 +208,6 @@ module _ (service : Declarations) (good : IsService service) (checked : IsChecke
       lines_work (row service requests seed n w x).world xs (row_ok service requests seed n few w x ok).0
       (steps_work w (steps_of w x) ok h (steps_lanes w x (All-head (HasLane service) x xs l))) (All-tail (HasLane service) x xs l)
 
-  fresh_works : (m : ℕ) (x : Here) → IsFresh x → WorksHere service good checked seed n m (begin x)
-  fresh_works m x (inl e) = subst (λ (y : Here). WorksHere service good checked seed n m (begin y)) (sym e) (passive n sv m (IsActing service) (acting_new service good checked) (acting_known service good checked seed) _ refl)
-  fresh_works m x (inr e) = subst (λ (y : Here). WorksHere service good checked seed n m (begin y)) (sym e) (passive n sv m (IsActing service) (acting_new service good checked) (acting_known service good checked seed) _ refl)
-
   pub active_traces_run : (lines : List ScheduleLine) → All (HasLane service) lines → (m : ℕ) (l : Lead Value) → (node_at (world_after service requests seed n lines).nodes m).role ≡ Leads l → l.active ≡ true → ActsRightly service (node_at (world_after service requests seed n lines).nodes m) l
   active_traces_run lines lanes m l e a = record { acting = acting; trace_runs = ap is_some (live_runs service good checked (known x.log) l.proposal x.work acting) }
     where
@@ -245,7 +215,7 @@ module _ (service : Declarations) (good : IsService service) (checked : IsChecke
       x = node_at (world_after service requests seed n lines).nodes m
 
       all : AllWork (world_after service requests seed n lines)
-      all = lines_work (beginning n) lines (beginning_ok service requests seed n few) (λ q. fresh_works q (node_at (beginning n).nodes q) (fresh_at Value StateValue n q)) lanes
+      all = lines_work (beginning n) lines (beginning_ok service requests seed n few) (λ q. fresh_works service seed n (IsActing service) (acting_new service good checked) (acting_known service good checked seed) q (node_at (beginning n).nodes q) (fresh_at Value StateValue n q)) lanes
 
       min : IsNode n m
       min = node_of_lead n sv (world_after service requests seed n lines) (reached_ok service requests seed n few lines) m l e

@@ -1,27 +1,28 @@
 -- Each message and each schedule line keeps the invariant.
-use Rattle.std.proofs.Common.{◌≡◌, ℕ, zero, suc, ◌+◌, ◌-◌, ◌*◌, ◌/◌, ◌<◌, ◌≤◌, ◌≢◌, Bool, true, false, cond, ◌||◌, ◌⊎◌, List, [], ◌∷◌, ◌++◌, length, Option, Some, None, eqb, ltb, leb, refl, sym, ◌∙◌, ap, subst, inl, inr, arith, le_trans, le_refl, le_of_eq, suc-le-suc, eqb-true, eq-eqb, ltb-true, ltb-false}
-use Rattle.std.specs.Prelude.{take, ◌==◌, nat_lt}
+use Rattle.std.proofs.Common.{◌≡◌, ℕ, zero, suc, ◌+◌, ◌-◌, ◌*◌, ◌/◌, ◌<◌, ◌≤◌, ◌≢◌, Bool, true, false, cond, ◌||◌, ◌⊎◌, List, [], ◌∷◌, ◌++◌, length, Option, Some, None, eqb, ltb, leb, refl, sym, ◌∙◌, ap, subst, inl, inr, arith, le_trans, le_refl, le_of_eq, suc-le-suc, eqb-true, eq-eqb, ltb-true, ltb-false, leb-false}
+use Rattle.std.specs.Prelude.{take, ◌==◌, nat_lt, nat_le}
 use Rattle.std.proofs.lemmas.Bool.{cases_lt, eqb-false, false≢true}
 use Rattle.rex_ballot.specs.Limits.{most_nodes}
 use Rattle.rex_report.specs.declared.effect.Effect.{Effect}
 use Rattle.rex_report.specs.declared.effect.Effect.TheVariants as effect
 use Rattle.rex_version.specs.declared.version.Version.{Version}
 use Rattle.rex_version.specs.declared.version.Version.TheVariants.{Two}
-use Rattle.rex_safety.specs.Records.{Rec, Proposal, promise, accepted, from_on, known, base, HasAccepted, HasBallot, has_old_base}
-use Rattle.rex_safety.specs.Records.Rec.{Promised, Accepted, Known, Checkpoint}
-use Rattle.rex_safety.specs.Quorum.{IsNode, Logs, Chosen, AllChosen, AllChosenBy, node_of, round_of, ballot_above, is_in, is_majority}
+use Rattle.rex_safety.specs.Records.{Rec, Proposal, promise, accepted, from_on, offset, known, base, HasAccepted, HasBallot, has_old_base}
+use Rattle.rex_safety.specs.Records.Rec.{Promised, Accepted, Known, Checkpoint, Dropped, Transferred}
+use Rattle.rex_safety.specs.Quorum.{IsNode, Logs, Chosen, ChosenBy, AllChosen, AllGiven, node_of, round_of, ballot_above, is_in, is_majority}
 use Rattle.rex_safety.specs.Node.{Service, Content, Message, Lead, Role, Node, is_active}
-use Rattle.rex_safety.specs.Node.Content.{Prepare, Promise, Accept, Accepted as Voted, Chosen as Chose, Nack, Ask}
+use Rattle.rex_safety.specs.Node.Content.{Prepare, Promise, Accept, Accepted as Voted, Chosen as Chose, Nack, Ask, Snapshot}
 use Rattle.rex_safety.specs.Node.Role.{Follower, Leads}
-use Rattle.rex_safety.specs.Invariant.{AreRecords, IsIn, IsOpen, with_log, Grows, HasHeard, WasReported, Open, IsRightOpen, IsAgainst, LeadsRightly, IsRightRole, IsReplayed, IsJustified, AreJustified, KeepsAll}
+use Rattle.rex_safety.specs.Invariant.{IsIn, IsOpen, IsReady, AreRecords, with_log, Grows, HasHeard, WasReported, Open, IsRightOpen, ChosenPast, AllLearned, LeadsRightly, IsRightRole, IsReplayed, IsRightSnapshot, IsJustified, AreJustified, KeepsAll}
 use Rattle.rex_safety.proofs.Migrated.{old_some}
-use Rattle.rex_safety.specs.Calls.{Call, say, send, others, answer, append, replayed_left, with_role, follow, led, propose, settle, enough, own_reports, candidacy, stand, elect, promised, on_prepare, heard, hear, on_own_promise, on_promise, has_last, on_accept, voted, count_vote, on_own_vote, on_voted, on_chosen, on_nack, tell, receive, ask, replay, checkpoint, migrate, restart, stop, start, arm}
+use Rattle.rex_safety.specs.Calls.{Call, say, send, others, answer, append, replayed_left, with_role, follow, led, propose, settle, enough, own_reports, candidacy, stand, elect, answer_base, promised, on_prepare, heard, hear, on_own_promise, on_promise, has_last, on_accept, voted, count_vote, on_own_vote, on_voted, on_chosen, on_nack, tell, with_replayed, on_snapshot, receive, ask, replay, checkpoint, drop_known, logged, migrate, restart, stop, start, arm}
 use Rattle.rex_safety.proofs.Quorums.{quorum_map}
 use Rattle.rex_safety.proofs.Grow.{begins_length, Allowed}
 use Rattle.rex_safety.proofs.Step.{acc_below}
 use Rattle.rex_safety.proofs.Roles.{knows_grows, role_grows, put_same, next, grown, next_good, out_grows, records_here, append_good, just_both, just_one, just_others}
-use Rattle.rex_safety.proofs.Lists.{length_push, in_cases, is_in_push, in_from_on, base_low, accepted_real, accepted_covers, from_on_covers, covers_left, covers_right}
+use Rattle.rex_safety.proofs.Lists.{length_push, in_cases, is_in_push, in_from_on, base_low, offset_low, offset_known, accepted_real, accepted_covers, from_on_covers, covers_left, covers_right}
 use Rattle.rex_safety.proofs.Settle.{at_most, free_safe_at, propose_good, settle_good}
+use Rattle.rex_safety.proofs.Fronts.{prefix_of, all_chosen_take, all_given_take}
 
 -- ---- ballots
 
@@ -52,6 +53,11 @@ pub if_good : {A : Type 0} (G : A → Type 0) (t : Bool) {x y : A} → (t ≡ tr
 if_good G true f g = f refl
 if_good G false f g = g refl
 
+-- a node that took over so many values has replayed them
+left_at : (k : ℕ) (t : Bool) → (k ≤ replayed_left t k k) × (replayed_left t k k ≤ k)
+left_at k true = (le_refl _, le_refl _)
+left_at k false = (le_refl _, le_refl _)
+
 module _ {V : Type 0} where
   pub has_last_in : (b i : ℕ) (ps : List (Proposal V)) → has_last b i ps ≡ true → (p : Proposal V) × IsIn p ps × (p.ballot ≡ b) × (p.instance ≡ i)
   has_last_in b i [] e = absurd (false≢true e)
@@ -64,33 +70,40 @@ module _ {V : Type 0} where
       go false x false y h ih = let r = ih h in (r.0, inr r.1, r.2, r.3)
 
 module _ {V S : Type 0} where
-  checkpoint_open : (version : Version) (n : ℕ) (M : Logs V S) (log : List (Rec V S)) (k : ℕ) (st : S) (b : ℕ) (acks : List ℕ) (o : Option (Proposal V)) → IsRightOpen n M log b acks o → IsRightOpen n M (Checkpoint version k st ∷ log) b acks o
-  checkpoint_open version n M log k st b acks None h = tt
-  checkpoint_open version n M log k st b acks (Some p) h = record { next = h.next; own = h.own; acked = h.acked }
+  quiet_open : (n : ℕ) (M : Logs V S) (log more : List (Rec V S)) → known more ≡ known log → ((b i : ℕ) (v : V) → HasAccepted b i v log → HasAccepted b i v more) → (b : ℕ) (acks : List ℕ) (o : Option (Proposal V)) → IsRightOpen n M log b acks o → IsRightOpen n M more b acks o
+  quiet_open n M log more k to b acks None h = tt
+  quiet_open n M log more k to b acks (Some p) h = record { next = h.next ∙ ap (λ vs. suc (length vs)) (sym k); own = to b p.instance p.value h.own; acked = h.acked }
 
-  checkpoint_role : (version : Version) (n : ℕ) (M : Logs V S) (log : List (Rec V S)) (k : ℕ) (st : S) (m : ℕ) (r : Role V) → IsRightRole n M log m r → IsRightRole n M (Checkpoint version k st ∷ log) m r
-  checkpoint_role version n M log k st m Follower h = tt
-  checkpoint_role version n M log k st m (Leads l) h = record {
-    promised = h.promised;
+  -- a record that says nothing of promises, acceptances and known values leaves a role right
+  quiet_role : (n : ℕ) (M : Logs V S) (log more : List (Rec V S)) → promise more ≡ promise log → known more ≡ known log → ((b i : ℕ) (v : V) → HasAccepted b i v log → HasAccepted b i v more) → ((b i : ℕ) (v : V) → HasAccepted b i v more → HasAccepted b i v log)
+      → (m : ℕ) (r : Role V) → IsRightRole n M log m r → IsRightRole n M more m r
+  quiet_role n M log more p k to back m Follower h = tt
+  quiet_role n M log more p k to back m (Leads l) h = record {
+    promised = p ∙ h.promised;
     owned = h.owned;
-    past = h.past;
-    heard = h.heard;
-    said = h.said;
-    pending = checkpoint_open version n M log k st l.ballot l.accepted_by l.proposal h.pending;
-    knows = h.knows;
+    past = λ i v x a. h.past i v (subst (λ vs. length vs < i) k x) (back l.ballot i v a);
+    heard = λ q x t. subst (λ vs. HasHeard M (length vs) l.ballot l.reported q) (sym k) (h.heard q x t);
+    said = λ q x. subst (λ vs. WasReported n M (length vs) l.ballot l.counted q) (sym k) (h.said q x);
+    pending = quiet_open n M log more k to l.ballot l.accepted_by l.proposal h.pending;
+    knows = subst (AllLearned n M l.ballot 1) (sym k) h.knows;
     counted = h.counted;
-    ready = h.ready;
+    ready = λ t. subst (λ vs. IsReady n (length vs) l.counted l.reported) (sym k) (h.ready t);
   }
 
-  -- each known value was chosen at b or below, or a majority is past b
-  by_or_against : (n b k : ℕ) (K : Logs V S) → ((q : ℕ) → IsNode n q → HasBallot b (K q) → ⊥) → (vs : List V) → AllChosen n K k vs → AllChosenBy n K b k vs ⊎ IsAgainst n K b
-  by_or_against n b k K none [] h = inl tt
-  by_or_against n b k K none (v ∷ vs) h = go (cases_lt b h.0.ballot) (by_or_against n b (suc k) K none vs h.1)
+  -- each chosen value was chosen at b or below, or by a majority that is past b
+  all_learned : (n b k : ℕ) (K : Logs V S) → ((q : ℕ) → IsNode n q → HasBallot b (K q) → ⊥) → (vs : List V) → AllChosen n K k vs → AllLearned n K b k vs
+  all_learned n b k K none [] h = tt
+  all_learned n b k K none (v ∷ vs) h = (go (cases_lt b h.0.ballot), all_learned n b (suc k) K none vs h.1)
     where
-      go : (b < h.0.ballot) ⊎ (h.0.ballot ≤ b) → AllChosenBy n K b (suc k) vs ⊎ IsAgainst n K b → AllChosenBy n K b k (v ∷ vs) ⊎ IsAgainst n K b
-      go (inl lt) rest = inr (quorum_map n (λ q. HasAccepted h.0.ballot k v (K q)) (λ q. (b < promise (K q)) × (HasBallot b (K q) → ⊥)) (λ q x a. (le_trans lt (acc_below h.0.ballot k v (K q) a), none q x)) h.0.quorum)
-      go (inr l) (inl rest) = inl (record { ballot = h.0.ballot; most = l; quorum = h.0.quorum }, rest)
-      go (inr l) (inr q) = inr q
+      go : (b < h.0.ballot) ⊎ (h.0.ballot ≤ b) → ChosenBy n K b k v ⊎ ChosenPast n K b k v
+      go (inl lt) =
+          inr (record {
+            ballot = h.0.ballot;
+            above = lt;
+            quorum = quorum_map n (λ q. HasAccepted h.0.ballot k v (K q)) (λ q. HasAccepted h.0.ballot k v (K q) × (b < promise (K q)) × (HasBallot b (K q) → ⊥))
+                (λ q x a. (a, le_trans lt (acc_below h.0.ballot k v (K q) a), none q x)) h.0.quorum;
+          })
+      go (inr l) = inl (record { ballot = h.0.ballot; most = l; quorum = h.0.quorum })
 
   just_tell : (n : ℕ) (K : Logs V S) (m to first i : ℕ) (vs : List V) → AllChosen n K i vs → AreJustified n K (tell m to first i vs)
   just_tell n K m to first i [] h = λ x y. absurd y
@@ -115,6 +128,8 @@ module _ {V S : Type 0} where
       go (inr x) ih = inl (omega arith)
   has_promise b (Known j w ∷ log) e l = has_promise b log e l
   has_promise b (Checkpoint version k st ∷ log) e l = has_promise b log e l
+  has_promise b (Dropped k ∷ log) e l = has_promise b log e l
+  has_promise b (Transferred values st ∷ log) e l = has_promise b log e l
 
   -- leaving a role keeps what was replayed between the base and what is known
   left_ok : (x : Node V S) → IsReplayed x → (t : Bool) → (base x.log ≤ replayed_left t (base x.log) x.replayed) × (replayed_left t (base x.log) x.replayed ≤ length (known x.log))
@@ -143,6 +158,12 @@ module _ {V S : Type 0} where
 
     knows_here : (d : Call V S) → G d → AllChosen n (K d) 1 (known d.node.log)
     knows_here d good = subst (λ log. AllChosen n (K d) 1 (known log)) (put_same L m d.node.log) (good.safe.knows m min)
+
+    given_here : (d : Call V S) → G d → AllGiven n (K d) 1 (known d.node.log)
+    given_here d good = subst (λ log. AllGiven n (K d) 1 (known log)) (put_same L m d.node.log) (good.safe.given m min)
+
+    records_at : (d : Call V S) → G d → AreRecords sv d.node.log
+    records_at d good = records_here n sv L R ms m d min good
 
     stand_good : (d : Call V S) → G d → (b : ℕ) → promise d.node.log < b → node_of b ≡ m → G (stand n sv m b d)
     stand_good d good b lt o =
@@ -187,7 +208,7 @@ module _ {V S : Type 0} where
         heard q false x y = absurd (false≢true y)
         heard q true x y = subst (λ q. HasHeard M (length (known d.node.log)) b (own_reports d.node.log) q) (sym (eqb-true q m x)) (record {
           promised = at_me (HasBallot b) (inl refl);
-          covers = λ c i w l lb a. from_on_covers (suc (length (known d.node.log))) (accepted d.node.log) i c l (accepted_covers sv d.node.log (records_here n sv L R ms m d min good) c i w (from_me (HasAccepted c i w) a));
+          covers = λ c i w l lb a. from_on_covers (suc (length (known d.node.log))) (accepted d.node.log) i c l (accepted_covers sv d.node.log (records_at d good) c i w (le_trans (suc-le-suc (offset_known sv d.node.log (records_at d good))) l) (from_me (HasAccepted c i w) a));
         })
 
         role : IsRightRole n M (Promised b ∷ d.node.log) m (Leads (candidacy m b d.node.log))
@@ -204,7 +225,7 @@ module _ {V S : Type 0} where
             below = λ l. le_trans (suc-le-suc (acc_below p.ballot p.instance p.value d.node.log a)) lt;
           };
           pending = tt;
-          knows = knows_grows g n b (known d.node.log) (by_or_against n b 1 (K d) new (known d.node.log) (knows_here d good));
+          knows = knows_grows g n b 1 (known d.node.log) (all_learned n b 1 (K d) new (known d.node.log) (knows_here d good));
           counted = λ y t. cc;
           ready = λ t. absurd (false≢true t);
         }
@@ -233,21 +254,45 @@ module _ {V S : Type 0} where
 
         new : d.node.replayed ≢ base d.node.log → G (append d.node.armed m (Checkpoint version d.node.replayed st) d (say (effect.Checkpointed m d.node.replayed)))
         new ne =
-            let allowed : Allowed n sv (K d) d.node.log m (Checkpoint version d.node.replayed st) = (omega (arith, ne, good.here.based), good.here.replayed, refl) in
+            let allowed : Allowed n sv (K d) d.node.log m (Checkpoint version d.node.replayed st) = (omega (arith, ne, good.here.based), le_trans (offset_low sv d.node.log (records_at d good)) good.here.based, good.here.replayed, refl) in
             append_good n sv L R ms m d min good (Checkpoint version d.node.replayed st) allowed d.node.armed (say (effect.Checkpointed m d.node.replayed))
             (λ a. next_good n sv L R ms m d min good (Checkpoint version d.node.replayed st) allowed (record d.node { armed = a }) d.sends _
-            (checkpoint_role version n _ d.node.log d.node.replayed st m d.node.role (role_grows (grown n sv L R ms m d min good (Checkpoint version d.node.replayed st) allowed) n d.node.log m d.node.role good.role))
+            (quiet_role n _ d.node.log (Checkpoint version d.node.replayed st ∷ d.node.log) refl refl (λ b i v h. h) (λ b i v h. h) m d.node.role (role_grows (grown n sv L R ms m d min good (Checkpoint version d.node.replayed st) allowed) n d.node.log m d.node.role good.role))
             (record { based = le_refl _; replayed = good.here.replayed })
             (out_grows n sv L R ms m d min good (Checkpoint version d.node.replayed st) allowed))
 
-    reply_good : (d : Call V S) → G d → (from b first : ℕ) → HasBallot b d.node.log → promise d.node.log ≤ b → first ≤ suc (length (known (K d (node_of b)))) → G (promised m from b first d)
-    reply_good d good from b first has low fits =
+    pub drop_good : (d : Call V S) → G d → G (drop_known m d)
+    drop_good d good =
+        if_good G (base d.node.log == offset d.node.log) (λ _. say_good effect.Nothing d good) (λ e. new (eqb-false (base d.node.log) (offset d.node.log) e))
+      where
+        r : Rec V S
+        r = Dropped (base d.node.log)
+
+        new : base d.node.log ≢ offset d.node.log → G (append d.node.armed m r d (say (effect.Dropped m (base d.node.log))))
+        new ne =
+            let allowed : Allowed n sv (K d) d.node.log m r = (omega (arith, ne, offset_low sv d.node.log (records_at d good)), refl) in
+            append_good n sv L R ms m d min good r allowed d.node.armed (say (effect.Dropped m (base d.node.log)))
+            (λ a. next_good n sv L R ms m d min good r allowed (record d.node { armed = a }) d.sends _
+            (quiet_role n _ d.node.log (r ∷ d.node.log) refl refl (λ b i v h. h) (λ b i v h. h) m d.node.role (role_grows (grown n sv L R ms m d min good r allowed) n d.node.log m d.node.role good.role))
+            (record { based = good.here.based; replayed = good.here.replayed })
+            (out_grows n sv L R ms m d min good r allowed))
+
+    -- the values up to the base may be told with the state after them
+    base_good : (from : ℕ) (d : Call V S) → G d → G (answer_base m from d)
+    base_good from d good =
+        let values = take (base d.node.log) (known d.node.log) in
+        send_good d good (answer m from (Snapshot values))
+        (just_one n (K d) (record { from = m; to = from; content = Snapshot values })
+        (record { chosen = all_chosen_take n (K d) 1 (known d.node.log) (base d.node.log) (knows_here d good); given = all_given_take n (K d) 1 (known d.node.log) (base d.node.log) (given_here d good) }))
+
+    reply_good : (d : Call V S) → G d → (from b first : ℕ) → offset d.node.log < first → HasBallot b d.node.log → promise d.node.log ≤ b → first ≤ suc (length (known (K d (node_of b)))) → G (promised m from b first d)
+    reply_good d good from b first young has low fits =
         send_good d good (answer m from (Promise b (from_on first (accepted d.node.log))))
         (just_one n (K d) (record { from = m; to = from; content = Promise b (from_on first (accepted d.node.log)) }) (record {
           from-in = min;
           heard = record {
             promised = at_me (HasBallot b) has;
-            covers = λ c i w lt lb a. from_on_covers first (accepted d.node.log) i c (le_trans fits lt) (accepted_covers sv d.node.log (records_here n sv L R ms m d min good) c i w (from_me (HasAccepted c i w) a));
+            covers = λ c i w lt lb a. from_on_covers first (accepted d.node.log) i c (le_trans fits lt) (accepted_covers sv d.node.log (records_at d good) c i w (le_trans young (le_trans fits lt)) (from_me (HasAccepted c i w) a));
           };
           real = λ p x. let a = accepted_real d.node.log p (in_from_on first p (accepted d.node.log) x) in
               (at_me (HasAccepted p.ballot p.instance p.value) a, le_trans (acc_below p.ballot p.instance p.value d.node.log a) low);
@@ -263,18 +308,19 @@ module _ {V S : Type 0} where
     prepare_good from b first d good j =
         if_good G (nat_lt b (promise d.node.log))
         (λ _. send_good d good (answer m from (Nack b (promise d.node.log))) (just_one n (K d) (record { from = m; to = from; content = Nack b (promise d.node.log) }) tt))
-        (λ y. if_good G (nat_lt (promise d.node.log) b) (λ x. above (ltb-true (promise d.node.log) b x)) (λ x. same (ltb-false (promise d.node.log) b x) (ltb-false b (promise d.node.log) y)))
+        (λ y. if_good G (nat_le first (offset d.node.log)) (λ _. base_good from d good) (λ z.
+        if_good G (nat_lt (promise d.node.log) b) (λ x. above (leb-false first (offset d.node.log) z) (ltb-true (promise d.node.log) b x)) (λ x. same (leb-false first (offset d.node.log) z) (ltb-false (promise d.node.log) b x) (ltb-false b (promise d.node.log) y))))
       where
-        above : promise d.node.log < b → G (append d.node.armed m (Promised b) d (λ e. promised m from b first (follow m (effect.Promised m b ∷ []) e)))
-        above lt =
+        above : offset d.node.log < first → promise d.node.log < b → G (append d.node.armed m (Promised b) d (λ e. promised m from b first (follow m (effect.Promised m b ∷ []) e)))
+        above young lt =
             let allowed : Allowed n sv (K d) d.node.log m (Promised b) = (omega arith, j.1, inr j.2) in
             let left = left_ok d.node good.here (is_active d.node.role) in
             append_good n sv L R ms m d min good (Promised b) allowed d.node.armed (λ e. promised m from b first (follow m (effect.Promised m b ∷ []) e))
             (λ a. reply_good _ (next_good n sv L R ms m d min good (Promised b) allowed (record (with_role Follower d).node { armed = a }) d.sends _ tt (record { based = left.0; replayed = left.1 }) (out_grows n sv L R ms m d min good (Promised b) allowed))
-            from b first (inl refl) (omega arith) (le_trans j.3 (suc-le-suc (begins_length _ _ ((grown n sv L R ms m d min good (Promised b) allowed).at (node_of b)).learns))))
+            from b first young (inl refl) (omega arith) (le_trans j.3 (suc-le-suc (begins_length _ _ ((grown n sv L R ms m d min good (Promised b) allowed).at (node_of b)).learns))))
 
-        same : b ≤ promise d.node.log → promise d.node.log ≤ b → G (promised m from b first d)
-        same u w = reply_good d good from b first (has_promise b d.node.log (omega arith) (omega (arith, j.0))) w j.3
+        same : offset d.node.log < first → b ≤ promise d.node.log → promise d.node.log ≤ b → G (promised m from b first d)
+        same young u w = reply_good d good from b first young (has_promise b d.node.log (omega arith) (omega (arith, j.0))) w j.3
 
     -- what the node's own log says of it
     own_log : (d : Call V S) (b : ℕ) → node_of b ≡ m → K d (node_of b) ≡ d.node.log
@@ -345,7 +391,8 @@ module _ {V S : Type 0} where
     accept_good from b i v d good j =
         if_good G (nat_lt b (promise d.node.log))
         (λ _. send_good d good (answer m from (Nack b (promise d.node.log))) (just_one n (K d) (record { from = m; to = from; content = Nack b (promise d.node.log) }) tt))
-        (λ x. if_good G (has_last b i (accepted d.node.log)) have (λ _. new (ltb-false b (promise d.node.log) x)))
+        (λ x. if_good G (nat_le i (offset d.node.log)) (λ _. base_good from d good)
+        (λ _. if_good G (has_last b i (accepted d.node.log)) have (λ _. new (ltb-false b (promise d.node.log) x))))
       where
         tells : (M : Logs V S) (u : V) → HasAccepted b i u (M m) → AreJustified n M (answer m from (Voted b i))
         tells M u a = just_one n M (record { from = m; to = from; content = Voted b i }) (min, (u, a))
@@ -432,6 +479,26 @@ module _ {V S : Type 0} where
     nack_good p d good Follower = say_good (effect.IgnoredBallot p 0) d good
     nack_good p d good (Leads l) = if_good G (nat_lt l.ballot p) (λ _. follow_good [] d good) (λ _. say_good (effect.IgnoredBallot p l.ballot) d good)
 
+    snapshot_good : (values : List V) (d : Call V S) → G d → IsRightSnapshot n (K d) values → G (on_snapshot sv m values d)
+    snapshot_good values d good j =
+        if_good G (nat_le (length values) (length (known d.node.log))) (λ _. say_good (effect.IgnoredInstance (length values) (suc (length (known d.node.log)))) d good)
+        (λ x. new (leb-false (length values) (length (known d.node.log)) x))
+      where
+        r : Rec V S
+        r = Transferred values (sv.state values)
+
+        taking : Call V S → Call V S
+        taking e = follow m (effect.Transferred m (length values) ∷ []) (with_replayed (length values) e)
+
+        new : length (known d.node.log) < length values → G (append d.node.armed m r d taking)
+        new l =
+            let allowed : Allowed n sv (K d) d.node.log m r = ((l, prefix_of n sv (K d) good.safe 1 (known d.node.log) values (knows_here d good) j.chosen (omega arith), refl), j.chosen, j.given) in
+            let left = left_at (length values) (is_active d.node.role) in
+            append_good n sv L R ms m d min good r allowed d.node.armed taking
+            (λ a. next_good n sv L R ms m d min good r allowed (taking (logged r a d)).node d.sends _ tt
+            (record { based = left.0; replayed = left.1 })
+            (out_grows n sv L R ms m d min good r allowed))
+
     just_take : (M : Logs V S) (k : ℕ) (xs : List (Message V)) → AreJustified n M xs → AreJustified n M (take k xs)
     just_take M zero [] h x y = absurd y
     just_take M (suc k) [] h x y = absurd y
@@ -447,8 +514,10 @@ module _ {V S : Type 0} where
     receive_good from (Chose i v) d good j = chosen_good i v d good j
     receive_good from (Nack b p) d good j = nack_good p d good d.node.role
     receive_good from (Ask first) d good j =
+        if_good G (nat_le first (offset d.node.log)) (λ _. base_good from d good) (λ _.
         if_good G (nat_lt (length (known d.node.log)) first) (λ _. say_good effect.Nothing d good)
-        (λ _. send_good d good (take 64 (tell m from first 1 (known d.node.log))) (just_take (K d) 64 (tell m from first 1 (known d.node.log)) (just_tell n (K d) m from first 1 (known d.node.log) (knows_here d good))))
+        (λ _. send_good d good (take 64 (tell m from first 1 (known d.node.log))) (just_take (K d) 64 (tell m from first 1 (known d.node.log)) (just_tell n (K d) m from first 1 (known d.node.log) (knows_here d good)))))
+    receive_good from (Snapshot values) d good j = snapshot_good values d good j
 
     -- ---- schedule lines
 
@@ -483,14 +552,14 @@ module _ {V S : Type 0} where
         r = Checkpoint Two k (sv.state (take k (known d.node.log)))
 
         rs : AreRecords sv d.node.log
-        rs = records_here n sv L R ms m d min good
+        rs = records_at d good
 
         new : has_old_base d.node.log ≡ true → G (append d.node.armed m r d (say (effect.Migrated m k)))
         new e =
-            let allowed : Allowed n sv (K d) d.node.log m r = (old_some sv d.node.log rs e, base_low sv d.node.log rs, refl) in
+            let allowed : Allowed n sv (K d) d.node.log m r = (old_some sv d.node.log rs e, offset_low sv d.node.log rs, base_low sv d.node.log rs, refl) in
             append_good n sv L R ms m d min good r allowed d.node.armed (say (effect.Migrated m k))
             (λ a. next_good n sv L R ms m d min good r allowed (record d.node { armed = a }) d.sends _
-            (checkpoint_role Two n _ d.node.log k (sv.state (take k (known d.node.log))) m d.node.role (role_grows (grown n sv L R ms m d min good r allowed) n d.node.log m d.node.role good.role))
+            (quiet_role n _ d.node.log (r ∷ d.node.log) refl refl (λ b i v h. h) (λ b i v h. h) m d.node.role (role_grows (grown n sv L R ms m d min good r allowed) n d.node.log m d.node.role good.role))
             (record { based = good.here.based; replayed = good.here.replayed })
             (out_grows n sv L R ms m d min good r allowed))
 

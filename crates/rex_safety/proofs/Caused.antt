@@ -29,6 +29,8 @@ use Rattle.rex_scenario.specs.declared.scenario.ScheduleLine.{ScheduleLine}
 use Rattle.rex_safety.specs.Invariant.{IsIn}
 use Rattle.rex_safety.specs.Values.{Value, read_delta, delta_of, events_of, trace_of, is_piece, may_be_value, spells, runs, values_fit, service_of}
 use Rattle.rex_safety.specs.Agreed.{world_after, agreed, trace_at}
+use Rattle.rex_safety.specs.World.{World}
+use Rattle.rex_safety.specs.Kept.{IsWorld}
 use Rattle.rex_safety.proofs.Agreeing.{agreed_fits}
 use Rattle.rex_safety.proofs.Replies.{trace_both, fits_run, run_split}
 use Rattle.rex_safety.proofs.Sames.{lists_are}
@@ -75,16 +77,25 @@ whole : (vs : List Value) → take (length vs) vs ≡ vs
 whole [] = refl
 whole (v ∷ vs) = ap (λ xs. v ∷ xs) (whole vs)
 
-pub agreed_least : (service : Declarations) (requests : List Request) (seed n : ℕ) (lines : List ScheduleLine) → n ≤ most_nodes → IsService service → IsChecked service → (v : Value) → IsIn v (agreed (world_after service requests seed n lines)) → AreLeast (delta_of v).events (delta_of v).causes
-agreed_least service requests seed n lines few good checked =
-    values_least service good checked (agreed (world_after service requests seed n lines))
-    (subst (λ vs. values_fit service vs ≡ true) (whole (agreed (world_after service requests seed n lines)))
-    (agreed_fits n (service_of service seed) (world_after service requests seed n lines) (reached_ok service requests seed n few lines) refl (length (agreed (world_after service requests seed n lines)))))
+module _ (service : Declarations) (seed n : ℕ) (w : World) (ok : IsWorld n (service_of service seed) w) (good : IsService service) (checked : IsChecked service) where
+  pub least_agreed : (v : Value) → IsIn v (agreed w) → AreLeast (delta_of v).events (delta_of v).causes
+  least_agreed = values_least service good checked (agreed w) (subst (λ vs. values_fit service vs ≡ true) (whole (agreed w)) (agreed_fits n (service_of service seed) w ok refl (length (agreed w))))
 
--- ---- cuts
+  -- ---- cuts
 
-pub agreed_cuts : (service : Declarations) (requests : List Request) (seed n : ℕ) (lines : List ScheduleLine) → n ≤ most_nodes → IsService service → IsChecked service → (k : ℕ) (cut : List ℕ) → IsConsistent (trace_at (world_after service requests seed n lines) k) cut
-    → (s : StateValue) × (run service (start_of service) (trace_at (world_after service requests seed n lines) k) ≡ Some s) × GoesFirst service (start_of service) s cut (trace_at (world_after service requests seed n lines) k)
-agreed_cuts service requests seed n lines few good checked k cut closed =
-    let r = fits_run service (take k (agreed (world_after service requests seed n lines))) (agreed_fits n (service_of service seed) (world_after service requests seed n lines) (reached_ok service requests seed n few lines) refl k) in
-    (r.0, r.1, cuts_go_first service (start_of service) r.0 cut (trace_at (world_after service requests seed n lines) k) good (start_keeps service good checked) closed r.1)
+  pub cuts_first : (k : ℕ) (cut : List ℕ) → IsConsistent (trace_at w k) cut → (s : StateValue) × (run service (start_of service) (trace_at w k) ≡ Some s) × GoesFirst service (start_of service) s cut (trace_at w k)
+  cuts_first k cut closed =
+      let r = fits_run service (take k (agreed w)) (agreed_fits n (service_of service seed) w ok refl k) in
+      (r.0, r.1, cuts_go_first service (start_of service) r.0 cut (trace_at w k) good (start_keeps service good checked) closed r.1)
+
+-- ---- after lines
+
+module _ (service : Declarations) (requests : List Request) (seed n : ℕ) (lines : List ScheduleLine) (few : n ≤ most_nodes) (good : IsService service) (checked : IsChecked service) where
+  abbrev w : World
+  w = world_after service requests seed n lines
+
+  pub agreed_least : (v : Value) → IsIn v (agreed w) → AreLeast (delta_of v).events (delta_of v).causes
+  agreed_least = least_agreed service seed n w (reached_ok service requests seed n few lines) good checked
+
+  pub agreed_cuts : (k : ℕ) (cut : List ℕ) → IsConsistent (trace_at w k) cut → (s : StateValue) × (run service (start_of service) (trace_at w k) ≡ Some s) × GoesFirst service (start_of service) s cut (trace_at w k)
+  agreed_cuts = cuts_first service seed n w (reached_ok service requests seed n few lines) good checked

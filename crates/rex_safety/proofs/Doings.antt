@@ -15,13 +15,13 @@ use Rattle.rex_safety.specs.World.{World, logs, beginning, steps_of}
 use Rattle.rex_safety.specs.Invariant.{Begins, Grows}
 use Rattle.rex_safety.specs.Agreed.{known_at}
 use Rattle.rex_safety.specs.Kept.{IsWorld}
-use Rattle.rex_safety.specs.Laws.{OnlyGrows, ReleasesStand}
+use Rattle.rex_safety.specs.Laws.{OnlyGrows, ReleasesStand, ReleasesAreAgreed, NodesAreKept}
 use Rattle.rex_safety.specs.Takes.{Doing, does, after_doings}
 use Rattle.rex_safety.specs.Takes.Doing.{Does, Takes}
 use Rattle.rex_safety.specs.Doings.{world_after_doings, moments_of_doings}
 use Rattle.rex_safety.proofs.Agreeing.{at_two, grows_only}
 use Rattle.rex_safety.proofs.Grow.{grows_trans}
-use Rattle.rex_safety.proofs.Moments.{AreMoments, step_moments_are, moments_stand}
+use Rattle.rex_safety.proofs.Moments.{AreMoments, step_moments_are, moments_stand, moments_agreed}
 use Rattle.rex_safety.proofs.Steps.{row_ok, beginning_ok}
 use Rattle.rex_safety.proofs.Takes.{take_ok}
 use Rattle.rex_safety.proofs.Worlds.{GoesOnTo, row_same}
@@ -43,6 +43,9 @@ module _ (service : Declarations) (requests : List Request) (seed n : ℕ) (few 
 
   pub doings_reached : (xs : List Doing) → IsWorld n sv (world_after_doings service requests seed n xs)
   doings_reached xs = (doings_ok (beginning n) xs (beginning_ok service requests seed n few)).0
+
+  pub doings_nodes : (xs : List Doing) → NodesAreKept service seed n (world_after_doings service requests seed n xs)
+  doings_nodes xs = let ok = doings_reached xs in record { many = ok.many; records = ok.cluster.safe.sorted; replayed = ok.nodes }
 
 -- ---- at two moments
 
@@ -85,3 +88,6 @@ module _ (service : Declarations) (good : IsService service) (checked : IsChecke
 
   pub doings_stand : (doings : List Doing) → ReleasesStand (moments_of_doings service requests seed n (beginning n) doings)
   doings_stand doings = moments_stand service good checked requests fit seed n few (logs (beginning n)) (moments_of_doings service requests seed n (beginning n) doings) (doing_moments_are (beginning n) doings (beginning_ok service requests seed n few))
+
+  pub doings_agreed : (doings : List Doing) → ReleasesAreAgreed (moments_of_doings service requests seed n (beginning n) doings)
+  doings_agreed doings = moments_agreed service good checked requests fit seed n few (logs (beginning n)) (moments_of_doings service requests seed n (beginning n) doings) (doing_moments_are (beginning n) doings (beginning_ok service requests seed n few))

@@ -45,6 +45,7 @@ has_lane service nodes requests (line.Ask m other) l = tt
 has_lane service nodes requests (line.Stop m) l = tt
 has_lane service nodes requests (line.Start m) l = tt
 has_lane service nodes requests (line.Checkpoint m version) l = tt
+has_lane service nodes requests (line.DropKnown m) l = tt
 has_lane service nodes requests (line.KeepFail m kept) l = tt
 
 -- ---- the messages that were handed over
@@ -80,6 +81,7 @@ step_told service requests seed n w (line.Ask m other) h = if_up_told (node_at w
 step_told service requests seed n w (line.Stop m) h = if_up_told (node_at w.nodes m).up w m _ h
 step_told service requests seed n w (line.Start m) h = start_told (service_of service seed) w m (node_at w.nodes m).up h
 step_told service requests seed n w (line.Checkpoint m version) h = if_up_told (node_at w.nodes m).up w m _ h
+step_told service requests seed n w (line.DropKnown m) h = if_up_told (node_at w.nodes m).up w m _ h
 step_told service requests seed n w (line.KeepFail m kept) h = after_told w m (arm m kept (begin (node_at w.nodes m))) h
 
 -- ---- steps
@@ -113,7 +115,7 @@ module _ (service : Declarations) (good : IsService service) (checked : IsChecke
       record {
         world = ok;
         acting = acting_of (step service requests seed n w x).world ok (step_work service good checked requests fit seed n few w k.world.many (all_work w k) x (has_lane service n (length requests) x l));
-        numbers = step_fits service requests seed n few w k.world.many k.numbers x l;
+        numbers = step_fits service requests seed n few w k.world k.numbers x l;
         handed = step_told service requests seed n w x k.handed;
       }
 

@@ -5,6 +5,7 @@ pub mod Step
 pub mod Lists
 pub mod Roles
 pub mod Settle
+pub mod TellNone
 pub mod Migrated
 pub mod Calls
 pub mod Nodes
@@ -12,7 +13,6 @@ pub mod Worlds
 pub mod Steps
 pub mod Fronts
 pub mod Agreeing
-pub mod Ruled
 pub mod Traces
 pub mod Told
 pub mod Released
@@ -20,6 +20,8 @@ pub mod Leaders
 pub mod Saying
 pub mod Replies
 pub mod Moments
+pub mod Showing
+pub mod Rounds
 pub mod Onces
 pub mod Requests
 pub mod Sames
@@ -27,6 +29,7 @@ pub mod Queues
 pub mod Clients
 pub mod Working
 pub mod Acting
+pub mod WorkingWorlds
 pub mod Actives
 pub mod Faithful
 pub mod Stopping
@@ -42,5 +45,15 @@ pub mod Keeps
 pub mod Spelled
 pub mod Takes
 pub mod Doings
+pub mod Reached
+pub mod Typing
+pub mod Typings
+pub mod Faithfuls
+pub mod Raising
+pub mod Promising
+pub mod Held
+pub mod Candidacies
+pub mod Asking
+pub mod Ruled
 pub mod Examples
 pub mod Schedules

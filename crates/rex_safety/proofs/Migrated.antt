@@ -1,10 +1,10 @@
 -- A node that writes down its last checkpoint again has one, and sends nothing with it; what its records say stays as it was.
-use Rattle.std.proofs.Common.{◌≡◌, ℕ, zero, suc, ◌<◌, Bool, true, false, cond, ◌∷◌, [], List, take, Option, Some, None, refl, sym, ap}
+use Rattle.std.proofs.Common.{◌≡◌, ℕ, zero, suc, ◌<◌, Bool, true, false, cond, ◌∷◌, [], List, take, Option, Some, None, refl, sym, ap, arith}
 use Rattle.rex_report.specs.declared.effect.Effect.TheVariants as effect
 use Rattle.rex_state.specs.Value.{StateValue}
 use Rattle.rex_version.specs.declared.version.Version.TheVariants.{Two}
 use Rattle.rex_safety.specs.Records.{Rec, known, base, has_old_base}
-use Rattle.rex_safety.specs.Records.Rec.{Promised, Accepted, Known, Checkpoint}
+use Rattle.rex_safety.specs.Records.Rec.{Promised, Accepted, Known, Checkpoint, Dropped, Transferred}
 use Rattle.rex_safety.specs.Node.{Service, Failure}
 use Rattle.rex_safety.specs.Node.Failure.{After}
 use Rattle.rex_safety.specs.Calls.{Call, append, say}
@@ -21,6 +21,8 @@ module _ {V S : Type 0} where
   old_some sv (Accepted b i v ∷ log) r e = old_some sv log r.1 e
   old_some sv (Known i v ∷ log) r e = old_some sv log r.1 e
   old_some sv (Checkpoint version k t ∷ log) r e = r.0.0
+  old_some sv (Dropped k ∷ log) r e = old_some sv log r.1 e
+  old_some sv (Transferred values t ∷ log) r e = omega (arith, r.0.0)
 
   pub migrated_sends : (t : Bool) (me : ℕ) (d : Call V S) (k : ℕ) (r : Rec V S) → d.sends ≡ [] → (cond t (append d.node.armed me r d (say (effect.Migrated me k))) d).sends ≡ []
   migrated_sends false me d k r e = e

@@ -14,7 +14,7 @@ use Rattle.rex_safety.specs.Records.{known}
 use Rattle.rex_safety.specs.Quorum.{IsNode, Logs}
 use Rattle.rex_safety.specs.Node.{Service, Message, Lead, Role, is_active, kind_of}
 use Rattle.rex_safety.specs.Node.Role.{Follower, Leads}
-use Rattle.rex_safety.specs.Calls.{begin, elect, receive, ask, replay, checkpoint, stop}
+use Rattle.rex_safety.specs.Calls.{begin, elect, receive, ask, replay, checkpoint, drop_known, stop}
 use Rattle.rex_safety.specs.Values.{Value, service_of}
 use Rattle.rex_safety.specs.Lanes.{Here, CallHere, no_limits, with_limits}
 use Rattle.rex_safety.specs.World.{World, Row, node_at, put, logs, beginning, after, if_up, at_node, start_if, first_told, with_handed, deliver_found, message_at, step, steps_of, steps, row}
@@ -29,8 +29,8 @@ use Rattle.rex_safety.specs.Node.{own_ballot}
 use Rattle.rex_safety.specs.Values.{trace_of, values_fit}
 use Rattle.rex_safety.specs.Lanes.{node_trace}
 use Rattle.rex_safety.specs.Stands.{Stands}
-use Rattle.rex_safety.specs.Agreed.{known_at}
-use Rattle.rex_safety.specs.Laws.{ReleasesStand}
+use Rattle.rex_safety.specs.Agreed.{known_at, agreed}
+use Rattle.rex_safety.specs.Laws.{ReleasesStand, ReleasesAreAgreed}
 use Rattle.rex_safety.specs.Releases.{IsAmong, Moment, receiver_of, node_in, step_moments, moments, IsLater}
 use Rattle.rex_safety.proofs.Traces.{stands_more}
 use Rattle.rex_safety.proofs.Grow.{grows_same, grows_trans}
@@ -39,8 +39,9 @@ use Rattle.rex_safety.proofs.Leaders.{later_knows, earlier_knows}
 use Rattle.rex_safety.proofs.Nodes.{node_put, none_down}
 use Rattle.rex_safety.proofs.Worlds.{IsWorld, node_or_not, node_of_lead}
 use Rattle.rex_safety.proofs.Steps.{step_ok, row_ok, beginning_ok}
-use Rattle.rex_safety.proofs.Saying.{Quiet, quiet_one, quiet_none, start_quiet, elect_says, receive_says, replay_says, checkpoint_says, stop_says}
-use Rattle.rex_safety.proofs.Replies.{trace_both, StandsIn, replies_stand, SaysHere, quietly, submit_says, turn_says, cut_tells}
+use Rattle.rex_safety.proofs.Saying.{Quiet, quiet_one, quiet_none, start_quiet, elect_says, receive_says, replay_says, checkpoint_says, drop_says, stop_says}
+use Rattle.rex_safety.proofs.Agreeing.{known_begins, agreed_grows}
+use Rattle.rex_safety.proofs.Replies.{trace_both, stands_begins, StandsIn, replies_stand, SaysHere, quietly, submit_says, turn_says, cut_tells}
 
 -- ---- a step
 
@@ -99,6 +100,7 @@ module _ (service : Declarations) (good : IsService service) (checked : IsChecke
   step_true requests fit w many (line.Stop m) = at_node_true w many m (stop m) (λ d q. stop_says n (service_of service seed) m (StandsIn service good checked) (replies_stand service good checked) d q)
   step_true requests fit w many (line.Start m) = start_true w m (node_at w.nodes m).up
   step_true requests fit w many (line.Checkpoint m version) = at_node_true w many m (checkpoint version (service_of service seed) m) (λ d q. checkpoint_says n (service_of service seed) m (StandsIn service good checked) (replies_stand service good checked) version d q)
+  step_true requests fit w many (line.DropKnown m) = at_node_true w many m (drop_known m) (λ d q. drop_says n (service_of service seed) m (StandsIn service good checked) (replies_stand service good checked) d q)
   step_true requests fit w many (line.KeepFail m kept) = quiet_true m (step service requests seed n w (line.KeepFail m kept)).world (step service requests seed n w (line.KeepFail m kept)).effects (quiet_one _ (λ c s x e. cc))
 
 -- ---- the moments of a run
@@ -216,6 +218,21 @@ module _ (service : Declarations) (good : IsService service) (checked : IsChecke
           order : (i < j) ⊎ (j ≤ i) → Stands (node_trace (node_at lead.world.nodes m)) c s x
           order (inl l) = forward (omega arith) (omega (arith, kb, ldr.ballot_is, h))
           order (inr l) = backward l (omega (arith, kb, ldr.ballot_is, h))
+
+  -- each reply that is released at one of these moments stands in the agreed trace from then on
+  pub moments_agreed : (L : Logs Value StateValue) (ms : List Moment) → AreMoments L ms → ReleasesAreAgreed ms
+  moments_agreed L ms all i j release later ei ej l c s x among =
+      stands_begins (agreed release.world) (agreed later.world) c s x (agreed_grows n sv release.world later.world mr.ok ml.ok (two_at L ms i j release later all ei ej l))
+      (stands_begins (known_at release.world release.node) (agreed release.world) c s x (known_begins n sv release.world mr.ok release.node t.0) (t.2 (known_run release.world mr.ok release.node t.0)))
+    where
+      mr : IsMoment L release
+      mr = one_at L ms i release all ei
+
+      ml : IsMoment L later
+      ml = one_at L ms j later all ej
+
+      t : IsNode n release.node × (is_active (node_at release.world.nodes release.node).role ≡ true) × StandsIn service good checked (known_at release.world release.node) c s x
+      t = mr.true_of.each c s x among
 
   pub replies_stand_later : (lines : List ScheduleLine) → ReleasesStand (moments service requests seed n (beginning n) lines)
   replies_stand_later lines = moments_stand (logs (beginning n)) (moments service requests seed n (beginning n) lines) (moments_are (beginning n) lines (beginning_ok service requests seed n few))

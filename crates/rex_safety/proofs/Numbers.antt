@@ -15,7 +15,7 @@ use Rattle.rex_safety.specs.Records.{Proposal, known, base, has_old_base}
 use Rattle.rex_safety.specs.Quorum.{IsNode}
 use Rattle.rex_safety.specs.Node.{Service, Message, Lead, Role, is_active}
 use Rattle.rex_safety.specs.Node.Role.{Follower, Leads}
-use Rattle.rex_safety.specs.Calls.{begin, enough, elect, receive, ask, replay, checkpoint, restart, stop, start, arm}
+use Rattle.rex_safety.specs.Calls.{begin, enough, elect, receive, ask, replay, checkpoint, drop_known, restart, stop, start, arm}
 use Rattle.rex_safety.specs.Values.{Value, service_of}
 use Rattle.rex_safety.specs.Lanes.{Here, CallHere, active_only, submit_request, lane_turn, cut_live, cut_lead, cut_role, cut, value_at, no_limits, with_limits}
 use Rattle.rex_safety.specs.World.{World, node_at, put, beginning, after, if_up, at_node, start_if, with_handed, deliver_found, message_at, step, waiting_from, flush_steps, steps_of, steps, row, after_lines}
@@ -32,7 +32,7 @@ use Rattle.rex_safety.proofs.Lists.{in_cases}
 use Rattle.rex_safety.proofs.Nodes.{node_put, put_none, none_down, IsFresh, fresh_at}
 use Rattle.rex_safety.proofs.Worlds.{IsWorld, nth_in, node_or_not}
 use Rattle.rex_safety.proofs.Steps.{step_ok, row_ok, beginning_ok}
-use Rattle.rex_safety.proofs.Ranged.{Fits, if_fits, elect_fits, receive_fits, ask_fits, replay_fits, checkpoint_fits, migrated_fits, proposed_fits}
+use Rattle.rex_safety.proofs.Ranged.{Fits, if_fits, elect_fits, receive_fits, ask_fits, replay_fits, checkpoint_fits, drop_fits, migrated_fits, proposed_fits}
 use Rattle.rex_safety.proofs.Migrated.{migrated_sends}
 
 module _ (service : Declarations) (requests : List Request) (seed n : ℕ) (few : n ≤ most_nodes) where
@@ -106,20 +106,24 @@ module _ (service : Declarations) (requests : List Request) (seed n : ℕ) (few 
     messages = λ x i. h.messages x (subst (IsIn x) (ap (λ xs. w.messages ++ xs) e ∙ append-nil w.messages) i);
   }
 
-  pub any_fits : (w : World) → length w.nodes ≡ n → AllFit w → (m : ℕ) (call : CallHere → CallHere) → ((min : IsNode n m) (d : CallHere) → FitsAt m min d → FitsAt m min (call d)) → AllFit (at_node w m call).world
-  any_fits w many h m call k = go (node_at w.nodes m).up refl (node_or_not n m)
+  -- the same of one node, and of any
+  here_fits : (w : World) → length w.nodes ≡ n → AllFit w → (m : ℕ) (call : CallHere → CallHere) → ((min : IsNode n m) → FitsAt m min (begin (node_at w.nodes m)) → FitsAt m min (call (begin (node_at w.nodes m)))) → AllFit (at_node w m call).world
+  here_fits w many h m call k = go (node_at w.nodes m).up refl (node_or_not n m)
     where
       go : (t : Bool) → (node_at w.nodes m).up ≡ t → IsNode n m ⊎ (IsNode n m → ⊥) → AllFit (if_up t w m (call (begin (node_at w.nodes m)))).world
       go false e o = record { nodes = h.nodes; messages = h.messages }
-      go true e (inl min) = after_fits w many h m min (call (begin (node_at w.nodes m))) (k min (begin (node_at w.nodes m)) (begun w h m min))
+      go true e (inl min) = after_fits w many h m min (call (begin (node_at w.nodes m))) (k min (begun w h m min))
       go true e (inr none) = absurd (false≢true (sym (ap (λ (x : Here). x.up) (none_down w.nodes m (λ l. none (subst (λ k. IsNode k m) many l)))) ∙ e))
 
-  deliver_fits : (w : World) → length w.nodes ≡ n → AllFit w → (number : ℕ) (o : Option (Message Value)) → message_at w.messages number ≡ o → AllFit (deliver_found service seed n w number o).world
-  deliver_fits w many h number None e = record { nodes = h.nodes; messages = h.messages }
-  deliver_fits w many h number (Some x) e =
+  pub any_fits : (w : World) → length w.nodes ≡ n → AllFit w → (m : ℕ) (call : CallHere → CallHere) → ((min : IsNode n m) (d : CallHere) → FitsAt m min d → FitsAt m min (call d)) → AllFit (at_node w m call).world
+  any_fits w many h m call k = here_fits w many h m call (λ min f. k min (begin (node_at w.nodes m)) f)
+
+  deliver_fits : (w : World) → IsWorld n sv w → AllFit w → (number : ℕ) (o : Option (Message Value)) → message_at w.messages number ≡ o → AllFit (deliver_found service seed n w number o).world
+  deliver_fits w ok h number None e = record { nodes = h.nodes; messages = h.messages }
+  deliver_fits w ok h number (Some x) e =
       let f = h.messages x (found number e) in
-      any_fits (with_handed w number) many (record { nodes = h.nodes; messages = h.messages }) x.to (receive n sv x.to x.from x.content)
-      (λ min d k. receive_fits n few sv x.to min x.from f.from (λ s. f.apart (sym s)) x.content f.content d k)
+      here_fits (with_handed w number) ok.many (record { nodes = h.nodes; messages = h.messages }) x.to (receive n sv x.to x.from x.content)
+      (λ min k. receive_fits n few sv x.to min x.from f.from (λ s. f.apart (sym s)) x.content f.content (begin (node_at w.nodes x.to)) (ok.cluster.safe.sorted x.to min) k)
     where
       found : (k : ℕ) → message_at w.messages k ≡ Some x → IsIn x w.messages
       found zero e = absurd (cc)
@@ -149,20 +153,21 @@ module _ (service : Declarations) (requests : List Request) (seed n : ℕ) (few 
       go (inl min) = let x = h.nodes m min in after_fits w many h m min (arm m kept (begin (node_at w.nodes m))) (record { log = x.log; role = x.role; sends = λ y i. absurd i })
       go (inr none) = none_fits w many h m none (arm m kept (begin (node_at w.nodes m))) refl
 
-  pub step_fits : (w : World) → length w.nodes ≡ n → AllFit w → (x : ScheduleLine) → LineFits n (length requests) service.lanes x → AllFit (step service requests seed n w x).world
-  step_fits w many h (line.Elect m) l = any_fits w many h m (elect n sv m) (λ min d k. elect_fits n few sv m min d k)
-  step_fits w many h (line.Submit m r) l = any_fits w many h m _ (λ min d k. active_fits m min (is_active d.node.role) d _ k (submit_fits m min (slice_get requests r) d k))
-  step_fits w many h (line.Lane m lane) l = any_fits w many h m _ (λ min d k. active_fits m min (is_active d.node.role) d (lane_turn service w.done lane d) k (record { log = k.log; role = k.role; sends = k.sends }))
-  step_fits w many h (line.Cut m) l = any_fits w many h m _ (λ min d k. cut_fits m min (no_limits service d.node) d k)
-  step_fits w many h (line.CutBelow m limits) l = any_fits w many h m _ (λ min d k. cut_fits m min (with_limits service d.node limits) d k)
-  step_fits w many h (line.Deliver number) l = deliver_fits w many h number (message_at w.messages number) refl
-  step_fits w many h line.Flush l = record { nodes = h.nodes; messages = h.messages }
-  step_fits w many h (line.Replay m) l = any_fits w many h m (replay m) (λ min d k. replay_fits n few sv m min d k)
-  step_fits w many h (line.Ask m other) l = any_fits w many h m (ask m other) (λ min d k. ask_fits n few sv m min other l.1.0 l.1.1 d k)
-  step_fits w many h (line.Stop m) l = any_fits w many h m (stop m) (λ min d k. record { log = k.log; role = tt; sends = k.sends })
-  step_fits w many h (line.Start m) l = start_fits w many h m (node_at w.nodes m).up
-  step_fits w many h (line.Checkpoint m version) l = any_fits w many h m (checkpoint version sv m) (λ min d k. checkpoint_fits n few sv m min version d k)
-  step_fits w many h (line.KeepFail m kept) l = arm_fits w many h m kept
+  pub step_fits : (w : World) → IsWorld n sv w → AllFit w → (x : ScheduleLine) → LineFits n (length requests) service.lanes x → AllFit (step service requests seed n w x).world
+  step_fits w ok h (line.Elect m) l = any_fits w ok.many h m (elect n sv m) (λ min d k. elect_fits n few sv m min d k)
+  step_fits w ok h (line.Submit m r) l = any_fits w ok.many h m _ (λ min d k. active_fits m min (is_active d.node.role) d _ k (submit_fits m min (slice_get requests r) d k))
+  step_fits w ok h (line.Lane m lane) l = any_fits w ok.many h m _ (λ min d k. active_fits m min (is_active d.node.role) d (lane_turn service w.done lane d) k (record { log = k.log; role = k.role; sends = k.sends }))
+  step_fits w ok h (line.Cut m) l = any_fits w ok.many h m _ (λ min d k. cut_fits m min (no_limits service d.node) d k)
+  step_fits w ok h (line.CutBelow m limits) l = any_fits w ok.many h m _ (λ min d k. cut_fits m min (with_limits service d.node limits) d k)
+  step_fits w ok h (line.Deliver number) l = deliver_fits w ok h number (message_at w.messages number) refl
+  step_fits w ok h line.Flush l = record { nodes = h.nodes; messages = h.messages }
+  step_fits w ok h (line.Replay m) l = any_fits w ok.many h m (replay m) (λ min d k. replay_fits n few sv m min d k)
+  step_fits w ok h (line.Ask m other) l = any_fits w ok.many h m (ask m other) (λ min d k. ask_fits n few sv m min other l.1.0 l.1.1 d k)
+  step_fits w ok h (line.Stop m) l = any_fits w ok.many h m (stop m) (λ min d k. record { log = k.log; role = tt; sends = k.sends })
+  step_fits w ok h (line.Start m) l = start_fits w ok.many h m (node_at w.nodes m).up
+  step_fits w ok h (line.Checkpoint m version) l = any_fits w ok.many h m (checkpoint version sv m) (λ min d k. checkpoint_fits n few sv m min version d k)
+  step_fits w ok h (line.DropKnown m) l = any_fits w ok.many h m (drop_known m) (λ min d k. drop_fits n few sv m min d k)
+  step_fits w ok h (line.KeepFail m kept) l = arm_fits w ok.many h m kept
 
   -- ---- lines
 
@@ -192,11 +197,12 @@ module _ (service : Declarations) (requests : List Request) (seed n : ℕ) (few 
   steps_fit w (line.Stop m) l = (l, tt)
   steps_fit w (line.Start m) l = (l, tt)
   steps_fit w (line.Checkpoint m version) l = (l, tt)
+  steps_fit w (line.DropKnown m) l = (l, tt)
   steps_fit w (line.KeepFail m kept) l = (l, tt)
 
   all_steps_fit : (w : World) (xs : List ScheduleLine) → IsWorld n sv w → AllFit w → AllLinesFit xs → AllFit (steps service requests seed n w xs).world
   all_steps_fit w [] ok h l = h
-  all_steps_fit w (x ∷ xs) ok h l = all_steps_fit (step service requests seed n w x).world xs (step_ok service requests seed n few w x ok).0 (step_fits w ok.many h x l.0) l.1
+  all_steps_fit w (x ∷ xs) ok h l = all_steps_fit (step service requests seed n w x).world xs (step_ok service requests seed n few w x ok).0 (step_fits w ok h x l.0) l.1
 
   row_fits : (w : World) (x : ScheduleLine) → IsWorld n sv w → AllFit w → LineFits n (length requests) service.lanes x → AllFit (row service requests seed n w x).world
   row_fits w x ok h l = let r = all_steps_fit w (steps_of w x) ok h (steps_fit w x l) in record { nodes = r.nodes; messages = r.messages }

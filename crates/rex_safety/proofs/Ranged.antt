@@ -1,24 +1,24 @@
 -- Each call keeps numbers in their ranges.
-use Rattle.std.proofs.Common.{◌≡◌, ℕ, zero, suc, ◌+◌, ◌-◌, ◌*◌, ◌/◌, ◌<◌, ◌≤◌, ◌≢◌, Bool, true, false, cond, ◌||◌, ◌⊎◌, List, [], ◌∷◌, ◌++◌, length, Option, Some, None, eqb, ltb, leb, refl, sym, subst, inl, inr, arith, le_trans, le_refl, eqb-true, ltb-true, ltb-false}
-use Rattle.std.specs.Prelude.{take, ◌==◌, nat_lt}
+use Rattle.std.proofs.Common.{◌≡◌, ℕ, zero, suc, ◌+◌, ◌-◌, ◌*◌, ◌/◌, ◌<◌, ◌≤◌, ◌≢◌, Bool, true, false, cond, ◌||◌, ◌⊎◌, List, [], ◌∷◌, ◌++◌, length, Option, Some, None, eqb, ltb, leb, refl, sym, ap, subst, inl, inr, arith, le_trans, le_refl, eqb-true, ltb-true, ltb-false, leb-true}
+use Rattle.std.specs.Prelude.{take, ◌==◌, nat_lt, nat_le}
 use Rattle.std.proofs.lemmas.Bool.{eqb-false}
 use Rattle.rex_ballot.specs.Limits.{most_nodes}
 use Rattle.rex_report.specs.declared.effect.Effect.{Effect}
 use Rattle.rex_report.specs.declared.effect.Effect.TheVariants as effect
 use Rattle.rex_version.specs.declared.version.Version.{Version}
 use Rattle.rex_version.specs.declared.version.Version.TheVariants.{Two}
-use Rattle.rex_safety.specs.Records.{Rec, Proposal, proposal_of, promise, placed, accepted, from_on, known, base, HasAccepted, HasBallot, has_old_base}
-use Rattle.rex_safety.specs.Records.Rec.{Promised, Accepted, Known, Checkpoint}
+use Rattle.rex_safety.specs.Records.{Rec, Proposal, proposal_of, promise, placed, last_accepted, accepted, from_on, offset, known, base, HasAccepted, HasBallot, has_old_base}
+use Rattle.rex_safety.specs.Records.Rec.{Promised, Accepted, Known, Checkpoint, Dropped, Transferred}
 use Rattle.rex_safety.specs.Quorum.{IsNode, round_of, ballot_above, is_in, is_majority}
 use Rattle.rex_safety.specs.Node.{Service, Content, Message, Lead, Role, is_active, Failure}
 use Rattle.rex_safety.specs.Node.Failure.{After}
-use Rattle.rex_safety.specs.Node.Content.{Prepare, Promise, Accept, Accepted as Voted, Chosen as Chose, Nack, Ask}
+use Rattle.rex_safety.specs.Node.Content.{Prepare, Promise, Accept, Accepted as Voted, Chosen as Chose, Nack, Ask, Snapshot}
 use Rattle.rex_safety.specs.Node.Role.{Follower, Leads}
-use Rattle.rex_safety.specs.Invariant.{IsIn}
-use Rattle.rex_safety.specs.Calls.{Call, send, others, answer, append, follow, propose, decide, best, choose, lead, turn, settle, enough, stand, elect, promised, on_prepare, heard, on_own_promise, on_promise, has_last, on_accept, voted, on_own_vote, on_voted, on_chosen, on_nack, tell, receive, ask, replay, checkpoint, migrate, logged, own_reports}
+use Rattle.rex_safety.specs.Invariant.{IsIn, AreRecords}
+use Rattle.rex_safety.specs.Calls.{Call, send, others, answer, append, follow, propose, decide, best, choose, lead, turn, settle, enough, stand, elect, promised, on_prepare, heard, on_own_promise, on_promise, has_last, on_accept, voted, on_own_vote, on_voted, on_chosen, on_nack, tell, receive, ask, replay, checkpoint, migrate, logged, own_reports, answer_base, on_snapshot, drop_known}
 use Rattle.std.proofs.lemmas.Option.{same_Some}
 use Rattle.rex_safety.specs.Ranges.{IsBallot, IsInstance, IsFirst, AreRising, ProposalFits, ContentFits, MessageFits, LogFits, LeadFits, RoleFits}
-use Rattle.rex_safety.proofs.Lists.{length_push, in_cases, in_from_on, accepted_real, BestOk, best_ok}
+use Rattle.rex_safety.proofs.Lists.{length_push, in_cases, in_from_on, accepted_real, BestOk, best_ok, base_low, offset_low}
 use Rattle.rex_safety.proofs.Calls.{above_owned}
 
 -- ---- lists of proposals
@@ -55,13 +55,20 @@ module _ {V S : Type 0} where
   has_of b i v (Accepted c j w ∷ log) (inr h) = inr (has_of b i v log h)
   has_of b i v (Known j w ∷ log) h = has_of b i v log h
   has_of b i v (Checkpoint version k st ∷ log) h = has_of b i v log h
+  has_of b i v (Dropped k ∷ log) h = has_of b i v log h
+  has_of b i v (Transferred values st ∷ log) h = has_of b i v log h
+
+  last_rising : (log : List (Rec V S)) → ((b i : ℕ) (v : V) → HasAccepted b i v log → IsInstance i) → AreRising 0 (last_accepted log)
+  last_rising [] h = tt
+  last_rising (Promised c ∷ log) h = last_rising log h
+  last_rising (Accepted c j w ∷ log) h = placed_rising 0 (proposal_of c j w) (last_accepted log) (h c j w (inl (refl, refl, refl))).0 (last_rising log (λ b i v x. h b i v (inr x)))
+  last_rising (Known j w ∷ log) h = last_rising log h
+  last_rising (Checkpoint version k st ∷ log) h = last_rising log h
+  last_rising (Dropped k ∷ log) h = last_rising log h
+  last_rising (Transferred values st ∷ log) h = last_rising log h
 
   pub accepted_rising : (log : List (Rec V S)) → ((b i : ℕ) (v : V) → HasAccepted b i v log → IsInstance i) → AreRising 0 (accepted log)
-  accepted_rising [] h = tt
-  accepted_rising (Promised c ∷ log) h = accepted_rising log h
-  accepted_rising (Accepted c j w ∷ log) h = placed_rising 0 (proposal_of c j w) (accepted log) (h c j w (inl (refl, refl, refl))).0 (accepted_rising log (λ b i v x. h b i v (inr x)))
-  accepted_rising (Known j w ∷ log) h = accepted_rising log h
-  accepted_rising (Checkpoint version k st ∷ log) h = accepted_rising log h
+  accepted_rising log h = from_on_rising 0 (suc (offset log)) (last_accepted log) (last_rising log h)
 
   pub accepted_fit : (log : List (Rec V S)) → LogFits log → (p : Proposal V) → IsIn p (accepted log) → ProposalFits p
   accepted_fit log f p h = let a = accepted_real log p h in record { ballot = f.ballots p.ballot (has_of p.ballot p.instance p.value log a); instance = f.instances p.ballot p.instance p.value a }
@@ -81,6 +88,19 @@ module _ {V S : Type 0} where
 
   pub log_checkpoint : (version : Version) (log : List (Rec V S)) (k : ℕ) (st : S) → LogFits log → LogFits (Checkpoint version k st ∷ log)
   log_checkpoint version log k st f = record { ballots = f.ballots; instances = f.instances; few = f.few }
+
+  log_dropped : (log : List (Rec V S)) (k : ℕ) → LogFits log → LogFits (Dropped k ∷ log)
+  log_dropped log k f = record { ballots = f.ballots; instances = f.instances; few = f.few }
+
+  log_transferred : (log : List (Rec V S)) (values : List V) (st : S) → IsInstance (length values) → LogFits log → LogFits (Transferred values st ∷ log)
+  log_transferred log values st h f = record { ballots = f.ballots; instances = f.instances; few = h.1 }
+
+-- so many values from the first on are as many
+length_front : {A : Type 0} (k : ℕ) (xs : List A) → k ≤ length xs → length (take k xs) ≡ k
+length_front zero [] l = refl
+length_front zero (x ∷ xs) l = refl
+length_front (suc k) [] l = absurd (omega arith)
+length_front (suc k) (x ∷ xs) l = ap suc (length_front k xs (omega arith))
 
 -- ---- calls
 
@@ -202,18 +222,26 @@ module _ {V S : Type 0} (n : ℕ) (few : n ≤ most_nodes) (sv : Service V S) (m
     send_fits : (d : Call V S) → Fits d → (c : Content V) → ContentFits c → Fits (send d (answer me from c))
     send_fits d h c k = record { log = h.log; role = h.role; sends = both_fit d.sends (answer me from c) h.sends (one_fits from c there apart k) }
 
+    -- the base of a node that is asked for what it doesn't hold is an instance
+    base_fits : (first : ℕ) (d : Call V S) → 0 < first → AreRecords sv d.node.log → nat_le first (offset d.node.log) ≡ true → Fits d → Fits (answer_base me from d)
+    base_fits first d p r e h =
+        send_fits d h (Snapshot (take (base d.node.log) (known d.node.log)))
+        (subst IsInstance (sym (length_front (base d.node.log) (known d.node.log) (base_low sv d.node.log r)))
+        (omega (arith, p, leb-true first (offset d.node.log) e, offset_low sv d.node.log r), omega (arith, base_low sv d.node.log r, h.log.few)))
+
     promised_fits : (b first : ℕ) (d : Call V S) → IsBallot b → Fits d → Fits (promised me from b first d)
     promised_fits b first d k h =
         send_fits d h (Promise b (from_on first (accepted d.node.log)))
         (k, from_on_rising 0 first (accepted d.node.log) (accepted_rising d.node.log h.log.instances), λ p i. accepted_fit d.node.log h.log p (in_from_on first p (accepted d.node.log) i))
 
-    prepare_fits : (b first : ℕ) (d : Call V S) → IsBallot b → Fits d → Fits (on_prepare me from b first d)
-    prepare_fits b first d k h =
+    prepare_fits : (b first : ℕ) (d : Call V S) → IsBallot b → 0 < first → AreRecords sv d.node.log → Fits d → Fits (on_prepare me from b first d)
+    prepare_fits b first d k p r h =
         if_fits (nat_lt b (promise d.node.log)) (λ e. send_fits d h (Nack b (promise d.node.log)) (k, ltb-true b (promise d.node.log) e)) (λ _.
+        if_fits (nat_le first (offset d.node.log)) (λ e. base_fits first d p r e h) (λ _.
         if_fits (nat_lt (promise d.node.log) b)
         (λ _. append_fits d.node.armed (Promised b) d _ h (log_promised d.node.log b k h.log)
         (λ a. promised_fits b first (follow me (effect.Promised me b ∷ []) (logged (Promised b) a d)) k (record { log = log_promised d.node.log b k h.log; role = tt; sends = h.sends })))
-        (λ _. promised_fits b first d k h))
+        (λ _. promised_fits b first d k h)))
 
     promise_fits : (b : ℕ) (ps : List (Proposal V)) (d : Call V S) → Fits d → ((p : Proposal V) → IsIn p ps → ProposalFits p) → (r : Role V) → RoleFits (length (known d.node.log)) r → Fits (on_promise n sv me from b ps d r)
     promise_fits b ps d h m Follower k = record { log = h.log; role = h.role; sends = h.sends }
@@ -232,12 +260,13 @@ module _ {V S : Type 0} (n : ℕ) (few : n ≤ most_nodes) (sv : Service V S) (m
             if_fits l.active (λ _. record { log = h.log; role = h.role; sends = h.sends }) (λ _. if_fits (is_in from l.counted) (λ _. record { log = h.log; role = h.role; sends = h.sends }) (λ _.
             if_fits (is_majority n (heard l from ps).counted) (λ _. settle_fits (enough (heard l from ps).reported) _ (record { log = h.log; role = counted; sends = h.sends })) (λ _. record { log = h.log; role = counted; sends = h.sends })))
 
-    accept_fits : (b i : ℕ) (v : V) (d : Call V S) → IsBallot b → IsInstance i → Fits d → Fits (on_accept me from b i v d)
-    accept_fits b i v d k j h =
+    accept_fits : (b i : ℕ) (v : V) (d : Call V S) → IsBallot b → IsInstance i → AreRecords sv d.node.log → Fits d → Fits (on_accept me from b i v d)
+    accept_fits b i v d k j r h =
         if_fits (nat_lt b (promise d.node.log)) (λ e. send_fits d h (Nack b (promise d.node.log)) (k, ltb-true b (promise d.node.log) e)) (λ _.
+        if_fits (nat_le i (offset d.node.log)) (λ e. base_fits i d j.0 r e h) (λ _.
         if_fits (has_last b i (accepted d.node.log)) (λ _. send_fits d h (Voted b i) (k, j)) (λ _.
         append_fits d.node.armed (Accepted b i v) d _ h (log_accepted d.node.log b i v k j h.log)
-        (λ a. send_fits (follow me (effect.Accepted me b i ∷ []) (logged (Accepted b i v) a d)) (record { log = log_accepted d.node.log b i v k j h.log; role = tt; sends = h.sends }) (Voted b i) (k, j))))
+        (λ a. send_fits (follow me (effect.Accepted me b i ∷ []) (logged (Accepted b i v) a d)) (record { log = log_accepted d.node.log b i v k j h.log; role = tt; sends = h.sends }) (Voted b i) (k, j)))))
 
     voted_fits : (b i : ℕ) (d : Call V S) → Fits d → (r : Role V) → RoleFits (length (known d.node.log)) r → Fits (on_voted n sv me from b i d r)
     voted_fits b i d h Follower k = record { log = h.log; role = h.role; sends = h.sends }
@@ -280,16 +309,24 @@ module _ {V S : Type 0} (n : ℕ) (few : n ≤ most_nodes) (sv : Service V S) (m
     take_fits (suc k) (z ∷ zs) h x (inl e) = h x (inl e)
     take_fits (suc k) (z ∷ zs) h x (inr y) = take_fits k zs (λ u i. h u (inr i)) x y
 
-    pub receive_fits : (c : Content V) → ContentFits c → (d : Call V S) → Fits d → Fits (receive n sv me from c d)
-    receive_fits (Prepare b first) k d h = prepare_fits b first d k.0 h
-    receive_fits (Promise b ps) k d h = promise_fits b ps d h k.2 d.node.role h.role
-    receive_fits (Accept b i v) k d h = accept_fits b i v d k.0 k.1 h
-    receive_fits (Voted b i) k d h = voted_fits b i d h d.node.role h.role
-    receive_fits (Chose i v) k d h = chosen_fits i v d k h
-    receive_fits (Nack b p) k d h = nack_fits p d h d.node.role
-    receive_fits (Ask first) k d h =
+    snapshot_fits : (values : List V) (d : Call V S) → IsInstance (length values) → Fits d → Fits (on_snapshot sv me values d)
+    snapshot_fits values d k h =
+        if_fits (nat_le (length values) (length (known d.node.log))) (λ _. record { log = h.log; role = h.role; sends = h.sends })
+        (λ _. append_fits d.node.armed (Transferred values (sv.state values)) d _ h (log_transferred d.node.log values (sv.state values) k h.log)
+        (λ a. record { log = log_transferred d.node.log values (sv.state values) k h.log; role = tt; sends = h.sends }))
+
+    pub receive_fits : (c : Content V) → ContentFits c → (d : Call V S) → AreRecords sv d.node.log → Fits d → Fits (receive n sv me from c d)
+    receive_fits (Prepare b first) k d r h = prepare_fits b first d k.0 k.1.0 r h
+    receive_fits (Promise b ps) k d r h = promise_fits b ps d h k.2 d.node.role h.role
+    receive_fits (Accept b i v) k d r h = accept_fits b i v d k.0 k.1 r h
+    receive_fits (Voted b i) k d r h = voted_fits b i d h d.node.role h.role
+    receive_fits (Chose i v) k d r h = chosen_fits i v d k h
+    receive_fits (Nack b p) k d r h = nack_fits p d h d.node.role
+    receive_fits (Snapshot values) k d r h = snapshot_fits values d k h
+    receive_fits (Ask first) k d r h =
+        if_fits (nat_le first (offset d.node.log)) (λ e. base_fits first d k.0 r e h) (λ _.
         if_fits (nat_lt (length (known d.node.log)) first) (λ _. record { log = h.log; role = h.role; sends = h.sends })
-        (λ _. record { log = h.log; role = h.role; sends = both_fit d.sends (take 64 (tell me from first 1 (known d.node.log))) h.sends (take_fits 64 (tell me from first 1 (known d.node.log)) (tell_fits first 1 (known d.node.log) (omega arith) (omega (arith, h.log.few)))) })
+        (λ _. record { log = h.log; role = h.role; sends = both_fit d.sends (take 64 (tell me from first 1 (known d.node.log))) h.sends (take_fits 64 (tell me from first 1 (known d.node.log)) (tell_fits first 1 (known d.node.log) (omega arith) (omega (arith, h.log.few)))) }))
 
     pub ask_fits : (d : Call V S) → Fits d → Fits (ask me from d)
     ask_fits d h = send_fits d h (Ask (suc (length (known d.node.log)))) (first_fits d h)
@@ -308,6 +345,12 @@ module _ {V S : Type 0} (n : ℕ) (few : n ≤ most_nodes) (sv : Service V S) (m
       if_fits (has_old_base d.node.log) (λ _.
       append_fits d.node.armed (Checkpoint Two (base d.node.log) (sv.state (take (base d.node.log) (known d.node.log)))) d _ h (log_checkpoint Two d.node.log (base d.node.log) _ h.log)
       (λ b. record { log = log_checkpoint Two d.node.log (base d.node.log) _ h.log; role = h.role; sends = h.sends })) (λ _. record { log = h.log; role = h.role; sends = h.sends })
+
+  pub drop_fits : (d : Call V S) → Fits d → Fits (drop_known me d)
+  drop_fits d h =
+      if_fits (base d.node.log == offset d.node.log) (λ _. record { log = h.log; role = h.role; sends = h.sends })
+      (λ _. append_fits d.node.armed (Dropped (base d.node.log)) d _ h (log_dropped d.node.log (base d.node.log) h.log)
+      (λ b. record { log = log_dropped d.node.log (base d.node.log) h.log; role = h.role; sends = h.sends }))
 
   -- an active node that proposes where an instance is left
   pub proposed_fits : (told : Effect) (d : Call V S) (l : Lead V) (v : V) (f : ℕ) → Fits d → LeadFits (length (known d.node.log)) l → length (known d.node.log) < 65535 → Fits (propose n me told d l (suc (length (known d.node.log))) v (settle f n sv me))

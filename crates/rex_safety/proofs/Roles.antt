@@ -3,14 +3,14 @@ use Rattle.std.proofs.Common.{◌≡◌, ℕ, zero, suc, ◌<◌, ◌≤◌, ◌
 use Rattle.std.proofs.lemmas.Bool.{ne_eqb}
 use Rattle.rex_report.specs.declared.effect.Effect.{Effect}
 use Rattle.rex_safety.specs.Records.{Rec, Proposal, promise, known, HasAccepted}
-use Rattle.rex_safety.specs.Quorum.{IsNode, Logs, AllChosenBy, node_of}
+use Rattle.rex_safety.specs.Quorum.{IsNode, Logs, ChosenBy, node_of}
 use Rattle.rex_safety.specs.Node.{Service, Content, Message, Role, Node, down_node, Failure}
 use Rattle.rex_safety.specs.Node.Failure.{After}
-use Rattle.rex_safety.specs.Node.Content.{Prepare, Promise, Accept, Accepted as Voted, Chosen as Chose, Nack, Ask}
+use Rattle.rex_safety.specs.Node.Content.{Prepare, Promise, Accept, Accepted as Voted, Chosen as Chose, Nack, Ask, Snapshot}
 use Rattle.rex_safety.specs.Node.Role.{Follower, Leads}
-use Rattle.rex_safety.specs.Invariant.{IsIn, Covers, with_log, AreRecords, Grows, HasHeard, WasReported, IsRightOpen, IsAgainst, IsRightRole, IsReplayed, IsJustified, AreJustified, KeepsAll}
+use Rattle.rex_safety.specs.Invariant.{IsIn, Covers, with_log, AreRecords, Grows, HasHeard, WasReported, IsRightOpen, ChosenPast, AllLearned, IsRightRole, IsReplayed, IsJustified, AreJustified, KeepsAll}
 use Rattle.rex_safety.specs.Calls.{Call, others, append, heard, logged}
-use Rattle.rex_safety.proofs.Grow.{begins_length, grows_trans, Appends, Allowed, appends_grows, chosen_grows, all_chosen_by_grows}
+use Rattle.rex_safety.proofs.Grow.{begins_length, grows_trans, Appends, Allowed, appends_grows, chosen_grows, all_chosen_grows, all_given_grows, chosen_by_grows}
 use Rattle.rex_safety.proofs.Step.{safe_step, has_below}
 use Rattle.rex_safety.proofs.Lists.{in_cases, base_low}
 
@@ -38,13 +38,24 @@ module _ {V S : Type 0} where
   open_grows g n log b acks None h = tt
   open_grows g n log b acks (Some p) h = record { next = h.next; own = h.own; acked = λ q l e. (g.at q).keeps b p.instance p.value (h.acked q l e) }
 
-  pub knows_grows : {L M : Logs V S} → Grows L M → (n b : ℕ) (vs : List V) → AllChosenBy n L b 1 vs ⊎ IsAgainst n L b → AllChosenBy n M b 1 vs ⊎ IsAgainst n M b
-  knows_grows g n b vs (inl h) = inl (all_chosen_by_grows g n b 1 vs h)
-  knows_grows g n b vs (inr q) = inr (record {
-    who = q.who;
-    big = q.big;
-    each = λ m l e. let t = q.each m l e in (lt_of_lt_of_le t.0 (g.at m).rises, λ x. t.1 ((g.at m).had b t.0 x));
-  })
+  past_grows : {L M : Logs V S} → Grows L M → (n b i : ℕ) (v : V) → ChosenPast n L b i v → ChosenPast n M b i v
+  past_grows g n b i v c = record {
+    ballot = c.ballot;
+    above = c.above;
+    quorum = record {
+      who = c.quorum.who;
+      big = c.quorum.big;
+      each = λ m l e. let t = c.quorum.each m l e in ((g.at m).keeps c.ballot i v t.0, lt_of_lt_of_le t.1 (g.at m).rises, λ x. t.2 ((g.at m).had b t.1 x));
+    };
+  }
+
+  pub knows_grows : {L M : Logs V S} → Grows L M → (n b k : ℕ) (vs : List V) → AllLearned n L b k vs → AllLearned n M b k vs
+  knows_grows g n b k [] h = tt
+  knows_grows {L} {M} g n b k (v ∷ vs) h = (one h.0, knows_grows g n b (suc k) vs h.1)
+    where
+      one : ChosenBy n L b k v ⊎ ChosenPast n L b k v → ChosenBy n M b k v ⊎ ChosenPast n M b k v
+      one (inl c) = inl (chosen_by_grows g n b k v c)
+      one (inr c) = inr (past_grows g n b k v c)
 
   pub role_grows : {L M : Logs V S} → Grows L M → (n : ℕ) (log : List (Rec V S)) (m : ℕ) (r : Role V) → IsRightRole n L log m r → IsRightRole n M log m r
   role_grows g n log m Follower h = tt
@@ -55,7 +66,7 @@ module _ {V S : Type 0} where
     heard = λ q x e. heard_grows g (length (known log)) (length (known log)) l.ballot l.reported q (le_refl _) (h.heard q x e);
     said = λ p x. said_grows g n (length (known log)) (length (known log)) l.ballot l.counted p (le_refl _) (h.said p x);
     pending = open_grows g n log l.ballot l.accepted_by l.proposal h.pending;
-    knows = knows_grows g n l.ballot (known log) h.knows;
+    knows = knows_grows g n l.ballot 1 (known log) h.knows;
     counted = h.counted;
     ready = h.ready;
   }
@@ -72,6 +83,7 @@ module _ {V S : Type 0} where
   just_grows g n from (Chose i v) h = chosen_grows g n i v h
   just_grows g n from (Nack b p) h = tt
   just_grows g n from (Ask first) h = tt
+  just_grows g n from (Snapshot values) h = record { chosen = all_chosen_grows g n 1 values h.chosen; given = all_given_grows g n 1 values h.given }
 
   pub put_same : (f : Logs V S) (m : ℕ) (x : List (Rec V S)) → with_log f m x m ≡ x
   put_same f m x = rw (eq-eqb m m refl)

@@ -1,19 +1,19 @@
 -- A call that releases a reply leaves an active node, in whose known trace the reply stands.
 use Rattle.std.proofs.Common.{◌≡◌, ℕ, zero, suc, Bool, true, false, cond, ◌||◌, ◌⊎◌, List, [], ◌∷◌, ◌++◌, length, Option, Some, None, refl, sym, ◌∙◌, ap, subst, inl, inr}
-use Rattle.std.specs.Prelude.{take, ◌==◌, nat_lt}
+use Rattle.std.specs.Prelude.{take, ◌==◌, nat_lt, nat_le}
 use Rattle.std.proofs.lemmas.Bool.{false≢true}
 use Rattle.rex_report.specs.declared.effect.Effect.{Effect}
 use Rattle.rex_report.specs.declared.effect.Effect.TheVariants as effect
 use Rattle.rex_version.specs.declared.version.Version.{Version}
 use Rattle.rex_version.specs.declared.version.Version.TheVariants.{Two}
-use Rattle.rex_safety.specs.Records.{Rec, Proposal, promise, accepted, known, base, has_old_base}
-use Rattle.rex_safety.specs.Records.Rec.{Promised, Accepted, Known, Checkpoint}
+use Rattle.rex_safety.specs.Records.{Rec, Proposal, promise, accepted, offset, known, base, has_old_base}
+use Rattle.rex_safety.specs.Records.Rec.{Promised, Accepted, Known, Checkpoint, Dropped, Transferred}
 use Rattle.rex_safety.specs.Quorum.{round_of, ballot_above, is_in, is_majority}
 use Rattle.rex_safety.specs.Node.{Service, Content, Lead, Role, is_active, Failure}
 use Rattle.rex_safety.specs.Node.Failure.{After}
-use Rattle.rex_safety.specs.Node.Content.{Prepare, Promise, Accept, Accepted as Voted, Chosen as Chose, Nack, Ask}
+use Rattle.rex_safety.specs.Node.Content.{Prepare, Promise, Accept, Accepted as Voted, Chosen as Chose, Nack, Ask, Snapshot}
 use Rattle.rex_safety.specs.Node.Role.{Follower, Leads}
-use Rattle.rex_safety.specs.Calls.{Call, say, send, others, append, followed, follow, led, propose, released, learned, decide, activate, best, choose, lead, turn, settle, enough, elect, on_prepare, heard, on_own_promise, on_promise, has_last, on_accept, voted, on_own_vote, on_voted, on_chosen, on_nack, receive, replay, checkpoint, restart, start, stop, logged, own_reports}
+use Rattle.rex_safety.specs.Calls.{Call, say, send, others, append, followed, follow, led, propose, released, learned, decide, activate, best, choose, lead, turn, settle, enough, elect, on_prepare, heard, on_own_promise, on_promise, has_last, on_accept, voted, on_own_vote, on_voted, on_chosen, on_nack, receive, replay, checkpoint, drop_known, restart, start, stop, logged, own_reports}
 use Rattle.std.specs.Prelude.{ℤ}
 use Rattle.rex_safety.specs.Releases.{IsAmong}
 
@@ -166,10 +166,10 @@ module _ {V S : Type 0} (n : ℕ) (sv : Service V S) (me : ℕ) (St : List V →
 
   prepare_says : (from b first : ℕ) (d : Call V S) → Quiet d.effects → Says (on_prepare me from b first d)
   prepare_says from b first d q =
-      if_says (nat_lt b (promise d.node.log)) (hush q)
+      if_says (nat_lt b (promise d.node.log)) (hush q) (if_says (nat_le first (offset d.node.log)) (hush q)
       (if_says (nat_lt (promise d.node.log) b)
       (append_says d.node.armed (Promised b) d _ q (λ a. hush (follow_quiet (effect.Promised me b ∷ []) d q (quiet_one (effect.Promised me b) (λ c s x e. cc)))))
-      (hush q))
+      (hush q)))
 
   promise_says : (from b : ℕ) (ps : List (Proposal V)) (d : Call V S) → Quiet d.effects → (r : Role V) → Says (on_promise n sv me from b ps d r)
   promise_says from b ps d q Follower = say_says (effect.IgnoredBallot b 0) d q (λ c s x e. cc)
@@ -185,9 +185,9 @@ module _ {V S : Type 0} (n : ℕ) (sv : Service V S) (me : ℕ) (St : List V →
 
   accept_says : (from b i : ℕ) (v : V) (d : Call V S) → Quiet d.effects → Says (on_accept me from b i v d)
   accept_says from b i v d q =
-      if_says (nat_lt b (promise d.node.log)) (hush q)
+      if_says (nat_lt b (promise d.node.log)) (hush q) (if_says (nat_le i (offset d.node.log)) (hush q)
       (if_says (has_last b i (accepted d.node.log)) (hush q)
-      (append_says d.node.armed (Accepted b i v) d _ q (λ a. hush (follow_quiet (effect.Accepted me b i ∷ []) d q (quiet_one (effect.Accepted me b i) (λ c s x e. cc))))))
+      (append_says d.node.armed (Accepted b i v) d _ q (λ a. hush (follow_quiet (effect.Accepted me b i ∷ []) d q (quiet_one (effect.Accepted me b i) (λ c s x e. cc)))))))
 
   voted_says : (from b i : ℕ) (d : Call V S) → Quiet d.effects → (r : Role V) → Says (on_voted n sv me from b i d r)
   voted_says from b i d q Follower = say_says (effect.IgnoredBallot b 0) d q (λ c s x e. cc)
@@ -219,7 +219,10 @@ module _ {V S : Type 0} (n : ℕ) (sv : Service V S) (me : ℕ) (St : List V →
   receive_says from (Voted b i) d q = voted_says from b i d q d.node.role
   receive_says from (Chose i v) d q = chosen_says i v d q
   receive_says from (Nack b p) d q = nack_says p d q d.node.role
-  receive_says from (Ask first) d q = if_says (nat_lt (length (known d.node.log)) first) (say_says effect.Nothing d q (λ c s x e. cc)) (hush q)
+  receive_says from (Ask first) d q = if_says (nat_le first (offset d.node.log)) (hush q) (if_says (nat_lt (length (known d.node.log)) first) (say_says effect.Nothing d q (λ c s x e. cc)) (hush q))
+  receive_says from (Snapshot values) d q =
+      if_says (nat_le (length values) (length (known d.node.log))) (say_says (effect.IgnoredInstance (length values) (suc (length (known d.node.log)))) d q (λ c s x e. cc))
+      (append_says d.node.armed (Transferred values (sv.state values)) d _ q (λ a. hush (follow_quiet (effect.Transferred me (length values) ∷ []) d q (quiet_one (effect.Transferred me (length values)) (λ c s x e. cc)))))
 
   pub replay_says : (d : Call V S) → Quiet d.effects → Says (replay me d)
   replay_says d q = if_says (is_active d.node.role || d.node.replayed == length (known d.node.log)) (say_says (effect.UpToDate me) d q (λ c s x e. cc)) (hush (quiet_push d.effects _ q (λ c s x e. cc)))
@@ -229,6 +232,11 @@ module _ {V S : Type 0} (n : ℕ) (sv : Service V S) (me : ℕ) (St : List V →
       if_says (d.node.replayed == base d.node.log) (say_says effect.Nothing d q (λ c s x e. cc))
       (if_says (nat_lt 0 (length d.node.work.live)) (say_says (effect.Live (length d.node.work.live)) d q (λ c s x e. cc))
       (append_says d.node.armed (Checkpoint version d.node.replayed (sv.state (take d.node.replayed (known d.node.log)))) d _ q (λ a. say_says (effect.Checkpointed me d.node.replayed) _ q (λ c s x e. cc))))
+
+  pub drop_says : (d : Call V S) → Quiet d.effects → Says (drop_known me d)
+  drop_says d q =
+      if_says (base d.node.log == offset d.node.log) (say_says effect.Nothing d q (λ c s x e. cc))
+      (append_says d.node.armed (Dropped (base d.node.log)) d _ q (λ a. say_says (effect.Dropped me (base d.node.log)) _ q (λ c s x e. cc)))
 
   pub stop_says : (d : Call V S) → Quiet d.effects → Says (stop me d)
   stop_says d q = hush (quiet_push d.effects (effect.Stopped me) q (λ c s x e. cc))

@@ -9,7 +9,7 @@ use Rattle.rex_safety.specs.Quorum.{IsNode, count, Quorum, Logs, ChosenAt, Chose
 use Rattle.rex_safety.specs.Node.{Service, Message, Lead, Role, Node}
 use Rattle.rex_safety.specs.Node.Content.{Accept, Chosen as Chose}
 use Rattle.rex_safety.specs.Node.Role.{Follower, Leads}
-use Rattle.rex_safety.specs.Invariant.{IsIn, Covers, IsOpen, with_log, IsSafeAt, Prior, AreSafe, Grows, HasHeard, WasReported, Open, IsRightOpen, IsAgainst, LeadsRightly, IsRightRole, IsReplayed, KeepsAll}
+use Rattle.rex_safety.specs.Invariant.{IsIn, Covers, IsOpen, with_log, IsSafeAt, Prior, AreSafe, Grows, HasHeard, WasReported, Open, IsRightOpen, ChosenPast, AllLearned, LeadsRightly, IsRightRole, IsReplayed, KeepsAll}
 use Rattle.rex_safety.specs.Calls.{Call, say, send, others, leading, led, propose, replayed_known, learned, decide, best, choose, lead, turn, settle}
 use Rattle.rex_safety.proofs.Quorums.{overlap}
 use Rattle.rex_safety.proofs.Agree.{agreement}
@@ -29,6 +29,23 @@ module _ {V S : Type 0} where
   pub chosen_by_push : (n : ℕ) (L : Logs V S) (b k : ℕ) (vs : List V) (v : V) → AllChosenBy n L b k vs → ChosenBy n L b (k + length vs) v → AllChosenBy n L b k (vs ++ v ∷ [])
   chosen_by_push n L b k [] v h c = (subst (λ j. ChosenBy n L b j v) (omega arith) c, tt)
   chosen_by_push n L b k (x ∷ vs) v h c = (h.0, chosen_by_push n L b (suc k) vs v h.1 (subst (λ j. ChosenBy n L b j v) (omega arith) c))
+
+  learned_push : (n : ℕ) (L : Logs V S) (b k : ℕ) (vs : List V) (v : V) → AllLearned n L b k vs → ChosenBy n L b (k + length vs) v → AllLearned n L b k (vs ++ v ∷ [])
+  learned_push n L b k [] v h c = (inl (subst (λ j. ChosenBy n L b j v) (omega arith) c), tt)
+  learned_push n L b k (x ∷ vs) v h c = (h.0, learned_push n L b (suc k) vs v h.1 (subst (λ j. ChosenBy n L b j v) (omega arith) c))
+
+  -- a majority that will never promise b
+  abbrev IsAgainst : ℕ → Logs V S → ℕ → Type 0
+  IsAgainst n L b = Quorum n (λ q. (b < promise (L q)) × (HasBallot b (L q) → ⊥))
+
+  by_or_against : (n : ℕ) (L : Logs V S) (b k : ℕ) (vs : List V) → AllLearned n L b k vs → AllChosenBy n L b k vs ⊎ IsAgainst n L b
+  by_or_against n L b k [] h = inl tt
+  by_or_against n L b k (v ∷ vs) h = go h.0 (by_or_against n L b (suc k) vs h.1)
+    where
+      go : ChosenBy n L b k v ⊎ ChosenPast n L b k v → AllChosenBy n L b (suc k) vs ⊎ IsAgainst n L b → AllChosenBy n L b k (v ∷ vs) ⊎ IsAgainst n L b
+      go (inl c) (inl rest) = inl (c, rest)
+      go (inl c) (inr q) = inr q
+      go (inr c) rest = inr (record { who = c.quorum.who; big = c.quorum.big; each = λ m l e. let t = c.quorum.each m l e in (t.1, t.2) })
 
   pub chosen_by_at : (n : ℕ) (L : Logs V S) (b k j : ℕ) (vs : List V) → AllChosenBy n L b k vs → j < length vs → (u : V) × ChosenBy n L b (k + j) u
   chosen_by_at n L b k j [] h l = absurd (omega arith)
@@ -53,7 +70,7 @@ module _ {V S : Type 0} where
 
     -- what a node knows that a majority promised b was chosen at b or below
     pub at_most : AllChosenBy n K l.ballot 1 (known log)
-    at_most = go ok.knows
+    at_most = go (by_or_against n K l.ballot 1 (known log) ok.knows)
       where
         go : AllChosenBy n K l.ballot 1 (known log) ⊎ IsAgainst n K l.ballot → AllChosenBy n K l.ballot 1 (known log)
         go (inl h) = h
@@ -172,9 +189,8 @@ module _ {V S : Type 0} where
         more : length (known d.node.log) ≤ length (known d.node.log ++ p.value ∷ [])
         more = omega (arith, length_push (known d.node.log) p.value)
 
-        knows : AllChosenBy n K l.ballot 1 (known d.node.log) ⊎ IsAgainst n K l.ballot → AllChosenBy n K l.ballot 1 (known d.node.log ++ p.value ∷ []) ⊎ IsAgainst n K l.ballot
-        knows (inl h) = inl (chosen_by_push n K l.ballot 1 (known d.node.log) p.value h (record { ballot = l.ballot; most = le_refl _; quorum = subst (λ i. ChosenAt n K l.ballot i p.value) (op.next ∙ omega arith) quorum }))
-        knows (inr h) = inr h
+        knows : AllLearned n K l.ballot 1 (known d.node.log ++ p.value ∷ [])
+        knows = learned_push n K l.ballot 1 (known d.node.log) p.value ok.knows (record { ballot = l.ballot; most = le_refl _; quorum = subst (λ i. ChosenAt n K l.ballot i p.value) (op.next ∙ omega arith) quorum })
 
         past : (i : ℕ) (v : V) → length (known d.node.log ++ p.value ∷ []) < i → HasAccepted l.ballot i v d.node.log → ⊥
         past i v lt a =
@@ -189,7 +205,7 @@ module _ {V S : Type 0} where
           heard = λ q x t. heard_grows g _ _ l.ballot l.reported q more (ok.heard q x t);
           said = λ y x. said_grows g n _ _ l.ballot l.counted y more (ok.said y x);
           pending = tt;
-          knows = knows_grows g n l.ballot (known d.node.log ++ p.value ∷ []) (knows ok.knows);
+          knows = knows_grows g n l.ballot 1 (known d.node.log ++ p.value ∷ []) knows;
           counted = λ y t. cc;
           ready = λ t. let r = ok.ready t in record { majority = r.majority; nothing = λ y x. le_trans (r.nothing y x) more };
         }
@@ -247,7 +263,7 @@ module _ {V S : Type 0} where
           heard = λ q x t. heard_grows g _ _ l.ballot l.reported q (le_refl _) (ok.heard q x t);
           said = λ y x. said_grows g n _ _ l.ballot l.counted y (le_refl _) (ok.said y x);
           pending = record { next = refl; own = inl (refl, refl, refl); acked = λ q x t. acked q (eqb q m) refl t };
-          knows = knows_grows g n l.ballot (known d.node.log) ok.knows;
+          knows = knows_grows g n l.ballot 1 (known d.node.log) ok.knows;
           counted = λ y t. maj;
           ready = ok.ready;
         }

@@ -1,19 +1,19 @@
 -- A fact of what an active node knows and works with is kept by each call that keeps it where a value becomes known.
 use Rattle.std.proofs.Common.{◌≡◌, ℕ, zero, suc, Bool, true, false, cond, ◌||◌, List, [], ◌∷◌, ◌++◌, length, Option, Some, None, refl, sym, ◌∙◌, ap, subst}
-use Rattle.std.specs.Prelude.{take, ◌==◌, nat_lt}
+use Rattle.std.specs.Prelude.{take, ◌==◌, nat_lt, nat_le}
 use Rattle.std.proofs.lemmas.Bool.{false≢true}
 use Rattle.rex_report.specs.declared.effect.Effect.{Effect}
 use Rattle.rex_report.specs.declared.effect.Effect.TheVariants as effect
 use Rattle.rex_version.specs.declared.version.Version.{Version}
 use Rattle.rex_version.specs.declared.version.Version.TheVariants.{Two}
-use Rattle.rex_safety.specs.Records.{Rec, Proposal, proposal_of, promise, accepted, known, base, has_old_base}
-use Rattle.rex_safety.specs.Records.Rec.{Promised, Accepted, Known, Checkpoint}
+use Rattle.rex_safety.specs.Records.{Rec, Proposal, proposal_of, promise, accepted, offset, known, base, has_old_base}
+use Rattle.rex_safety.specs.Records.Rec.{Promised, Accepted, Known, Checkpoint, Dropped, Transferred}
 use Rattle.rex_safety.specs.Quorum.{round_of, ballot_above, is_in, is_majority}
 use Rattle.rex_safety.specs.Node.{Service, Content, Lead, Role, Work, is_active, Failure}
 use Rattle.rex_safety.specs.Node.Failure.{After}
-use Rattle.rex_safety.specs.Node.Content.{Prepare, Promise, Accept, Accepted as Voted, Chosen as Chose, Nack, Ask}
+use Rattle.rex_safety.specs.Node.Content.{Prepare, Promise, Accept, Accepted as Voted, Chosen as Chose, Nack, Ask, Snapshot}
 use Rattle.rex_safety.specs.Node.Role.{Follower, Leads}
-use Rattle.rex_safety.specs.Calls.{Call, append, led, propose, work_known, decide, activate, best, choose, lead, turn, settle, enough, elect, on_prepare, heard, on_own_promise, on_promise, has_last, on_accept, voted, on_own_vote, on_voted, on_chosen, on_nack, receive, replay, checkpoint, restart, start, logged, own_reports}
+use Rattle.rex_safety.specs.Calls.{Call, append, led, propose, work_known, decide, activate, best, choose, lead, turn, settle, enough, elect, on_prepare, heard, on_own_promise, on_promise, has_last, on_accept, voted, on_own_vote, on_voted, on_chosen, on_nack, receive, replay, checkpoint, drop_known, restart, start, logged, own_reports}
 use Rattle.rand_pcg.specs.Lcg.{Lcg}
 
 -- the work of a node that becomes active
@@ -106,8 +106,8 @@ module _ {V S : Type 0} (n : ℕ) (sv : Service V S) (me : ℕ) (A : List V → 
 
   prepare_works : (from b first : ℕ) (d : Call V S) → Works d → Works (on_prepare me from b first d)
   prepare_works from b first d w =
-      if_works (nat_lt b (promise d.node.log)) (λ _. record { each = w.each }) (λ _.
-      if_works (nat_lt (promise d.node.log) b) (λ _. append_works d.node.armed (Promised b) d _ (λ a. idle refl)) (λ _. record { each = w.each }))
+      if_works (nat_lt b (promise d.node.log)) (λ _. record { each = w.each }) (λ _. if_works (nat_le first (offset d.node.log)) (λ _. record { each = w.each }) (λ _.
+      if_works (nat_lt (promise d.node.log) b) (λ _. append_works d.node.armed (Promised b) d _ (λ a. idle refl)) (λ _. record { each = w.each })))
 
   promise_works : (from b : ℕ) (ps : List (Proposal V)) (d : Call V S) → Works d → (r : Role V) → Works (on_promise n sv me from b ps d r)
   promise_works from b ps d w Follower = record { each = w.each }
@@ -121,7 +121,8 @@ module _ {V S : Type 0} (n : ℕ) (sv : Service V S) (me : ℕ) (A : List V → 
 
   accept_works : (from b i : ℕ) (v : V) (d : Call V S) → Works d → Works (on_accept me from b i v d)
   accept_works from b i v d w =
-      if_works (nat_lt b (promise d.node.log)) (λ _. record { each = w.each }) (λ _. if_works (has_last b i (accepted d.node.log)) (λ _. record { each = w.each }) (λ _. append_works d.node.armed (Accepted b i v) d _ (λ a. idle refl)))
+      if_works (nat_lt b (promise d.node.log)) (λ _. record { each = w.each }) (λ _. if_works (nat_le i (offset d.node.log)) (λ _. record { each = w.each }) (λ _.
+      if_works (has_last b i (accepted d.node.log)) (λ _. record { each = w.each }) (λ _. append_works d.node.armed (Accepted b i v) d _ (λ a. idle refl))))
 
   voted_works : (from b i : ℕ) (d : Call V S) → Works d → (r : Role V) → d.node.role ≡ r → Works (on_voted n sv me from b i d r)
   voted_works from b i d w Follower e = record { each = w.each }
@@ -150,7 +151,8 @@ module _ {V S : Type 0} (n : ℕ) (sv : Service V S) (me : ℕ) (A : List V → 
   receive_works from (Voted b i) d w = voted_works from b i d w d.node.role refl
   receive_works from (Chose i v) d w = chosen_works i v d w
   receive_works from (Nack b p) d w = nack_works p d w d.node.role
-  receive_works from (Ask first) d w = if_works (nat_lt (length (known d.node.log)) first) (λ _. record { each = w.each }) (λ _. record { each = w.each })
+  receive_works from (Ask first) d w = if_works (nat_le first (offset d.node.log)) (λ _. record { each = w.each }) (λ _. if_works (nat_lt (length (known d.node.log)) first) (λ _. record { each = w.each }) (λ _. record { each = w.each }))
+  receive_works from (Snapshot values) d w = if_works (nat_le (length values) (length (known d.node.log))) (λ _. record { each = w.each }) (λ _. append_works d.node.armed (Transferred values (sv.state values)) d _ (λ a. idle refl))
 
   pub replay_works : (d : Call V S) → Works d → Works (replay me d)
   replay_works d w = if_works (is_active d.node.role || d.node.replayed == length (known d.node.log)) (λ _. record { each = w.each }) (λ _. same_works d _ refl refl refl w)
@@ -164,3 +166,8 @@ module _ {V S : Type 0} (n : ℕ) (sv : Service V S) (me : ℕ) (A : List V → 
   pub start_works : (d : Call V S) → Works (start sv me d)
   start_works d =
       if_works (has_old_base d.node.log) (λ _. append_works d.node.armed (Checkpoint Two (base d.node.log) (sv.state (take (base d.node.log) (known d.node.log)))) (restart me d) _ (λ b. idle refl)) (λ _. idle refl)
+
+  pub drop_works : (d : Call V S) → Works d → Works (drop_known me d)
+  drop_works d w =
+      if_works (base d.node.log == offset d.node.log) (λ _. record { each = w.each })
+      (λ _. append_works d.node.armed (Dropped (base d.node.log)) d _ (λ b. same_works d _ refl refl refl w))

@@ -4,12 +4,12 @@ use Rattle.rex_report.specs.declared.effect.Effect.{Effect}
 use Rattle.rex_report.specs.declared.effect.Effect.TheVariants as effect
 use Rattle.rex_version.specs.declared.version.Version.{Version}
 use Rattle.rex_version.specs.declared.version.Version.TheVariants.{Two}
-use Rattle.rex_safety.specs.Records.{Rec, Proposal, proposal_of, promise, accepted, from_on, known, base, has_old_base}
-use Rattle.rex_safety.specs.Records.Rec.{Promised, Accepted, Known, Checkpoint}
+use Rattle.rex_safety.specs.Records.{Rec, Proposal, proposal_of, promise, accepted, from_on, offset, known, base, has_old_base}
+use Rattle.rex_safety.specs.Records.Rec.{Promised, Accepted, Known, Checkpoint, Dropped, Transferred}
 use Rattle.rex_safety.specs.Quorum.{is_in, is_majority, ballot_above, round_of}
 use Rattle.rex_safety.specs.Node.{Service, Content, Message, Lead, Role, Work, Failure, Node, no_work, down_node, is_active}
 use Rattle.rex_safety.specs.Node.Failure.{After}
-use Rattle.rex_safety.specs.Node.Content.{Prepare, Promise, Accept, Accepted as Voted, Chosen as Chose, Nack, Ask}
+use Rattle.rex_safety.specs.Node.Content.{Prepare, Promise, Accept, Accepted as Voted, Chosen as Chose, Nack, Ask, Snapshot}
 use Rattle.rex_safety.specs.Node.Role.{Follower, Leads}
 
 -- a node within a call: what it is so far, what it will send, and what it reports
@@ -194,6 +194,12 @@ elect n sv me d =
     if nat_lt 4294967296 (round_of (ballot_above me (promise d.node.log))) then say (effect.Spent me) d
     else stand n sv me (ballot_above me (promise d.node.log)) d
 
+-- ---- messages that are too old to be answered with values
+
+-- who asks of instances whose values the node doesn't hold any more is told the state at its base
+abbrev pub answer_base : {V S : Type 0} → ℕ → ℕ → Call V S → Call V S
+answer_base me from d = send d (answer me from (Snapshot (take (base d.node.log) (known d.node.log))))
+
 -- ---- Prepare
 
 -- a promise, with all accepted proposals from an instance on
@@ -203,6 +209,7 @@ promised me from b first d = send d (answer me from (Promise b (from_on first (a
 abbrev pub on_prepare : {V S : Type 0} → ℕ → ℕ → ℕ → ℕ → Call V S → Call V S
 on_prepare me from b first d =
     if nat_lt b (promise d.node.log) then send d (answer me from (Nack b (promise d.node.log)))
+    else if nat_le first (offset d.node.log) then answer_base me from d
     else if nat_lt (promise d.node.log) b then
     append d.node.armed me (Promised b) d (λ e. promised me from b first (follow me (effect.Promised me b ∷ []) e))
     else promised me from b first d
@@ -241,6 +248,7 @@ has_last b i (p ∷ ps) = if p.ballot == b then (p.instance == i || has_last b i
 abbrev pub on_accept : {V S : Type 0} → ℕ → ℕ → ℕ → ℕ → V → Call V S → Call V S
 on_accept me from b i v d =
     if nat_lt b (promise d.node.log) then send d (answer me from (Nack b (promise d.node.log)))
+    else if nat_le i (offset d.node.log) then answer_base me from d
     else if has_last b i (accepted d.node.log) then send d (answer me from (Voted b i))
     else append d.node.armed me (Accepted b i v) d
     (λ e. send (follow me (effect.Accepted me b i ∷ []) e) (answer me from (Voted b i)))
@@ -268,7 +276,7 @@ on_voted n sv me from b i d Follower = say (effect.IgnoredBallot b 0) d
 on_voted n sv me from b i d (Leads l) =
     if l.ballot == b then on_own_vote n sv me from i d l l.proposal else say (effect.IgnoredBallot b l.ballot) d
 
--- ---- Chosen, Nack and Ask
+-- ---- Chosen, Nack, Ask and Snapshot
 
 -- the value of the next instance is known, and the node is a follower
 abbrev pub on_chosen : {V S : Type 0} → ℕ → ℕ → V → Call V S → Call V S
@@ -290,8 +298,20 @@ tell me to first i (v ∷ vs) =
 -- at most 64 of what it knows
 abbrev pub on_ask : {V S : Type 0} → ℕ → ℕ → ℕ → Call V S → Call V S
 on_ask me from first d =
-    if nat_lt (length (known d.node.log)) first then say effect.Nothing d
+    if nat_le first (offset d.node.log) then answer_base me from d
+    else if nat_lt (length (known d.node.log)) first then say effect.Nothing d
     else send d (take 64 (tell me from first 1 (known d.node.log)))
+
+-- the node has replayed so many values
+abbrev pub with_replayed : {V S : Type 0} → ℕ → Call V S → Call V S
+with_replayed replayed d = record d { node = record d.node { replayed = replayed } }
+
+-- values of which it knows fewer are taken over with the state after them, and the node is a follower
+abbrev pub on_snapshot : {V S : Type 0} → Service V S → ℕ → List V → Call V S → Call V S
+on_snapshot sv me values d =
+    if nat_le (length values) (length (known d.node.log)) then say (effect.IgnoredInstance (length values) (suc (length (known d.node.log)))) d
+    else append d.node.armed me (Transferred values (sv.state values)) d
+    (λ e. follow me (effect.Transferred me (length values) ∷ []) (with_replayed (length values) e))
 
 -- what a node does on a message
 abbrev pub receive : {V S : Type 0} → ℕ → Service V S → ℕ → ℕ → Content V → Call V S → Call V S
@@ -302,6 +322,7 @@ receive n sv me from (Voted b i) d = on_voted n sv me from b i d d.node.role
 receive n sv me from (Chose i v) d = on_chosen me i v d
 receive n sv me from (Nack b p) d = on_nack me p d d.node.role
 receive n sv me from (Ask first) d = on_ask me from first d
+receive n sv me from (Snapshot values) d = on_snapshot sv me values d
 
 -- ---- schedule lines
 
@@ -325,6 +346,12 @@ checkpoint version sv me d =
     else if nat_lt 0 (length d.node.work.live) then say (effect.Live (length d.node.work.live)) d
     else append d.node.armed me (Checkpoint version d.node.replayed (sv.state (take d.node.replayed (known d.node.log)))) d
     (say (effect.Checkpointed me d.node.replayed))
+
+-- it forgets the values up to its base, and what it accepted for their instances
+abbrev pub drop_known : {V S : Type 0} → ℕ → Call V S → Call V S
+drop_known me d =
+    if base d.node.log == offset d.node.log then say effect.Nothing d
+    else append d.node.armed me (Dropped (base d.node.log)) d (say (effect.Dropped me (base d.node.log)))
 
 -- it forgets all but its records
 abbrev pub stop : {V S : Type 0} → ℕ → Call V S → Call V S

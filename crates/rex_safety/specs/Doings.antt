@@ -1,5 +1,5 @@
 -- What holds of every world to which schedule lines and events that nodes are handed lead.
-use Rattle.std.specs.Prelude.{ℕ, ◌+◌, ◌≤◌, List, [], ◌∷◌, ◌++◌, length}
+use Rattle.std.specs.Prelude.{◌≡◌, ℕ, ◌+◌, ◌≤◌, true, List, [], ◌∷◌, ◌++◌, length}
 use Rattle.std.specs.List.{All}
 use Rattle.rex_ballot.specs.Limits.{most_nodes}
 use Rattle.rex_syntax.specs.declared.request.Request.{Request}
@@ -8,12 +8,15 @@ use Rattle.rex_syntax.specs.Service.{IsService}
 use Rattle.rex_syntax.specs.Check.{IsChecked}
 use Rattle.rex_event.specs.declared.event.Event.{Event}
 use Rattle.rex_scenario.specs.Fits.{IsNode, RequestFits}
-use Rattle.rex_safety.specs.World.{World, beginning, steps_of}
+use Rattle.rex_safety.specs.World.{World, node_at, beginning, steps_of}
 use Rattle.rex_safety.specs.Agreed.{agreed}
-use Rattle.rex_safety.specs.Values.{trace_of}
+use Rattle.rex_safety.specs.Values.{Value, trace_of, service_of}
 use Rattle.rex_safety.specs.Once.{IsOnce}
 use Rattle.rex_safety.specs.Kept.{IsKept}
-use Rattle.rex_safety.specs.Laws.{HasOneValue, KnowsAgreed, OnlyGrows, IsOneList, AgreedRuns, BaseIsRight, ReleasesStand}
+use Rattle.rex_safety.specs.Laws.{HasOneValue, KnowsAgreed, OnlyGrows, IsOneList, AgreedRuns, BaseIsRight, AgreedIsGiven, HoldsAgreed, TransfersAreRight, ReleasesStand, ReleasesAreAgreed, CutsGoFirst, CausesAreLeast, NextFits, ValuesAreBytes, ValuesAreShort, NodesAreKept, ActsRightly, NumbersFit}
+use Rattle.rex_safety.specs.Rules.{Rules}
+use Rattle.rex_safety.specs.Node.{Lead}
+use Rattle.rex_safety.specs.Node.Role.{Leads}
 use Rattle.rex_safety.specs.Releases.{Moment, step_moments}
 use Rattle.rex_safety.specs.Takes.{Doing, DoingFits, BeginsInRange, take, does, after_doings}
 use Rattle.rex_safety.specs.Takes.Doing.{Does, Takes}
@@ -72,11 +75,67 @@ DoingsRun = AfterAnyDoings AgreedRuns
 abbrev pub DoingsKeepBases : Type 0
 DoingsKeepBases = AfterAnyDoings BaseIsRight
 
+-- the agreed list is what records give
+abbrev pub DoingsGiveAgreed : Type 0
+DoingsGiveAgreed = AfterAnyDoings AgreedIsGiven
+
+-- what a node holds are the agreed values after its offset
+abbrev pub DoingsHoldAgreed : Type 0
+DoingsHoldAgreed = AfterAnyDoings HoldsAgreed
+
+-- states that are told or taken over are those after the first agreed values
+abbrev pub DoingsTransferRightly : Type 0
+DoingsTransferRightly = AfterAnyDoings TransfersAreRight
+
 -- each request has at most one begin and at most one reply in the agreed trace
 abbrev pub DoingsHappenOnce : Type 0
 DoingsHappenOnce =
     (service : Declarations) (requests : List Request) (seed n : ℕ) (doings : List Doing) → n ≤ most_nodes → IsService service → IsChecked service
     → IsOnce (trace_of (agreed (world_after_doings service requests seed n doings)))
+
+-- the events below a consistent cut of a front of the agreed trace go first
+abbrev pub DoingsLetCutsGoFirst : Type 0
+DoingsLetCutsGoFirst = AfterAnyDoings CutsGoFirst
+
+-- the causes of each agreed delta are the least
+abbrev pub DoingsKeepCausesLeast : Type 0
+DoingsKeepCausesLeast = AfterAnyDoings CausesAreLeast
+
+-- what nodes know fits, and so does each value that may be known next
+abbrev pub DoingsFitNext : Type 0
+DoingsFitNext = AfterAnyDoings NextFits
+
+-- values are bytes, and none is too long
+abbrev pub DoingsKeepBytes : Type 0
+DoingsKeepBytes = AfterAnyDoings ValuesAreBytes
+
+abbrev pub DoingsKeepShort : Type 0
+DoingsKeepShort = AfterAnyDoings ValuesAreShort
+
+-- the rules by which Paxos is explained
+abbrev pub DoingsKeepRules : Type 0
+DoingsKeepRules =
+    (service : Declarations) (requests : List Request) (seed n : ℕ) (doings : List Doing) → n ≤ most_nodes
+    → Rules n (service_of service seed) (world_after_doings service requests seed n doings)
+
+-- nodes are kept
+abbrev pub DoingsKeepNodes : Type 0
+DoingsKeepNodes =
+    (service : Declarations) (requests : List Request) (seed n : ℕ) (doings : List Doing) → n ≤ most_nodes
+    → NodesAreKept service seed n (world_after_doings service requests seed n doings)
+
+-- with a checked service, requests that fit it, and doings that name what is there: the known deltas and then the live events of an active node run from the start
+abbrev pub DoingsRunActives : Type 0
+DoingsRunActives =
+    (service : Declarations) (requests : List Request) (seed n : ℕ) (doings : List Doing) → n ≤ most_nodes → IsService service → IsChecked service → All (RequestFits service) requests → All (DoingFits n (length requests) service.lanes) doings
+    → (m : ℕ) (l : Lead Value) → (node_at (world_after_doings service requests seed n doings).nodes m).role ≡ Leads l → l.active ≡ true
+    → ActsRightly service (node_at (world_after_doings service requests seed n doings).nodes m) l
+
+-- and numbers are in their ranges
+abbrev pub DoingsKeepNumbers : Type 0
+DoingsKeepNumbers =
+    (service : Declarations) (requests : List Request) (seed n : ℕ) (doings : List Doing) → n ≤ most_nodes → IsService service → IsChecked service → All (RequestFits service) requests → All (DoingFits n (length requests) service.lanes) doings
+    → NumbersFit n (world_after_doings service requests seed n doings)
 
 -- ---- replies
 
@@ -96,3 +155,9 @@ abbrev pub DoingsKeepReplies : Type 0
 DoingsKeepReplies =
     (service : Declarations) (requests : List Request) (seed n : ℕ) (doings : List Doing) → n ≤ most_nodes → IsService service → IsChecked service → All (RequestFits service) requests
     → ReleasesStand (moments_of_doings service requests seed n (beginning n) doings)
+
+-- and it stands in the agreed trace from then on
+abbrev pub DoingsKeepAgreed : Type 0
+DoingsKeepAgreed =
+    (service : Declarations) (requests : List Request) (seed n : ℕ) (doings : List Doing) → n ≤ most_nodes → IsService service → IsChecked service → All (RequestFits service) requests
+    → ReleasesAreAgreed (moments_of_doings service requests seed n (beginning n) doings)

@@ -1,5 +1,5 @@
 -- What holds of every run of a world.
-use Rattle.std.specs.Prelude.{◌≡◌, ℕ, suc, ◌*◌, ℤ, ◌≤◌, ◌⊎◌, true, List, [], ◌∷◌, ◌++◌, length, take, Option, Some, slice_get}
+use Rattle.std.specs.Prelude.{◌≡◌, ℕ, suc, ◌-◌, ◌*◌, ℤ, ◌≤◌, ◌⊎◌, true, List, [], ◌∷◌, ◌++◌, length, take, drop, Option, Some, None, slice_get}
 use Rattle.std.specs.List.{All, list_all}
 use Rattle.rex_ballot.specs.Limits.{most_nodes}
 use Rattle.rex_state.specs.Start.{start_of}
@@ -17,19 +17,20 @@ use Rattle.rex_reduce.specs.Reduced.{AreLeast}
 use Rattle.rex_cut.specs.Greatest.{greatest_cut, IsCutOf}
 use Rattle.rex_cut.specs.Delta.{delta_at}
 use Rattle.rex_delta.specs.Spelling.{HasSpelling}
-use Rattle.rex_safety.specs.Records.{Proposal, known, base, HasAccepted}
+use Rattle.rex_safety.specs.Records.{Proposal, known, base, offset, held, HasAccepted, HasTransferred}
 use Rattle.rex_safety.specs.Quorum.{IsNode, Chosen}
 use Rattle.rex_safety.specs.Values.{Value, IsBytes, greatest_value, delta_of, spells, trace_of, runs, state_after, values_fit, service_of}
-use Rattle.rex_safety.specs.World.{World, node_at, logs, beginning}
+use Rattle.rex_safety.specs.World.{World, node_at, logs, beginning, effects_of}
 use Rattle.rex_safety.specs.Node.{Service, Message, Lead, Work}
-use Rattle.rex_safety.specs.Node.Content.{Promise, Accept, Chosen as ToldChosen}
+use Rattle.rex_safety.specs.Node.Content.{Promise, Accept, Chosen as ToldChosen, Snapshot}
 use Rattle.rex_safety.specs.Node.Role.{Leads}
 use Rattle.rex_safety.specs.Lanes.{Here, CallHere, node_trace, is_faithful, value_at}
 use Rattle.rex_safety.specs.Calls.{turn, settle, enough}
 use Rattle.rex_safety.specs.Acting.{IsActing, HasLane}
 use Rattle.rex_safety.specs.Stands.{Stands}
-use Rattle.rex_safety.specs.Releases.{Moment, moments, IsReleased, IsLeader, IsLater}
-use Rattle.rex_safety.specs.Agreed.{world_after, known_at, agreed, base_state, trace_at}
+use Rattle.rex_report.specs.declared.effect.Effect.TheVariants.{Released}
+use Rattle.rex_safety.specs.Releases.{Moment, moments, IsAmong, IsReleased, IsLeader, IsLater}
+use Rattle.rex_safety.specs.Agreed.{world_after, known_at, agreed, given, base_state, trace_at}
 use Rattle.rex_safety.specs.Invariant.{IsIn, Begins, AreRecords, IsReplayed}
 use Rattle.rex_safety.specs.Ranges.{MessageFits, NodeFits}
 use Rattle.rex_safety.specs.Rules.{Rules}
@@ -88,18 +89,21 @@ AgreedRuns service n w = (k : ℕ) → values_fit service (take k (agreed w)) �
 abbrev pub AgreedTracesRun : Type 0
 AgreedTracesRun = AfterAnyLines AgreedRuns
 
--- of each front of the agreed trace the events below a consistent cut run from the start too, and the others lead on from there to the same state
-abbrev pub AgreedCutsGoFirst : Type 0
-AgreedCutsGoFirst =
-    (service : Declarations) (requests : List Request) (seed n : ℕ) (lines : List ScheduleLine) → n ≤ most_nodes → IsService service → IsChecked service
-    → (k : ℕ) (cut : List ℕ) → IsConsistent (trace_at (world_after service requests seed n lines) k) cut
-    → (s : StateValue) × (run service (start_of service) (trace_at (world_after service requests seed n lines) k) ≡ Some s) × GoesFirst service (start_of service) s cut (trace_at (world_after service requests seed n lines) k)
+-- of each front of the agreed trace of a checked service the events below a consistent cut run from the start too, and the others lead on from there to the same state
+abbrev pub CutsGoFirst : Declarations → ℕ → World → Type 0
+CutsGoFirst service n w =
+    IsService service → IsChecked service → (k : ℕ) (cut : List ℕ) → IsConsistent (trace_at w k) cut
+    → (s : StateValue) × (run service (start_of service) (trace_at w k) ≡ Some s) × GoesFirst service (start_of service) s cut (trace_at w k)
 
--- the causes of each agreed delta are the least that tell the order of its events
+abbrev pub AgreedCutsGoFirst : Type 0
+AgreedCutsGoFirst = AfterAnyLines CutsGoFirst
+
+-- the causes of each agreed delta of a checked service are the least that tell the order of its events
+abbrev pub CausesAreLeast : Declarations → ℕ → World → Type 0
+CausesAreLeast service n w = IsService service → IsChecked service → (v : Value) → IsIn v (agreed w) → AreLeast (delta_of v).events (delta_of v).causes
+
 abbrev pub AgreedCausesAreLeast : Type 0
-AgreedCausesAreLeast =
-    (service : Declarations) (requests : List Request) (seed n : ℕ) (lines : List ScheduleLine) → n ≤ most_nodes → IsService service → IsChecked service
-    → (v : Value) → IsIn v (agreed (world_after service requests seed n lines)) → AreLeast (delta_of v).events (delta_of v).causes
+AgreedCausesAreLeast = AfterAnyLines CausesAreLeast
 
 -- a checkpoint that a node has is of the state to which the known deltas up to its base run
 abbrev pub BaseIsRight : Declarations → ℕ → World → Type 0
@@ -109,6 +113,39 @@ BaseIsRight service n w =
 
 abbrev pub BasesAreRight : Type 0
 BasesAreRight = AfterAnyLines BaseIsRight
+
+-- ---- values that are held, and states that are taken over
+
+-- the agreed list is what records of any node give to instances 1, 2 and so on, up to the first instance to which none gives a value
+abbrev pub AgreedIsGiven : Declarations → ℕ → World → Type 0
+AgreedIsGiven service n w = agreed w ≡ given w
+
+abbrev pub AgreedListsAreGiven : Type 0
+AgreedListsAreGiven = AfterAnyLines AgreedIsGiven
+
+-- the state at a node's base; without one, the start
+abbrev pub state_at_base : Declarations → Option StateValue → StateValue
+state_at_base service None = start_of service
+state_at_base service (Some s) = s
+
+-- a node knows as many agreed values as its offset says, and then the values that it holds, which are the agreed ones from there on; its offset is at most its base; and from the state at its base the values that it holds after that lead to the state after so many agreed values as it knows or fewer, those that it has replayed among them
+pub record HoldsAgreed (service : Declarations) (n : ℕ) (w : World) : Type 0 where
+  pub is_known : (m : ℕ) → IsNode n m → known_at w m ≡ take (offset (logs w m)) (agreed w) ++ held (logs w m)
+  pub is_held : (m : ℕ) → IsNode n m → held (logs w m) ≡ take (length (held (logs w m))) (drop (offset (logs w m)) (agreed w))
+  pub low : (m : ℕ) → IsNode n m → offset (logs w m) ≤ base (logs w m)
+  pub leads : (m k : ℕ) → IsNode n m → base (logs w m) ≤ k → k ≤ length (known_at w m)
+      → run service (state_at_base service (base_state (logs w m))) (trace_of (take (k - base (logs w m)) (drop (base (logs w m) - offset (logs w m)) (held (logs w m))))) ≡ Some (state_after service (trace_at w k))
+
+abbrev pub NodesHoldAgreed : Type 0
+NodesHoldAgreed = AfterAnyLines HoldsAgreed
+
+-- the values whose state a message tells, or a record takes over, are the first agreed ones, and a record's state is the one after them
+pub record TransfersAreRight (service : Declarations) (n : ℕ) (w : World) : Type 0 where
+  pub told : (x : Message Value) (values : List Value) → IsIn x w.messages → x.content ≡ Snapshot values → Begins values (agreed w)
+  pub taken : (m : ℕ) (values : List Value) (s : StateValue) → IsNode n m → HasTransferred values s (logs w m) → Begins values (agreed w) × (s ≡ state_after service (trace_of values))
+
+abbrev pub TransfersStayRight : Type 0
+TransfersStayRight = AfterAnyLines TransfersAreRight
 
 -- ---- the rules of the cluster
 
@@ -132,6 +169,19 @@ abbrev pub RepliesStand : Type 0
 RepliesStand =
     (service : Declarations) (requests : List Request) (seed n : ℕ) (lines : List ScheduleLine) → n ≤ most_nodes → IsService service → IsChecked service → All (RequestFits service) requests
     → ReleasesStand (moments service requests seed n (beginning n) lines)
+
+-- each reply that is released at one of these moments stands in the agreed trace then and at every later moment
+abbrev pub ReleasesAreAgreed : List Moment → Type 0
+ReleasesAreAgreed run =
+    (i j : ℕ) (release later : Moment) → slice_get run i ≡ Some release → slice_get run j ≡ Some later → i ≤ j
+    → (client sequence : ℕ) (value : ℤ) → IsAmong (Released client sequence value) release.effects → Stands (trace_of (agreed later.world)) client sequence value
+
+-- of every run with a checked service and requests that fit it: each reply that its lines released stands in the agreed trace after them
+abbrev pub RepliesAreAgreed : Type 0
+RepliesAreAgreed =
+    (service : Declarations) (requests : List Request) (seed n : ℕ) (lines : List ScheduleLine) → n ≤ most_nodes → IsService service → IsChecked service → All (RequestFits service) requests
+    → (client sequence : ℕ) (value : ℤ) → IsAmong (Released client sequence value) (effects_of service requests seed n (beginning n) lines)
+    → Stands (trace_of (agreed (world_after service requests seed n lines))) client sequence value
 
 -- each request has at most one begin and at most one reply in the agreed trace
 abbrev pub RequestsHappenOnce : Type 0

@@ -1,6 +1,7 @@
 pub mod Records
 pub mod Quorum
 pub mod Node
+pub mod Telling
 pub mod Calls
 pub mod Values
 pub mod Same
@@ -21,4 +22,7 @@ pub mod Takes
 pub mod Limits
 pub mod Keeping
 pub mod Doings
+pub mod Rounds
+pub mod Typed
+pub mod Faithful
 pub mod Migrating

@@ -28,7 +28,7 @@ dice_of seed ballot = started 64 multiplier_64 seed (increment_of 64 ballot)
 
 -- ---- messages
 
--- a ballot and the first instance that its node doesn't know; a promise of a ballot with what was accepted; a ballot's value for an instance; that it was accepted; the value that was chosen for an instance; a ballot that was refused, and the promise that is above it; the first instance that a node doesn't know
+-- a ballot and the first instance that its node doesn't know; a promise of a ballot with what was accepted; a ballot's value for an instance; that it was accepted; the value that was chosen for an instance; a ballot that was refused, and the promise that is above it; the first instance that a node doesn't know; the values of the first instances, of which the message itself has just the number and the state after them
 pub data Content (V : Type 0) : Type 0 where
   Prepare : ℕ → ℕ → Content V
   Promise : ℕ → List (Proposal V) → Content V
@@ -37,6 +37,7 @@ pub data Content (V : Type 0) : Type 0 where
   Chosen : ℕ → V → Content V
   Nack : ℕ → ℕ → Content V
   Ask : ℕ → Content V
+  Snapshot : List V → Content V
 
 pub record Message (V : Type 0) : Type 0 where
   pub from : ℕ
@@ -51,6 +52,7 @@ kind_of (Accepted b i) = kind.Accepted
 kind_of (Chosen i v) = kind.Chosen
 kind_of (Nack b p) = kind.Nack
 kind_of (Ask first) = kind.Ask
+kind_of (Snapshot values) = kind.Snapshot
 
 -- ---- roles
 

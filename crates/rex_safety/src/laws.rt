@@ -2,11 +2,13 @@
 //! come back, and active nodes may be handed events that no line spells. Each function is the statement that its contract makes, and
 //! does nothing.
 
-ghost use Rattle.rex_safety.specs.Laws.{ChosenValuesAgree, KnownBeginsAgreed, ListsOnlyGrow, KnownListsArePrefixes, AgreedTracesRun, BasesAreRight, RulesAreKept, RepliesStand, RequestsHappenOnce, ActiveTracesRun, CutsAreFaithful, LeadersGoOnToTheEnd, NextValuesFit, NumbersStayInRange, CountsAreFew, AgreedCausesAreLeast, AgreedCutsGoFirst, ValuesStayBytes, ValuesStayShort, NodesStayKept};
+ghost use Rattle.rex_safety.specs.Laws.{ChosenValuesAgree, KnownBeginsAgreed, ListsOnlyGrow, KnownListsArePrefixes, AgreedTracesRun, BasesAreRight, AgreedListsAreGiven, NodesHoldAgreed, TransfersStayRight, RulesAreKept, RepliesStand, RepliesAreAgreed, RequestsHappenOnce, ActiveTracesRun, CutsAreFaithful, LeadersGoOnToTheEnd, NextValuesFit, NumbersStayInRange, CountsAreFew, AgreedCausesAreLeast, AgreedCutsGoFirst, ValuesStayBytes, ValuesStayShort, NodesStayKept};
 ghost use Rattle.rex_safety.specs.Keeping.{BeginningsAreKept, StepsAreKept, LinesAreKept, KeptValuesFit, KeptBasesAreRight, KeptCutsAreSpelled, KeptCutsAreFaithful, KeptCountsHaveRoom};
+ghost use Rattle.rex_safety.specs.Rounds.{RoundsStayFew, RoundsAreLeft, DoingsKeepRoundsFew, DoingsLeaveRounds};
+ghost use Rattle.rex_safety.specs.Faithful.{CutsStayFaithful, DoingsKeepCutsFaithful};
 ghost use Rattle.rex_safety.specs.Limits.{ValuesLeadToLimitedStates};
 ghost use Rattle.rex_safety.specs.Migrating.{MigrationsSayTheSame, MigrationsKeepStates, MigrationsHappenOnce};
-ghost use Rattle.rex_safety.specs.Doings.{TakesAreKept, DoingsAreKept, DoingsAgree, DoingsBeginAgreed, DoingsOnlyGrow, DoingsGivePrefixes, DoingsRun, DoingsKeepBases, DoingsHappenOnce, DoingsKeepReplies};
+ghost use Rattle.rex_safety.specs.Doings.{TakesAreKept, DoingsAreKept, DoingsAgree, DoingsBeginAgreed, DoingsOnlyGrow, DoingsGivePrefixes, DoingsRun, DoingsKeepBases, DoingsGiveAgreed, DoingsHoldAgreed, DoingsTransferRightly, DoingsHappenOnce, DoingsKeepReplies, DoingsKeepAgreed, DoingsLetCutsGoFirst, DoingsKeepCausesLeast, DoingsFitNext, DoingsKeepBytes, DoingsKeepShort, DoingsKeepRules, DoingsKeepNodes, DoingsRunActives, DoingsKeepNumbers};
 
 /// Two values that are chosen for one instance are equal (Lamport, 2001).
 pub fn chosen_values_agree()
@@ -38,6 +40,21 @@ pub fn bases_are_right()
     ensures { BasesAreRight }
 {}
 
+/// The agreed list is what records of any node give to instances 1, 2 and so on.
+pub fn agreed_lists_are_given()
+    ensures { AgreedListsAreGiven }
+{}
+
+/// What a node holds are the agreed values after its offset, and they lead from the state at its base on.
+pub fn nodes_hold_agreed_values()
+    ensures { NodesHoldAgreed }
+{}
+
+/// States that are told or taken over are those after the first agreed values.
+pub fn transfers_stay_right()
+    ensures { TransfersStayRight }
+{}
+
 /// The rules by which Paxos is explained hold after any lines.
 pub fn rules_are_kept()
     ensures { RulesAreKept }
@@ -46,6 +63,11 @@ pub fn rules_are_kept()
 /// Each released reply stands in the trace of every later leader.
 pub fn released_replies_stand()
     ensures { RepliesStand }
+{}
+
+/// Each released reply stands in the agreed trace.
+pub fn released_replies_are_agreed()
+    ensures { RepliesAreAgreed }
 {}
 
 /// Each request has at most one begin and at most one reply in the agreed trace.
@@ -63,6 +85,11 @@ pub fn cuts_are_faithful()
     ensures { CutsAreFaithful }
 {}
 
+/// In a run whose numbers are of 64 bits each cut that has an event below it is faithful.
+pub fn cuts_stay_faithful()
+    ensures { CutsStayFaithful }
+{}
+
 /// A node that leads goes on until it can't.
 pub fn leaders_go_on_to_the_end()
     ensures { LeadersGoOnToTheEnd }
@@ -76,6 +103,16 @@ pub fn next_values_fit()
 /// The ballots, instances and nodes in records and messages stay in their ranges.
 pub fn numbers_stay_in_range()
     ensures { NumbersStayInRange }
+{}
+
+/// Rounds are at most as many as lines.
+pub fn rounds_stay_few()
+    ensures { RoundsStayFew }
+{}
+
+/// A run of at most 2^32 lines never lacks a round.
+pub fn rounds_are_left()
+    ensures { RoundsAreLeft }
 {}
 
 /// Each lane did at most 4,096 events for each agreed value.
@@ -193,6 +230,21 @@ pub fn bases_are_right_after_doings()
     ensures { DoingsKeepBases }
 {}
 
+/// After them the agreed list is what records give.
+pub fn agreed_lists_are_given_after_doings()
+    ensures { DoingsGiveAgreed }
+{}
+
+/// What a node holds after them are the agreed values after its offset.
+pub fn nodes_hold_agreed_values_after_doings()
+    ensures { DoingsHoldAgreed }
+{}
+
+/// After them states that are told or taken over are those after the first agreed values.
+pub fn transfers_are_right_after_doings()
+    ensures { DoingsTransferRightly }
+{}
+
 /// After them each request has at most one begin and at most one reply in the agreed trace.
 pub fn requests_happen_once_after_doings()
     ensures { DoingsHappenOnce }
@@ -201,6 +253,71 @@ pub fn requests_happen_once_after_doings()
 /// Each reply that is released among them stands in the trace of every later leader.
 pub fn released_replies_stand_after_doings()
     ensures { DoingsKeepReplies }
+{}
+
+/// Each reply that is released among them stands in the agreed trace from then on.
+pub fn released_replies_are_agreed_after_doings()
+    ensures { DoingsKeepAgreed }
+{}
+
+/// After them rounds are at most as many as lines among them.
+pub fn rounds_stay_few_after_doings()
+    ensures { DoingsKeepRoundsFew }
+{}
+
+/// With at most 2^32 lines among them no round is ever lacking.
+pub fn rounds_are_left_after_doings()
+    ensures { DoingsLeaveRounds }
+{}
+
+/// After them the events below a consistent cut of the agreed trace may go first.
+pub fn agreed_cuts_go_first_after_doings()
+    ensures { DoingsLetCutsGoFirst }
+{}
+
+/// After them the causes of each agreed delta are the least that tell the order of its events.
+pub fn agreed_causes_are_least_after_doings()
+    ensures { DoingsKeepCausesLeast }
+{}
+
+/// After them what a node knows fits, and so does each value that it may know next.
+pub fn next_values_fit_after_doings()
+    ensures { DoingsFitNext }
+{}
+
+/// After them each value is bytes.
+pub fn values_stay_bytes_after_doings()
+    ensures { DoingsKeepBytes }
+{}
+
+/// After them no value is too long for its bytes.
+pub fn values_stay_short_after_doings()
+    ensures { DoingsKeepShort }
+{}
+
+/// After them the rules by which Paxos is explained hold.
+pub fn rules_are_kept_after_doings()
+    ensures { DoingsKeepRules }
+{}
+
+/// After them each node's records are in order, and what it has replayed lies between its base and what it knows.
+pub fn nodes_stay_kept_after_doings()
+    ensures { DoingsKeepNodes }
+{}
+
+/// After them the known deltas and then the live events of an active node run from the start on one thread.
+pub fn active_traces_run_after_doings()
+    ensures { DoingsRunActives }
+{}
+
+/// After them the ballots, instances and nodes in records and messages are in their ranges.
+pub fn numbers_stay_in_range_after_doings()
+    ensures { DoingsKeepNumbers }
+{}
+
+/// Each cut is faithful after them, where their numbers are of 64 bits.
+pub fn cuts_stay_faithful_after_doings()
+    ensures { DoingsKeepCutsFaithful }
 {}
 
 /// A migration leaves what outlives a node as it was: its promise, what it accepted and knows, and its base.

@@ -20,7 +20,7 @@ use Rattle.rex_report.specs.declared.effect.Effect.TheVariants.{Proposes, Ended,
 use Rattle.rex_scenario.specs.Fits.{RequestFits, LineFits}
 use Rattle.rex_scenario.specs.declared.scenario.ScheduleLine.{ScheduleLine}
 use Rattle.rex_scenario.specs.declared.scenario.ScheduleLine.TheVariants.{Cut, Flush}
-use Rattle.rex_safety.specs.Records.{Proposal, proposal_of, placed, accepted, known}
+use Rattle.rex_safety.specs.Records.{Proposal, proposal_of, placed, last_accepted, accepted, from_on, offset, known}
 use Rattle.rex_safety.specs.Records.Rec.{Accepted, Known}
 use Rattle.rex_safety.specs.Node.{Message}
 use Rattle.rex_safety.specs.Node.Content.{Accept, Accepted as Voted, Chosen as Chose}
@@ -68,6 +68,15 @@ module _ (b j : ℕ) where
       go true true r u e f = absurd (cc)
       go true false r u e f = f
       go false s r u e f = f
+
+  -- those from an instance on
+  front_last : (first : ℕ) (ps : List (Proposal Value)) → has_last b j ps ≡ false → has_last b j (from_on first ps) ≡ false
+  front_last first [] h = h
+  front_last first (q ∷ qs) h = go (nat_le first q.instance) (front_last first qs (tail_last q qs h))
+    where
+      go : (t : Bool) → has_last b j (from_on first qs) ≡ false → has_last b j (cond t (q ∷ from_on first qs) (from_on first qs)) ≡ false
+      go true ih = with_last q qs (from_on first qs) h ih
+      go false ih = ih
 
   -- a proposal of another instance in its place
   placed_last : (p : Proposal Value) (ps : List (Proposal Value)) → eqb p.instance j ≡ false → has_last b j ps ≡ false → has_last b j (placed p ps) ≡ false
@@ -188,12 +197,15 @@ module _ (service : Declarations) (requests : List Request) (seed n : ℕ) (some
         (call_first n w leader (follow_node h.follows) (λ (d : CallHere). cut service seed n 1 (no_limits service d.node) d) (w.done + 1) some refl h.holds))
 
     new : has_last 17 i (accepted h.follows) ≡ false
-    new = h.fresh i (omega (arith, long))
+    new = front_last 17 i (suc (offset h.follows)) (last_accepted h.follows) (h.fresh i (omega (arith, long)))
+
+    held : nat_le i (offset h.follows) ≡ false
+    held = lt-leb i (offset h.follows) (omega (arith, h.whole))
 
     asked : Holds n second proposed.node (follow_node (Accepted 17 i v ∷ h.follows)) (each_other n (λ q. record { from = q; to = 1; content = Voted 17 i } ∷ []))
     asked =
         tell service requests seed n proposed.node (follow_node h.follows) (follow_node (Accepted 17 i v ∷ h.follows)) (Accept 17 i v) (λ q. record { from = q; to = 1; content = Voted 17 i } ∷ []) refl
-        (accepts service seed n h.follows i v h.promised new) (accepts_sends service seed n h.follows i v h.promised new) first some asks
+        (accepts service seed n h.follows i v h.promised held new) (accepts_sends service seed n h.follows i v h.promised held new) first some asks
 
     abbrev Deciding : ℕ → Here → List (Message Value) → Type 0
     Deciding = Agreed service seed n h.log i v h.counted (x ∷ xs) h.dice (length values)
@@ -240,8 +252,9 @@ module _ (service : Declarations) (requests : List Request) (seed n : ℕ) (some
       knows = ap (λ (vs : List Value). vs ++ v ∷ []) h.knows;
       told = ap (λ (vs : List Value). vs ++ v ∷ []) h.told;
       promised = ap (λ (p : ℕ). max 17 p) h.promised;
+      whole = h.whole;
       fresh = λ j l.
-          placed_last 17 j (proposal_of 17 i v) (accepted h.follows) (ne_eqb i j (λ e. omega (arith, e, l, replayed)))
+          placed_last 17 j (proposal_of 17 i v) (last_accepted h.follows) (ne_eqb i j (λ e. omega (arith, e, l, replayed)))
           (h.fresh j (omega (arith, l, length-append values (v ∷ []))));
     }
 

@@ -9,7 +9,7 @@ use Rattle.rex_syntax.specs.declared.service.Declarations.{Declarations}
 use Rattle.rex_event.specs.declared.event.Event.{Event}
 use Rattle.rex_state.specs.Value.{StateValue}
 use Rattle.rex_scenario.specs.declared.scenario.ScheduleLine.TheVariants.{Elect, Flush}
-use Rattle.rex_safety.specs.Records.{promise, accepted, known}
+use Rattle.rex_safety.specs.Records.{promise, last_accepted, offset, known}
 use Rattle.rex_safety.specs.Records.Rec.{Promised}
 use Rattle.rex_safety.specs.Node.{Message, new_node, dice_of}
 use Rattle.rex_safety.specs.Node.Content.{Prepare, Promise}
@@ -33,7 +33,8 @@ pub record Rests (n : ℕ) (values : List Value) (live : List Event) (w : World)
   pub knows : known log ≡ values
   pub told : known follows ≡ values
   pub promised : promise follows ≡ 17
-  pub fresh : (i : ℕ) → length values < i → has_last 17 i (accepted follows) ≡ false
+  pub whole : offset follows ≡ 0
+  pub fresh : (i : ℕ) → length values < i → has_last 17 i (last_accepted follows) ≡ false
 
 new_at : (n q : ℕ) → 0 < q → q ≤ n → node_at {V = Value} {S = StateValue} (replicate n new_node) q ≡ new_node
 new_at zero q l m = absurd (omega (arith, l, m))
@@ -92,5 +93,6 @@ elects service requests seed n some = by (answer service requests seed n promise
           knows = refl;
           told = refl;
           promised = refl;
+          whole = refl;
           fresh = λ i l. refl;
         }

@@ -1,13 +1,13 @@
 -- What node 1 and the others do on each message of an election and of an agreement.
 use Rattle.std.proofs.Common.{◌≡◌, ℕ, zero, suc, ◌<◌, ◌≤◌, Bool, true, false, ◌⊎◌, List, [], ◌∷◌, ◌++◌, length, Option, Some, None, refl, sym, ◌∙◌, ap, subst, inl, inr, arith, append-nil, eq-eqb}
-use Rattle.std.specs.Prelude.{◌*◌}
+use Rattle.std.specs.Prelude.{◌*◌, nat_le}
 use Rattle.std.proofs.lemmas.Bool.{cases_lt, le-ltb, lt-ltb}
 use Rattle.rand_pcg.specs.Lcg.{Lcg}
 use Rattle.rex_syntax.specs.declared.service.Declarations.{Declarations}
 use Rattle.rex_event.specs.declared.event.Event.{Event}
 use Rattle.rex_state.specs.Value.{StateValue}
 use Rattle.rex_report.specs.declared.effect.Effect.{Effect}
-use Rattle.rex_safety.specs.Records.{Rec, Proposal, proposal_of, promise, accepted, known}
+use Rattle.rex_safety.specs.Records.{Rec, Proposal, proposal_of, promise, accepted, offset, known}
 use Rattle.rex_safety.specs.Records.Rec.{Promised, Accepted, Known}
 use Rattle.rex_safety.specs.Quorum.{is_majority}
 use Rattle.rex_safety.specs.Node.{Message, Content, Lead, Role, dice_of, no_work}
@@ -47,12 +47,12 @@ module _ (service : Declarations) (seed n : ℕ) where
   pub prepared_sends : (q : ℕ) → (receive n (service_of service seed) q 1 (Prepare 17 1) (begin new_node)).sends ≡ record { from = q; to = 1; content = Promise 17 [] } ∷ []
   prepared_sends q = refl
 
-  module _ (log : Log) (i : ℕ) (v : Value) (p : promise log ≡ 17) (h : has_last 17 i (accepted log) ≡ false) where
+  module _ (log : Log) (i : ℕ) (v : Value) (p : promise log ≡ 17) (o : nat_le i (offset log) ≡ false) (h : has_last 17 i (accepted log) ≡ false) where
     pub accepts : (q : ℕ) → (receive n (service_of service seed) q 1 (Accept 17 i v) (begin (follow_node log))).node ≡ follow_node (Accepted 17 i v ∷ log)
-    accepts q = rw (p, h) refl
+    accepts q = rw (p, o, h) refl
 
     pub accepts_sends : (q : ℕ) → (receive n (service_of service seed) q 1 (Accept 17 i v) (begin (follow_node log))).sends ≡ record { from = q; to = 1; content = Voted 17 i } ∷ []
-    accepts_sends q = rw (p, h) refl
+    accepts_sends q = rw (p, o, h) refl
 
   module _ (log : Log) (i : ℕ) (v : Value) (e : i ≡ suc (length (known log))) where
     pub learns : (q : ℕ) → (receive n (service_of service seed) q 1 (Chose i v) (begin (follow_node log))).node ≡ follow_node (Known i v ∷ log)

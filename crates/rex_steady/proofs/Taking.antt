@@ -48,6 +48,7 @@ module _ (service : Declarations) (requests : List Request) (seed n : ℕ) (some
         knows = h.knows;
         told = h.told;
         promised = h.promised;
+        whole = h.whole;
         fresh = h.fresh;
       }
 

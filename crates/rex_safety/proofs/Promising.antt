@@ -1,0 +1,291 @@
+-- After any lines, and events that nodes are handed, candidacies are as they should be.
+use Rattle.std.proofs.Common.{◌≡◌, ℕ, zero, suc, ◌<◌, ◌≤◌, Bool, true, false, cond, ◌||◌, ◌⊎◌, List, [], ◌∷◌, ◌++◌, length, Option, Some, None, eqb, refl, sym, ◌∙◌, ap, subst, inl, inr, arith, eqb-true, eq-eqb}
+use Rattle.std.specs.Prelude.{slice_get, nat_le}
+use Rattle.std.proofs.lemmas.Bool.{false≢true}
+use Rattle.rex_ballot.specs.Limits.{most_nodes}
+use Rattle.rex_syntax.specs.declared.request.Request.{Request}
+use Rattle.rex_syntax.specs.declared.service.Declarations.{Declarations}
+use Rattle.rex_event.specs.declared.event.Event.{Event}
+use Rattle.rex_event.specs.Cuts.{below}
+use Rattle.rex_cut.specs.Greatest.{greatest_cut}
+use Rattle.rex_state.specs.Value.{StateValue}
+use Rattle.rex_report.specs.declared.effect.Effect.TheVariants as effect
+use Rattle.rex_scenario.specs.declared.scenario.ScheduleLine.{ScheduleLine}
+use Rattle.rex_scenario.specs.declared.scenario.ScheduleLine.TheVariants as line
+use Rattle.rex_safety.specs.Records.{Proposal, accepted, from_on, known, has_old_base, base, HasAccepted}
+use Rattle.rex_safety.specs.Quorum.{IsNode, Logs, is_in}
+use Rattle.rex_safety.specs.Node.{Service, Content, Message, Lead, Role, is_active}
+use Rattle.rex_safety.specs.Node.Content.{Prepare, Promise, Accept, Accepted as Voted, Chosen as Chose, Nack, Ask, Snapshot}
+use Rattle.rex_safety.specs.Node.Role.{Follower, Leads}
+use Rattle.rex_safety.specs.Calls.{begin, settle, enough, elect, receive, on_prepare, ask, replay, checkpoint, drop_known, restart, stop, start, arm}
+use Rattle.rex_safety.specs.Invariant.{IsIn, IsRightPromise, IsJustified}
+use Rattle.rex_safety.specs.Values.{Value, service_of}
+use Rattle.rex_safety.specs.Lanes.{Here, CallHere, active_only, submit_request, lane_turn, is_faithful, cut_live, cut_lead, cut_role, cut, value_at, no_limits, with_limits}
+use Rattle.rex_safety.specs.World.{World, node_at, logs, beginning, after, at_node, start_if, with_handed, deliver_found, message_at, step, steps_of, steps, row, after_lines}
+use Rattle.rex_safety.specs.Agreed.{world_after}
+use Rattle.rex_safety.specs.Kept.{IsWorld}
+use Rattle.rex_safety.specs.Takes.{Doing, take_event, take, after_doings}
+use Rattle.rex_safety.specs.Takes.Doing.{Does, Takes}
+use Rattle.rex_safety.specs.Doings.{world_after_doings}
+use Rattle.rex_safety.proofs.Lists.{in_cases, is_in_push, from_on_late, accepted_covers, from_on_covers, in_left, in_right}
+use Rattle.rex_safety.proofs.Nodes.{node_put, IsFresh, fresh_at}
+use Rattle.rex_safety.proofs.Worlds.{GoesOnTo, nth_in}
+use Rattle.rex_safety.proofs.Steps.{step_ok, row_ok, beginning_ok}
+use Rattle.rex_safety.proofs.Migrated.{migrated_sends}
+use Rattle.rex_safety.proofs.Doings.{does_ok}
+use Rattle.rex_safety.proofs.Candidacies.{RoleHas, IsPlain, AreSent, if_votes, propose_votes, settle_votes, Any, Cast, Brings, IsGiven, Answers, receive_cast, prepare_answers, ask_cast, replay_cast, checkpoint_cast, drop_cast, stop_cast, start_cast, arm_cast}
+use Rattle.rex_safety.proofs.Asking.{CoversFrom, AreLater, OwnFrom, VotesCover, IsMeant, Candidacies, HasCandidacies, P, Q, plain, old_message, after_cand, begun, cast_cand, at_cand, at_cast, elect_cand}
+
+-- ---- a message that is handed over
+
+module _ (service : Declarations) (seed n : ℕ) (few : n ≤ most_nodes) (w : World) (ok : IsWorld n (service_of service seed) w) (first : ℕ → ℕ) (cand : Candidacies n first w) where
+  abbrev sv : Service Value StateValue
+  sv = service_of service seed
+
+  module _ (x : Message Value) (inside : IsIn x w.messages) (min : IsNode n x.to) where
+    abbrev m : ℕ
+    m = x.to
+
+    -- a promise that is counted
+    brings : (b : ℕ) (ps : List (Proposal Value)) → x.content ≡ Promise b ps → (e : CallHere) (goes : GoesOnTo n sv w (after w m e).world)
+        → Brings (P n sv w ok first cand m e goes) (Q n sv w ok first cand m e goes) n sv m (plain n sv w ok first cand m e goes) x.from (node_at w.nodes m).role (Promise b ps)
+    brings b ps c e goes l r same h = record { covers = λ q qin i. covers q qin (is_in q l.counted) refl (eqb q x.from) refl (sym (is_in_push q x.from l.counted) ∙ i); low = λ p i. low p (in_cases p l.reported ps i); later = λ p i. later p (in_cases p l.reported ps i); asked = h.asked }
+      where
+        L : Logs Value StateValue
+        L = logs (after w m e).world
+
+        heard_of : CoversFrom (logs (after w m e).world) (first b) b ps x.from × AreLater (first b) ps
+        heard_of = subst (IsMeant (logs (after w m e).world) first x.from) c (old_message n sv w ok first cand m e goes x inside)
+
+        told : CoversFrom (logs (after w m e).world) (first b) b ps x.from
+        told = heard_of.0
+
+        real : IsRightPromise n (logs w) x.from b ps
+        real = subst (IsJustified n (logs w) x.from) c (ok.cluster.messages x inside)
+
+        covers : (q : ℕ) → IsNode n q → (t : Bool) → is_in q l.counted ≡ t → (u : Bool) → eqb q x.from ≡ u → t || u ≡ true → OwnFrom (logs (after w m e).world) (first l.ballot) l.ballot (l.reported ++ ps) q
+        covers q qin true y u z i c j v lt lb a = let k = h.covers q qin y c j v lt lb a in record { it = k.it; inside = in_left k.it l.reported ps k.inside; at = k.at; above = k.above; below = k.below; own = k.own }
+        covers q qin false y true z i c j v lt lb a =
+            let from_is = eqb-true q x.from z in
+            let k = told c j v (subst (λ k. first k < j) same lt) (subst (λ k. c < k) same lb) (subst (λ k. HasAccepted c j v (logs (after w m e).world k)) from_is a) in
+            let r = real.real k.it k.inside in
+            record {
+              it = k.it;
+              inside = in_right k.it l.reported ps k.inside;
+              at = k.at;
+              above = k.above;
+              below = omega (arith, r.1, same);
+              own = subst (λ q'. HasAccepted k.it.ballot k.it.instance k.it.value (logs (after w m e).world q')) (sym from_is) ((goes.1.at x.from).keeps k.it.ballot k.it.instance k.it.value r.0);
+            }
+        covers q qin false y false z i c j v lt lb a = absurd (false≢true i)
+
+        later : (p : Proposal Value) → IsIn p l.reported ⊎ IsIn p ps → first l.ballot < p.instance
+        later p (inl i) = h.later p i
+        later p (inr i) = subst (λ k. first k < p.instance) (sym same) (heard_of.1 p i)
+
+        low : (p : Proposal Value) → IsIn p l.reported ⊎ IsIn p ps → p.ballot ≤ l.ballot
+        low p (inl i) = h.low p i
+        low p (inr i) = let r = (real.real p i).1 in omega (arith, r, same)
+
+    -- a prepare that is answered
+    module _ (b i : ℕ) (c : x.content ≡ Prepare b i) (goes : GoesOnTo n sv w (after w m (on_prepare m x.from b i (begin (node_at w.nodes m)))).world) where
+      abbrev e : CallHere
+      e = on_prepare m x.from b i (begin (node_at w.nodes m))
+
+      given_answers : Answers (P n sv w ok first cand m e goes) (Q n sv w ok first cand m e goes) n sv m (plain n sv w ok first cand m e goes) x.from b i (begin (node_at w.nodes m)) e
+      given_answers = prepare_answers (P n sv w ok first cand m e goes) (Q n sv w ok first cand m e goes) n sv m (plain n sv w ok first cand m e goes) x.from b i (begin (node_at w.nodes m)) (begun n sv w ok first cand m e goes min)
+
+      asked_from : i ≡ suc (first b)
+      asked_from = (subst (IsMeant (logs w) first x.from) c (cand.messages x inside)).1
+
+      there : logs (after w m e).world m ≡ e.node.log
+      there = ap (λ (y : Here). y.log) (node_put w.nodes m e.node m (subst (λ k. IsNode k m) (sym ok.many) min)) ∙ ap (λ (t : Bool). (cond t e.node (node_at w.nodes m)).log) (eq-eqb m m refl)
+
+      covers : (y : Message Value) → IsGiven (P n sv w ok first cand m e goes) (Q n sv w ok first cand m e goes) n sv m (plain n sv w ok first cand m e goes) x.from b i (begin (node_at w.nodes m)) e y
+          → CoversFrom (logs (after w m e).world) (first b) b (from_on i (accepted (logs w m))) m
+      covers y g c j v lt lb a =
+          from_on_covers i (accepted (logs w m)) j c (omega (arith, asked_from, lt))
+          (accepted_covers sv (logs w m) (ok.cluster.safe.sorted m min) c j v (omega (arith, g.young, asked_from, lt)) (g.accepts c j v (subst (HasAccepted c j v) there a)))
+
+      sent : (y : Message Value) → Q n sv w ok first cand m e goes y ⊎ IsGiven (P n sv w ok first cand m e goes) (Q n sv w ok first cand m e goes) n sv m (plain n sv w ok first cand m e goes) x.from b i (begin (node_at w.nodes m)) e y
+          → Q n sv w ok first cand m e goes y
+      sent y (inl q) = q
+      sent y (inr g) =
+          subst (IsMeant (logs (after w m e).world) first y.from) (sym g.content_is)
+          (subst (λ q. CoversFrom (logs (after w m e).world) (first b) b (from_on i (accepted (logs w m))) q) (sym g.from_is) (covers y g), λ p j. let k = from_on_late i p (accepted (logs w m)) j in omega (arith, k, asked_from))
+
+      prepared : Candidacies n first (after w m e).world
+      prepared = after_cand n sv w ok first cand m e goes (λ l. given_answers.role) (λ y k. sent y (given_answers.sends y k))
+
+    -- any other message
+    module _ (c : Content Value) (goes : GoesOnTo n sv w (after w m (receive n sv m x.from c (begin (node_at w.nodes m)))).world) where
+      abbrev got : CallHere
+      got = receive n sv m x.from c (begin (node_at w.nodes m))
+
+      counted : Brings (P n sv w ok first cand m got goes) (Q n sv w ok first cand m got goes) n sv m (plain n sv w ok first cand m got goes) x.from (node_at w.nodes m).role c → HasCandidacies n (after w m got).world
+      counted b = record {
+        first = first;
+        holds = cast_cand n sv w ok first cand m got goes
+            (λ l. receive_cast (P n sv w ok first cand m got goes) (Q n sv w ok first cand m got goes) n sv m (plain n sv w ok first cand m got goes) x.from c (begin (node_at w.nodes m)) b (begun n sv w ok first cand m got goes l))
+            (inr min);
+      }
+
+    pub received : (c : Content Value) → x.content ≡ c → (goes : GoesOnTo n sv w (after w m (receive n sv m x.from c (begin (node_at w.nodes m)))).world) → HasCandidacies n (after w m (receive n sv m x.from c (begin (node_at w.nodes m)))).world
+    received (Prepare b i) c goes = record { first = first; holds = prepared b i c goes }
+    received (Promise b ps) c goes = counted (Promise b ps) goes (brings b ps c (receive n sv m x.from (Promise b ps) (begin (node_at w.nodes m))) goes)
+    received (Accept b i v) c goes = counted (Accept b i v) goes tt
+    received (Voted b i) c goes = counted (Voted b i) goes tt
+    received (Chose i v) c goes = counted (Chose i v) goes tt
+    received (Nack b i) c goes = counted (Nack b i) goes tt
+    received (Ask i) c goes = counted (Ask i) goes tt
+    received (Snapshot values) c goes = counted (Snapshot values) goes tt
+
+-- ---- calls of clients and lanes
+
+module _ (P : ℕ → List ℕ → List (Proposal Value) → Type 0) (Q : Message Value → Type 0) (service : Declarations) (seed n m : ℕ) (plain : (x : Message Value) → IsPlain x.content → Q x) where
+  abbrev CastHere : CallHere → Type 0
+  CastHere d = Cast P Q n (service_of service seed) m plain d
+
+  active_cast : (t : Bool) (d e : CallHere) → CastHere d → CastHere e → CastHere (active_only t d e)
+  active_cast true d e h k = k
+  active_cast false d e h k = record { role = h.role; log = tt; sends = h.sends }
+
+  submit_cast : (o : Option Request) (d : CallHere) → CastHere d → CastHere (submit_request service o d)
+  submit_cast None d h = record { role = h.role; log = tt; sends = h.sends }
+  submit_cast (Some r) d h = record { role = h.role; log = tt; sends = h.sends }
+
+  cut_cast : (counts : List ℕ) (d : CallHere) → CastHere d → CastHere (cut service seed n m counts d)
+  cut_cast counts d h = by d.node.role h.role
+    where
+      same : {e : CallHere} → e.node.role ≡ d.node.role → e.sends ≡ d.sends → CastHere e
+      same r s = record { role = subst (RoleHas P) (sym r) h.role; log = tt; sends = subst (AreSent Q) (sym s) h.sends }
+
+      live : (c : List ℕ) (l : Lead Value) → P l.ballot l.counted l.reported → (es : List Event) → CastHere (cut_live service seed n m c l es d)
+      live c l p [] = same refl refl
+      live c l p (y ∷ ys) =
+          if_votes P (Any P Q n (service_of service seed) m plain) Q (is_faithful service seed (known d.node.log) c d.node.work.live)
+          (propose_votes P (Any P Q n (service_of service seed) m plain) Q n (service_of service seed) m plain (λ i v log t. tt) (λ b cs rs i v log q t. tt) (effect.Proposes m (suc (length (known d.node.log))) (length (below c d.node.work.live))) d l (suc (length (known d.node.log))) (value_at c d.node.work.live) (settle (enough l.reported) n (service_of service seed) m)
+          p h (settle_votes P (Any P Q n (service_of service seed) m plain) Q n (service_of service seed) m plain (λ i v log t. tt) (λ b cs rs i v log q t. tt) (enough l.reported)))
+          (same refl refl)
+
+      led : (l : Lead Value) → P l.ballot l.counted l.reported → (o : Option (Proposal Value)) → CastHere (cut_lead service seed n m counts l o d)
+      led l p (Some q) = same refl refl
+      led l p None =
+          if_votes P (Any P Q n (service_of service seed) m plain) Q (nat_le 65535 (length (known d.node.log))) (same refl refl)
+          (live (greatest_cut counts d.node.work.live) l p (below (greatest_cut counts d.node.work.live) d.node.work.live))
+
+      active : (l : Lead Value) → P l.ballot l.counted l.reported → (t : Bool) → CastHere (active_only t d (cut_lead service seed n m counts l l.proposal d))
+      active l p true = led l p l.proposal
+      active l p false = same refl refl
+
+      by : (r : Role Value) → RoleHas P r → CastHere (cut_role service seed n m counts r d)
+      by Follower p = same refl refl
+      by (Leads l) p = active l p l.active
+
+-- ---- steps
+
+module _ (service : Declarations) (requests : List Request) (seed n : ℕ) (few : n ≤ most_nodes) where
+  abbrev svc : Service Value StateValue
+  svc = service_of service seed
+
+  module _ (w : World) (ok : IsWorld n (service_of service seed) w) (has : HasCandidacies n w) where
+    -- what every call of this kind keeps, whatever holds of votes and of what is sent
+    abbrev Casts : ℕ → (CallHere → CallHere) → Type 1
+    Casts m call =
+        (P : ℕ → List ℕ → List (Proposal Value) → Type 0) (Q : Message Value → Type 0) (plain : (x : Message Value) → IsPlain x.content → Q x) (d : CallHere)
+        → Cast P Q n svc m plain d → Cast P Q n svc m plain (call d)
+
+    each : (m : ℕ) (call : CallHere → CallHere) → GoesOnTo n svc w (at_node w m call).world → Casts m call → HasCandidacies n (at_node w m call).world
+    each m call goes k =
+        at_cast n svc w ok has.first has.holds m call goes
+        (λ g min. k (P n svc w ok has.first has.holds m (call (begin (node_at w.nodes m))) g) (Q n svc w ok has.first has.holds m (call (begin (node_at w.nodes m))) g) (plain n svc w ok has.first has.holds m (call (begin (node_at w.nodes m))) g)
+        (begin (node_at w.nodes m)) (begun n svc w ok has.first has.holds m (call (begin (node_at w.nodes m))) g min))
+
+    -- of one that is made also where a node is down
+    any : (m : ℕ) (call : CallHere → CallHere) → GoesOnTo n svc w (after w m (call (begin (node_at w.nodes m)))).world → (call (begin (node_at w.nodes m))).sends ≡ [] → Casts m call → HasCandidacies n (after w m (call (begin (node_at w.nodes m)))).world
+    any m call goes s k = record {
+      first = has.first;
+      holds = cast_cand n svc w ok has.first has.holds m (call (begin (node_at w.nodes m))) goes
+          (λ min. k (P n svc w ok has.first has.holds m (call (begin (node_at w.nodes m))) goes) (Q n svc w ok has.first has.holds m (call (begin (node_at w.nodes m))) goes) (plain n svc w ok has.first has.holds m (call (begin (node_at w.nodes m))) goes)
+          (begin (node_at w.nodes m)) (begun n svc w ok has.first has.holds m (call (begin (node_at w.nodes m))) goes min))
+          (inl s);
+    }
+
+    start_cand : (m : ℕ) (t : Bool) → GoesOnTo n svc w (start_if svc t w m).world → HasCandidacies n (start_if svc t w m).world
+    start_cand m true goes = has
+    start_cand m false goes =
+        any m (start svc m) goes (migrated_sends (has_old_base (node_at w.nodes m).log) m (restart m (begin (node_at w.nodes m))) (base (node_at w.nodes m).log) _ refl)
+        (λ P Q plain d h. start_cast P Q n svc m plain d h)
+
+    -- the same world with other flags
+    flagged : (handed : List Bool) → Candidacies n has.first (record w { handed = handed })
+    flagged handed = record { messages = has.holds.messages; roles = has.holds.roles }
+
+  deliver_cand : (w : World) (ok : IsWorld n (service_of service seed) w) (has : HasCandidacies n w) (number : ℕ) (o : Option (Message Value)) → message_at w.messages number ≡ o
+      → GoesOnTo n svc w (deliver_found service seed n w number o).world → HasCandidacies n (deliver_found service seed n w number o).world
+  deliver_cand w ok has number None e goes = has
+  deliver_cand w ok has number (Some x) e goes =
+      at_cand n svc flags flagged_ok has.first (flagged w ok has flags.handed) x.to (receive n svc x.to x.from x.content) (goes.0, goes.1)
+      (λ g min. received service seed n few flags flagged_ok has.first (flagged w ok has flags.handed) x (found number e) min x.content refl g)
+    where
+      flags : World
+      flags = with_handed w number
+
+      flagged_ok : IsWorld n (service_of service seed) (with_handed w number)
+      flagged_ok = record { many = ok.many; cluster = ok.cluster; nodes = ok.nodes }
+
+      found : (k : ℕ) → message_at w.messages k ≡ Some x → IsIn x w.messages
+      found zero e = absurd (cc)
+      found (suc k) e = nth_in k w.messages x e
+
+  step_cand : (w : World) → IsWorld n (service_of service seed) w → HasCandidacies n w → (x : ScheduleLine) → HasCandidacies n (step service requests seed n w x).world
+  step_cand w ok has (line.Elect m) =
+      at_cand n svc w ok has.first has.holds m (elect n svc m) (step_ok service requests seed n few w (line.Elect m) ok) (λ g min. elect_cand n svc w ok has.first has.holds m min few g)
+  step_cand w ok has (line.Submit m r) =
+      each w ok has m _ (step_ok service requests seed n few w (line.Submit m r) ok) (λ P Q plain d h. active_cast P Q service seed n m plain (is_active d.node.role) d _ h (submit_cast P Q service seed n m plain (slice_get requests r) d h))
+  step_cand w ok has (line.Lane m lane) =
+      each w ok has m _ (step_ok service requests seed n few w (line.Lane m lane) ok) (λ P Q plain d h. active_cast P Q service seed n m plain (is_active d.node.role) d (lane_turn service w.done lane d) h (record { role = h.role; log = tt; sends = h.sends }))
+  step_cand w ok has (line.Cut m) = each w ok has m _ (step_ok service requests seed n few w (line.Cut m) ok) (λ P Q plain d h. cut_cast P Q service seed n m plain (no_limits service d.node) d h)
+  step_cand w ok has (line.CutBelow m limits) = each w ok has m _ (step_ok service requests seed n few w (line.CutBelow m limits) ok) (λ P Q plain d h. cut_cast P Q service seed n m plain (with_limits service d.node limits) d h)
+  step_cand w ok has (line.Deliver number) = deliver_cand w ok has number (message_at w.messages number) refl (step_ok service requests seed n few w (line.Deliver number) ok)
+  step_cand w ok has line.Flush = has
+  step_cand w ok has (line.Replay m) = each w ok has m (replay m) (step_ok service requests seed n few w (line.Replay m) ok) (λ P Q plain d h. replay_cast P Q n svc m plain d h)
+  step_cand w ok has (line.Ask m other) = each w ok has m (ask m other) (step_ok service requests seed n few w (line.Ask m other) ok) (λ P Q plain d h. ask_cast P Q n svc m plain other d h)
+  step_cand w ok has (line.Stop m) = each w ok has m (stop m) (step_ok service requests seed n few w (line.Stop m) ok) (λ P Q plain d h. stop_cast P Q n svc m plain d h)
+  step_cand w ok has (line.Start m) = start_cand w ok has m (node_at w.nodes m).up (step_ok service requests seed n few w (line.Start m) ok)
+  step_cand w ok has (line.Checkpoint m version) = each w ok has m (checkpoint version svc m) (step_ok service requests seed n few w (line.Checkpoint m version) ok) (λ P Q plain d h. checkpoint_cast P Q n svc m plain version d h)
+  step_cand w ok has (line.DropKnown m) = each w ok has m (drop_known m) (step_ok service requests seed n few w (line.DropKnown m) ok) (λ P Q plain d h. drop_cast P Q n svc m plain d h)
+  step_cand w ok has (line.KeepFail m kept) = any w ok has m (arm m kept) (step_ok service requests seed n few w (line.KeepFail m kept) ok) refl (λ P Q plain d h. arm_cast P Q n svc m plain kept d h)
+
+  take_cand : (w : World) → IsWorld n (service_of service seed) w → HasCandidacies n w → (m : ℕ) (e : Event) → HasCandidacies n (take service w m e)
+  take_cand w ok has m e =
+      each w ok has m _ (does_ok service requests seed n few w (Takes m e) ok) (λ P Q plain d h. active_cast P Q service seed n m plain (is_active d.node.role) d (take_event service e d) h (record { role = h.role; log = tt; sends = h.sends }))
+
+  steps_cand : (w : World) → IsWorld n (service_of service seed) w → HasCandidacies n w → (xs : List ScheduleLine) → HasCandidacies n (steps service requests seed n w xs).world
+  steps_cand w ok has [] = has
+  steps_cand w ok has (x ∷ xs) = steps_cand (step service requests seed n w x).world (step_ok service requests seed n few w x ok).0 (step_cand w ok has x) xs
+
+  row_cand : (w : World) → IsWorld n (service_of service seed) w → HasCandidacies n w → (x : ScheduleLine) → HasCandidacies n (row service requests seed n w x).world
+  row_cand w ok has x = let h = steps_cand w ok has (steps_of w x) in record { first = h.first; holds = record { messages = h.holds.messages; roles = h.holds.roles } }
+
+  lines_cand : (w : World) → IsWorld n (service_of service seed) w → HasCandidacies n w → (xs : List ScheduleLine) → HasCandidacies n (after_lines service requests seed n w xs)
+  lines_cand w ok has [] = has
+  lines_cand w ok has (x ∷ xs) = lines_cand (row service requests seed n w x).world (row_ok service requests seed n few w x ok).0 (row_cand w ok has x) xs
+
+  doings_cand : (w : World) → IsWorld n (service_of service seed) w → HasCandidacies n w → (xs : List Doing) → HasCandidacies n (after_doings service requests seed n w xs)
+  doings_cand w ok has [] = has
+  doings_cand w ok has (Does x ∷ xs) = doings_cand (row service requests seed n w x).world (does_ok service requests seed n few w (Does x) ok).0 (row_cand w ok has x) xs
+  doings_cand w ok has (Takes m e ∷ xs) = doings_cand (take service w m e) (does_ok service requests seed n few w (Takes m e) ok).0 (take_cand w ok has m e) xs
+
+  fresh_cand : (x : Here) → IsFresh x → RoleHas (VotesCover n (logs (beginning n)) (λ b. 0)) x.role
+  fresh_cand x (inl e) = subst (λ (y : Here). RoleHas (VotesCover n (logs (beginning n)) (λ b. 0)) y.role) (sym e) tt
+  fresh_cand x (inr e) = subst (λ (y : Here). RoleHas (VotesCover n (logs (beginning n)) (λ b. 0)) y.role) (sym e) tt
+
+  begins_cand : HasCandidacies n (beginning n)
+  begins_cand = record { first = λ b. 0; holds = record { messages = λ x i. absurd i; roles = λ q qin. fresh_cand (node_at (beginning n).nodes q) (fresh_at Value StateValue n q) } }
+
+  pub reached_cand : (lines : List ScheduleLine) → HasCandidacies n (world_after service requests seed n lines)
+  reached_cand lines = lines_cand (beginning n) (beginning_ok service requests seed n few) begins_cand lines
+
+  pub doings_reached_cand : (doings : List Doing) → HasCandidacies n (world_after_doings service requests seed n doings)
+  doings_reached_cand doings = doings_cand (beginning n) (beginning_ok service requests seed n few) begins_cand doings

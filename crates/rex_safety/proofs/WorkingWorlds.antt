@@ -1,0 +1,89 @@
+-- A fact of what active nodes know and work with is kept in a world by each step that isn't of clients and lanes.
+use Rattle.std.proofs.Common.{◌≡◌, ℕ, Bool, true, false, cond, ◌⊎◌, List, [], ◌∷◌, ◌++◌, length, Option, Some, None, eqb, refl, sym, subst, inl, inr}
+use Rattle.rand_pcg.specs.Lcg.{Lcg}
+use Rattle.rex_syntax.specs.declared.request.Request.{Request}
+use Rattle.rex_syntax.specs.declared.service.Declarations.{Declarations}
+use Rattle.rex_state.specs.Value.{StateValue}
+use Rattle.rex_scenario.specs.declared.scenario.ScheduleLine.{ScheduleLine}
+use Rattle.rex_scenario.specs.declared.scenario.ScheduleLine.TheVariants as line
+use Rattle.rex_safety.specs.Records.{Proposal}
+use Rattle.rex_safety.specs.Quorum.{IsNode}
+use Rattle.rex_safety.specs.Node.{Service, Message, Work}
+use Rattle.rex_safety.specs.Calls.{begin, elect, receive, ask, replay, checkpoint, drop_known, stop, start, arm, work_known}
+use Rattle.rex_safety.specs.Values.{Value, service_of}
+use Rattle.rex_safety.specs.Lanes.{Here, CallHere, active_only}
+use Rattle.rex_safety.specs.World.{World, node_at, put, after, if_up, at_node, start_if, with_handed, deliver_found, message_at, step}
+use Rattle.rex_safety.proofs.Nodes.{node_put, put_none, IsFresh}
+use Rattle.rex_safety.proofs.Worlds.{node_or_not}
+use Rattle.rex_safety.proofs.Working.{fresh_work, Works, passive, elect_works, receive_works, replay_works, checkpoint_works, drop_works, start_works}
+
+module _ (service : Declarations) (seed n : ℕ) (A : List Value → Option (Proposal Value) → Work → Type 0)
+    (new : (vs : List Value) (dice : Lcg) → (service_of service seed).fits vs ≡ true → A vs None (fresh_work dice))
+    (more : (vs : List Value) (p : Proposal Value) (w : Work) → (service_of service seed).fits (vs ++ p.value ∷ []) ≡ true → ((service_of service seed).fits vs ≡ true → A vs (Some p) w) → A (vs ++ p.value ∷ []) None (work_known (service_of service seed) true (vs ++ p.value ∷ []) w)) where
+  abbrev sv : Service Value StateValue
+  sv = service_of service seed
+
+  -- it holds of a node in a call, and of each node between calls
+  abbrev pub WorksAt : ℕ → CallHere → Type 0
+  WorksAt m d = Works n sv m A new more d
+
+  abbrev pub AllWorks : World → Type 0
+  AllWorks w = (m : ℕ) → WorksAt m (begin (node_at w.nodes m))
+
+  pub only_works : (m : ℕ) (t : Bool) (d e : CallHere) → WorksAt m d → WorksAt m e → WorksAt m (active_only t d e)
+  only_works m true d e w h = h
+  only_works m false d e w h = record { each = w.each }
+
+  pub after_works : (w : World) → length w.nodes ≡ n → AllWorks w → (m : ℕ) (d : CallHere) → WorksAt m d → AllWorks (after w m d).world
+  after_works w many h m d k q = go (node_or_not n m)
+    where
+      place : (t : Bool) → eqb q m ≡ t → node_at (put w.nodes m d.node) q ≡ cond t d.node (node_at w.nodes q) → WorksAt q (begin (node_at (put w.nodes m d.node) q))
+      place true e p = subst (λ (y : Here). WorksAt q (begin y)) (sym p) (record { each = k.each })
+      place false e p = subst (λ (y : Here). WorksAt q (begin y)) (sym p) (h q)
+
+      go : IsNode n m ⊎ (IsNode n m → ⊥) → WorksAt q (begin (node_at (put w.nodes m d.node) q))
+      go (inl min) = place (eqb q m) refl (node_put w.nodes m d.node q (subst (λ k. IsNode k m) (sym many) min))
+      go (inr none) = subst (λ (xs : List Here). WorksAt q (begin (node_at xs q))) (sym (put_none w.nodes m d.node (λ l. none (subst (λ k. IsNode k m) many l)))) (h q)
+
+  pub at_works : (w : World) → length w.nodes ≡ n → AllWorks w → (m : ℕ) (call : CallHere → CallHere) → ((d : CallHere) → WorksAt m d → WorksAt m (call d)) → AllWorks (at_node w m call).world
+  at_works w many h m call k = go (node_at w.nodes m).up
+    where
+      go : (t : Bool) → AllWorks (if_up t w m (call (begin (node_at w.nodes m)))).world
+      go true = after_works w many h m (call (begin (node_at w.nodes m))) (k (begin (node_at w.nodes m)) (h m))
+      go false = h
+
+  pub deliver_works : (w : World) → length w.nodes ≡ n → AllWorks w → (number : ℕ) (o : Option (Message Value)) → AllWorks (deliver_found service seed n w number o).world
+  deliver_works w many h number None = h
+  deliver_works w many h number (Some y) = at_works (with_handed w number) many h y.to (receive n sv y.to y.from y.content) (λ d k. receive_works n sv y.to A new more y.from y.content d k)
+
+  restart_works : (w : World) → length w.nodes ≡ n → AllWorks w → (m : ℕ) (t : Bool) → AllWorks (start_if sv t w m).world
+  restart_works w many h m true = h
+  restart_works w many h m false = after_works w many h m (start sv m (begin (node_at w.nodes m))) (start_works n sv m A new more (begin (node_at w.nodes m)))
+
+  -- what a line of clients and lanes makes of a world; any other line is like this
+  abbrev pub LanesWork : List Request → World → ScheduleLine → Type 0
+  LanesWork requests w (line.Submit m r) = AllWorks (step service requests seed n w (line.Submit m r)).world
+  LanesWork requests w (line.Lane m lane) = AllWorks (step service requests seed n w (line.Lane m lane)).world
+  LanesWork requests w (line.Cut m) = AllWorks (step service requests seed n w (line.Cut m)).world
+  LanesWork requests w (line.CutBelow m limits) = AllWorks (step service requests seed n w (line.CutBelow m limits)).world
+  LanesWork requests w _ = Unit {0}
+
+  pub step_works : (requests : List Request) (w : World) → length w.nodes ≡ n → AllWorks w → (x : ScheduleLine) → LanesWork requests w x → AllWorks (step service requests seed n w x).world
+  step_works requests w many h (line.Elect m) l = at_works w many h m (elect n sv m) (λ d k. elect_works n sv m A new more d k)
+  step_works requests w many h (line.Submit m r) l = l
+  step_works requests w many h (line.Lane m lane) l = l
+  step_works requests w many h (line.Cut m) l = l
+  step_works requests w many h (line.CutBelow m limits) l = l
+  step_works requests w many h (line.Deliver number) l = deliver_works w many h number (message_at w.messages number)
+  step_works requests w many h line.Flush l = h
+  step_works requests w many h (line.Replay m) l = at_works w many h m (replay m) (λ d k. replay_works n sv m A new more d k)
+  step_works requests w many h (line.Ask m other) l = at_works w many h m (ask m other) (λ d k. record { each = k.each })
+  step_works requests w many h (line.Stop m) l = at_works w many h m (stop m) (λ d k. passive n sv m A new more _ refl)
+  step_works requests w many h (line.Start m) l = restart_works w many h m (node_at w.nodes m).up
+  step_works requests w many h (line.Checkpoint m version) l = at_works w many h m (checkpoint version sv m) (λ d k. checkpoint_works n sv m A new more version d k)
+  step_works requests w many h (line.DropKnown m) l = at_works w many h m (drop_known m) (λ d k. drop_works n sv m A new more d k)
+  step_works requests w many h (line.KeepFail m kept) l = after_works w many h m (arm m kept (begin (node_at w.nodes m))) (record { each = (h m).each })
+
+  pub fresh_works : (m : ℕ) (x : Here) → IsFresh x → WorksAt m (begin x)
+  fresh_works m x (inl e) = subst (λ (y : Here). WorksAt m (begin y)) (sym e) (passive n sv m A new more _ refl)
+  fresh_works m x (inr e) = subst (λ (y : Here). WorksAt m (begin y)) (sym e) (passive n sv m A new more _ refl)
