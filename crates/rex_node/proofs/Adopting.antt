@@ -41,7 +41,8 @@ use Rattle.rex_node.specs.declared.going.Going.{Going}
 use Rattle.rex_node.specs.declared.going.Going.TheVariants.{On, Down}
 use Rattle.rex_node.specs.declared.going.Round.TheVariants.{Again, Done}
 use Rattle.rex_node.specs.declared.step.Draft.{Draft}
-use Rattle.rex_node.specs.Parts.{NodeValue, ActingValue, IsCutAt, IsKept, HasGoneOn, IsNode, IsProposer, IsSame, IsUp, Proposes, here_of, lead_of, open_of, proposal_in, role_of}
+use Rattle.rex_log.specs.Log.{proposal_in}
+use Rattle.rex_node.specs.Parts.{NodeValue, ActingValue, IsCutAt, IsKept, HasGoneOn, IsResting, IsProposer, IsSame, IsUp, Proposes, here_of, lead_of, open_of, role_of}
 use Rattle.rex_node.specs.Calls.{armed_with}
 use Rattle.rex_node.specs.Going.{Comes, Fell, IsStuck, Leads, MayGoOn, RunsOn, above, so_far}
 use Rattle.rex_node.specs.Leading.{FromLead, GoesRound, IsFree, IsLonger, accept_own, knowing, HasLearned, HasOpened, IsOwnCut, Learns, Opens, goes_on, may_lead, opened, reported_value, settling}
@@ -146,8 +147,8 @@ chooses_of (Some p) w i v g r =
 -- ---- a node that adopts
 
 -- more records came after those with which memory was short
-stuck_after : {K : Type 0} (records : K → List (List ℕ)) (service : Declarations) (x y z : NodeValue K) (written : List (List ℕ)) → records y.keeper ≡ records x.keeper ++ written → length (records x.keeper) < length (records y.keeper) → IsStuck records service y z → IsStuck records service x z
-stuck_after records service x y z written grown longer h = record {
+stuck_after : {K : Type 0} (records : K → List (List ℕ)) (service : Declarations) (past : List Value) (x y z : NodeValue K) (written : List (List ℕ)) → records y.keeper ≡ records x.keeper ++ written → length (records x.keeper) < length (records y.keeper) → IsStuck records service past y z → IsStuck records service past x z
+stuck_after records service past x y z written grown longer h = record {
   more = written ++ h.more;
   grown = h.grown ∙ ap (λ (l : List (List ℕ)). l ++ h.more) grown ∙ append_assoc (records x.keeper) written h.more;
   same = λ e. absurd (none e);
@@ -160,9 +161,9 @@ stuck_after records service x y z written grown longer h = record {
         let few : length written + length h.more ≡ 0 = sym (length-append written h.more) ∙ ap length e in
         omega (arith, longer)
 
-module _ {K : Type 0} (records : K → List (List ℕ)) (gives : K → List ℕ → Answer → K → Type 0) (faults : K → ℕ) (service : Declarations) (good : IsService service) (checked : IsChecked service) (x : NodeValue K) (kept_so : IsKept records service x) (up : x.up ≡ true)
+module _ {K : Type 0} (records : K → List (List ℕ)) (gives : K → List ℕ → Answer → K → Type 0) (faults : K → ℕ) (service : Declarations) (past : List Value) (good : IsService service) (checked : IsChecked service) (x : NodeValue K) (kept_so : IsKept records service past x) (up : x.up ≡ true)
     (i : ℕ) (v : Value) (next : i ≡ length x.known + 1) (c : Chooses x.proposer x.acting i v) (turns : ℕ) (may : MayGoOn x turns) where
-  u : IsUp service x (here_of records service x)
+  u : IsUp service x (here_of records service past x)
   u = kept_so.up up
 
   abbrev sv : Service Value StateValue
@@ -175,7 +176,7 @@ module _ {K : Type 0} (records : K → List (List ℕ)) (gives : K → List ℕ 
   proposes = subst (IsProposer x.nodes x.id x.acceptor) c.p_is (kept_so.up up).proposer
 
   lead_fits : LeadFits (length x.known) (lead_of x.acceptor c.p (is_some x.acting))
-  lead_fits = subst (λ (o : Option ProposerValue). RoleFits (length x.known) (role_of x.acceptor o (is_some x.acting))) c.p_is (beside_of records service x (kept_so.up up)).role
+  lead_fits = subst (λ (o : Option ProposerValue). RoleFits (length x.known) (role_of x.acceptor o (is_some x.acting))) c.p_is (beside_of records service past x (kept_so.up up)).role
 
   may_p : 2 * above (length x.known) c.p.reported + 1 ≤ turns
   may_p = subst (λ (o : Option ProposerValue). IfSome o (λ (p : ProposerValue). 2 * above (length x.known) p.reported + 1 ≤ turns)) c.p_is may
@@ -210,7 +211,7 @@ module _ {K : Type 0} (records : K → List (List ℕ)) (gives : K → List ℕ 
   chosen_cut = subst (λ (w : Option ActingValue). IfSome w (λ (a : ActingValue). IsCutAt service x.known a v)) (sym c.idle) tt
 
   -- the model's call proposes the same
-  settle_is : (before : Draft) (f : Option Failure) → settle turns x.nodes sv x.id (armed_with f (so_far records service x before)) ≡ propose x.nodes x.id (effect.Adopts x.id i (length (events_of v))) (armed_with f (so_far records service x before)) l i v (settle (turns - 1) x.nodes sv x.id)
+  settle_is : (before : Draft) (f : Option Failure) → settle turns x.nodes sv x.id (armed_with f (so_far records service past x before)) ≡ propose x.nodes x.id (effect.Adopts x.id i (length (events_of v))) (armed_with f (so_far records service past x before)) l i v (settle (turns - 1) x.nodes sv x.id)
   settle_is before f =
       ap (λ (t : ℕ). settle t x.nodes sv x.id d) (let t : turns ≡ suc (turns - 1) = omega (arith, may_p) in t)
       ∙ turn_chooses x.nodes sv x.id d l k (ap (λ (o : Option ProposerValue). role_of x.acceptor o (is_some x.acting)) c.p_is) (ap (open_of x.acceptor) c.none) (ap (λ (w : Option ActingValue). is_some w) c.idle) majority
@@ -219,7 +220,7 @@ module _ {K : Type 0} (records : K → List (List ℕ)) (gives : K → List ℕ 
       ∙ ap (λ (w : Value). propose x.nodes x.id (effect.Adopts x.id i (length (events_of w))) d l i w k) c.v_is
     where
       d : CallHere
-      d = armed_with f (so_far records service x before)
+      d = armed_with f (so_far records service past x before)
 
       k : CallHere → CallHere
       k = settle (turns - 1) x.nodes (service_of service x.seed) x.id
@@ -234,14 +235,14 @@ module _ {K : Type 0} (records : K → List (List ℕ)) (gives : K → List ℕ 
   settles t = settle t x.nodes (service_of service x.seed) x.id
 
   -- what proposing comes to, where a proposer is there
-  opens_at : (y : NodeValue K) (before mid : Draft) (g : Going) → Opens records gives faults service told i v x y before mid g
-      → (k : CallHere → CallHere) → Comes records gives faults service (λ d. propose x.nodes x.id told d l i v k) (λ d. k (led role_with d)) x y before mid g
+  opens_at : (y : NodeValue K) (before mid : Draft) (g : Going) → Opens records gives faults service past told i v x y before mid g
+      → (k : CallHere → CallHere) → Comes records gives faults service past (λ d. propose x.nodes x.id told d l i v k) (λ d. k (led role_with d)) x y before mid g
   opens_at y before mid g opens =
-      subst (λ (o : Option ProposerValue). IfSome o (λ (q : ProposerValue). (k : CallHere → CallHere) → Comes records gives faults service (λ d. propose x.nodes x.id told d (lead_of x.acceptor q (is_some x.acting)) i v k) (λ d. k (led (leading (lead_of x.acceptor q (is_some x.acting)) (Some (proposal_of q.ballot i v)) (x.id ∷ []) (is_some x.acting)) d)) x y before mid g))
+      subst (λ (o : Option ProposerValue). IfSome o (λ (q : ProposerValue). (k : CallHere → CallHere) → Comes records gives faults service past (λ d. propose x.nodes x.id told d (lead_of x.acceptor q (is_some x.acting)) i v k) (λ d. k (led (leading (lead_of x.acceptor q (is_some x.acting)) (Some (proposal_of q.ballot i v)) (x.id ∷ []) (is_some x.acting)) d)) x y before mid g))
       c.p_is opens
 
   -- a node that is down is kept
-  down_node_kept : (y : NodeValue K) → IsSame x y → y.up ≡ false → IsNode records service y
+  down_node_kept : (y : NodeValue K) → IsSame x y → y.up ≡ false → IsResting records service past y
   down_node_kept y same down = record {
     id = (subst (λ (n : ℕ). 0 < n) (sym same.id) kept_so.id.0, let least = kept_so.id.1 in let id : y.id ≡ x.id = same.id in let nodes : y.nodes ≡ x.nodes = same.nodes in omega (arith, least));
     few = subst (λ (n : ℕ). n ≤ most_nodes) (sym same.nodes) kept_so.few;
@@ -250,12 +251,12 @@ module _ {K : Type 0} (records : K → List (List ℕ)) (gives : K → List ℕ 
   }
 
   -- the append failed
-  pub adopt_down : (y : NodeValue K) (before mid : Draft) → IsSame x y → Opens records gives faults service told i v x y before mid Down → GoesRound records gives faults service turns x y before mid (Done Down)
+  pub adopt_down : (y : NodeValue K) (before mid : Draft) → IsSame x y → Opens records gives faults service past told i v x y before mid Down → GoesRound records gives faults service past turns x y before mid (Done Down)
   adopt_down y before mid same opens =
       let o = opens_at y before mid Down opens (settles (turns - 1)) in (
         (
-          leads_fell records gives faults (settles turns) (λ d. propose x.nodes x.id told d l i v (settles (turns - 1))) x.id x.keeper x.keeper y.keeper (so_far records service x before) (so_far records service x before) (so_far records service y mid)
-              (leads_same records gives faults (settles turns) (λ d. propose x.nodes x.id told d l i v (settles (turns - 1))) x.keeper (so_far records service x before) (so_far records service x before) refl (settle_is before)) o.0,
+          leads_fell records gives faults service (settles turns) (λ d. propose x.nodes x.id told d l i v (settles (turns - 1))) x.id x.keeper x.keeper y.keeper (so_far records service past x before) (so_far records service past x before) (so_far records service past y mid)
+              (leads_same records gives faults service (settles turns) (λ d. propose x.nodes x.id told d l i v (settles (turns - 1))) x.keeper (so_far records service past x before) (so_far records service past x before) refl (settle_is before)) o.0,
           o.1,
         ),
         down_node_kept y same o.1,
@@ -263,19 +264,19 @@ module _ {K : Type 0} (records : K → List (List ℕ)) (gives : K → List ℕ 
 
   -- ---- the proposal is open
 
-  module _ (y : NodeValue K) (before mid : Draft) (opens : Opens records gives faults service told i v x y before mid On) (parts : y ≡ record (opened x i v) { keeper = y.keeper }) (longer : length (records x.keeper) < length (records y.keeper)) where
+  module _ (y : NodeValue K) (before mid : Draft) (opens : Opens records gives faults service past told i v x y before mid On) (parts : y ≡ record (opened x i v) { keeper = y.keeper }) (longer : length (records x.keeper) < length (records y.keeper)) where
     abbrev y_at : NodeValue K
     y_at = record x { keeper = y.keeper; acceptor = accepting x.acceptor (record { instance = i; ballot = c.p.ballot; value = v }); proposer = Some (proposed c.p i) }
 
     y_is : y ≡ y_at
     y_is = parts ∙ ap (λ (o : Option ProposerValue). record x { keeper = y.keeper; acceptor = accept_own o x.acceptor i v; proposer = option_map (λ (q : ProposerValue). proposed q i) o }) c.p_is
 
-    comes_y : Comes records gives faults service (λ d. propose x.nodes x.id told d l i v (settles (turns - 1))) (λ d. settles (turns - 1) (led role_with d)) x y before mid On
+    comes_y : Comes records gives faults service past (λ d. propose x.nodes x.id told d l i v (settles (turns - 1))) (λ d. settles (turns - 1) (led role_with d)) x y before mid On
     comes_y = opens_at y before mid On opens (settles (turns - 1))
 
-    leads_y : Leads records gives faults (settles turns) (λ d. settles (turns - 1) (led role_with d)) x.keeper y.keeper (so_far records service x before) (so_far records service y mid)
-    leads_y = leads_then records gives faults (settles turns) (λ d. propose x.nodes x.id told d l i v (settles (turns - 1))) (λ d. settles (turns - 1) (led role_with d)) x.keeper x.keeper y.keeper (so_far records service x before) (so_far records service x before) (so_far records service y mid)
-        (leads_same records gives faults (settles turns) (λ d. propose x.nodes x.id told d l i v (settles (turns - 1))) x.keeper (so_far records service x before) (so_far records service x before) refl (settle_is before)) comes_y.0
+    leads_y : Leads records gives faults service (settles turns) (λ d. settles (turns - 1) (led role_with d)) x.keeper y.keeper (so_far records service past x before) (so_far records service past y mid)
+    leads_y = leads_then records gives faults service (settles turns) (λ d. propose x.nodes x.id told d l i v (settles (turns - 1))) (λ d. settles (turns - 1) (led role_with d)) x.keeper x.keeper y.keeper (so_far records service past x before) (so_far records service past x before) (so_far records service past y mid)
+        (leads_same records gives faults service (settles turns) (λ d. propose x.nodes x.id told d l i v (settles (turns - 1))) x.keeper (so_far records service past x before) (so_far records service past x before) refl (settle_is before)) comes_y.0
 
     own_counted : AreCounted x.nodes (x.id ∷ [])
     own_counted = counted_push x.nodes [] x.id (counted_none x.nodes) (let one = kept_so.id in record { first = omega (arith, one.0); last = one.1 }) refl
@@ -286,7 +287,7 @@ module _ {K : Type 0} (records : K → List (List ℕ)) (gives : K → List ℕ 
       few_own : nat_lt x.nodes 2 ≡ false
       few_own = le-ltb x.nodes 2 (omega (arith, many))
 
-      role_y : (so_far records service y mid).node.role ≡ role_with
+      role_y : (so_far records service past y mid).node.role ≡ role_with
       role_y =
           ap (λ (n : NodeValue K). role_of n.acceptor n.proposer (is_some n.acting)) y_is
           ∙ lead_opened x.acceptor c.p (is_some x.acting) x.id i v proposes.own (ap (λ (n : ℕ). nat_lt n 2) proposes.nodes_are ∙ few_own)
@@ -298,16 +299,16 @@ module _ {K : Type 0} (records : K → List (List ℕ)) (gives : K → List ℕ 
           ap (λ (r : Role Value). turn x.nodes sv x.id d r (settle t x.nodes sv x.id)) e
           ∙ ap (λ (b : Bool). cond b (decide x.nodes sv x.id d (record { ballot = c.p.ballot; counted = c.p.promised; reported = map proposal_in c.p.reported; proposal = Some (proposal_of c.p.ballot i v); accepted_by = x.id ∷ []; active = is_some x.acting }) i v (settle t x.nodes sv x.id)) d) (bridges.majority_is x.nodes (x.id ∷ []) own_counted ∙ few_own)
 
-      rests_y : (f : Option Failure) → settles (turns - 1) (led role_with (armed_with f (so_far records service y mid))) ≡ armed_with f (so_far records service y mid)
+      rests_y : (f : Option Failure) → settles (turns - 1) (led role_with (armed_with f (so_far records service past y mid))) ≡ armed_with f (so_far records service past y mid)
       rests_y f =
-          ap (λ (r : Role Value). settles (turns - 1) (led r (armed_with f (so_far records service y mid)))) (sym role_y)
-          ∙ stops (turns - 1) (armed_with f (so_far records service y mid)) role_y
+          ap (λ (r : Role Value). settles (turns - 1) (led r (armed_with f (so_far records service past y mid)))) (sym role_y)
+          ∙ stops (turns - 1) (armed_with f (so_far records service past y mid)) role_y
 
-      pub adopt_rests : GoesRound records gives faults service turns x y before mid (Done On)
+      pub adopt_rests : GoesRound records gives faults service past turns x y before mid (Done On)
       adopt_rests = (
         (
-          leads_then records gives faults (settles turns) (λ d. settles (turns - 1) (led role_with d)) (λ d. d) x.keeper y.keeper y.keeper (so_far records service x before) (so_far records service y mid) (so_far records service y mid) leads_y
-              (leads_same records gives faults (λ d. settles (turns - 1) (led role_with d)) (λ d. d) y.keeper (so_far records service y mid) (so_far records service y mid) refl rests_y),
+          leads_then records gives faults service (settles turns) (λ d. settles (turns - 1) (led role_with d)) (λ d. d) x.keeper y.keeper y.keeper (so_far records service past x before) (so_far records service past y mid) (so_far records service past y mid) leads_y
+              (leads_same records gives faults service (λ d. settles (turns - 1) (led role_with d)) (λ d. d) y.keeper (so_far records service past y mid) (so_far records service past y mid) refl rests_y),
           comes_y.1,
           comes_y.2,
         ),
@@ -340,7 +341,7 @@ module _ {K : Type 0} (records : K → List (List ℕ)) (gives : K → List ℕ 
           (bridges.majority_is x.nodes (x.id ∷ []) own_counted ∙ one)
           ∙ decide_led x.nodes sv x.id d l role_with (Some (proposal_of c.p.ballot i v)) (x.id ∷ []) i v (settles (turns - 2))
 
-      pub alone_kept : IsKept records service y
+      pub alone_kept : IsKept records service past y
       alone_kept = comes_y.1
 
       pub alone_up : y.up ≡ true
@@ -359,49 +360,49 @@ module _ {K : Type 0} (records : K → List (List ℕ)) (gives : K → List ℕ 
       alone_count h = subst (λ (n : ℕ). n < 2 ^ 64 - 1) (sym leads_y.counted) h
 
       -- what it knows then runs on
-      pub alone_fits : RunsOn service (settles turns) (so_far records service x before) → values_fit service (y.known ++ v ∷ []) ≡ true
+      pub alone_fits : RunsOn service (settles turns) (so_far records service past x before) → values_fit service (y.known ++ v ∷ []) ≡ true
       alone_fits runs =
           subst (λ (vs : List Value). values_fit service (vs ++ v ∷ []) ≡ true) (sym (alone_kept.up alone_up).known)
           (fits_before service good checked d (settles (turns - 2) d) (settle_learns x.nodes sv x.id (turns - 2) d)
-          (subst (λ (e : CallHere). values_fit service (known e.node.log) ≡ true) (decides (so_far records service y mid)) (rest_runs records gives faults service (settles turns) (λ e. settles (turns - 1) (led role_with e)) x y before mid leads_y runs)))
+          (subst (λ (e : CallHere). values_fit service (known e.node.log) ≡ true) (decides (so_far records service past y mid)) (rest_runs records gives faults service past (settles turns) (λ e. settles (turns - 1) (led role_with e)) x y before mid leads_y runs)))
         where
           d : CallHere
-          d = send (learned sv x.id l i v (known (so_far records service y mid).node.log) (logged (Known i v) None (so_far records service y mid))) (others x.nodes x.id (Chose i v))
+          d = send (learned sv x.id l i v (known (so_far records service past y mid).node.log) (logged (Known i v) None (so_far records service past y mid))) (others x.nodes x.id (Chose i v))
 
       -- ---- and learns the value
 
-      learns_at : (z : NodeValue K) (after : Draft) (g : Going) → Learns records gives faults service i v y z mid after g
-          → (k : CallHere → CallHere) → Comes records gives faults service (λ d. decide x.nodes sv x.id d l i v k) k y z mid after g
+      learns_at : (z : NodeValue K) (after : Draft) (g : Going) → Learns records gives faults service past i v y z mid after g
+          → (k : CallHere → CallHere) → Comes records gives faults service past (λ d. decide x.nodes sv x.id d l i v k) k y z mid after g
       learns_at z after g learns =
-          subst (λ (q : ProposerValue). (k : CallHere → CallHere) → Comes records gives faults service (λ d. decide x.nodes sv x.id d (lead_of (accepting x.acceptor (record { instance = i; ballot = c.p.ballot; value = v })) q (is_some x.acting)) i v k) k y z mid after g) p_opened
-          (subst (λ (n : NodeValue K). FromLead n (λ m. (k : CallHere → CallHere) → Comes records gives faults service (λ d. decide n.nodes (service_of service n.seed) n.id d m i v k) k y z mid after g)) y_is learns)
+          subst (λ (q : ProposerValue). (k : CallHere → CallHere) → Comes records gives faults service past (λ d. decide x.nodes sv x.id d (lead_of (accepting x.acceptor (record { instance = i; ballot = c.p.ballot; value = v })) q (is_some x.acting)) i v k) k y z mid after g) p_opened
+          (subst (λ (n : NodeValue K). FromLead n (λ m. (k : CallHere → CallHere) → Comes records gives faults service past (λ d. decide n.nodes (service_of service n.seed) n.id d m i v k) k y z mid after g)) y_is learns)
 
       -- up to where the model decides
-      leads_decide : Leads records gives faults (settles turns) (λ d. decide x.nodes sv x.id d l i v (settles (turns - 2))) x.keeper y.keeper (so_far records service x before) (so_far records service y mid)
-      leads_decide = leads_then records gives faults (settles turns) (λ d. settles (turns - 1) (led role_with d)) (λ d. decide x.nodes sv x.id d l i v (settles (turns - 2))) x.keeper y.keeper y.keeper (so_far records service x before) (so_far records service y mid) (so_far records service y mid) leads_y
-          (leads_same records gives faults (λ d. settles (turns - 1) (led role_with d)) (λ d. decide x.nodes sv x.id d l i v (settles (turns - 2))) y.keeper (so_far records service y mid) (so_far records service y mid) refl (λ f. decides (armed_with f (so_far records service y mid))))
+      leads_decide : Leads records gives faults service (settles turns) (λ d. decide x.nodes sv x.id d l i v (settles (turns - 2))) x.keeper y.keeper (so_far records service past x before) (so_far records service past y mid)
+      leads_decide = leads_then records gives faults service (settles turns) (λ d. settles (turns - 1) (led role_with d)) (λ d. decide x.nodes sv x.id d l i v (settles (turns - 2))) x.keeper y.keeper y.keeper (so_far records service past x before) (so_far records service past y mid) (so_far records service past y mid) leads_y
+          (leads_same records gives faults service (λ d. settles (turns - 1) (led role_with d)) (λ d. decide x.nodes sv x.id d l i v (settles (turns - 2))) y.keeper (so_far records service past y mid) (so_far records service past y mid) refl (λ f. decides (armed_with f (so_far records service past y mid))))
 
       -- the append of the known value failed
-      pub alone_down : (z : NodeValue K) (after : Draft) → IsSame x z → Learns records gives faults service i v y z mid after Down → GoesRound records gives faults service turns x z before after (Done Down)
+      pub alone_down : (z : NodeValue K) (after : Draft) → IsSame x z → Learns records gives faults service past i v y z mid after Down → GoesRound records gives faults service past turns x z before after (Done Down)
       alone_down z after same learns =
           let o = learns_at z after Down learns (settles (turns - 2)) in (
             (
-              leads_fell records gives faults (settles turns) (λ d. decide x.nodes sv x.id d l i v (settles (turns - 2))) x.id x.keeper y.keeper z.keeper (so_far records service x before) (so_far records service y mid) (so_far records service z after) leads_decide
-                  (subst (λ (n : ℕ). Fell records gives faults (λ d. decide x.nodes sv x.id d l i v (settles (turns - 2))) n y.keeper z.keeper (so_far records service y mid) (so_far records service z after)) (ap (λ (n : NodeValue K). n.id) y_is) o.0),
+              leads_fell records gives faults service (settles turns) (λ d. decide x.nodes sv x.id d l i v (settles (turns - 2))) x.id x.keeper y.keeper z.keeper (so_far records service past x before) (so_far records service past y mid) (so_far records service past z after) leads_decide
+                  (subst (λ (n : ℕ). Fell records gives faults service (λ d. decide x.nodes sv x.id d l i v (settles (turns - 2))) n y.keeper z.keeper (so_far records service past y mid) (so_far records service past z after)) (ap (λ (n : NodeValue K). n.id) y_is) o.0),
               o.1,
             ),
             down_node_kept z same o.1,
           )
 
       -- memory was short as it learned
-      pub alone_stuck : (z : NodeValue K) → IsStuck records service y z → IsStuck records service x z
-      alone_stuck z h = stuck_after records service x y z leads_y.written leads_y.grown longer h
+      pub alone_stuck : (z : NodeValue K) → IsStuck records service past y z → IsStuck records service past x z
+      alone_stuck z h = stuck_after records service past x y z leads_y.written leads_y.grown longer h
 
       -- it knows the value, and goes on
-      pub alone_again : (z : NodeValue K) (after : Draft) → Learns records gives faults service i v y z mid after On → z ≡ record (knowing service y i v) { keeper = z.keeper } → length (records y.keeper) < length (records z.keeper) → GoesRound records gives faults service turns x z before after Again
+      pub alone_again : (z : NodeValue K) (after : Draft) → Learns records gives faults service past i v y z mid after On → z ≡ record (knowing service y i v) { keeper = z.keeper } → length (records y.keeper) < length (records z.keeper) → GoesRound records gives faults service past turns x z before after Again
       alone_again z after learns parts_z longer_z =
           let o = learns_at z after On learns (settles (turns - 2)) in
-          ((leads_then records gives faults (settles turns) (λ d. decide x.nodes sv x.id d l i v (settles (turns - 2))) (settles (turns - 2)) x.keeper y.keeper z.keeper (so_far records service x before) (so_far records service y mid) (so_far records service z after) leads_decide o.0, o.1, o.2), may_z, free_z, omega (arith, may_p, less), omega (arith, longer, longer_z))
+          ((leads_then records gives faults service (settles turns) (λ d. decide x.nodes sv x.id d l i v (settles (turns - 2))) (settles (turns - 2)) x.keeper y.keeper z.keeper (so_far records service past x before) (so_far records service past y mid) (so_far records service past z after) leads_decide o.0, o.1, o.2), may_z, free_z, omega (arith, may_p, less), omega (arith, longer, longer_z))
         where
           z_is : z ≡ record (knowing service y_at i v) { keeper = z.keeper }
           z_is = parts_z ∙ ap (λ (n : NodeValue K). record (knowing service n i v) { keeper = z.keeper }) y_is
@@ -423,10 +424,10 @@ module _ {K : Type 0} (records : K → List (List ℕ)) (gives : K → List ℕ 
 -- ---- the same of the call
 
 -- what proposing came to, told in other words
-pub opens_as : {K : Type 0} (records : K → List (List ℕ)) (gives : K → List ℕ → Answer → K → Type 0) (faults : K → ℕ) (service : Declarations) (x y : NodeValue K) (before mid : Draft) (i : ℕ) (v : Value) (said named : Effect) (g h : Going)
-    → said ≡ named → g ≡ h → Opens records gives faults service said i v x y before mid g → Opens records gives faults service named i v x y before mid h
-opens_as records gives faults service x y before mid i v said named g h e s opens =
-    subst (λ (t : Going). Opens records gives faults service named i v x y before mid t) s (subst (λ (t : Effect). Opens records gives faults service t i v x y before mid g) e opens)
+pub opens_as : {K : Type 0} (records : K → List (List ℕ)) (gives : K → List ℕ → Answer → K → Type 0) (faults : K → ℕ) (service : Declarations) (past : List Value) (x y : NodeValue K) (before mid : Draft) (i : ℕ) (v : Value) (said named : Effect) (g h : Going)
+    → said ≡ named → g ≡ h → Opens records gives faults service past said i v x y before mid g → Opens records gives faults service past named i v x y before mid h
+opens_as records gives faults service past x y before mid i v said named g h e s opens =
+    subst (λ (t : Going). Opens records gives faults service past named i v x y before mid t) s (subst (λ (t : Effect). Opens records gives faults service past t i v x y before mid g) e opens)
 
 pub parts_as : {K : Type 0} (x y : NodeValue K) (i : ℕ) (v : Value) (g : Going) → g ≡ On → HasOpened x y i v g → y ≡ record (opened x i v) { keeper = y.keeper }
 parts_as x y i v g s parts = subst (HasOpened x y i v) s parts
@@ -434,9 +435,9 @@ parts_as x y i v g s parts = subst (HasOpened x y i v) s parts
 pub longer_as : {K : Type 0} (records : K → List (List ℕ)) (x y : NodeValue K) (g : Going) → g ≡ On → IsLonger records x y g → length (records x.keeper) < length (records y.keeper)
 longer_as records x y g s longer = subst (IsLonger records x y) s longer
 
-pub learns_as : {K : Type 0} (records : K → List (List ℕ)) (gives : K → List ℕ → Answer → K → Type 0) (faults : K → ℕ) (service : Declarations) (x y : NodeValue K) (before mid : Draft) (i : ℕ) (v : Value) (g h : Going)
-    → g ≡ h → Learns records gives faults service i v x y before mid g → Learns records gives faults service i v x y before mid h
-learns_as records gives faults service x y before mid i v g h s learns = subst (λ (t : Going). Learns records gives faults service i v x y before mid t) s learns
+pub learns_as : {K : Type 0} (records : K → List (List ℕ)) (gives : K → List ℕ → Answer → K → Type 0) (faults : K → ℕ) (service : Declarations) (past : List Value) (x y : NodeValue K) (before mid : Draft) (i : ℕ) (v : Value) (g h : Going)
+    → g ≡ h → Learns records gives faults service past i v x y before mid g → Learns records gives faults service past i v x y before mid h
+learns_as records gives faults service past x y before mid i v g h s learns = subst (λ (t : Going). Learns records gives faults service past i v x y before mid t) s learns
 
 pub known_as : {K : Type 0} (service : Declarations) (x y : NodeValue K) (i : ℕ) (v : Value) (g : Going) → g ≡ On → HasLearned service x y i v g → y ≡ record (knowing service x i v) { keeper = y.keeper }
 known_as service x y i v g s parts = subst (HasLearned service x y i v) s parts

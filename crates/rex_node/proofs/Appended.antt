@@ -1,5 +1,5 @@
 -- What stays of a node in memory, and what changes, where one record more is kept.
-use Rattle.std.proofs.Common.{◌≡◌, ℕ, suc, ◌≤◌, Bool, true, false, List, [], ◌∷◌, ◌++◌, length, take, Option, Some, None, refl, sym, ap, subst, ◌∙◌, arith, le_trans}
+use Rattle.std.proofs.Common.{◌≡◌, ℕ, suc, ◌<◌, ◌≤◌, Bool, true, false, List, [], ◌∷◌, ◌++◌, length, take, Option, Some, None, refl, sym, ap, subst, ◌∙◌, arith, le_trans}
 use Rattle.std.specs.Prelude.{map, max, is_some, if◌then◌else◌}
 use Rattle.std.proofs.Math.Nat.{max_comm}
 use Rattle.std.proofs.lemmas.List.{take-append-le}
@@ -17,7 +17,7 @@ use Rattle.rex_durable.specs.Spelling.{HasSpelling, IsDue, record_bytes}
 use Rattle.rex_report.specs.declared.effect.Effect.{Effect}
 use Rattle.rex_report.specs.declared.effect.Effect.TheVariants as effect
 use Rattle.rex_traits.specs.Chains.{Answer}
-use Rattle.rex_safety.specs.Records.{Rec, placed, promise, accepted, known, base, has_old_base}
+use Rattle.rex_safety.specs.Records.{Rec, placed, promise, last_accepted, accepted, offset, known, base, has_old_base}
 use Rattle.rex_safety.specs.Records.Rec.{Promised, Accepted, Known}
 use Rattle.rex_safety.specs.Ranges.{IsBallot, IsInstance, AreRising, LogFits, RoleFits}
 use Rattle.rex_safety.specs.Node.{Message, Failure, down_node}
@@ -28,13 +28,15 @@ use Rattle.rex_safety.proofs.Lists.{length_push}
 use Rattle.rex_safety.proofs.Ranged.{accepted_rising, log_promised, log_accepted, log_known}
 use Rattle.rex_node.specs.declared.step.Draft.{Draft}
 use Rattle.rex_node.specs.declared.going.Going.TheVariants.{On, Down}
-use Rattle.rex_node.specs.Messages.{message_in}
+use Rattle.rex_log.specs.Messages.{message_in}
 use Rattle.rex_node.specs.Calls.{armed_with}
 use Rattle.rex_node.specs.Going.{Leads, Fell, Appends, so_far}
-use Rattle.rex_node.specs.Parts.{failed_records, fallen, NodeValue, IsActing, IsProposer, IsUp, AreShort, here_of, log_of, rec_of, proposal_in, state_of, says_something}
+use Rattle.rex_log.specs.Log.{log_of, rec_of, proposal_in, standing_in}
+use Rattle.rex_node.specs.Parts.{failed_records, fallen, NodeValue, IsActing, IsProposer, IsUp, AreShort, here_of, state_of}
+use Rattle.rex_node.specs.Stated.{is_stated}
 use Rattle.rex_node.proofs.GoingLemmas.{leads_append, fell_append}
-use Rattle.rex_node.proofs.Logs.{log_more}
-use Rattle.rex_node.proofs.Instances.{rising_zero, placed_kept}
+use Rattle.rex_log.proofs.Pasts.{log_then}
+use Rattle.rex_node.proofs.Instances.{rising_zero, placed_from, placed_kept}
 
 -- the ranges of a node's numbers are the model's
 pub ballot_fits : (b : ℕ) → ballots.IsBallot b → IsBallot b
@@ -49,10 +51,12 @@ instance_fits i h = (h.first, h.last)
 pub fits_instance : (i : ℕ) → IsInstance i → ballots.IsInstance i
 fits_instance i h = record { first = h.0; last = h.1 }
 
--- the parts that a node has of its records alone
+-- the parts that a node has of its records alone, as if it held all values that it knows
 pub record IsLogged {K : Type 0} (service : Declarations) (x : NodeValue K) (log : List (Rec Value StateValue)) : Type 0 where
   pub promised : x.acceptor.promised ≡ promise log
   pub accepted : map proposal_in x.acceptor.accepted ≡ accepted log
+  pub offset_is : x.offset ≡ offset log
+  pub low : x.offset ≤ x.base
   pub known : x.known ≡ known log
   pub base : x.base ≡ base log
   pub old_base : x.old_base ≡ has_old_base log
@@ -62,15 +66,17 @@ pub record IsLogged {K : Type 0} (service : Declarations) (x : NodeValue K) (log
   pub fits : values_fit service x.known ≡ true
   pub numbers : LogFits log
 
-module _ {K : Type 0} (records : K → List (List ℕ)) (service : Declarations) (x : NodeValue K) where
-  pub logged_of : IsUp service x (here_of records service x) → IsLogged service x (log_of service (records x.keeper))
+module _ {K : Type 0} (records : K → List (List ℕ)) (service : Declarations) (past : List Value) (x : NodeValue K) where
+  pub logged_of : IsUp service x (here_of records service past x) → IsLogged service x (log_of service past (records x.keeper))
   logged_of u = record {
     promised = u.promised;
     accepted = u.accepted;
+    offset_is = u.offset;
+    low = u.low;
     known = u.known;
     base = u.base;
     old_base = u.old_base;
-    few = subst (λ (n : ℕ). n ≤ length x.known) (sym u.base) (subst (λ (vs : List Value). base (log_of service (records x.keeper)) ≤ length vs) (sym u.known) (le_trans u.replayed.based u.replayed.replayed));
+    few = subst (λ (n : ℕ). n ≤ length x.known) (sym u.base) (subst (λ (vs : List Value). base (log_of service past (records x.keeper)) ≤ length vs) (sym u.known) (le_trans u.replayed.based u.replayed.replayed));
     start = u.start;
     short = u.short;
     fits = u.fits;
@@ -85,12 +91,14 @@ module _ {K : Type 0} (records : K → List (List ℕ)) (service : Declarations)
     pub caught_up : is_some x.acting ≡ true → x.replayed ≡ length x.known
     pub proposer : IsProposer x.nodes x.id x.acceptor x.proposer
     pub acting : IsActing service x.known x.acceptor x.proposer x.acting
-    pub role : RoleFits (length x.known) (here_of records service x).role
+    pub role : RoleFits (length x.known) (here_of records service past x).role
 
-  pub up_of : IsLogged service x (log_of service (records x.keeper)) → Beside → IsUp service x (here_of records service x)
+  pub up_of : IsLogged service x (log_of service past (records x.keeper)) → Beside → IsUp service x (here_of records service past x)
   up_of l b = record {
     promised = l.promised;
     accepted = l.accepted;
+    offset = l.offset_is;
+    low = l.low;
     known = l.known;
     base = l.base;
     old_base = l.old_base;
@@ -105,10 +113,10 @@ module _ {K : Type 0} (records : K → List (List ℕ)) (service : Declarations)
     proposer = b.proposer;
     acting = b.acting;
     fits = l.fits;
-    numbers = record { log = l.numbers; role = subst (λ (vs : List Value). RoleFits (length vs) (here_of records service x).role) l.known b.role };
+    numbers = record { log = l.numbers; role = subst (λ (vs : List Value). RoleFits (length vs) (here_of records service past x).role) l.known b.role };
   }
 
-  pub beside_of : IsUp service x (here_of records service x) → Beside
+  pub beside_of : IsUp service x (here_of records service past x) → Beside
   beside_of u = record {
     based = subst (λ (n : ℕ). n ≤ x.replayed) (sym u.base) u.replayed.based;
     replayed = subst (λ (vs : List Value). x.replayed ≤ length vs) (sym u.known) u.replayed.replayed;
@@ -116,7 +124,7 @@ module _ {K : Type 0} (records : K → List (List ℕ)) (service : Declarations)
     caught_up = u.caught_up;
     proposer = u.proposer;
     acting = u.acting;
-    role = subst (λ (vs : List Value). RoleFits (length vs) (here_of records service x).role) (sym u.known) u.numbers.role;
+    role = subst (λ (vs : List Value). RoleFits (length vs) (here_of records service past x).role) (sym u.known) u.numbers.role;
   }
 
 module _ {K : Type 0} (service : Declarations) (x : NodeValue K) (log : List (Rec Value StateValue)) (h : IsLogged service x log) where
@@ -125,6 +133,8 @@ module _ {K : Type 0} (service : Declarations) (x : NodeValue K) (log : List (Re
   logged_promised b fits = record {
     promised = max_comm x.acceptor.promised b ∙ ap (max b) h.promised;
     accepted = h.accepted;
+    offset_is = h.offset_is;
+    low = h.low;
     known = h.known;
     base = h.base;
     old_base = h.old_base;
@@ -135,11 +145,16 @@ module _ {K : Type 0} (service : Declarations) (x : NodeValue K) (log : List (Re
     numbers = log_promised log b fits h.numbers;
   }
 
-  -- an acceptance was written
-  pub logged_accepted : (b i : ℕ) (v : Value) → IsBallot b → IsInstance i → IsValue v → IsLogged service (record x { acceptor = accepting x.acceptor (record { instance = i; ballot = b; value = v }) }) (Accepted b i v ∷ log)
-  logged_accepted b i v fits there few = record {
+  -- an acceptance was written, of an instance above the offset
+  pub logged_accepted : (b i : ℕ) (v : Value) → IsBallot b → IsInstance i → IsValue v → offset log < i → IsLogged service (record x { acceptor = accepting x.acceptor (record { instance = i; ballot = b; value = v }) }) (Accepted b i v ∷ log)
+  logged_accepted b i v fits there few late = record {
     promised = max_comm x.acceptor.promised b ∙ ap (max b) h.promised;
-    accepted = placed_kept 0 x.acceptor.accepted p rising ∙ ap (placed (proposal_in p)) h.accepted;
+    accepted =
+        placed_kept 0 x.acceptor.accepted p rising
+        ∙ ap (placed (proposal_in p)) h.accepted
+        ∙ sym (placed_from (suc (offset log)) (proposal_in p) (last_accepted log) (omega (arith, late)));
+    offset_is = h.offset_is;
+    low = h.low;
     known = h.known;
     base = h.base;
     old_base = h.old_base;
@@ -163,6 +178,8 @@ module _ {K : Type 0} (service : Declarations) (x : NodeValue K) (log : List (Re
   logged_known i v e there fits = record {
     promised = h.promised;
     accepted = h.accepted;
+    offset_is = h.offset_is;
+    low = h.low;
     known = ap (λ (vs : List Value). vs ++ v ∷ []) h.known;
     base = h.base;
     old_base = h.old_base;
@@ -179,46 +196,46 @@ module _ {K : Type 0} (service : Declarations) (x : NodeValue K) (log : List (Re
 abbrev pub call_at : Here → List (Message Value) → List Effect → CallHere
 call_at here sends effects = record { node = here; sends = sends; effects = effects }
 
-module _ {K : Type 0} (records : K → List (List ℕ)) (gives : K → List ℕ → Answer → K → Type 0) (faults : K → ℕ) (service : Declarations) (x y : NodeValue K) (before after : Draft) (r : KeptRec) (spelling : HasSpelling r) (due : IsDue (length (known (log_of service (records x.keeper)))) r) (says : says_something service r ≡ true) where
+module _ {K : Type 0} (records : K → List (List ℕ)) (gives : K → List ℕ → Answer → K → Type 0) (faults : K → ℕ) (service : Declarations) (past : List Value) (x y : NodeValue K) (before after : Draft) (r : KeptRec) (spelling : HasSpelling r) (due : IsDue (standing_in (log_of service past (records x.keeper))) r) (stated : is_stated service (record_bytes r) ≡ true) where
   -- the records before
   abbrev pub old_log : List (Rec Value StateValue)
-  old_log = log_of service (records x.keeper)
+  old_log = log_of service past (records x.keeper)
 
   -- what the record says
   abbrev pub said : Rec Value StateValue
-  said = rec_of service r
+  said = rec_of service past r
 
   -- the node is as it was, but for one record more
-  pub appended_log : Appends records faults gives x y before after (record_bytes r) On → log_of service (records y.keeper) ≡ said ∷ old_log
-  appended_log h = ap (log_of service) h.0.records ∙ log_more service (records x.keeper) r spelling due says
+  pub appended_log : Appends records faults gives x y before after (record_bytes r) On → log_of service past (records y.keeper) ≡ said ∷ old_log
+  appended_log h = ap (log_of service past) h.0.records ∙ log_then service past (records x.keeper) r spelling due
 
-  pub appended_here : Appends records faults gives x y before after (record_bytes r) On → so_far records service y after ≡ logged said None (so_far records service x before)
+  pub appended_here : Appends records faults gives x y before after (record_bytes r) On → so_far records service past y after ≡ logged said None (so_far records service past x before)
   appended_here h = at y.keeper after.effects.items after.sends.items (appended_log h) h.0.parts h.1 h.2
     where
-      at : (k : K) (es : List Effect) (ms : List _) → log_of service (records k) ≡ said ∷ old_log → y ≡ record x { keeper = k } → es ≡ before.effects.items → ms ≡ before.sends.items
-          → record { node = here_of records service y; sends = map message_in ms; effects = es } ≡ logged said None (so_far records service x before)
+      at : (k : K) (es : List Effect) (ms : List _) → log_of service past (records k) ≡ said ∷ old_log → y ≡ record x { keeper = k } → es ≡ before.effects.items → ms ≡ before.sends.items
+          → record { node = here_of records service past y; sends = map (message_in past) ms; effects = es } ≡ logged said None (so_far records service past x before)
       at k es ms log parts effects sends =
-          ap (λ (z : NodeValue K). record { node = here_of records service z; sends = map message_in ms; effects = es }) parts
-          ∙ ap (λ (l : List (Rec Value StateValue)). record { node = record (here_of records service x) { log = l }; sends = map message_in ms; effects = es }) log
-          ∙ ap (λ (n : List _). record { node = record (here_of records service x) { log = said ∷ old_log }; sends = map message_in n; effects = es }) sends
-          ∙ ap (λ (e : List Effect). record { node = record (here_of records service x) { log = said ∷ old_log }; sends = map message_in before.sends.items; effects = e }) effects
+          ap (λ (z : NodeValue K). record { node = here_of records service past z; sends = map (message_in past) ms; effects = es }) parts
+          ∙ ap (λ (l : List (Rec Value StateValue)). record { node = record (here_of records service past x) { log = l }; sends = map (message_in past) ms; effects = es }) log
+          ∙ ap (λ (n : List _). record { node = record (here_of records service past x) { log = said ∷ old_log }; sends = map (message_in past) n; effects = es }) sends
+          ∙ ap (λ (e : List Effect). record { node = record (here_of records service past x) { log = said ∷ old_log }; sends = map (message_in past) before.sends.items; effects = e }) effects
 
-  module _ (whole k : CallHere → CallHere) (is : (f : Option Failure) → whole (armed_with f (so_far records service x before)) ≡ append f x.id said (armed_with f (so_far records service x before)) k) where
+  module _ (whole k : CallHere → CallHere) (is : (f : Option Failure) → whole (armed_with f (so_far records service past x before)) ≡ append f x.id said (armed_with f (so_far records service past x before)) k) where
     -- the call goes on as the model's append does
-    pub appended_leads : Appends records faults gives x y before after (record_bytes r) On → Leads records gives faults whole k x.keeper y.keeper (so_far records service x before) (so_far records service y after)
+    pub appended_leads : Appends records faults gives x y before after (record_bytes r) On → Leads records gives faults service whole k x.keeper y.keeper (so_far records service past x before) (so_far records service past y after)
     appended_leads h =
-        subst (Leads records gives faults whole k x.keeper y.keeper (so_far records service x before)) (sym (appended_here h))
-        (leads_append records gives faults whole k x.id said (so_far records service x before) is x.keeper y.keeper (record_bytes r) h.0.answer h.0.records h.0.faults)
+        subst (Leads records gives faults service whole k x.keeper y.keeper (so_far records service past x before)) (sym (appended_here h))
+        (leads_append records gives faults service whole k x.id said (so_far records service past x before) is x.keeper y.keeper (record_bytes r) stated h.0.answer h.0.records h.0.faults)
 
     -- or the node is down; the record is of another kind than a checkpoint, or the base is none of the node's
     pub appended_fell : x.base ≡ base old_log → base (said ∷ old_log) ≡ base old_log
-        → Appends records faults gives x y before after (record_bytes r) Down → Fell records gives faults whole x.id x.keeper y.keeper (so_far records service x before) (so_far records service y after)
+        → Appends records faults gives x y before after (record_bytes r) Down → Fell records gives faults service whole x.id x.keeper y.keeper (so_far records service past x before) (so_far records service past y after)
     appended_fell based same h =
-        fell_append records gives faults whole k x.id said (so_far records service x before) is x.keeper y.keeper (record_bytes r) h.0.kept h.0.answer h.0.records h.0.faults (so_far records service y after)
+        fell_append records gives faults service whole k x.id said (so_far records service past x before) is x.keeper y.keeper (record_bytes r) stated h.0.kept h.0.answer h.0.records h.0.faults (so_far records service past y after)
         (at h.0.kept y.keeper after.effects.items after.sends.items h.0.records h.0.parts h.1 h.2)
       where
-        log_in : (kept : Bool) → log_of service (failed_records kept (records x.keeper) (record_bytes r)) ≡ (if kept then said ∷ old_log else old_log)
-        log_in true = log_more service (records x.keeper) r spelling due says
+        log_in : (kept : Bool) → log_of service past (failed_records kept (records x.keeper) (record_bytes r)) ≡ (if kept then said ∷ old_log else old_log)
+        log_in true = log_then service past (records x.keeper) r spelling due
         log_in false = refl
 
         base_in : (kept : Bool) → x.base ≡ base (if kept then said ∷ old_log else old_log)
@@ -226,10 +243,10 @@ module _ {K : Type 0} (records : K → List (List ℕ)) (gives : K → List ℕ 
         base_in false = based
 
         at : (kept : Bool) (j : K) (es : List Effect) (ms : List _) → records j ≡ failed_records kept (records x.keeper) (record_bytes r) → y ≡ record (fallen x) { keeper = j } → es ≡ before.effects.items ++ effect.Down x.id ∷ [] → ms ≡ []
-            → call_at (here_of records service y) (map message_in ms) es ≡ call_at (down_node (if kept then said ∷ old_log else old_log) None) [] (before.effects.items ++ effect.Down x.id ∷ [])
+            → call_at (here_of records service past y) (map (message_in past) ms) es ≡ call_at (down_node (if kept then said ∷ old_log else old_log) None) [] (before.effects.items ++ effect.Down x.id ∷ [])
         at kept j es ms grown parts effects sends =
-            ap (λ (z : NodeValue K). call_at (here_of records service z) (map message_in ms) es) parts
-            ∙ ap (λ (l : List (Rec Value StateValue)). call_at (record (here_of records service (fallen x)) { log = l }) (map message_in ms) es) (ap (log_of service) grown ∙ log_in kept)
-            ∙ ap (λ (b : ℕ). call_at (record (here_of records service (fallen x)) { log = if kept then said ∷ old_log else old_log; replayed = b }) (map message_in ms) es) (base_in kept)
-            ∙ ap (λ (n : List _). call_at (down_node (if kept then said ∷ old_log else old_log) None) (map message_in n) es) sends
+            ap (λ (z : NodeValue K). call_at (here_of records service past z) (map (message_in past) ms) es) parts
+            ∙ ap (λ (l : List (Rec Value StateValue)). call_at (record (here_of records service past (fallen x)) { log = l }) (map (message_in past) ms) es) (ap (log_of service past) grown ∙ log_in kept)
+            ∙ ap (λ (b : ℕ). call_at (record (here_of records service past (fallen x)) { log = if kept then said ∷ old_log else old_log; replayed = b }) (map (message_in past) ms) es) (base_in kept)
+            ∙ ap (λ (n : List _). call_at (down_node (if kept then said ∷ old_log else old_log) None) (map (message_in past) n) es) sends
             ∙ ap (call_at (down_node (if kept then said ∷ old_log else old_log) None) []) effects

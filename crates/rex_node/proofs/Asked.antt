@@ -1,16 +1,20 @@
 -- The chosen values that a node is asked for, in their order.
-use Rattle.std.proofs.Common.{◌≡◌, ℕ, zero, suc, ◌+◌, ◌-◌, ◌<◌, ◌≤◌, ◌⊎◌, inl, inr, Bool, cond, List, [], ◌∷◌, ◌++◌, length, get_or, take, drop, refl, sym, ap, ◌∙◌, arith, le-leb, min}
+use Rattle.std.proofs.Common.{◌≡◌, ℕ, zero, suc, ◌+◌, ◌-◌, ◌<◌, ◌≤◌, ◌⊎◌, inl, inr, Bool, cond, List, [], ◌∷◌, ◌++◌, length, get_or, take, drop, refl, sym, ap, subst, ◌∙◌, arith, le-leb, min}
 use Rattle.std.proofs.lemmas.Bool.{lt-leb}
 use Rattle.std.proofs.lemmas.List.{get_or-drop, length-drop, take_all}
 use Rattle.std.proofs.Math.Seq.{take-suc}
 use Rattle.std.specs.Prelude.{map}
 use Rattle.std.proofs.Common.{append-nil, append_assoc}
 use Rattle.std.proofs.lemmas.List.{map-append}
+use Rattle.std.proofs.lemmas.List.Elements.{All-append, All-cons, All-nil}
+use Rattle.rex_syntax.specs.declared.service.Declarations.{Declarations}
+use Rattle.rex_msg.specs.declared.message.Message.{Message as Sent}
 use Rattle.rex_msg.specs.declared.message.Content.TheVariants as sent
 use Rattle.rex_safety.specs.Values.{Value}
 use Rattle.rex_node.specs.declared.step.Draft.{Draft}
-use Rattle.rex_node.specs.Messages.{message_in}
+use Rattle.rex_log.specs.Messages.{message_in}
 use Rattle.rex_node.specs.Going.{Sends, answering}
+use Rattle.rex_node.specs.Telling.{AreTold, IsTold}
 use Rattle.rex_safety.specs.Node.{Message}
 use Rattle.rex_safety.specs.Node.Content.{Chosen}
 use Rattle.rex_safety.specs.Calls.{tell}
@@ -112,34 +116,43 @@ module _ {V : Type 0} (me to first : ℕ) where
             cases : (k s b m : ℕ) → b ≡ min k (s + 64) → b - s ≡ m → s ≤ k → length (tell me to first 1 known) ≡ k - s → (m ≡ 64) ⊎ ((length (tell me to first 1 known) ≤ m) × (length (tell me to first 1 known) ≤ 64))
             cases k s b m g h i j = grind arith
 
--- those up to a place were told
-pub record HasTold (me to first skipped place : ℕ) (known : List Value) (before now : Draft) : Type 0 where
+-- those up to a place were told, and no state
+pub record HasTold (service : Declarations) (past : List Value) (me to first skipped place : ℕ) (known : List Value) (before now : Draft) : Type 0 where
   pub effects : now.effects.items ≡ before.effects.items
-  pub sends : map message_in now.sends.items ≡ map message_in before.sends.items ++ take (place - skipped) (tell me to first 1 known)
+  pub sends : map (message_in past) now.sends.items ≡ map (message_in past) before.sends.items ++ take (place - skipped) (tell me to first 1 known)
+  pub told : AreTold service past before.sends.items → AreTold service past now.sends.items
 
-module _ (me to first skipped : ℕ) (skips : skipped ≡ first - 1) (known : List Value) (before : Draft) where
-  pub told_first : HasTold me to first skipped skipped known before before
+module _ (service : Declarations) (past : List Value) (me to first skipped : ℕ) (skips : skipped ≡ first - 1) (known : List Value) (before : Draft) where
+  pub told_first : HasTold service past me to first skipped skipped known before before
   told_first = record {
     effects = refl;
-    sends = sym (append-nil (map message_in before.sends.items)) ∙ ap (λ (ms : List (Message Value)). map message_in before.sends.items ++ ms) (sym (ap (λ (n : ℕ). take n (tell me to first 1 known)) (none skipped) ∙ take_none (tell me to first 1 known)));
+    sends = sym (append-nil (map (message_in past) before.sends.items)) ∙ ap (λ (ms : List (Message Value)). map (message_in past) before.sends.items ++ ms) (sym (ap (λ (n : ℕ). take n (tell me to first 1 known)) (none skipped) ∙ take_none (tell me to first 1 known)));
+    told = λ h. h;
   }
     where
       none : (n : ℕ) → n - n ≡ 0
       none n = omega arith
 
   -- and the next one
-  pub told_more : (place : ℕ) (now after : Draft) (value : Value) → HasTold me to first skipped place known before now → skipped ≤ place → place < length known → value ≡ get_or known place []
-      → Sends now after (answering me to (sent.Chosen (place + 1) value)) → HasTold me to first skipped (place + 1) known before after
+  pub told_more : (place : ℕ) (now after : Draft) (value : Value) → HasTold service past me to first skipped place known before now → skipped ≤ place → place < length known → value ≡ get_or known place []
+      → Sends now after (answering me to (sent.Chosen (place + 1) value)) → HasTold service past me to first skipped (place + 1) known before after
   told_more place now after value h l there is s = record {
     effects = s.effects_are ∙ h.effects;
     sends =
-        ap (map message_in) s.sends_are
-        ∙ map-append message_in now.sends.items (answering me to (sent.Chosen (place + 1) value))
+        ap (map (message_in past)) s.sends_are
+        ∙ map-append (message_in past) now.sends.items (answering me to (sent.Chosen (place + 1) value))
         ∙ ap (λ (ms : List (Message Value)). ms ++ chose me to first (place + 1) value ∷ []) h.sends
-        ∙ append_assoc (map message_in before.sends.items) (take (place - skipped) (tell me to first 1 known)) (chose me to first (place + 1) value ∷ [])
-        ∙ ap (λ (ms : List (Message Value)). map message_in before.sends.items ++ ms) (told_next me to first known skipped skips place value [] l there is);
+        ∙ append_assoc (map (message_in past) before.sends.items) (take (place - skipped) (tell me to first 1 known)) (chose me to first (place + 1) value ∷ [])
+        ∙ ap (λ (ms : List (Message Value)). map (message_in past) before.sends.items ++ ms) (told_next me to first known skipped skips place value [] l there is);
+    told = λ k. subst (AreTold service past) (sym s.sends_are) (All-append Told now.sends.items (answering me to (sent.Chosen (place + 1) value)) (h.told k) (All-cons Told (record { from = me; to = to; content = sent.Chosen (place + 1) value }) [] tt (All-nil Told)));
   }
+    where
+      Told : Sent → Type 0
+      Told m = IsTold service past m.content
 
   -- in the end all were told that had to be
-  pub told_end : (end : ℕ) (now : Draft) → HasTold me to first skipped end known before now → end ≡ min (length known) (skipped + 64) → skipped ≤ length known → map message_in now.sends.items ≡ map message_in before.sends.items ++ take 64 (tell me to first 1 known)
-  told_end end now h e l = h.sends ∙ ap (λ (ms : List (Message Value)). map message_in before.sends.items ++ ms) (told_all me to first known skipped skips end e l)
+  pub told_end : (end : ℕ) (now : Draft) → HasTold service past me to first skipped end known before now → end ≡ min (length known) (skipped + 64) → skipped ≤ length known → map (message_in past) now.sends.items ≡ map (message_in past) before.sends.items ++ take 64 (tell me to first 1 known)
+  told_end end now h e l = h.sends ∙ ap (λ (ms : List (Message Value)). map (message_in past) before.sends.items ++ ms) (told_all me to first known skipped skips end e l)
+
+  pub told_none : (place : ℕ) (now : Draft) → HasTold service past me to first skipped place known before now → before.sends.items ≡ [] → AreTold service past now.sends.items
+  told_none place now h none = h.told (subst (AreTold service past) (sym none) (All-nil (λ (m : Sent). IsTold service past m.content)))

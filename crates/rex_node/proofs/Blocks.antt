@@ -12,38 +12,39 @@ use Rattle.rex_safety.specs.Takes as takes
 use Rattle.rex_node.specs.declared.refusal.Refusal.{Refusal}
 use Rattle.rex_node.specs.Blocks.{take_each, given_all}
 use Rattle.rex_node.specs.Calls.{LeadsTo, if_up}
-use Rattle.rex_node.specs.Parts.{ActingValue, NodeValue, IsNode, StaysNode, here_of}
+use Rattle.rex_node.specs.Parts.{ActingValue, NodeValue, IsResting, StaysResting, here_of}
 use Rattle.rex_node.specs.Submitting.{given}
 use Rattle.rex_node.proofs.Executing.{has, given_of_node, given_leads, given_stays}
+use Rattle.rex_safety.specs.Values.{Value}
 
 -- what is executed after one event that is handed in
 abbrev next_work : Declarations → ActingValue → Event → ActingValue
 next_work service a e = given service a (taken_turn service a.recorder.state a.recorder.queue (length a.recorder.live) e)
 
 -- the node with other work comes where the events do, and stays a node
-pub record TakesEach {K : Type 0} (records : K → List (List ℕ)) (service : Declarations) (x : NodeValue K) (es : List Event) (b : ActingValue) : Type 0 where
-  pub leads : LeadsTo (take_each service es) (here_of records service x) (here_of records service (record x { acting = Some b }))
-  pub stays : StaysNode records service x (record x { acting = Some b })
+pub record TakesEach {K : Type 0} (records : K → List (List ℕ)) (service : Declarations) (past : List Value) (x : NodeValue K) (es : List Event) (b : ActingValue) : Type 0 where
+  pub leads : LeadsTo (take_each service es) (here_of records service past x) (here_of records service past (record x { acting = Some b }))
+  pub stays : StaysResting records service past x (record x { acting = Some b })
 
-module _ {K : Type 0} (records : K → List (List ℕ)) (service : Declarations) (good : IsService service) (o : Option Refusal) where
-  one_leads : (x : NodeValue K) (a : ActingValue) (e : Event) → IsNode records service x → if_up x.up o ≡ None → Some a ≡ x.acting
-      → here_of records service (record x { acting = Some (next_work service a e) }) ≡ (takes.take_event service e (begin (here_of records service x))).node
+module _ {K : Type 0} (records : K → List (List ℕ)) (service : Declarations) (past : List Value) (good : IsService service) (o : Option Refusal) where
+  one_leads : (x : NodeValue K) (a : ActingValue) (e : Event) → IsResting records service past x → if_up x.up o ≡ None → Some a ≡ x.acting
+      → here_of records service past (record x { acting = Some (next_work service a e) }) ≡ (takes.take_event service e (begin (here_of records service past x))).node
   one_leads x a e node due has_a =
-      given_leads records service x x a refl node o due has_a (taken_turn service a.recorder.state a.recorder.queue (length a.recorder.live) e) (next_work service a e) refl
-      ∙ ap (λ (t : Turn). (takes.taken t (begin (here_of records service x))).node) (given_of_node records service x x a refl node o due has_a e)
+      given_leads records service past x x a refl node o due has_a (taken_turn service a.recorder.state a.recorder.queue (length a.recorder.live) e) (next_work service a e) refl
+      ∙ ap (λ (t : Turn). (takes.taken t (begin (here_of records service past x))).node) (given_of_node records service past x x a refl node o due has_a e)
 
-  one_stays : (x : NodeValue K) (a : ActingValue) (e : Event) → IsNode records service x → if_up x.up o ≡ None → Some a ≡ x.acting → StaysNode records service x (record x { acting = Some (next_work service a e) })
+  one_stays : (x : NodeValue K) (a : ActingValue) (e : Event) → IsResting records service past x → if_up x.up o ≡ None → Some a ≡ x.acting → StaysResting records service past x (record x { acting = Some (next_work service a e) })
   one_stays x a e node due has_a =
-      given_stays records service x x a refl node o due has_a (taken_turn service a.recorder.state a.recorder.queue (length a.recorder.live) e) (next_work service a e) refl
-      (taken_keeps service a.recorder e good (has records service x x a refl node o due has_a).recorder) good
+      given_stays records service past x x a refl node o due has_a (taken_turn service a.recorder.state a.recorder.queue (length a.recorder.live) e) (next_work service a e) refl
+      (taken_keeps service a.recorder e good (has records service past x x a refl node o due has_a).recorder) good
 
-  takes_each : (x : NodeValue K) (a : ActingValue) (es : List Event) → IsNode records service x → if_up x.up o ≡ None → Some a ≡ x.acting → TakesEach records service x es (given_all service a es)
+  takes_each : (x : NodeValue K) (a : ActingValue) (es : List Event) → IsResting records service past x → if_up x.up o ≡ None → Some a ≡ x.acting → TakesEach records service past x es (given_all service a es)
   takes_each x a [] node due has_a = record {
-    leads = ap (λ (w : Option ActingValue). here_of records service (record x { acting = w })) has_a;
-    stays = record { same = record { id = refl; nodes = refl; seed = refl }; kept = subst (λ (w : Option ActingValue). IsNode records service (record x { acting = w })) (sym has_a) node };
+    leads = ap (λ (w : Option ActingValue). here_of records service past (record x { acting = w })) has_a;
+    stays = record { same = record { id = refl; nodes = refl; seed = refl }; kept = subst (λ (w : Option ActingValue). IsResting records service past (record x { acting = w })) (sym has_a) node };
   }
   takes_each x a (e ∷ es) node due has_a =
-      let rest : TakesEach records service (record x { acting = Some (next_work service a e) }) es (given_all service (next_work service a e) es) =
+      let rest : TakesEach records service past (record x { acting = Some (next_work service a e) }) es (given_all service (next_work service a e) es) =
       takes_each (record x { acting = Some (next_work service a e) }) (next_work service a e) es (one_stays x a e node due has_a).kept due refl in
       record {
         leads = rest.leads ∙ ap (λ (h : Here). (take_each service es (begin h)).node) (one_leads x a e node due has_a);
@@ -52,17 +53,17 @@ module _ {K : Type 0} (records : K → List (List ℕ)) (service : Declarations)
 
 -- ---- the same where the parts are those of a node
 
-module _ {K : Type 0} (records : K → List (List ℕ)) (service : Declarations) (x z : NodeValue K) (a : ActingValue) (z_is : z ≡ x) (node : IsNode records service x) (o : Option Refusal) (due : if_up x.up o ≡ None) (e : Some a ≡ z.acting) (good : IsService service) (es : List Event) (b : ActingValue) (b_is : b ≡ given_all service a es) where
-  each : TakesEach records service x es (given_all service a es)
-  each = takes_each records service good o x a es node due (e ∙ ap (λ (n : NodeValue K). n.acting) z_is)
+module _ {K : Type 0} (records : K → List (List ℕ)) (service : Declarations) (past : List Value) (x z : NodeValue K) (a : ActingValue) (z_is : z ≡ x) (node : IsResting records service past x) (o : Option Refusal) (due : if_up x.up o ≡ None) (e : Some a ≡ z.acting) (good : IsService service) (es : List Event) (b : ActingValue) (b_is : b ≡ given_all service a es) where
+  each : TakesEach records service past x es (given_all service a es)
+  each = takes_each records service past good o x a es node due (e ∙ ap (λ (n : NodeValue K). n.acting) z_is)
 
-  pub block_leads : LeadsTo (take_each service es) (here_of records service x) (here_of records service (record z { acting = Some b }))
+  pub block_leads : LeadsTo (take_each service es) (here_of records service past x) (here_of records service past (record z { acting = Some b }))
   block_leads =
-      ap (λ (n : NodeValue K). here_of records service (record n { acting = Some b })) z_is
-      ∙ ap (λ (c : ActingValue). here_of records service (record x { acting = Some c })) b_is
+      ap (λ (n : NodeValue K). here_of records service past (record n { acting = Some b })) z_is
+      ∙ ap (λ (c : ActingValue). here_of records service past (record x { acting = Some c })) b_is
       ∙ each.leads
 
-  pub block_stays : StaysNode records service x (record z { acting = Some b })
+  pub block_stays : StaysResting records service past x (record z { acting = Some b })
   block_stays =
-      subst (λ (n : NodeValue K). StaysNode records service x (record n { acting = Some b })) (sym z_is)
-      (subst (λ (c : ActingValue). StaysNode records service x (record x { acting = Some c })) (sym b_is) each.stays)
+      subst (λ (n : NodeValue K). StaysResting records service past x (record n { acting = Some b })) (sym z_is)
+      (subst (λ (c : ActingValue). StaysResting records service past x (record x { acting = Some c })) (sym b_is) each.stays)

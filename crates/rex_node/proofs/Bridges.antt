@@ -18,7 +18,7 @@ use Rattle.rex_safety.specs.Records.{Proposal}
 use Rattle.rex_safety.specs.Quorum.{count, is_in, is_majority, ballot_above, round_of}
 use Rattle.rex_safety.specs.Calls.{better, best}
 use Rattle.rex_safety.specs.Values.{Value}
-use Rattle.rex_node.specs.Parts.{proposal_in}
+use Rattle.rex_log.specs.Log.{proposal_in}
 
 -- ---- counting
 

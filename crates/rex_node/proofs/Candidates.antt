@@ -37,14 +37,15 @@ use Rattle.rex_safety.proofs.Ranged.{accepted_fit}
 use Rattle.rex_node.specs.declared.going.Going.{Going}
 use Rattle.rex_node.specs.declared.going.Going.TheVariants.{On, Down}
 use Rattle.rex_node.specs.declared.step.Draft.{Draft}
-use Rattle.rex_node.specs.Messages.{content_in, message_in}
+use Rattle.rex_log.specs.Messages.{content_in, message_in}
 use Rattle.rex_node.specs.declared.refusal.Refusal.{Refusal}
 use Rattle.rex_node.specs.declared.step.Step.{Step}
 use Rattle.rex_node.specs.Calls.{armed_with, if_up}
 use Rattle.rex_node.specs.Leading.{IsFree}
 use Rattle.rex_node.specs.Electing.{candidate_of, standing}
 use Rattle.rex_node.specs.Going.{Appends, Ends, Finishes, IsStuck, Leads, RunsOn, above, so_far}
-use Rattle.rex_node.specs.Parts.{NodeValue, IsKept, IsNode, IsSame, IsUp, Proposes, here_of, lead_of, log_of, proposal_in}
+use Rattle.rex_log.specs.Log.{log_of, proposal_in}
+use Rattle.rex_node.specs.Parts.{NodeValue, IsKept, IsResting, IsSame, IsUp, Proposes, here_of, lead_of}
 use Rattle.rex_node.proofs.Appended.{Beside, IsLogged, appended_here, appended_leads, appended_log, ballot_fits, beside_of, call_at, logged_of, logged_promised, up_of}
 use Rattle.rex_node.proofs.Bridges.{left_is}
 use Rattle.rex_node.proofs.Continuing.{ends_if, stuck_if}
@@ -67,13 +68,13 @@ above_most k (p ∷ ps) = go (nat_lt k p.instance) (above_most k ps)
     go true h = omega arith
     go false h = omega arith
 
-module _ {K : Type 0} (records : K → List (List ℕ)) (gives : K → List ℕ → Answer → K → Type 0) (faults : K → ℕ) (service : Declarations) (x : NodeValue K) (node : IsNode records service x) (up : x.up ≡ true)
+module _ {K : Type 0} (records : K → List (List ℕ)) (gives : K → List ℕ → Answer → K → Type 0) (faults : K → ℕ) (service : Declarations) (past : List Value) (x : NodeValue K) (node : IsResting records service past x) (up : x.up ≡ true)
     (b : ℕ) (left : ballot_left x.id x.acceptor.promised ≡ Some b) (least : IsLeastAbove x.id x.acceptor.promised b) where
-  u : IsUp service x (here_of records service x)
+  u : IsUp service x (here_of records service past x)
   u = node.up up
 
   abbrev log : List (Rec Value StateValue)
-  log = log_of service (records x.keeper)
+  log = log_of service past (records x.keeper)
 
   abbrev whole : CallHere → CallHere
   whole = elect x.nodes (service_of service x.seed) x.id
@@ -104,30 +105,30 @@ module _ {K : Type 0} (records : K → List (List ℕ)) (gives : K → List ℕ 
 
   module _ (before : Draft) where
     abbrev begun : CallHere
-    begun = so_far records service x before
+    begun = so_far records service past x before
 
     appends_is : (f : Option Failure) → whole (armed_with f begun) ≡ append f x.id (Promised b) (armed_with f begun) then_on
     appends_is f = elect_is f (armed_with f begun) refl
 
     module _ (y : NodeValue K) (mid : Draft) where
-      pub stand_down : Appends records faults gives x y before mid (record_bytes (kept.Promised b)) Down → Ends records gives faults service whole x y before mid Down
-      stand_down h = recorded_down records gives faults service x y before mid node up (kept.Promised b) spelled tt refl refl whole then_on appends_is h
+      pub stand_down : Appends records faults gives x y before mid (record_bytes (kept.Promised b)) Down → Ends records gives faults service past whole x y before mid Down
+      stand_down h = recorded_down records gives faults service past x y before mid node up (kept.Promised b) spelled tt refl refl whole then_on appends_is h
 
       module _ (h : Appends records faults gives x y before mid (record_bytes (kept.Promised b)) On) where
-        pub stand_stuck : (z : NodeValue K) → z.keeper ≡ y.keeper → z.base ≡ y.base → IsStuck records service x z
-        stand_stuck z keeper based = recorded_stuck records gives faults service x y before mid node up (kept.Promised b) spelled tt refl refl h z keeper based
+        pub stand_stuck : (z : NodeValue K) → z.keeper ≡ y.keeper → z.base ≡ y.base → IsStuck records service past x z
+        stand_stuck z keeper based = recorded_stuck records gives faults service past x y before mid node up (kept.Promised b) spelled tt refl refl h z keeper based
 
         abbrev z_at : NodeValue K
         z_at = record (standing x b) { keeper = y.keeper }
 
-        log_is : log_of service (records y.keeper) ≡ Promised b ∷ log
-        log_is = appended_log records gives faults service x y before mid (kept.Promised b) spelled tt refl h
+        log_is : log_of service past (records y.keeper) ≡ Promised b ∷ log
+        log_is = appended_log records gives faults service past x y before mid (kept.Promised b) spelled tt refl h
 
         promised_here : IsLogged service (record x { acceptor = promising x.acceptor b }) (Promised b ∷ log)
-        promised_here = logged_promised service x log (logged_of records service x u) b (ballot_fits b least.is)
+        promised_here = logged_promised service x log (logged_of records service past x u) b (ballot_fits b least.is)
 
-        z_logged : IsLogged service z_at (log_of service (records y.keeper))
-        z_logged = subst (IsLogged service z_at) (sym log_is) (logged_as service (record x { acceptor = promising x.acceptor b }) z_at (Promised b ∷ log) refl refl refl refl refl promised_here)
+        z_logged : IsLogged service z_at (log_of service past (records y.keeper))
+        z_logged = subst (IsLogged service z_at) (sym log_is) (logged_as service (record x { acceptor = promising x.acceptor b }) z_at (Promised b ∷ log) refl refl refl refl refl refl promised_here)
 
         -- it reports what it accepted for the instances that it doesn't know
         reports_are : map proposal_in (candidate_of x b).reported ≡ own_reports log
@@ -165,9 +166,9 @@ module _ {K : Type 0} (records : K → List (List ℕ)) (gives : K → List ℕ 
           open_one = tt;
         }
 
-        z_beside : Beside records service z_at
+        z_beside : Beside records service past z_at
         z_beside =
-            let o = beside_of records service x u in
+            let o = beside_of records service past x u in
             record {
               based = replayed_from x.acting x.base x.replayed o.based;
               replayed = replayed_to x.acting x.base x.replayed (length x.known) o.based o.replayed;
@@ -178,15 +179,15 @@ module _ {K : Type 0} (records : K → List (List ℕ)) (gives : K → List ℕ 
               role = subst (LeadFits (length x.known)) (sym lead_is) lead_fits;
             }
 
-        z_kept : IsKept records service z_at
-        z_kept = record { id = node.id; few = node.few; up = λ t. up_of records service z_at z_logged z_beside }
+        z_kept : IsKept records service past z_at
+        z_kept = record { id = node.id; few = node.few; up = λ t. up_of records service past z_at z_logged z_beside }
 
         module _ (z : NodeValue K) (z_is : z ≡ standing y b) where
           all : z ≡ z_at
           all = z_is ∙ ap (λ (n : NodeValue K). standing n b) h.0.parts
 
-          pub stand_kept : IsKept records service z
-          stand_kept = subst (IsKept records service) (sym all) z_kept
+          pub stand_kept : IsKept records service past z
+          stand_kept = subst (IsKept records service past) (sym all) z_kept
 
           -- no proposal is open
           pub stand_free : IsFree z.proposer (is_some z.acting)
@@ -202,61 +203,61 @@ module _ {K : Type 0} (records : K → List (List ℕ)) (gives : K → List ℕ 
                 (omega (arith, above_most (length x.known) (candidate_of x b).reported, turns_here))
 
             module _ (after : Draft) (effects : after.effects.items ≡ mid.effects.items ++ effect.Candidate y.id b ∷ [])
-                (sends : map message_in after.sends.items ≡ map message_in mid.sends.items ++ others y.nodes y.id (content_in (sent.Prepare b (length y.known + 1)))) where
+                (sends : map (message_in past) after.sends.items ≡ map (message_in past) mid.sends.items ++ others y.nodes y.id (content_in past (sent.Prepare b (length y.known + 1)))) where
               enough_is : enough (own_reports log) ≡ turns
               enough_is = ap (λ (ps : List (Proposal Value)). 2 * length ps + 3) (sym reports_are) ∙ ap (λ (n : ℕ). 2 * n + 3) (length-map (candidate_of x b).reported proposal_in) ∙ sym turns_here
 
-              here_is : here_of records service z_at ≡ (with_role (Leading (candidacy x.id b log)) (logged (Promised b) None begun)).node
+              here_is : here_of records service past z_at ≡ (with_role (Leading (candidacy x.id b log)) (logged (Promised b) None begun)).node
               here_is =
                   ap (λ (n : Here). record n { role = Leading (lead_of (promising x.acceptor b) (candidate_of x b) false) })
-                  (follower_here records service x node up y.keeper (Promised b) (promising x.acceptor b) x.known log_is refl
-                  (record { promised = promised_here.promised; accepted = promised_here.accepted; known = promised_here.known; base = promised_here.base; old_base = promised_here.old_base; few = promised_here.few; start = promised_here.start; short = promised_here.short; fits = promised_here.fits; numbers = promised_here.numbers })
-                  (le_refl _) (λ n l. refl) (map message_in before.sends.items) before.effects.items)
+                  (follower_here records service past x node up y.keeper (Promised b) (promising x.acceptor b) x.known log_is refl
+                  (record { promised = promised_here.promised; accepted = promised_here.accepted; offset_is = promised_here.offset_is; low = promised_here.low; known = promised_here.known; base = promised_here.base; old_base = promised_here.old_base; few = promised_here.few; start = promised_here.start; short = promised_here.short; fits = promised_here.fits; numbers = promised_here.numbers })
+                  (le_refl _) (λ n l. refl) (map (message_in past) before.sends.items) before.effects.items)
                   ∙ ap (λ (l : Lead Value). record (with_role Follower (logged (Promised b) None begun)).node { role = Leading l }) lead_is
 
-              sends_here : map message_in after.sends.items ≡ map message_in before.sends.items ++ others x.nodes x.id (Prepare b (suc (length (known log))))
+              sends_here : map (message_in past) after.sends.items ≡ map (message_in past) before.sends.items ++ others x.nodes x.id (Prepare b (suc (length (known log))))
               sends_here =
                   sends
-                  ∙ ap (λ (n : NodeValue K). map message_in mid.sends.items ++ others n.nodes n.id (Prepare b (length n.known + 1))) h.0.parts
-                  ∙ ap (λ (ms : List _). map message_in ms ++ others x.nodes x.id (Prepare b (length x.known + 1))) h.2
-                  ∙ ap (λ (n : ℕ). map message_in before.sends.items ++ others x.nodes x.id (Prepare b n)) (add-one (length x.known) ∙ ap (λ (vs : List Value). suc (length vs)) u.known)
+                  ∙ ap (λ (n : NodeValue K). map (message_in past) mid.sends.items ++ others n.nodes n.id (Prepare b (length n.known + 1))) h.0.parts
+                  ∙ ap (λ (ms : List _). map (message_in past) ms ++ others x.nodes x.id (Prepare b (length x.known + 1))) h.2
+                  ∙ ap (λ (n : ℕ). map (message_in past) before.sends.items ++ others x.nodes x.id (Prepare b n)) (add-one (length x.known) ∙ ap (λ (vs : List Value). suc (length vs)) u.known)
 
               effects_here : after.effects.items ≡ before.effects.items ++ effect.Candidate x.id b ∷ []
               effects_here = effects ∙ ap (λ (n : NodeValue K). mid.effects.items ++ effect.Candidate n.id b ∷ []) h.0.parts ∙ ap (λ (es : List Effect). es ++ effect.Candidate x.id b ∷ []) h.1
 
-              stands_as : so_far records service z_at after ≡ send (say (effect.Candidate x.id b) (with_role (Leading (candidacy x.id b log)) (logged (Promised b) None begun))) (others x.nodes x.id (Prepare b (suc (length (known log)))))
+              stands_as : so_far records service past z_at after ≡ send (say (effect.Candidate x.id b) (with_role (Leading (candidacy x.id b log)) (logged (Promised b) None begun))) (others x.nodes x.id (Prepare b (suc (length (known log)))))
               stands_as =
-                  far records service z_at after _ _ effects_here sends_here
-                  ∙ ap (λ (n : Here). call_at n (map message_in before.sends.items ++ others x.nodes x.id (Prepare b (suc (length (known log))))) (before.effects.items ++ effect.Candidate x.id b ∷ [])) here_is
+                  far records service past z_at after _ _ effects_here sends_here
+                  ∙ ap (λ (n : Here). call_at n (map (message_in past) before.sends.items ++ others x.nodes x.id (Prepare b (suc (length (known log))))) (before.effects.items ++ effect.Candidate x.id b ∷ [])) here_is
 
               abbrev rest : CallHere → CallHere
               rest = settle turns x.nodes (service_of service x.seed) x.id
 
-              stand_leads : Leads records gives faults whole rest x.keeper z_at.keeper begun (so_far records service z_at after)
+              stand_leads : Leads records gives faults service whole rest x.keeper z_at.keeper begun (so_far records service past z_at after)
               stand_leads =
-                  leads_then records gives faults whole then_on rest x.keeper y.keeper y.keeper begun (so_far records service y mid) (so_far records service z_at after)
-                  (appended_leads records gives faults service x y before mid (kept.Promised b) spelled tt refl whole then_on appends_is h)
-                  (leads_same records gives faults then_on rest y.keeper (so_far records service y mid) (so_far records service z_at after) refl comes)
+                  leads_then records gives faults service whole then_on rest x.keeper y.keeper y.keeper begun (so_far records service past y mid) (so_far records service past z_at after)
+                  (appended_leads records gives faults service past x y before mid (kept.Promised b) spelled tt refl whole then_on appends_is h)
+                  (leads_same records gives faults service then_on rest y.keeper (so_far records service past y mid) (so_far records service past z_at after) refl comes)
                 where
-                  comes : (f : Option Failure) → then_on (armed_with f (so_far records service y mid)) ≡ rest (armed_with f (so_far records service z_at after))
+                  comes : (f : Option Failure) → then_on (armed_with f (so_far records service past y mid)) ≡ rest (armed_with f (so_far records service past z_at after))
                   comes f =
-                      ap (λ (d : CallHere). then_on (armed_with f d)) (appended_here records gives faults service x y before mid (kept.Promised b) spelled tt refl h)
+                      ap (λ (d : CallHere). then_on (armed_with f d)) (appended_here records gives faults service past x y before mid (kept.Promised b) spelled tt refl h)
                       ∙ ap (λ (n : ℕ). settle n x.nodes (service_of service x.seed) x.id (armed_with f (send (say (effect.Candidate x.id b) (with_role (Leading (candidacy x.id b log)) (logged (Promised b) None begun))) (others x.nodes x.id (Prepare b (suc (length (known log)))))))) enough_is
                       ∙ ap (λ (d : CallHere). rest (armed_with f d)) (sym stands_as)
 
-              pub stand_runs : RunsOn service whole begun → RunsOn service (settle turns z.nodes (service_of service z.seed) z.id) (so_far records service z after)
+              pub stand_runs : RunsOn service whole begun → RunsOn service (settle turns z.nodes (service_of service z.seed) z.id) (so_far records service past z after)
               stand_runs r =
-                  subst (λ (n : NodeValue K). RunsOn service (settle turns n.nodes (service_of service n.seed) n.id) (so_far records service n after)) (sym all)
-                  (rest_runs records gives faults service whole rest x z_at before after stand_leads r)
+                  subst (λ (n : NodeValue K). RunsOn service (settle turns n.nodes (service_of service n.seed) n.id) (so_far records service past n after)) (sym all)
+                  (rest_runs records gives faults service past whole rest x z_at before after stand_leads r)
 
-              pub stand_ends : (w : NodeValue K) (final : Draft) (end : Result Going AllocError) → IfOk end (Ends records gives faults service (settle turns z.nodes (service_of service z.seed) z.id) z w after final)
-                  → IfOk end (Ends records gives faults service whole x w before final)
+              pub stand_ends : (w : NodeValue K) (final : Draft) (end : Result Going AllocError) → IfOk end (Ends records gives faults service past (settle turns z.nodes (service_of service z.seed) z.id) z w after final)
+                  → IfOk end (Ends records gives faults service past whole x w before final)
               stand_ends w final end e =
-                  ends_if records gives faults service whole rest x z_at w before after final end refl stand_leads
-                  (subst (λ (n : NodeValue K). IfOk end (Ends records gives faults service (settle turns n.nodes (service_of service n.seed) n.id) n w after final)) all e)
+                  ends_if records gives faults service past whole rest x z_at w before after final end refl stand_leads
+                  (subst (λ (n : NodeValue K). IfOk end (Ends records gives faults service past (settle turns n.nodes (service_of service n.seed) n.id) n w after final)) all e)
 
-          pub stand_short : (w : NodeValue K) (end : Result Going AllocError) → OnErr end (IsStuck records service z w) → OnErr end (IsStuck records service x w)
-          stand_short w end s = stuck_if records service x z w (record_bytes (kept.Promised b)) (ap (λ (n : NodeValue K). records n.keeper) all ∙ h.0.records) end s
+          pub stand_short : (w : NodeValue K) (end : Result Going AllocError) → OnErr end (IsStuck records service past z w) → OnErr end (IsStuck records service past x w)
+          stand_short w end s = stuck_if records service past x z w (record_bytes (kept.Promised b)) (ap (λ (n : NodeValue K). records n.keeper) all ∙ h.0.records) end s
 
 -- ---- the end of an election
 
@@ -265,13 +266,13 @@ up_when true e = refl
 up_when false e = absurd (cc)
 
 -- a ballot is left where the node takes one
-module _ {K : Type 0} (records : K → List (List ℕ)) (gives : K → List ℕ → Answer → K → Type 0) (faults : K → ℕ) (service : Declarations) (x y z : NodeValue K) (before : ℕ) (first draft : Draft) where
+module _ {K : Type 0} (records : K → List (List ℕ)) (gives : K → List ℕ → Answer → K → Type 0) (faults : K → ℕ) (service : Declarations) (past : List Value) (x y z : NodeValue K) (before : ℕ) (first draft : Draft) where
   abbrev elects : CallHere → CallHere
   elects = elect x.nodes (service_of service x.seed) x.id
 
-  pub elected : (end : Result Going AllocError) (result : Result Step Refusal) → IsNode records service x → if_up x.up None ≡ None → before ≡ length (records x.keeper) → first.effects.items ≡ [] → first.sends.items ≡ []
-      → IfOk end (Ends records gives faults service elects x y first draft) → OnErr end (IsStuck records service x y) → IsSame x y → Finishes records before draft end y z result
-      → HasCome records gives faults service elects x y z before first draft end result
+  pub elected : (end : Result Going AllocError) (result : Result Step Refusal) → IsResting records service past x → if_up x.up None ≡ None → before ≡ length (records x.keeper) → first.effects.items ≡ [] → first.sends.items ≡ []
+      → IfOk end (Ends records gives faults service past elects x y first draft) → OnErr end (IsStuck records service past x y) → IsSame x y → Finishes records before draft end y z result
+      → HasCome records gives faults service past elects x y z before first draft end result
   elected end result node up many effects sends ends stuck same finishes = record {
     node = node;
     up = up_when x.up up;
@@ -285,6 +286,6 @@ module _ {K : Type 0} (records : K → List (List ℕ)) (gives : K → List ℕ 
   }
 
   -- it doesn't tell that its node is down where no append fails
-  pub elect_quiet : IsQuiet (elects (begin (here_of records service x))).effects
+  pub elect_quiet : IsQuiet (elects (begin (here_of records service past x))).effects
   elect_quiet =
-      (elect_well x.nodes (service_of service x.seed) x.id (replies_quiet service x.seed) (begin (here_of records service x)) (record { armed = refl; quiet = λ id h. h })).quiet
+      (elect_well x.nodes (service_of service x.seed) x.id (replies_quiet service x.seed) (begin (here_of records service past x)) (record { armed = refl; quiet = λ id h. h })).quiet

@@ -1,7 +1,7 @@
 -- What a node does on a chosen value.
-use Rattle.std.proofs.Common.{◌≡◌, ℕ, suc, ◌≤◌, Bool, true, false, List, [], ◌∷◌, ◌++◌, length, take, Option, None, refl, sym, ap, subst, ◌∙◌, arith}
-use Rattle.std.specs.Prelude.{map, is_some, cond}
-use Rattle.std.proofs.lemmas.Bool.{eq-eqb, le-ltb}
+use Rattle.std.proofs.Common.{◌≡◌, ℕ, suc, ◌<◌, ◌≤◌, Bool, true, false, List, [], ◌∷◌, ◌++◌, length, take, Option, None, refl, sym, ap, subst, ◌∙◌, arith}
+use Rattle.std.specs.Prelude.{map, is_some, cond, nat_lt}
+use Rattle.std.proofs.lemmas.Bool.{eq-eqb, le-ltb, lt-ltb, lt-leb, le-leb}
 use Rattle.std.proofs.lemmas.List.{take-append-le}
 use Rattle.rex_ballot.specs.Ballot.{IsInstance}
 use Rattle.rex_ballot.specs.Proposals.{IsValue}
@@ -10,26 +10,29 @@ use Rattle.rex_durable.specs.declared.records.Rec.TheVariants as kept
 use Rattle.rex_durable.specs.Spelling.{HasSpelling, IsDue, record_bytes}
 use Rattle.rex_report.specs.declared.effect.Effect.TheVariants as effect
 use Rattle.rex_traits.specs.Chains.{Answer}
-use Rattle.rex_safety.specs.Records.{known}
+use Rattle.rex_safety.specs.Records.{known, offset}
 use Rattle.rex_safety.specs.Records.Rec.{Known}
 use Rattle.rex_safety.specs.Node.{Failure}
-use Rattle.rex_safety.specs.Calls.{append, follow, followed, on_ask, on_chosen, say, send, tell}
+use Rattle.rex_safety.specs.Calls.{answer_base, append, follow, followed, on_ask, on_chosen, say, send, tell}
+use Rattle.rex_safety.specs.Invariant.{Begins}
 use Rattle.rex_safety.specs.Values.{Value, values_fit}
 use Rattle.rex_safety.specs.Lanes.{CallHere}
 use Rattle.rex_safety.proofs.Lists.{length_push}
 use Rattle.rex_node.specs.declared.step.Draft.{Draft}
 use Rattle.rex_node.specs.declared.going.Going.TheVariants.{On, Down}
-use Rattle.rex_node.specs.Messages.{message_in}
+use Rattle.rex_log.specs.Messages.{message_in}
 use Rattle.rex_node.specs.Calls.{armed_with}
-use Rattle.rex_node.specs.Going.{Appends, Fell, IsStuck, RunsOn, Tells, so_far}
-use Rattle.rex_node.specs.Parts.{NodeValue, IsUp, IsNode, here_of, leaving, log_of, role_of}
+use Rattle.rex_node.specs.Going.{Appends, Fell, IsStuck, RunsOn, Tells, TellsBase, so_far}
+use Rattle.rex_log.specs.Log.{log_of, standing_in}
+use Rattle.rex_node.specs.Parts.{NodeValue, IsUp, IsResting, here_of, leaving, role_of}
 use Rattle.rex_node.proofs.Appended.{instance_fits, logged_of, logged_known, IsLogged}
+use Rattle.rex_node.proofs.Bases.{tells_base}
 use Rattle.rex_node.proofs.Following.{EndsWell, ends_same, far}
 use Rattle.rex_node.proofs.Recorded.{recorded_stuck, recorded_down, recorded_on, follows_node, follows_up, follows_keeper, follows_to}
 
-module _ {K : Type 0} (records : K → List (List ℕ)) (gives : K → List ℕ → Answer → K → Type 0) (faults : K → ℕ) (service : Declarations) (x : NodeValue K) (node : IsNode records service x) (up : x.up ≡ true) (before : Draft) (i : ℕ) (v : Value)
+module _ {K : Type 0} (records : K → List (List ℕ)) (gives : K → List ℕ → Answer → K → Type 0) (faults : K → ℕ) (service : Declarations) (past : List Value) (x : NodeValue K) (node : IsResting records service past x) (up : x.up ≡ true) (before : Draft) (i : ℕ) (v : Value)
     (there : IsInstance i) (next : i ≡ suc (length x.known)) (short : IsValue v) (y : NodeValue K) (mid : Draft) where
-  u : IsUp service x (here_of records service x)
+  u : IsUp service x (here_of records service past x)
   u = node.up up
 
   abbrev chooses : CallHere → CallHere
@@ -38,37 +41,37 @@ module _ {K : Type 0} (records : K → List (List ℕ)) (gives : K → List ℕ 
   spelled : HasSpelling (kept.Known i v)
   spelled = record { in_range = (there, short) }
 
-  next_here : i ≡ suc (length (known (here_of records service x).log))
+  next_here : i ≡ suc (length (known (here_of records service past x).log))
   next_here = next ∙ ap (λ (vs : List Value). suc (length vs)) u.known
 
-  due : IsDue (length (known (log_of service (records x.keeper)))) (kept.Known i v)
+  due : IsDue (standing_in (log_of service past (records x.keeper))) (kept.Known i v)
   due = omega (arith, next_here)
 
-  chosen_is : (f : Option Failure) → on_chosen x.id i v (armed_with f (so_far records service x before)) ≡ append f x.id (Known i v) (armed_with f (so_far records service x before)) (λ e. follow x.id (effect.Known x.id i ∷ []) e)
-  chosen_is f = ap (λ (t : Bool). cond t takes ignores) (eq-eqb i (suc (length (known (here_of records service x).log))) next_here)
+  chosen_is : (f : Option Failure) → on_chosen x.id i v (armed_with f (so_far records service past x before)) ≡ append f x.id (Known i v) (armed_with f (so_far records service past x before)) (λ e. follow x.id (effect.Known x.id i ∷ []) e)
+  chosen_is f = ap (λ (t : Bool). cond t takes ignores) (eq-eqb i (suc (length (known (here_of records service past x).log))) next_here)
     where
       takes : CallHere
-      takes = append f x.id (Known i v) (armed_with f (so_far records service x before)) (λ e. follow x.id (effect.Known x.id i ∷ []) e)
+      takes = append f x.id (Known i v) (armed_with f (so_far records service past x before)) (λ e. follow x.id (effect.Known x.id i ∷ []) e)
 
       ignores : CallHere
-      ignores = say (effect.IgnoredInstance i (suc (length (known (here_of records service x).log)))) (armed_with f (so_far records service x before))
+      ignores = say (effect.IgnoredInstance i (suc (length (known (here_of records service past x).log)))) (armed_with f (so_far records service past x before))
 
   pub chosen_down : Appends records faults gives x y before mid (record_bytes (kept.Known i v)) Down
-      → (Fell records gives faults chooses x.id x.keeper y.keeper (so_far records service x before) (so_far records service y mid) × (y.up ≡ false)) × IsNode records service y
-  chosen_down h = recorded_down records gives faults service x y before mid node up (kept.Known i v) spelled due refl refl chooses _ chosen_is h
+      → (Fell records gives faults service chooses x.id x.keeper y.keeper (so_far records service past x before) (so_far records service past y mid) × (y.up ≡ false)) × IsResting records service past y
+  chosen_down h = recorded_down records gives faults service past x y before mid node up (kept.Known i v) spelled due refl refl chooses _ chosen_is h
 
-  pub chosen_stuck : Appends records faults gives x y before mid (record_bytes (kept.Known i v)) On → (z : NodeValue K) → z.keeper ≡ y.keeper → z.base ≡ y.base → IsStuck records service x z
-  chosen_stuck h z keeper based = recorded_stuck records gives faults service x y before mid node up (kept.Known i v) spelled due refl refl h z keeper based
+  pub chosen_stuck : Appends records faults gives x y before mid (record_bytes (kept.Known i v)) On → (z : NodeValue K) → z.keeper ≡ y.keeper → z.base ≡ y.base → IsStuck records service past x z
+  chosen_stuck h z keeper based = recorded_stuck records gives faults service past x y before mid node up (kept.Known i v) spelled due refl refl h z keeper based
 
-  pub chosen_on : RunsOn service (on_chosen x.id i v) (so_far records service x before) → Appends records faults gives x y before mid (record_bytes (kept.Known i v)) On → (z : NodeValue K) (after : Draft) → z ≡ record (leaving y) { known = y.known ++ v ∷ [] }
-      → Tells mid after (effect.Known y.id i ∷ followed y.id (role_of y.acceptor y.proposer (is_some y.acting))) → EndsWell records gives faults service x z before after chooses
+  pub chosen_on : RunsOn service (on_chosen x.id i v) (so_far records service past x before) → Appends records faults gives x y before mid (record_bytes (kept.Known i v)) On → (z : NodeValue K) (after : Draft) → z ≡ record (leaving y) { known = y.known ++ v ∷ [] }
+      → Tells mid after (effect.Known y.id i ∷ followed y.id (role_of y.acceptor y.proposer (is_some y.acting))) → EndsWell records gives faults service past x z before after chooses
   chosen_on runs h z after z_is t =
-      recorded_on records gives faults service x y before mid node up (kept.Known i v) spelled due refl refl chooses (λ e. follow x.id (effect.Known x.id i ∷ []) e) chosen_is h z after
-      (follows_keeper records gives faults service x y before mid node up (kept.Known i v) spelled due refl refl h x.acceptor (x.known ++ v ∷ []) logged_here longer front z z_here)
-      (follows_node records gives faults service x y before mid node up (kept.Known i v) spelled due refl refl h x.acceptor (x.known ++ v ∷ []) logged_here longer front z z_here)
-      (follows_up records gives faults service x y before mid node up (kept.Known i v) spelled due refl refl h x.acceptor (x.known ++ v ∷ []) logged_here longer front z z_here)
+      recorded_on records gives faults service past x y before mid node up (kept.Known i v) spelled due refl refl chooses (λ e. follow x.id (effect.Known x.id i ∷ []) e) chosen_is h z after
+      (follows_keeper records gives faults service past x y before mid node up (kept.Known i v) spelled due refl refl h x.acceptor (x.known ++ v ∷ []) logged_here longer front z z_here)
+      (follows_node records gives faults service past x y before mid node up (kept.Known i v) spelled due refl refl h x.acceptor (x.known ++ v ∷ []) logged_here longer front z z_here)
+      (follows_up records gives faults service past x y before mid node up (kept.Known i v) spelled due refl refl h x.acceptor (x.known ++ v ∷ []) logged_here longer front z z_here)
       (λ f. refl)
-      (follows_to records gives faults service x y before mid node up (kept.Known i v) spelled due refl refl h x.acceptor (x.known ++ v ∷ []) logged_here longer front z z_here after (effect.Known x.id i)
+      (follows_to records gives faults service past x y before mid node up (kept.Known i v) spelled due refl refl h x.acceptor (x.known ++ v ∷ []) logged_here longer front z z_here after (effect.Known x.id i)
       (subst (λ (j : ℕ). Tells mid after (effect.Known j i ∷ followed y.id (role_of y.acceptor y.proposer (is_some y.acting)))) (ap (λ (n : NodeValue K). n.id) h.0.parts) t))
     where
       longer : length x.known ≤ length (x.known ++ v ∷ [])
@@ -85,19 +88,39 @@ module _ {K : Type 0} (records : K → List (List ℕ)) (gives : K → List ℕ 
           ap (λ (vs : List Value). values_fit service (vs ++ v ∷ [])) u.known
           ∙ subst (λ (d : CallHere). values_fit service (known d.node.log) ≡ true) (chosen_is None) runs
 
-      logged_here : IsLogged service (record x { keeper = y.keeper; acceptor = x.acceptor; known = x.known ++ v ∷ [] }) (Known i v ∷ log_of service (records x.keeper))
+      logged_here : IsLogged service (record x { keeper = y.keeper; acceptor = x.acceptor; known = x.known ++ v ∷ [] }) (Known i v ∷ log_of service past (records x.keeper))
       logged_here =
-          let l : IsLogged service (record x { known = x.known ++ v ∷ [] }) (Known i v ∷ log_of service (records x.keeper)) = logged_known service x (log_of service (records x.keeper)) (logged_of records service x u) i v next (instance_fits i there) fits in
-          record { promised = l.promised; accepted = l.accepted; known = l.known; base = l.base; old_base = l.old_base; few = l.few; start = l.start; short = l.short; fits = l.fits; numbers = l.numbers }
+          let l : IsLogged service (record x { known = x.known ++ v ∷ [] }) (Known i v ∷ log_of service past (records x.keeper)) = logged_known service x (log_of service past (records x.keeper)) (logged_of records service past x u) i v next (instance_fits i there) fits in
+          record { promised = l.promised; accepted = l.accepted; offset_is = l.offset_is; low = l.low; known = l.known; base = l.base; old_base = l.old_base; few = l.few; start = l.start; short = l.short; fits = l.fits; numbers = l.numbers }
 
 -- ---- what a node is asked for
 
-module _ {K : Type 0} (records : K → List (List ℕ)) (gives : K → List ℕ → Answer → K → Type 0) (faults : K → ℕ) (service : Declarations) (x : NodeValue K) (node : IsNode records service x) (up : x.up ≡ true) (before after : Draft) (from first : ℕ) where
-  pub asked_on : first ≤ length x.known → after.effects.items ≡ before.effects.items → map message_in after.sends.items ≡ map message_in before.sends.items ++ take 64 (tell x.id from first 1 x.known)
-      → EndsWell records gives faults service x x before after (on_ask x.id from first)
-  asked_on few effects sends =
-      ends_same records gives faults service x x before after (on_ask x.id from first) refl node up
-      (λ f. ap (λ (t : Bool). cond t (say effect.Nothing (armed_with f (so_far records service x before))) (send (armed_with f (so_far records service x before)) (take 64 (tell x.id from first 1 (known (here_of records service x).log)))))
-      (le-ltb (length (known (here_of records service x).log)) first (omega (arith, few, ap length (node.up up).known)))
-      ∙ ap (λ (vs : List Value). send (armed_with f (so_far records service x before)) (take 64 (tell x.id from first 1 vs))) (sym (node.up up).known)
-      ∙ ap (armed_with f) (sym (far records service x after _ _ effects sends)))
+module _ {K : Type 0} (records : K → List (List ℕ)) (gives : K → List ℕ → Answer → K → Type 0) (faults : K → ℕ) (service : Declarations) (past : List Value) (x : NodeValue K) (node : IsResting records service past x) (up : x.up ≡ true) (before after : Draft) (from first : ℕ) where
+  pub asked_on : x.offset < first → first ≤ length x.known → after.effects.items ≡ before.effects.items → map (message_in past) after.sends.items ≡ map (message_in past) before.sends.items ++ take 64 (tell x.id from first 1 x.known)
+      → EndsWell records gives faults service past x x before after (on_ask x.id from first)
+  asked_on late few effects sends =
+      ends_same records gives faults service past x x before after (on_ask x.id from first) refl node up
+      (λ f. ap (λ (t : Bool). cond t (answer_base x.id from (armed_with f (so_far records service past x before))) (cond (nat_lt (length (known (here_of records service past x).log)) first) (say effect.Nothing (armed_with f (so_far records service past x before))) (send (armed_with f (so_far records service past x before)) (take 64 (tell x.id from first 1 (known (here_of records service past x).log))))))
+      (lt-leb first (offset (here_of records service past x).log) (subst (λ (o : ℕ). o < first) (node.up up).offset late))
+      ∙ ap (λ (t : Bool). cond t (say effect.Nothing (armed_with f (so_far records service past x before))) (send (armed_with f (so_far records service past x before)) (take 64 (tell x.id from first 1 (known (here_of records service past x).log)))))
+      (le-ltb (length (known (here_of records service past x).log)) first (omega (arith, few, ap length (node.up up).known)))
+      ∙ ap (λ (vs : List Value). send (armed_with f (so_far records service past x before)) (take 64 (tell x.id from first 1 vs))) (sym (node.up up).known)
+      ∙ ap (armed_with f) (sym (far records service past x after _ _ effects sends)))
+
+  -- it has no more than that
+  pub asked_beyond : x.offset < first → length x.known < first → after.effects.items ≡ before.effects.items ++ effect.Nothing ∷ [] → after.sends.items ≡ before.sends.items → EndsWell records gives faults service past x x before after (on_ask x.id from first)
+  asked_beyond late more effects sends =
+      ends_same records gives faults service past x x before after (on_ask x.id from first) refl node up
+      (λ f. ap (λ (t : Bool). cond t (answer_base x.id from (armed_with f (so_far records service past x before))) (cond (nat_lt (length (known (here_of records service past x).log)) first) (say effect.Nothing (armed_with f (so_far records service past x before))) (send (armed_with f (so_far records service past x before)) (take 64 (tell x.id from first 1 (known (here_of records service past x).log))))))
+      (lt-leb first (offset (here_of records service past x).log) (subst (λ (o : ℕ). o < first) (node.up up).offset late))
+      ∙ ap (λ (t : Bool). cond t (say effect.Nothing (armed_with f (so_far records service past x before))) (send (armed_with f (so_far records service past x before)) (take 64 (tell x.id from first 1 (known (here_of records service past x).log)))))
+      (lt-ltb (length (known (here_of records service past x).log)) first (subst (λ (vs : List Value). length vs < first) (node.up up).known more))
+      ∙ ap (armed_with f) (sym (far records service past x after _ _ effects (ap (map (message_in past)) sends))))
+
+  -- or it doesn't hold the values any more
+  pub asked_old : Begins (known (here_of records service past x).log) past → first ≤ x.offset → TellsBase service x from before after → EndsWell records gives faults service past x x before after (on_ask x.id from first)
+  asked_old begins old t =
+      ends_same records gives faults service past x x before after (on_ask x.id from first) refl node up
+      (λ f. ap (λ (t : Bool). cond t (answer_base x.id from (armed_with f (so_far records service past x before))) (cond (nat_lt (length (known (here_of records service past x).log)) first) (say effect.Nothing (armed_with f (so_far records service past x before))) (send (armed_with f (so_far records service past x before)) (take 64 (tell x.id from first 1 (known (here_of records service past x).log))))))
+      (le-leb first (offset (here_of records service past x).log) (subst (λ (o : ℕ). first ≤ o) (node.up up).offset old))
+      ∙ ap (armed_with f) (sym (tells_base records service past x (node.up up) begins before after from t)))

@@ -10,14 +10,15 @@ use Rattle.rex_node.specs.declared.step.Draft.{Draft}
 use Rattle.rex_node.specs.Going.{Ends, Fell, IsStuck, Leads, so_far}
 use Rattle.rex_node.specs.Parts.{NodeValue}
 use Rattle.rex_node.proofs.GoingLemmas.{leads_then, leads_fell}
+use Rattle.rex_safety.specs.Values.{Value}
 
-module _ {K : Type 0} (records : K → List (List ℕ)) (gives : K → List ℕ → Answer → K → Type 0) (faults : K → ℕ) (service : Declarations) (whole rest : CallHere → CallHere) (x z w : NodeValue K) (before mid after : Draft) where
+module _ {K : Type 0} (records : K → List (List ℕ)) (gives : K → List ℕ → Answer → K → Type 0) (faults : K → ℕ) (service : Declarations) (past : List Value) (whole rest : CallHere → CallHere) (x z w : NodeValue K) (before mid after : Draft) where
   -- the whole ends where the rest does
-  pub ends_then : (going : Going) → z.id ≡ x.id → Leads records gives faults whole rest x.keeper z.keeper (so_far records service x before) (so_far records service z mid)
-      → Ends records gives faults service rest z w mid after going → Ends records gives faults service whole x w before after going
+  pub ends_then : (going : Going) → z.id ≡ x.id → Leads records gives faults service whole rest x.keeper z.keeper (so_far records service past x before) (so_far records service past z mid)
+      → Ends records gives faults service past rest z w mid after going → Ends records gives faults service past whole x w before after going
   ends_then On id l h = (
     (
-      leads_then records gives faults whole rest (λ d. d) x.keeper z.keeper w.keeper (so_far records service x before) (so_far records service z mid) (so_far records service w after) l h.0.0,
+      leads_then records gives faults service whole rest (λ d. d) x.keeper z.keeper w.keeper (so_far records service past x before) (so_far records service past z mid) (so_far records service past w after) l h.0.0,
       h.0.1,
       h.0.2,
     ),
@@ -25,22 +26,22 @@ module _ {K : Type 0} (records : K → List (List ℕ)) (gives : K → List ℕ 
   )
   ends_then Down id l h = (
     (
-      leads_fell records gives faults whole rest x.id x.keeper z.keeper w.keeper (so_far records service x before) (so_far records service z mid) (so_far records service w after) l
-          (subst (λ (i : ℕ). Fell records gives faults rest i z.keeper w.keeper (so_far records service z mid) (so_far records service w after)) id h.0.0),
+      leads_fell records gives faults service whole rest x.id x.keeper z.keeper w.keeper (so_far records service past x before) (so_far records service past z mid) (so_far records service past w after) l
+          (subst (λ (i : ℕ). Fell records gives faults service rest i z.keeper w.keeper (so_far records service past z mid) (so_far records service past w after)) id h.0.0),
       h.0.1,
     ),
     h.1,
   )
 
   -- the same of what it answers
-  pub ends_if : {E : Type 0} (end : Result Going E) → z.id ≡ x.id → Leads records gives faults whole rest x.keeper z.keeper (so_far records service x before) (so_far records service z mid)
-      → IfOk end (Ends records gives faults service rest z w mid after) → IfOk end (Ends records gives faults service whole x w before after)
+  pub ends_if : {E : Type 0} (end : Result Going E) → z.id ≡ x.id → Leads records gives faults service whole rest x.keeper z.keeper (so_far records service past x before) (so_far records service past z mid)
+      → IfOk end (Ends records gives faults service past rest z w mid after) → IfOk end (Ends records gives faults service past whole x w before after)
   ends_if (Ok going) id l h = ends_then going id l h
   ends_if (Err e) id l h = tt
 
 -- memory was short in the last part, with a record there already
-module _ {K : Type 0} (records : K → List (List ℕ)) (service : Declarations) (x z w : NodeValue K) (bytes : List ℕ) (grown : records z.keeper ≡ records x.keeper ++ bytes ∷ []) where
-  pub stuck_then : IsStuck records service z w → IsStuck records service x w
+module _ {K : Type 0} (records : K → List (List ℕ)) (service : Declarations) (past : List Value) (x z w : NodeValue K) (bytes : List ℕ) (grown : records z.keeper ≡ records x.keeper ++ bytes ∷ []) where
+  pub stuck_then : IsStuck records service past z w → IsStuck records service past x w
   stuck_then s = record {
     more = bytes ∷ s.more;
     grown = s.grown ∙ ap (λ (l : List (List ℕ)). l ++ s.more) grown ∙ append_assoc (records x.keeper) (bytes ∷ []) s.more;
@@ -51,6 +52,6 @@ module _ {K : Type 0} (records : K → List (List ℕ)) (service : Declarations)
       some : bytes ∷ s.more ≡ [] → ⊥
       some e = cc
 
-  pub stuck_if : {T E : Type 0} (end : Result T E) → OnErr end (IsStuck records service z w) → OnErr end (IsStuck records service x w)
+  pub stuck_if : {T E : Type 0} (end : Result T E) → OnErr end (IsStuck records service past z w) → OnErr end (IsStuck records service past x w)
   stuck_if (Ok t) h = tt
   stuck_if (Err e) h = stuck_then h

@@ -36,12 +36,13 @@ use Rattle.rex_safety.specs.Lanes.{CallHere}
 use Rattle.rex_safety.proofs.Lists.{in_cases}
 use Rattle.rex_node.specs.declared.going.Going.{Going}
 use Rattle.rex_node.specs.declared.step.Draft.{Draft}
-use Rattle.rex_node.specs.Messages.{message_in}
+use Rattle.rex_log.specs.Messages.{message_in}
 use Rattle.rex_node.specs.Calls.{armed_with}
 use Rattle.rex_node.specs.Electing.{counting, reports_of, told_of, uncounting, vote_on}
 use Rattle.rex_node.specs.Going.{Ends, IsStuck, Leads, RunsOn, above, so_far}
 use Rattle.rex_node.specs.Leading.{IsFree}
-use Rattle.rex_node.specs.Parts.{NodeValue, ActingValue, HasGoneOn, HasOpen, IsActing, IsKept, IsNode, IsProposer, IsUp, Proposes, here_of, lead_of, log_of, open_of, proposal_in, role_of}
+use Rattle.rex_log.specs.Log.{log_of, proposal_in}
+use Rattle.rex_node.specs.Parts.{NodeValue, ActingValue, HasGoneOn, HasOpen, IsActing, IsKept, IsResting, IsProposer, IsUp, Proposes, here_of, lead_of, open_of, role_of}
 use Rattle.rex_node.proofs.Appended.{Beside, ballot_fits, beside_of, instance_fits, logged_of, up_of}
 use Rattle.rex_node.proofs.Bridges.{in_counted, majority_is}
 use Rattle.rex_node.proofs.Candidates.{above_most}
@@ -176,9 +177,9 @@ both_fit ps qs h k q i = go (in_cases q ps qs i)
 
 -- ---- a node that is told a promise
 
-module _ {K : Type 0} (records : K → List (List ℕ)) (gives : K → List ℕ → Answer → K → Type 0) (faults : K → ℕ) (service : Declarations) (x : NodeValue K) (node : IsNode records service x) (up : x.up ≡ true)
+module _ {K : Type 0} (records : K → List (List ℕ)) (gives : K → List ℕ → Answer → K → Type 0) (faults : K → ℕ) (service : Declarations) (past : List Value) (x : NodeValue K) (node : IsResting records service past x) (up : x.up ≡ true)
     (from b : ℕ) (there : (0 < from) × (from ≤ x.nodes)) (reported : List Kept) (all : All IsProposal reported) where
-  u : IsUp service x (here_of records service x)
+  u : IsUp service x (here_of records service past x)
   u = node.up up
 
   abbrev whole : CallHere → CallHere
@@ -197,7 +198,7 @@ module _ {K : Type 0} (records : K → List (List ℕ)) (gives : K → List ℕ 
 
   module _ (before : Draft) where
     abbrev begun : CallHere
-    begun = so_far records service x before
+    begun = so_far records service past x before
 
     whole_at : (f : Option Failure) (o : Option ProposerValue) → x.proposer ≡ o → whole (armed_with f begun) ≡ on_promise x.nodes (service_of service x.seed) x.id from b (map proposal_in reported) (armed_with f begun) (role_of x.acceptor o (is_some x.acting))
     whole_at f o e = ap (λ (q : Option ProposerValue). on_promise x.nodes (service_of service x.seed) x.id from b (map proposal_in reported) (armed_with f begun) (role_of x.acceptor q (is_some x.acting))) e
@@ -230,12 +231,12 @@ module _ {K : Type 0} (records : K → List (List ℕ)) (gives : K → List ℕ 
       says_at f (Some p) e k = made_is p e f (Some why) (ignored_is (promise_refusal p b from) p.nodes (length p.promised + 1) why k)
 
       pub promise_ignored : (z : NodeValue K) → z ≡ counting x b from reported → (told : Effect) → told ≡ told_of why → (after : Draft) → after.effects.items ≡ before.effects.items ++ told ∷ [] → after.sends.items ≡ before.sends.items
-          → EndsWell records gives faults service x z before after whole
+          → EndsWell records gives faults service past x z before after whole
       promise_ignored z z_is told told_is after effects sends =
-          subst (λ (n : NodeValue K). EndsWell records gives faults service x n before after whole) (sym (ignored_same z z_is))
-          (ends_same records gives faults service x x before after whole refl node up
+          subst (λ (n : NodeValue K). EndsWell records gives faults service past x n before after whole) (sym (ignored_same z z_is))
+          (ends_same records gives faults service past x x before after whole refl node up
           (λ f. says_at f x.proposer refl vote_is
-          ∙ ap (armed_with f) (sym (far records service x after _ _ (effects ∙ ap (λ (t : Effect). before.effects.items ++ t ∷ []) told_is) (ap (map message_in) sends)))))
+          ∙ ap (armed_with f) (sym (far records service past x after _ _ (effects ∙ ap (λ (t : Effect). before.effects.items ++ t ∷ []) told_is) (ap (map (message_in past)) sends)))))
 
     -- ---- one that is counted
 
@@ -300,9 +301,9 @@ module _ {K : Type 0} (records : K → List (List ℕ)) (gives : K → List ℕ 
         next = h.next;
       }
 
-      z_beside : Beside records service z_at
+      z_beside : Beside records service past z_at
       z_beside =
-          let o = beside_of records service x u in
+          let o = beside_of records service past x u in
           record {
             based = o.based;
             replayed = o.replayed;
@@ -313,8 +314,8 @@ module _ {K : Type 0} (records : K → List (List ℕ)) (gives : K → List ℕ 
             role = z_role (subst (λ (q : Option ProposerValue). RoleFits (length x.known) (role_of x.acceptor q (is_some x.acting))) e o.role);
           }
 
-      z_kept : IsKept records service z_at
-      z_kept = record { id = node.id; few = node.few; up = λ t. up_of records service z_at (logged_as service x z_at (log_of service (records x.keeper)) refl refl refl refl refl (logged_of records service x u)) z_beside }
+      z_kept : IsKept records service past z_at
+      z_kept = record { id = node.id; few = node.few; up = λ t. up_of records service past z_at (logged_as service x z_at (log_of service past (records x.keeper)) refl refl refl refl refl refl (logged_of records service past x u)) z_beside }
 
       -- the call counts it
       hears_is : (f : Option Failure) → whole (armed_with f begun) ≡ hear x.nodes (service_of service x.seed) x.id (lead_of x.acceptor more (is_some x.acting)) (armed_with f begun)
@@ -323,7 +324,7 @@ module _ {K : Type 0} (records : K → List (List ℕ)) (gives : K → List ℕ 
       -- ---- it is no majority yet
 
       module _ (few : counts.is_majority p.nodes (length p.promised + 1) ≡ false) where
-        z_node : IsNode records service z_at
+        z_node : IsResting records service past z_at
         z_node = record {
           id = node.id;
           few = node.few;
@@ -334,20 +335,20 @@ module _ {K : Type 0} (records : K → List (List ℕ)) (gives : K → List ℕ 
         }
 
         pub promise_have : (z : NodeValue K) → z ≡ counting x b from reported → (have : ℕ) → have ≡ length p.promised + 1 → (after : Draft) → after.effects.items ≡ before.effects.items ++ effect.Have have ∷ [] → after.sends.items ≡ before.sends.items
-            → EndsWell records gives faults service x z before after whole
+            → EndsWell records gives faults service past x z before after whole
         promise_have z z_is have have_is after effects sends =
-            subst (λ (n : NodeValue K). EndsWell records gives faults service x n before after whole) (sym (counted_at z z_is))
-            (ends_same records gives faults service x z_at before after whole refl z_node up
+            subst (λ (n : NodeValue K). EndsWell records gives faults service past x n before after whole) (sym (counted_at z z_is))
+            (ends_same records gives faults service past x z_at before after whole refl z_node up
             (λ f. hears_is f
             ∙ ap (λ (t : Bool). cond t (settle (enough (map proposal_in more.reported)) x.nodes (service_of service x.seed) x.id (led (Leading (lead_of x.acceptor more (is_some x.acting))) (armed_with f begun))) (say (effect.Have (length more.promised)) (led (Leading (lead_of x.acceptor more (is_some x.acting))) (armed_with f begun)))) (majority_same false few)
             ∙ ap (λ (n : ℕ). say (effect.Have n) (led (Leading (lead_of x.acceptor more (is_some x.acting))) (armed_with f begun))) (length_more ∙ sym have_is)
-            ∙ ap (armed_with f) (sym (far records service z_at after _ _ effects (ap (map message_in) sends)))))
+            ∙ ap (armed_with f) (sym (far records service past z_at after _ _ effects (ap (map (message_in past)) sends)))))
 
       -- ---- it is a majority
 
       module _ (many : counts.is_majority p.nodes (length p.promised + 1) ≡ true) (z : NodeValue K) (z_is : z ≡ counting x b from reported) where
-        pub promise_kept : IsKept records service z
-        promise_kept = subst (IsKept records service) (sym (counted_at z z_is)) z_kept
+        pub promise_kept : IsKept records service past z
+        promise_kept = subst (IsKept records service past) (sym (counted_at z z_is)) z_kept
 
         pub promise_free : IsFree z.proposer (is_some z.acting)
         promise_free = subst (λ (n : NodeValue K). IsFree n.proposer (is_some n.acting)) (sym (counted_at z z_is)) (free.1, λ t. absurd (false≢true (sym free.0 ∙ t)))
@@ -364,27 +365,27 @@ module _ {K : Type 0} (records : K → List (List ℕ)) (gives : K → List ℕ 
           abbrev rest : CallHere → CallHere
           rest = settle turns x.nodes (service_of service x.seed) x.id
 
-          promise_leads : Leads records gives faults whole rest x.keeper x.keeper begun (so_far records service z_at before)
+          promise_leads : Leads records gives faults service whole rest x.keeper x.keeper begun (so_far records service past z_at before)
           promise_leads =
-              leads_same records gives faults whole rest x.keeper begun (so_far records service z_at before) refl
+              leads_same records gives faults service whole rest x.keeper begun (so_far records service past z_at before) refl
               (λ f. hears_is f
               ∙ ap (λ (t : Bool). cond t (settle (enough (map proposal_in more.reported)) x.nodes (service_of service x.seed) x.id (led (Leading (lead_of x.acceptor more (is_some x.acting))) (armed_with f begun))) (say (effect.Have (length more.promised)) (led (Leading (lead_of x.acceptor more (is_some x.acting))) (armed_with f begun)))) (majority_same true many)
-              ∙ ap (λ (n : ℕ). settle (2 * n + 3) x.nodes (service_of service x.seed) x.id (armed_with f (so_far records service z_at before))) (length-map more.reported proposal_in)
-              ∙ ap (λ (n : ℕ). settle n x.nodes (service_of service x.seed) x.id (armed_with f (so_far records service z_at before))) (sym turns_here))
+              ∙ ap (λ (n : ℕ). settle (2 * n + 3) x.nodes (service_of service x.seed) x.id (armed_with f (so_far records service past z_at before))) (length-map more.reported proposal_in)
+              ∙ ap (λ (n : ℕ). settle n x.nodes (service_of service x.seed) x.id (armed_with f (so_far records service past z_at before))) (sym turns_here))
 
-          pub promise_runs : RunsOn service whole begun → RunsOn service (settle turns z.nodes (service_of service z.seed) z.id) (so_far records service z before)
+          pub promise_runs : RunsOn service whole begun → RunsOn service (settle turns z.nodes (service_of service z.seed) z.id) (so_far records service past z before)
           promise_runs r =
-              subst (λ (n : NodeValue K). RunsOn service (settle turns n.nodes (service_of service n.seed) n.id) (so_far records service n before)) (sym (counted_at z z_is))
-              (rest_runs records gives faults service whole rest x z_at before before promise_leads r)
+              subst (λ (n : NodeValue K). RunsOn service (settle turns n.nodes (service_of service n.seed) n.id) (so_far records service past n before)) (sym (counted_at z z_is))
+              (rest_runs records gives faults service past whole rest x z_at before before promise_leads r)
 
-          pub promise_ends : (w : NodeValue K) (after : Draft) (going : Going) → Ends records gives faults service (settle turns z.nodes (service_of service z.seed) z.id) z w before after going → Ends records gives faults service whole x w before after going
+          pub promise_ends : (w : NodeValue K) (after : Draft) (going : Going) → Ends records gives faults service past (settle turns z.nodes (service_of service z.seed) z.id) z w before after going → Ends records gives faults service past whole x w before after going
           promise_ends w after going h =
-              ends_then records gives faults service whole rest x z_at w before before after going refl promise_leads
-              (subst (λ (n : NodeValue K). Ends records gives faults service (settle turns n.nodes (service_of service n.seed) n.id) n w before after going) (counted_at z z_is) h)
+              ends_then records gives faults service past whole rest x z_at w before before after going refl promise_leads
+              (subst (λ (n : NodeValue K). Ends records gives faults service past (settle turns n.nodes (service_of service n.seed) n.id) n w before after going) (counted_at z z_is) h)
 
       -- ---- memory was short, and it is taken back
 
-      pub promise_stuck : (z w v : NodeValue K) → z ≡ counting x b from reported → IsStuck records service z w → v ≡ uncounting w (length reported) → IsStuck records service x v
+      pub promise_stuck : (z w v : NodeValue K) → z ≡ counting x b from reported → IsStuck records service past z w → v ≡ uncounting w (length reported) → IsStuck records service past x v
       promise_stuck z w v z_is s v_is = record {
         more = s.more;
         grown = ap (λ (n : NodeValue K). records n.keeper) v_is ∙ s.grown ∙ ap (λ (n : NodeValue K). records n.keeper ++ s.more) (counted_at z z_is);
@@ -396,8 +397,8 @@ module _ {K : Type 0} (records : K → List (List ℕ)) (gives : K → List ℕ 
             ∙ ap (λ (q : ProposerValue). record x { keeper = w.keeper; proposer = Some q }) (taken_back p b from reported new)
             ∙ ap (λ (o : Option ProposerValue). record x { keeper = w.keeper; proposer = o }) (sym e)
             ∙ ap (λ (k : K). record x { keeper = k }) (sym (ap (λ (n : NodeValue K). n.keeper) v_is));
-        based = ap (λ (n : NodeValue K). n.base) v_is ∙ s.based ∙ ap (λ (n : NodeValue K). base (log_of service (records n.keeper))) (sym v_is);
+        based = ap (λ (n : NodeValue K). n.base) v_is ∙ s.based ∙ ap (λ (n : NodeValue K). base (log_of service past (records n.keeper))) (sym v_is);
       }
 
-      pub promise_back : (z v : NodeValue K) → z ≡ counting x b from reported → v ≡ uncounting z (length reported) → IsStuck records service x v
-      promise_back z v z_is v_is = promise_stuck z z v z_is (subst (λ (n : NodeValue K). IsStuck records service n n) (sym (counted_at z z_is)) (stuck_same records service z_at (z_kept.up up))) v_is
+      pub promise_back : (z v : NodeValue K) → z ≡ counting x b from reported → v ≡ uncounting z (length reported) → IsStuck records service past x v
+      promise_back z v z_is v_is = promise_stuck z z v z_is (subst (λ (n : NodeValue K). IsStuck records service past n n) (sym (counted_at z z_is)) (stuck_same records service past z_at (z_kept.up up))) v_is

@@ -15,7 +15,7 @@ use Rattle.rex_node.specs.declared.refusal.Refusal.{Refusal}
 use Rattle.rex_node.specs.declared.refusal.Refusal.TheVariants as why
 use Rattle.rex_node.specs.Calls.{CanBeCut, CutIsSpelled, RefusesThen, counts_for, refusal_of_none}
 use Rattle.rex_node.specs.Cutting.{CanMakePiece, MakesPiece, MakesPieceOf, counts_in, cut_in}
-use Rattle.rex_node.specs.Parts.{ActingValue, NodeValue, Executes, IsNode, IsUp, here_of, work_of}
+use Rattle.rex_node.specs.Parts.{ActingValue, NodeValue, Executes, IsResting, IsUp, here_of, work_of}
 use Rattle.rex_node.proofs.Executing.{executes, live_state_is, start_is}
 
 none_where_some : (es : List Event) → 0 < length es → refusal_of_none es ≡ None
@@ -34,16 +34,17 @@ refuses a cut (Err why.Ended) h = absurd h
 refuses a cut (Err (why.Live events)) h = absurd h
 refuses a cut (Err why.UpToDate) h = absurd h
 refuses a cut (Err why.Spent) h = absurd h
+refuses a cut (Err (why.BadSnapshot fault)) h = absurd h
 
-module _ {K : Type 0} (records : K → List (List ℕ)) (service : Declarations) (x : NodeValue K) (node : IsNode records service x) (up : x.up ≡ true) where
-  is_up : IsUp service x (here_of records service x)
+module _ {K : Type 0} (records : K → List (List ℕ)) (service : Declarations) (past : List Value) (x : NodeValue K) (node : IsResting records service past x) (up : x.up ≡ true) where
+  is_up : IsUp service x (here_of records service past x)
   is_up = node.up up
 
   abbrev knows : List Value
-  knows = known (here_of records service x).log
+  knows = known (here_of records service past x).log
 
   -- the counts below which a cut is made are those of what is executed
-  pub counts_are : (a : ActingValue) → x.acting ≡ Some a → (limits : Option (List ℕ)) → counts_for service (here_of records service x) limits ≡ counts_in a limits
+  pub counts_are : (a : ActingValue) → x.acting ≡ Some a → (limits : Option (List ℕ)) → counts_for service (here_of records service past x) limits ≡ counts_in a limits
   counts_are a e limits = by limits
     where
       has : Executes service x.known a
@@ -55,13 +56,13 @@ module _ {K : Type 0} (records : K → List (List ℕ)) (service : Declarations)
       first : state_after service (trace_of knows) ≡ a.recorder.start
       first = ap (λ (vs : List Value). state_after service (trace_of vs)) (sym is_up.known) ∙ start_is service x.known a has
 
-      by : (limits : Option (List ℕ)) → counts_for service (here_of records service x) limits ≡ counts_in a limits
+      by : (limits : Option (List ℕ)) → counts_for service (here_of records service past x) limits ≡ counts_in a limits
       by None = ap counts_of live
       by (Some limits) =
           ap (λ (s : StateValue). limits_between (counts_of s) (counts_of (state_after service (trace_of knows ++ (work_of x.acting).live))) limits) first
           ∙ ap (λ (s : StateValue). limits_between (counts_of a.recorder.start) (counts_of s) limits) live
 
-  pub can_make : (limits : Option (List ℕ)) → CanBeCut (here_of records service x) (counts_for service (here_of records service x) limits) → IfSome x.acting (CanMakePiece limits)
+  pub can_make : (limits : Option (List ℕ)) → CanBeCut (here_of records service past x) (counts_for service (here_of records service past x) limits) → IfSome x.acting (CanMakePiece limits)
   can_make limits h = by x.acting refl
     where
       P : List ℕ → List Event → Type 0
@@ -71,18 +72,18 @@ module _ {K : Type 0} (records : K → List (List ℕ)) (service : Declarations)
       by None e = tt
       by (Some a) e =
           subst (λ (counts : List ℕ). P counts a.recorder.live) (counts_are a e limits)
-          (subst (λ (w : Option ActingValue). P (counts_for service (here_of records service x) limits) (work_of w).live) e h)
+          (subst (λ (w : Option ActingValue). P (counts_for service (here_of records service past x) limits) (work_of w).live) e h)
 
   pub refuses_node : (limits : Option (List ℕ)) (result : Result Piece Refusal) → MakesPieceOf x.acting limits result
-      → RefusesThen None (refusal_of_none (below (greatest_cut (counts_for service (here_of records service x) limits) (work_of x.acting).live) (work_of x.acting).live)) result
+      → RefusesThen None (refusal_of_none (below (greatest_cut (counts_for service (here_of records service past x) limits) (work_of x.acting).live) (work_of x.acting).live)) result
   refuses_node limits result h = by x.acting refl h
     where
       late : List ℕ → List Event → Option Refusal
       late counts live = refusal_of_none (below (greatest_cut counts live) live)
 
-      by : (w : Option ActingValue) → x.acting ≡ w → MakesPieceOf w limits result → RefusesThen None (late (counts_for service (here_of records service x) limits) (work_of x.acting).live) result
+      by : (w : Option ActingValue) → x.acting ≡ w → MakesPieceOf w limits result → RefusesThen None (late (counts_for service (here_of records service past x) limits) (work_of x.acting).live) result
       by None e k = absurd k
       by (Some a) e k =
           subst (λ (o : Option Refusal). RefusesThen None o result)
-          (sym (ap (λ (w : Option ActingValue). late (counts_for service (here_of records service x) limits) (work_of w).live) e ∙ ap (λ (counts : List ℕ). late counts a.recorder.live) (counts_are a e limits)))
+          (sym (ap (λ (w : Option ActingValue). late (counts_for service (here_of records service past x) limits) (work_of w).live) e ∙ ap (λ (counts : List ℕ). late counts a.recorder.live) (counts_are a e limits)))
           (refuses a (cut_in a limits) result k)

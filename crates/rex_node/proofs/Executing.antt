@@ -38,10 +38,10 @@ use Rattle.rex_safety.specs.Takes as takes
 use Rattle.rex_safety.specs.Lanes.{queue_with, submit_request, live_state, known_state}
 use Rattle.rex_node.specs.declared.refusal.Refusal.{Refusal}
 use Rattle.rex_node.specs.Calls.{LeadsTo, if_up, turn_at}
-use Rattle.rex_node.specs.Parts.{StaysNode}
+use Rattle.rex_node.specs.Parts.{StaysResting}
 use Rattle.rex_safety.proofs.Replies.{state_is}
 use Rattle.rex_safety.proofs.Queues.{queued_positive, due_begins, queue_after_answer}
-use Rattle.rex_node.specs.Parts.{ActingValue, NodeValue, Executes, ActsFor, OpenIsCut, IsActing, IsUp, IsNode, HasGoneOn, here_of, open_of, role_of, work_of}
+use Rattle.rex_node.specs.Parts.{ActingValue, NodeValue, Executes, ActsFor, OpenIsCut, IsActing, IsUp, IsResting, HasGoneOn, here_of, open_of, role_of, work_of}
 use Rattle.rex_node.proofs.Proposed.{open_turned}
 use Rattle.rex_node.specs.Submitting.{answer_in, taken, given}
 
@@ -164,14 +164,16 @@ executes service values c (Some p) w a h e = (subst (IsActing service values c (
 none_or_some : {A : Type 0} (x : A) → Some x ≡ None → ⊥
 none_or_some x e = absurd (cc)
 
-module _ {K : Type 0} (records : K → List (List ℕ)) (service : Declarations) (x : NodeValue K) (a b : ActingValue) where
+module _ {K : Type 0} (records : K → List (List ℕ)) (service : Declarations) (past : List Value) (x : NodeValue K) (a b : ActingValue) where
   abbrev pub with_acting : NodeValue K
   with_acting = record x { acting = Some b }
 
-  up_with : IsUp service x (here_of records service x) → x.acting ≡ Some a → ActsAlike service x.known a b → IsUp service with_acting (here_of records service with_acting)
+  up_with : IsUp service x (here_of records service past x) → x.acting ≡ Some a → ActsAlike service x.known a b → IsUp service with_acting (here_of records service past with_acting)
   up_with u e k = record {
     promised = u.promised;
     accepted = u.accepted;
+    offset = u.offset;
+    low = u.low;
     known = u.known;
     base = u.base;
     old_base = u.old_base;
@@ -185,11 +187,11 @@ module _ {K : Type 0} (records : K → List (List ℕ)) (service : Declarations)
     short = u.short;
     numbers = record {
       log = u.numbers.log;
-      role = subst (λ (w : Option ActingValue). RoleFits (length (known (here_of records service x).log)) (role_of x.acceptor x.proposer (is_some w))) e u.numbers.role;
+      role = subst (λ (w : Option ActingValue). RoleFits (length (known (here_of records service past x).log)) (role_of x.acceptor x.proposer (is_some w))) e u.numbers.role;
     };
   }
 
-  pub node_with : IsNode records service x → x.acting ≡ Some a → ActsAlike service x.known a b → IsNode records service with_acting
+  pub node_with : IsResting records service past x → x.acting ≡ Some a → ActsAlike service x.known a b → IsResting records service past with_acting
   node_with h e k = record {
     id = h.id;
     few = h.few;
@@ -199,22 +201,22 @@ module _ {K : Type 0} (records : K → List (List ℕ)) (service : Declarations)
 
   -- ---- what the calls of an active node lead to
 
-  submitted : (r : Request) → x.acting ≡ Some a → known (here_of records service x).log ≡ x.known → Executes service x.known a
-      → here_of records service (record x { acting = Some (taken a r (answer_in a r)) }) ≡ (submit_request service (Some r) (begin (here_of records service x))).node
+  submitted : (r : Request) → x.acting ≡ Some a → known (here_of records service past x).log ≡ x.known → Executes service x.known a
+      → here_of records service past (record x { acting = Some (taken a r (answer_in a r)) }) ≡ (submit_request service (Some r) (begin (here_of records service past x))).node
   submitted r e k h =
-      ap (λ (answer : Answer). here_of records service (record x { acting = Some (taken a r answer) })) (answer_is service x.known a h r (known (here_of records service x).log) x.acting (sym k) e)
-      ∙ ap (λ (w : Option ActingValue). (lanes.answered r (answer_to r (queued_in (work_of x.acting).queue r.client) (live_state service (here_of records service x)).clients (known_state service (here_of records service x)).clients) (begin (here_of records service (record x { acting = w })))).node) (sym e)
+      ap (λ (answer : Answer). here_of records service past (record x { acting = Some (taken a r answer) })) (answer_is service x.known a h r (known (here_of records service past x).log) x.acting (sym k) e)
+      ∙ ap (λ (w : Option ActingValue). (lanes.answered r (answer_to r (queued_in (work_of x.acting).queue r.client) (live_state service (here_of records service past x)).clients (known_state service (here_of records service past x)).clients) (begin (here_of records service past (record x { acting = w })))).node) (sym e)
 
-  turned_to : (lane : ℕ) (t : Turn) → x.acting ≡ Some a → known (here_of records service x).log ≡ x.known → Executes service x.known a
-      → here_of records service (record x { acting = Some (record { recorder = turned service a.recorder t; dice = dice_after (does_draw service a.recorder.state (length a.recorder.live) lane) a.dice; proposed = a.proposed; answers = a.answers }) })
-      ≡ (lanes.turned service lane t (begin (here_of records service x))).node
+  turned_to : (lane : ℕ) (t : Turn) → x.acting ≡ Some a → known (here_of records service past x).log ≡ x.known → Executes service x.known a
+      → here_of records service past (record x { acting = Some (record { recorder = turned service a.recorder t; dice = dice_after (does_draw service a.recorder.state (length a.recorder.live) lane) a.dice; proposed = a.proposed; answers = a.answers }) })
+      ≡ (lanes.turned service lane t (begin (here_of records service past x))).node
   turned_to lane t e k h =
-      ap (λ (s : StateValue). here_of records service (record x { acting = Some (record { recorder = turned service a.recorder t; dice = dice_after (does_draw service s (length a.recorder.live) lane) a.dice; proposed = a.proposed; answers = a.answers }) }))
-      (sym (live_state_is service x.known a h (known (here_of records service x).log) (Some a) (sym k) refl))
-      ∙ ap (λ (w : Option ActingValue). (lanes.turned service lane t (begin (here_of records service (record x { acting = w })))).node) (sym e)
+      ap (λ (s : StateValue). here_of records service past (record x { acting = Some (record { recorder = turned service a.recorder t; dice = dice_after (does_draw service s (length a.recorder.live) lane) a.dice; proposed = a.proposed; answers = a.answers }) }))
+      (sym (live_state_is service x.known a h (known (here_of records service past x).log) (Some a) (sym k) refl))
+      ∙ ap (λ (w : Option ActingValue). (lanes.turned service lane t (begin (here_of records service past (record x { acting = w })))).node) (sym e)
 
-  given_to : (t : Turn) → x.acting ≡ Some a → here_of records service (record x { acting = Some (given service a t) }) ≡ (takes.taken t (begin (here_of records service x))).node
-  given_to t e = ap (λ (w : Option ActingValue). (takes.taken t (begin (here_of records service (record x { acting = w })))).node) (sym e)
+  given_to : (t : Turn) → x.acting ≡ Some a → here_of records service past (record x { acting = Some (given service a t) }) ≡ (takes.taken t (begin (here_of records service past x))).node
+  given_to t e = ap (λ (w : Option ActingValue). (takes.taken t (begin (here_of records service past (record x { acting = w })))).node) (sym e)
 
 -- a node that isn't refused is up
 pub up_of : (b : Bool) (o : Option Refusal) → if_up b o ≡ None → b ≡ true
@@ -223,62 +225,62 @@ up_of false o e = absurd (cc)
 
 -- ---- the same where the parts are those of a node
 
-module _ {K : Type 0} (records : K → List (List ℕ)) (service : Declarations) (x z : NodeValue K) (a : ActingValue) (z_is : z ≡ x) (node : IsNode records service x) (o : Option Refusal) (due : if_up x.up o ≡ None) (e : Some a ≡ z.acting) where
+module _ {K : Type 0} (records : K → List (List ℕ)) (service : Declarations) (past : List Value) (x z : NodeValue K) (a : ActingValue) (z_is : z ≡ x) (node : IsResting records service past x) (o : Option Refusal) (due : if_up x.up o ≡ None) (e : Some a ≡ z.acting) where
   x_has : x.acting ≡ Some a
   x_has = ap (λ (n : NodeValue K). n.acting) (sym z_is) ∙ sym e
 
-  is_up : IsUp service x (here_of records service x)
+  is_up : IsUp service x (here_of records service past x)
   is_up = node.up (up_of x.up o due)
 
   pub has : Executes service x.known a
   has = executes service x.known x.acceptor x.proposer x.acting a is_up.acting x_has
 
-  pub live_state_of : live_state service (here_of records service x) ≡ a.recorder.state
-  live_state_of = live_state_is service x.known a has (known (here_of records service x).log) x.acting is_up.known x_has
+  pub live_state_of : live_state service (here_of records service past x) ≡ a.recorder.state
+  live_state_of = live_state_is service x.known a has (known (here_of records service past x).log) x.acting is_up.known x_has
 
-  pub answer_of_node : (r : Request) → answer_in a r ≡ answer_to r (queued_in (work_of x.acting).queue r.client) (live_state service (here_of records service x)).clients (known_state service (here_of records service x)).clients
-  answer_of_node r = answer_is service x.known a has r (known (here_of records service x).log) x.acting is_up.known x_has
+  pub answer_of_node : (r : Request) → answer_in a r ≡ answer_to r (queued_in (work_of x.acting).queue r.client) (live_state service (here_of records service past x)).clients (known_state service (here_of records service past x)).clients
+  answer_of_node r = answer_is service x.known a has r (known (here_of records service past x).log) x.acting is_up.known x_has
 
-  pub turn_of_node : (lane : ℕ) (now : ℤ) → turn_of service a.recorder.state a.recorder.queue (length a.recorder.live) lane now (pcg32 a.dice).0 ≡ turn_at service (here_of records service x) lane now
-  turn_of_node lane now = turn_is service x.known a has lane now (known (here_of records service x).log) x.acting is_up.known x_has
+  pub turn_of_node : (lane : ℕ) (now : ℤ) → turn_of service a.recorder.state a.recorder.queue (length a.recorder.live) lane now (pcg32 a.dice).0 ≡ turn_at service (here_of records service past x) lane now
+  turn_of_node lane now = turn_is service x.known a has lane now (known (here_of records service past x).log) x.acting is_up.known x_has
 
   pub submit_leads : (r : Request) (b : ActingValue) (answer : Answer) → b ≡ taken a r answer → answer ≡ answer_in a r
-      → here_of records service (record z { acting = Some b }) ≡ (submit_request service (Some r) (begin (here_of records service x))).node
+      → here_of records service past (record z { acting = Some b }) ≡ (submit_request service (Some r) (begin (here_of records service past x))).node
   submit_leads r b answer f g =
-      ap (λ (n : NodeValue K). here_of records service (record n { acting = Some b })) z_is
-      ∙ ap (λ (c : ActingValue). here_of records service (record x { acting = Some c })) (f ∙ ap (taken a r) g)
-      ∙ submitted records service x a b r x_has (sym is_up.known) has
+      ap (λ (n : NodeValue K). here_of records service past (record n { acting = Some b })) z_is
+      ∙ ap (λ (c : ActingValue). here_of records service past (record x { acting = Some c })) (f ∙ ap (taken a r) g)
+      ∙ submitted records service past x a b r x_has (sym is_up.known) has
 
   pub turn_leads : (lane : ℕ) (t : Turn) (b : ActingValue) → b ≡ record { recorder = turned service a.recorder t; dice = dice_after (does_draw service a.recorder.state (length a.recorder.live) lane) a.dice; proposed = a.proposed; answers = a.answers }
-      → LeadsTo (lanes.turned service lane t) (here_of records service x) (here_of records service (record z { acting = Some b }))
+      → LeadsTo (lanes.turned service lane t) (here_of records service past x) (here_of records service past (record z { acting = Some b }))
   turn_leads lane t b f =
-      ap (λ (n : NodeValue K). here_of records service (record n { acting = Some b })) z_is
-      ∙ ap (λ (c : ActingValue). here_of records service (record x { acting = Some c })) f
-      ∙ turned_to records service x a b lane t x_has (sym is_up.known) has
+      ap (λ (n : NodeValue K). here_of records service past (record n { acting = Some b })) z_is
+      ∙ ap (λ (c : ActingValue). here_of records service past (record x { acting = Some c })) f
+      ∙ turned_to records service past x a b lane t x_has (sym is_up.known) has
 
-  pub stays : (b : ActingValue) → ActsAlike service x.known a b → StaysNode records service x (record z { acting = Some b })
+  pub stays : (b : ActingValue) → ActsAlike service x.known a b → StaysResting records service past x (record z { acting = Some b })
   stays b k =
-      subst (λ (n : NodeValue K). StaysNode records service x (record n { acting = Some b })) (sym z_is)
-      (record { same = record { id = refl; nodes = refl; seed = refl }; kept = node_with records service x a b node x_has k })
+      subst (λ (n : NodeValue K). StaysResting records service past x (record n { acting = Some b })) (sym z_is)
+      (record { same = record { id = refl; nodes = refl; seed = refl }; kept = node_with records service past x a b node x_has k })
 
-  pub submit_stays : (r : Request) (b : ActingValue) (answer : Answer) → b ≡ taken a r answer → answer ≡ answer_in a r → IsService service → RequestFits service r → StaysNode records service x (record z { acting = Some b })
+  pub submit_stays : (r : Request) (b : ActingValue) (answer : Answer) → b ≡ taken a r answer → answer ≡ answer_in a r → IsService service → RequestFits service r → StaysResting records service past x (record z { acting = Some b })
   submit_stays r b answer f g good fits = stays b (λ p h. subst (ActsFor service x.known p) (sym (f ∙ ap (taken a r) g)) (record { executes = answered service x.known a h.executes r good fits; open_is_cut = open_answered service x.known a r (answer_in a r) p h.open_is_cut }))
 
-  pub turn_stays : (t : Turn) (dice : Lcg) (b : ActingValue) → b ≡ record { recorder = turned service a.recorder t; dice = dice; proposed = a.proposed; answers = a.answers } → IsRecorder service b.recorder → IsService service → StaysNode records service x (record z { acting = Some b })
+  pub turn_stays : (t : Turn) (dice : Lcg) (b : ActingValue) → b ≡ record { recorder = turned service a.recorder t; dice = dice; proposed = a.proposed; answers = a.answers } → IsRecorder service b.recorder → IsService service → StaysResting records service past x (record z { acting = Some b })
   turn_stays t dice b f k good =
       let kept : IsRecorder service (turned service a.recorder t) = subst (λ (c : ActingValue). IsRecorder service c.recorder) f k in
       stays b (λ p h. subst (ActsFor service x.known p) (sym f) (record { executes = turned_executes service x.known a h.executes t dice a.proposed kept; open_is_cut = open_turned service good x.known a h.executes t (queue_after a.recorder.queue t) dice kept p h.open_is_cut }))
 
-  pub given_of_node : (event : Event) → taken_turn service a.recorder.state a.recorder.queue (length a.recorder.live) event ≡ takes.taken_in service (here_of records service x) event
-  given_of_node event = given_is service x.known a has event (known (here_of records service x).log) x.acting is_up.known x_has
+  pub given_of_node : (event : Event) → taken_turn service a.recorder.state a.recorder.queue (length a.recorder.live) event ≡ takes.taken_in service (here_of records service past x) event
+  given_of_node event = given_is service x.known a has event (known (here_of records service past x).log) x.acting is_up.known x_has
 
-  pub given_leads : (t : Turn) (b : ActingValue) → b ≡ given service a t → LeadsTo (takes.taken t) (here_of records service x) (here_of records service (record z { acting = Some b }))
+  pub given_leads : (t : Turn) (b : ActingValue) → b ≡ given service a t → LeadsTo (takes.taken t) (here_of records service past x) (here_of records service past (record z { acting = Some b }))
   given_leads t b f =
-      ap (λ (n : NodeValue K). here_of records service (record n { acting = Some b })) z_is
-      ∙ ap (λ (c : ActingValue). here_of records service (record x { acting = Some c })) f
-      ∙ given_to records service x a b t x_has
+      ap (λ (n : NodeValue K). here_of records service past (record n { acting = Some b })) z_is
+      ∙ ap (λ (c : ActingValue). here_of records service past (record x { acting = Some c })) f
+      ∙ given_to records service past x a b t x_has
 
-  pub given_stays : (t : Turn) (b : ActingValue) → b ≡ given service a t → IsRecorder service b.recorder → IsService service → StaysNode records service x (record z { acting = Some b })
+  pub given_stays : (t : Turn) (b : ActingValue) → b ≡ given service a t → IsRecorder service b.recorder → IsService service → StaysResting records service past x (record z { acting = Some b })
   given_stays t b f k good =
       let kept : IsRecorder service (given service a t).recorder = subst (λ (c : ActingValue). IsRecorder service c.recorder) f k in
       stays b (λ p h. subst (ActsFor service x.known p) (sym f) (record { executes = given_executes service x.known a h.executes t kept; open_is_cut = open_turned service good x.known a h.executes t a.recorder.queue a.dice kept p h.open_is_cut }))

@@ -21,42 +21,43 @@ use Rattle.rex_safety.specs.Calls.{say, follow, followed, logged, work_left, rep
 use Rattle.rex_safety.specs.Values.{Value, trace_of}
 use Rattle.rex_safety.specs.Lanes.{Here, CallHere}
 use Rattle.rex_node.specs.declared.step.Draft.{Draft}
-use Rattle.rex_node.specs.Messages.{message_in}
+use Rattle.rex_log.specs.Messages.{message_in}
 use Rattle.rex_node.specs.Calls.{armed_with}
 use Rattle.rex_node.specs.Going.{Leads, Tells, so_far}
-use Rattle.rex_node.specs.Parts.{NodeValue, IsUp, IsKept, IsNode, here_of, log_of, role_of, work_of, leaving}
+use Rattle.rex_log.specs.Log.{log_of}
+use Rattle.rex_node.specs.Parts.{NodeValue, IsUp, IsKept, IsResting, here_of, role_of, work_of, leaving}
 use Rattle.rex_node.proofs.Appended.{IsLogged, Beside, call_at, beside_of, up_of}
 use Rattle.rex_node.proofs.GoingLemmas.{leads_same}
 use Rattle.rex_node.proofs.Leaving.{role_active, no_work_left, replayed_from, replayed_to, state_left, leaves, node_left}
 
 -- ---- drafts
 
-module _ {K : Type 0} (records : K → List (List ℕ)) (service : Declarations) (x : NodeValue K) where
+module _ {K : Type 0} (records : K → List (List ℕ)) (service : Declarations) (past : List Value) (x : NodeValue K) where
   -- a draft with these effects and messages
-  pub far : (draft : Draft) (es : List Effect) (ms : List (Message Value)) → draft.effects.items ≡ es → map message_in draft.sends.items ≡ ms → so_far records service x draft ≡ call_at (here_of records service x) ms es
+  pub far : (draft : Draft) (es : List Effect) (ms : List (Message Value)) → draft.effects.items ≡ es → map (message_in past) draft.sends.items ≡ ms → so_far records service past x draft ≡ call_at (here_of records service past x) ms es
   far draft es ms e m =
-      ap (λ (f : List Effect). call_at (here_of records service x) (map message_in draft.sends.items) f) e
-      ∙ ap (λ (n : List (Message Value)). call_at (here_of records service x) n es) m
+      ap (λ (f : List Effect). call_at (here_of records service past x) (map (message_in past) draft.sends.items) f) e
+      ∙ ap (λ (n : List (Message Value)). call_at (here_of records service past x) n es) m
 
 -- a node is kept within a call too
-pub within : {K : Type 0} (records : K → List (List ℕ)) (service : Declarations) (x : NodeValue K) → IsNode records service x → IsKept records service x
-within records service x h = record { id = h.id; few = h.few; up = h.up }
+pub within : {K : Type 0} (records : K → List (List ℕ)) (service : Declarations) (past : List Value) (x : NodeValue K) → IsResting records service past x → IsKept records service past x
+within records service past x h = record { id = h.id; few = h.few; up = h.up }
 
 -- ---- the last part of a call
 
-module _ {K : Type 0} (records : K → List (List ℕ)) (gives : K → List ℕ → Answer → K → Type 0) (faults : K → ℕ) (service : Declarations) (x z : NodeValue K) (before after : Draft) where
+module _ {K : Type 0} (records : K → List (List ℕ)) (gives : K → List ℕ → Answer → K → Type 0) (faults : K → ℕ) (service : Declarations) (past : List Value) (x z : NodeValue K) (before after : Draft) where
   -- what is owed of it where it went well
   abbrev pub EndsWell : (CallHere → CallHere) → Type 0
-  EndsWell whole = (Leads records gives faults whole (λ d. d) x.keeper z.keeper (so_far records service x before) (so_far records service z after) × IsKept records service z × (z.up ≡ true)) × IsNode records service z
+  EndsWell whole = (Leads records gives faults service whole (λ d. d) x.keeper z.keeper (so_far records service past x before) (so_far records service past z after) × IsKept records service past z × (z.up ≡ true)) × IsResting records service past z
 
   -- where nothing was appended
-  pub ends_same : (whole : CallHere → CallHere) → z.keeper ≡ x.keeper → IsNode records service z → z.up ≡ true
-      → ((f : Option Failure) → whole (armed_with f (so_far records service x before)) ≡ armed_with f (so_far records service z after)) → EndsWell whole
+  pub ends_same : (whole : CallHere → CallHere) → z.keeper ≡ x.keeper → IsResting records service past z → z.up ≡ true
+      → ((f : Option Failure) → whole (armed_with f (so_far records service past x before)) ≡ armed_with f (so_far records service past z after)) → EndsWell whole
   ends_same whole same node up h = (
     (
-      subst (λ (k : K). Leads records gives faults whole (λ d. d) x.keeper k (so_far records service x before) (so_far records service z after)) (sym same)
-          (leads_same records gives faults whole (λ d. d) x.keeper (so_far records service x before) (so_far records service z after) (ap (λ (k : K). length (log_of service (records k))) same) h),
-      within records service z node,
+      subst (λ (k : K). Leads records gives faults service whole (λ d. d) x.keeper k (so_far records service past x before) (so_far records service past z after)) (sym same)
+          (leads_same records gives faults service whole (λ d. d) x.keeper (so_far records service past x before) (so_far records service past z after) (ap (λ (k : K). length (log_of service past (records k))) same) h),
+      within records service past z node,
       up,
     ),
     node,
@@ -64,71 +65,71 @@ module _ {K : Type 0} (records : K → List (List ℕ)) (gives : K → List ℕ 
 
 -- ---- a refusal of the own ballot
 
-module _ {K : Type 0} (records : K → List (List ℕ)) (gives : K → List ℕ → Answer → K → Type 0) (faults : K → ℕ) (service : Declarations) (x : NodeValue K) (node : IsNode records service x) (up : x.up ≡ true) (before after : Draft) (promised own : ℕ) (own_is : option_map (λ (p : ProposerValue). p.ballot) x.proposer ≡ Some own) where
+module _ {K : Type 0} (records : K → List (List ℕ)) (gives : K → List ℕ → Answer → K → Type 0) (faults : K → ℕ) (service : Declarations) (past : List Value) (x : NodeValue K) (node : IsResting records service past x) (up : x.up ≡ true) (before after : Draft) (promised own : ℕ) (own_is : option_map (λ (p : ProposerValue). p.ballot) x.proposer ≡ Some own) where
   nack_at : Option Failure → Option ProposerValue → CallHere
-  nack_at f o = on_nack x.id promised (armed_with f (so_far records service x before)) (role_of x.acceptor o (is_some x.acting))
+  nack_at f o = on_nack x.id promised (armed_with f (so_far records service past x before)) (role_of x.acceptor o (is_some x.acting))
 
   -- one that isn't above it is ignored
   pub nack_ignored : promised ≤ own → after.effects.items ≡ before.effects.items ++ IgnoredBallot promised own ∷ [] → after.sends.items ≡ before.sends.items
-      → EndsWell records gives faults service x x before after (λ d. on_nack x.id promised d d.node.role)
+      → EndsWell records gives faults service past x x before after (λ d. on_nack x.id promised d d.node.role)
   nack_ignored less effects sends =
-      ends_same records gives faults service x x before after (λ d. on_nack x.id promised d d.node.role) refl node up
-      (λ f. by f x.proposer own_is ∙ ap (armed_with f) (sym (far records service x after _ _ effects (ap (map message_in) sends))))
+      ends_same records gives faults service past x x before after (λ d. on_nack x.id promised d d.node.role) refl node up
+      (λ f. by f x.proposer own_is ∙ ap (armed_with f) (sym (far records service past x after _ _ effects (ap (map (message_in past)) sends))))
     where
       by : (f : Option Failure) (o : Option ProposerValue) → option_map (λ (p : ProposerValue). p.ballot) o ≡ Some own
-          → on_nack x.id promised (armed_with f (so_far records service x before)) (role_of x.acceptor o (is_some x.acting)) ≡ armed_with f (say (IgnoredBallot promised own) (so_far records service x before))
+          → on_nack x.id promised (armed_with f (so_far records service past x before)) (role_of x.acceptor o (is_some x.acting)) ≡ armed_with f (say (IgnoredBallot promised own) (so_far records service past x before))
       by f None e = absurd (cc)
       by f (Some p) e =
           let b : p.ballot ≡ own = same_Some p.ballot own e in
-          ap (λ (t : Bool). if t then follow x.id [] (armed_with f (so_far records service x before)) else say (IgnoredBallot promised p.ballot) (armed_with f (so_far records service x before)))
+          ap (λ (t : Bool). if t then follow x.id [] (armed_with f (so_far records service past x before)) else say (IgnoredBallot promised p.ballot) (armed_with f (so_far records service past x before)))
           (le-ltb p.ballot promised (omega (arith, b)))
-          ∙ ap (λ (c : ℕ). say (IgnoredBallot promised c) (armed_with f (so_far records service x before))) b
+          ∙ ap (λ (c : ℕ). say (IgnoredBallot promised c) (armed_with f (so_far records service past x before))) b
 
   -- one above it makes the node a follower
   pub nack_follows : (z : NodeValue K) → own < promised → z ≡ leaving x → Tells before after (followed x.id (role_of x.acceptor x.proposer (is_some x.acting)))
-      → EndsWell records gives faults service x z before after (λ d. on_nack x.id promised d d.node.role)
+      → EndsWell records gives faults service past x z before after (λ d. on_nack x.id promised d d.node.role)
   nack_follows z less z_is told =
-      subst (λ (n : NodeValue K). EndsWell records gives faults service x n before after (λ d. on_nack x.id promised d d.node.role)) (sym z_is)
-      (ends_same records gives faults service x (leaving x) before after (λ d. on_nack x.id promised d d.node.role) refl (node_left records service x node) up
+      subst (λ (n : NodeValue K). EndsWell records gives faults service past x n before after (λ d. on_nack x.id promised d d.node.role)) (sym z_is)
+      (ends_same records gives faults service past x (leaving x) before after (λ d. on_nack x.id promised d d.node.role) refl (node_left records service past x node) up
       (λ f. by f x.proposer own_is ∙ ap (armed_with f) (sym left)))
     where
-      left : so_far records service (leaving x) after ≡ follow x.id [] (so_far records service x before)
+      left : so_far records service past (leaving x) after ≡ follow x.id [] (so_far records service past x before)
       left =
-          far records service (leaving x) after _ _ told.effects_are (ap (map message_in) told.sends_are)
-          ∙ ap (λ (h : Here). call_at h (map message_in before.sends.items) (before.effects.items ++ followed x.id (role_of x.acceptor x.proposer (is_some x.acting)))) (leaves records service x (node.up up))
+          far records service past (leaving x) after _ _ told.effects_are (ap (map (message_in past)) told.sends_are)
+          ∙ ap (λ (h : Here). call_at h (map (message_in past) before.sends.items) (before.effects.items ++ followed x.id (role_of x.acceptor x.proposer (is_some x.acting)))) (leaves records service past x (node.up up))
 
       by : (f : Option Failure) (o : Option ProposerValue) → option_map (λ (p : ProposerValue). p.ballot) o ≡ Some own
-          → on_nack x.id promised (armed_with f (so_far records service x before)) (role_of x.acceptor o (is_some x.acting)) ≡ armed_with f (follow x.id [] (so_far records service x before))
+          → on_nack x.id promised (armed_with f (so_far records service past x before)) (role_of x.acceptor o (is_some x.acting)) ≡ armed_with f (follow x.id [] (so_far records service past x before))
       by f None e = absurd (cc)
       by f (Some p) e =
           let b : p.ballot ≡ own = same_Some p.ballot own e in
-          ap (λ (t : Bool). if t then follow x.id [] (armed_with f (so_far records service x before)) else say (IgnoredBallot promised p.ballot) (armed_with f (so_far records service x before)))
+          ap (λ (t : Bool). if t then follow x.id [] (armed_with f (so_far records service past x before)) else say (IgnoredBallot promised p.ballot) (armed_with f (so_far records service past x before)))
           (lt-ltb p.ballot promised (omega (arith, b)))
 
 -- ---- a chosen value of another instance than the next
 
-module _ {K : Type 0} (records : K → List (List ℕ)) (gives : K → List ℕ → Answer → K → Type 0) (faults : K → ℕ) (service : Declarations) (x : NodeValue K) (node : IsNode records service x) (up : x.up ≡ true) (before after : Draft) (i next : ℕ) (v : Value) where
+module _ {K : Type 0} (records : K → List (List ℕ)) (gives : K → List ℕ → Answer → K → Type 0) (faults : K → ℕ) (service : Declarations) (past : List Value) (x : NodeValue K) (node : IsResting records service past x) (up : x.up ≡ true) (before after : Draft) (i next : ℕ) (v : Value) where
   -- it is ignored
   pub chosen_ignored : next ≡ suc (length x.known) → (i ≡ next → ⊥) → after.effects.items ≡ before.effects.items ++ IgnoredInstance i next ∷ [] → after.sends.items ≡ before.sends.items
-      → EndsWell records gives faults service x x before after (on_chosen x.id i v)
+      → EndsWell records gives faults service past x x before after (on_chosen x.id i v)
   chosen_ignored next_is other effects sends =
-      ends_same records gives faults service x x before after (on_chosen x.id i v) refl node up
+      ends_same records gives faults service past x x before after (on_chosen x.id i v) refl node up
       (λ f.
-      ap (λ (t : Bool). if t then append f x.id (Known i v) (armed_with f (so_far records service x before)) (λ e. follow x.id (effect.Known x.id i ∷ []) e) else say (IgnoredInstance i (suc (length (known (here_of records service x).log)))) (armed_with f (so_far records service x before)))
-      (ne_eqb i (suc (length (known (here_of records service x).log))) (λ e. other (e ∙ sym here)))
-      ∙ ap (λ (n : ℕ). say (IgnoredInstance i n) (armed_with f (so_far records service x before))) (sym here)
-      ∙ ap (armed_with f) (sym (far records service x after _ _ effects (ap (map message_in) sends))))
+      ap (λ (t : Bool). if t then append f x.id (Known i v) (armed_with f (so_far records service past x before)) (λ e. follow x.id (effect.Known x.id i ∷ []) e) else say (IgnoredInstance i (suc (length (known (here_of records service past x).log)))) (armed_with f (so_far records service past x before)))
+      (ne_eqb i (suc (length (known (here_of records service past x).log))) (λ e. other (e ∙ sym here)))
+      ∙ ap (λ (n : ℕ). say (IgnoredInstance i n) (armed_with f (so_far records service past x before))) (sym here)
+      ∙ ap (armed_with f) (sym (far records service past x after _ _ effects (ap (map (message_in past)) sends))))
     where
-      here : next ≡ suc (length (known (here_of records service x).log))
+      here : next ≡ suc (length (known (here_of records service past x).log))
       here = next_is ∙ ap (λ (vs : List Value). suc (length vs)) (node.up up).known
 
 -- ---- a follower with one record more
 
-module _ {K : Type 0} (records : K → List (List ℕ)) (service : Declarations) (x : NodeValue K) (node : IsNode records service x) (up : x.up ≡ true) (k : K) (r : Rec Value StateValue) (a : AcceptorValue) (vs : List Value)
-    (log_is : log_of service (records k) ≡ r ∷ log_of service (records x.keeper)) (base_is : base (r ∷ log_of service (records x.keeper)) ≡ base (log_of service (records x.keeper)))
-    (logged_here : IsLogged service (record x { keeper = k; acceptor = a; known = vs }) (r ∷ log_of service (records x.keeper)))
+module _ {K : Type 0} (records : K → List (List ℕ)) (service : Declarations) (past : List Value) (x : NodeValue K) (node : IsResting records service past x) (up : x.up ≡ true) (k : K) (r : Rec Value StateValue) (a : AcceptorValue) (vs : List Value)
+    (log_is : log_of service past (records k) ≡ r ∷ log_of service past (records x.keeper)) (base_is : base (r ∷ log_of service past (records x.keeper)) ≡ base (log_of service past (records x.keeper)))
+    (logged_here : IsLogged service (record x { keeper = k; acceptor = a; known = vs }) (r ∷ log_of service past (records x.keeper)))
     (more : length x.known ≤ length vs) (front : (n : ℕ) → n ≤ length x.known → take n vs ≡ take n x.known) where
-  u : IsUp service x (here_of records service x)
+  u : IsUp service x (here_of records service past x)
   u = node.up up
 
   -- it has the record, and what follows from it
@@ -136,32 +137,32 @@ module _ {K : Type 0} (records : K → List (List ℕ)) (service : Declarations)
   follower = record (leaving x) { keeper = k; acceptor = a; known = vs }
 
   -- it is in the model the node that follows after the record
-  pub follower_here : (ms : List (Message Value)) (es : List Effect) → here_of records service follower ≡ (with_role Follower (logged r None (call_at (here_of records service x) ms es))).node
+  pub follower_here : (ms : List (Message Value)) (es : List Effect) → here_of records service past follower ≡ (with_role Follower (logged r None (call_at (here_of records service past x) ms es))).node
   follower_here ms es =
-      ap (λ (l : List (Rec Value StateValue)). record (here_of records service (leaving x)) { log = l }) log_is
+      ap (λ (l : List (Rec Value StateValue)). record (here_of records service past (leaving x)) { log = l }) log_is
       ∙ ap (λ (b : ℕ). record h { log = r ∷ h.log; role = Follower; work = no_work; replayed = replayed_left (is_some x.acting) b x.replayed }) (u.base ∙ sym base_is)
       ∙ ap (λ (work : Work). record h { log = r ∷ h.log; role = Follower; work = work; replayed = replayed_left (is_some x.acting) (base (r ∷ h.log)) x.replayed }) (sym (no_work_left x.acting))
       ∙ ap (λ (t : Bool). record h { log = r ∷ h.log; role = Follower; work = work_left t (work_of x.acting); replayed = replayed_left t (base (r ∷ h.log)) x.replayed }) (sym (role_active service x.known x.acceptor x.proposer x.acting u.acting))
     where
       h : Here
-      h = here_of records service x
+      h = here_of records service past x
 
-  pub follower_node : IsNode records service follower
+  pub follower_node : IsResting records service past follower
   follower_node = record { id = node.id; few = node.few; up = λ t. follower_up; rests = λ t. tt }
     where
-      l : IsLogged service (record x { keeper = k; acceptor = a; known = vs }) (log_of service (records k))
+      l : IsLogged service (record x { keeper = k; acceptor = a; known = vs }) (log_of service past (records k))
       l = subst (λ (log : List (Rec Value StateValue)). IsLogged service (record x { keeper = k; acceptor = a; known = vs }) log) (sym log_is) logged_here
 
-      b : Beside records service x
-      b = beside_of records service x u
+      b : Beside records service past x
+      b = beside_of records service past x u
 
       to : replayed_left (is_some x.acting) x.base x.replayed ≤ length x.known
       to = replayed_to x.acting x.base x.replayed (length x.known) b.based b.replayed
 
-      follower_up : IsUp service follower (here_of records service follower)
+      follower_up : IsUp service follower (here_of records service past follower)
       follower_up =
-          up_of records service follower
-          (record { promised = l.promised; accepted = l.accepted; known = l.known; base = l.base; old_base = l.old_base; few = l.few; start = l.start; short = l.short; fits = l.fits; numbers = l.numbers })
+          up_of records service past follower
+          (record { promised = l.promised; accepted = l.accepted; offset_is = l.offset_is; low = l.low; known = l.known; base = l.base; old_base = l.old_base; few = l.few; start = l.start; short = l.short; fits = l.fits; numbers = l.numbers })
           (record {
             based = replayed_from x.acting x.base x.replayed b.based;
             replayed = le_trans to more;

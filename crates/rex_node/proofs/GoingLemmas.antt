@@ -2,6 +2,8 @@
 use Rattle.std.proofs.Common.{◌≡◌, ℕ, ◌+◌, ◌<◌, Bool, true, false, List, [], ◌∷◌, ◌++◌, length, Ok, Err, Option, Some, None, refl, sym, ap, subst, ◌∙◌, append_assoc, length-append, arith}
 use Rattle.std.proofs.lemmas.List.{append-nil}
 use Rattle.std.specs.Prelude.{if◌then◌else◌}
+use Rattle.std.proofs.lemmas.List.Folds.{list_all-append}
+use Rattle.rex_syntax.specs.declared.service.Declarations.{Declarations}
 use Rattle.rex_traits.specs.Chains.{Answer}
 use Rattle.rex_traits.specs.declared.keeper.KeepFault.TheVariants.{Failed}
 use Rattle.rex_traits.proofs.Chained.{chained}
@@ -15,6 +17,7 @@ use Rattle.rex_safety.specs.Values.{Value}
 use Rattle.rex_safety.specs.Lanes.{CallHere}
 use Rattle.rex_node.specs.Calls.{armed_with, failed_many}
 use Rattle.rex_node.specs.Parts.{failed_records}
+use Rattle.rex_node.specs.Stated.{AreStated, is_stated}
 use Rattle.rex_node.specs.Going.{one_later, later, Leads, Fell}
 
 -- a failure after these appends and then those
@@ -31,6 +34,13 @@ append_later : (me : ℕ) (r : Rec Value StateValue) (d : CallHere) (k : CallHer
 append_later me r d k None = refl
 append_later me r d k (Some (After before kept)) = refl
 
+-- each state in these appends and in those is spelled
+pub stated_one : (service : Declarations) (bytes : List ℕ) → is_stated service bytes ≡ true → AreStated service (bytes ∷ [])
+stated_one service bytes h = rw h refl
+
+pub stated_both : (service : Declarations) (first second : List (List ℕ)) → AreStated service first → AreStated service second → AreStated service (first ++ second)
+stated_both service first second h k = list_all-append (is_stated service) first second ∙ (rw (h, k) refl)
+
 -- how many records there are after these appends and then those
 both : (first second : List (List ℕ)) (n m l : ℕ) → m ≡ length first + n → l ≡ length second + m → l ≡ length (first ++ second) + n
 both first second n m l h k = let e = length-append first second in omega arith
@@ -39,23 +49,24 @@ both_failed : (kept : Bool) (first second : List (List ℕ)) (n m l : ℕ) → m
 both_failed true first second n m l h k = let e = length-append first second in omega arith
 both_failed false first second n m l h k = both first second n m l h k
 
-module _ {K : Type 0} (records : K → List (List ℕ)) (gives : K → List ℕ → Answer → K → Type 0) (faults : K → ℕ) where
+module _ {K : Type 0} (records : K → List (List ℕ)) (gives : K → List ℕ → Answer → K → Type 0) (faults : K → ℕ) (service : Declarations) where
   -- where nothing is appended
-  pub leads_same : (whole rest : CallHere → CallHere) (old : K) (d e : CallHere) → length e.node.log ≡ length d.node.log → ((f : Option Failure) → whole (armed_with f d) ≡ rest (armed_with f e)) → Leads records gives faults whole rest old old d e
-  leads_same whole rest old d e same h = record { written = []; grown = sym (append-nil (records old)); appends = (refl, refl); counted = refl; many = omega (arith, same); comes = h }
+  pub leads_same : (whole rest : CallHere → CallHere) (old : K) (d e : CallHere) → length e.node.log ≡ length d.node.log → ((f : Option Failure) → whole (armed_with f d) ≡ rest (armed_with f e)) → Leads records gives faults service whole rest old old d e
+  leads_same whole rest old d e same h = record { written = []; grown = sym (append-nil (records old)); appends = (refl, refl); counted = refl; stated = refl; many = omega (arith, same); comes = h }
 
   -- one part after the other
-  pub leads_then : (whole middle rest : CallHere → CallHere) (a b c : K) (d e f : CallHere) → Leads records gives faults whole middle a b d e → Leads records gives faults middle rest b c e f → Leads records gives faults whole rest a c d f
+  pub leads_then : (whole middle rest : CallHere → CallHere) (a b c : K) (d e f : CallHere) → Leads records gives faults service whole middle a b d e → Leads records gives faults service middle rest b c e f → Leads records gives faults service whole rest a c d f
   leads_then whole middle rest a b c d e f h k = record {
     written = h.written ++ k.written;
     grown = k.grown ∙ ap (λ (l : List (List ℕ)). l ++ k.written) h.grown ∙ append_assoc (records a) h.written k.written;
     appends = (chained gives).more a b c h.written k.written (Ok tt) h.appends k.appends;
     counted = k.counted ∙ h.counted;
+    stated = stated_both service h.written k.written h.stated k.stated;
     many = both h.written k.written (length d.node.log) (length e.node.log) (length f.node.log) h.many k.many;
     comes = λ failure. ap (λ (g : Option Failure). whole (armed_with g d)) (later_both h.written k.written failure) ∙ h.comes (later k.written failure) ∙ k.comes failure;
   }
 
-  pub leads_fell : (whole rest : CallHere → CallHere) (id : ℕ) (a b c : K) (d e f : CallHere) → Leads records gives faults whole rest a b d e → Fell records gives faults rest id b c e f → Fell records gives faults whole id a c d f
+  pub leads_fell : (whole rest : CallHere → CallHere) (id : ℕ) (a b c : K) (d e f : CallHere) → Leads records gives faults service whole rest a b d e → Fell records gives faults service rest id b c e f → Fell records gives faults service whole id a c d f
   leads_fell whole rest id a b c d e f h k = record {
     fails = record {
       written = h.written ++ k.fails.written;
@@ -66,6 +77,7 @@ module _ {K : Type 0} (records : K → List (List ℕ)) (gives : K → List ℕ 
       appends = (chained gives).more a b k.fails.between h.written k.fails.written (Ok tt) h.appends k.fails.appends;
       fails = k.fails.fails;
       counted = subst (λ (n : ℕ). n < faults c) h.counted k.fails.counted;
+      stated = rw (append_assoc h.written k.fails.written (k.fails.bytes ∷ [])) (stated_both service h.written (k.fails.written ++ k.fails.bytes ∷ []) h.stated k.fails.stated);
       many = both_failed k.fails.kept h.written k.fails.written (length d.node.log) (length e.node.log) (length f.node.log) h.many k.fails.many;
       is = ap (λ (g : Option Failure). whole (armed_with g d)) (sym (later_count h.written k.fails.written k.fails.kept)) ∙ h.comes (Some (After (length k.fails.written) k.fails.kept)) ∙ k.fails.is;
     };
@@ -75,13 +87,14 @@ module _ {K : Type 0} (records : K → List (List ℕ)) (gives : K → List ℕ 
   }
 
   -- a record is appended
-  module _ (whole k : CallHere → CallHere) (me : ℕ) (r : Rec Value StateValue) (d : CallHere) (is : (f : Option Failure) → whole (armed_with f d) ≡ append f me r (armed_with f d) k) (old new : K) (bytes : List ℕ) where
-    pub leads_append : gives old bytes (Ok tt) new → records new ≡ records old ++ bytes ∷ [] → faults new ≡ faults old → Leads records gives faults whole k old new d (logged r None d)
+  module _ (whole k : CallHere → CallHere) (me : ℕ) (r : Rec Value StateValue) (d : CallHere) (is : (f : Option Failure) → whole (armed_with f d) ≡ append f me r (armed_with f d) k) (old new : K) (bytes : List ℕ) (stated : is_stated service bytes ≡ true) where
+    pub leads_append : gives old bytes (Ok tt) new → records new ≡ records old ++ bytes ∷ [] → faults new ≡ faults old → Leads records gives faults service whole k old new d (logged r None d)
     leads_append answer grown counted = record {
       written = bytes ∷ [];
       grown = grown;
       appends = (chained gives).one old new bytes (Ok tt) answer;
       counted = counted;
+      stated = stated_one service bytes stated;
       many = omega arith;
       comes = λ f. is (one_later f) ∙ append_later me r d k f;
     }
@@ -89,7 +102,7 @@ module _ {K : Type 0} (records : K → List (List ℕ)) (gives : K → List ℕ 
     -- or it fails
     pub fell_append : (kept : Bool) → gives old bytes (Err Failed) new → records new ≡ failed_records kept (records old) bytes → faults old < faults new
         → (after : CallHere) → after ≡ record { node = down_node (if kept then r ∷ d.node.log else d.node.log) None; sends = []; effects = d.effects ++ effect.Down me ∷ [] }
-        → Fell records gives faults whole me old new d after
+        → Fell records gives faults service whole me old new d after
     fell_append kept answer grown counted after e = record {
       fails = record {
         written = [];
@@ -100,6 +113,7 @@ module _ {K : Type 0} (records : K → List (List ℕ)) (gives : K → List ℕ 
         appends = (refl, refl);
         fails = answer;
         counted = counted;
+        stated = stated_one service bytes stated;
         many = ap (λ (c : CallHere). length c.node.log) e ∙ one_failed kept;
         is = is (Some (After 0 kept)) ∙ sym e;
       };

@@ -1,116 +1,184 @@
 -- What the records of a keeper hold.
-use Rattle.std.proofs.Common.{◌≡◌, ℕ, suc, ◌+◌, ◌-◌, ◌<◌, Bool, true, false, List, [], ◌∷◌, ◌++◌, length, drop, drop-cons, get_or, Result, Ok, Err, Option, Some, None, ◌⊎◌, inl, inr, refl, sym, ap, subst, ◌∙◌, arith}
-use Rattle.std.specs.Prelude.{fold, IsOk, slice_index_or, ◌||◌, ◌==◌, if◌then◌else◌}
+use Rattle.std.proofs.Common.{◌≡◌, ℕ, suc, ◌+◌, ◌-◌, ◌^◌, ◌<◌, Bool, true, false, List, [], ◌∷◌, length, take, drop, drop-cons, get_or, Result, Ok, Err, Option, Some, None, ◌⊎◌, inl, inr, refl, sym, ap, subst, ◌∙◌, arith}
+use Rattle.std.specs.Prelude.{fold, not, nat_lt, IsOk, slice_index_or, ◌||◌, if◌then◌else◌}
 use Rattle.std.proofs.Math.Seq.{drop-length}
-use Rattle.std.proofs.lemmas.List.{get_or-map, length-map}
-use Rattle.std.specs.Int.{w32, to_be_bytes}
+use Rattle.std.proofs.lemmas.List.{get_or-map, length-map, take_more}
+use Rattle.std.proofs.lemmas.List.Sums.{fold_push}
+use Rattle.std.proofs.lemmas.Nat.{from_be_bytes-to_be_bytes_4}
 use Rattle.rex_syntax.specs.declared.service.Declarations.{Declarations}
 use Rattle.rex_delta.specs.Reading.{delta_in}
 use Rattle.rex_snapshot.specs.Reading.{state_in}
 use Rattle.rex_durable.specs.declared.records.Rec.{Rec}
-use Rattle.rex_durable.specs.declared.records.Rec.TheVariants.{Promised, Accepted, Known, Checkpoint}
-use Rattle.rex_durable.specs.Spelling.{record_bytes}
+use Rattle.rex_durable.specs.declared.records.Rec.TheVariants.{Promised, Accepted, Known, Checkpoint, Dropped, Transferred}
+use Rattle.rex_durable.specs.Spelling.{HasSpelling, record_bytes}
 use Rattle.rex_durable.specs.Kept.{Spell}
 use Rattle.rex_durable.specs.Recovery.{Saved, checkpoint, checkpoint_in, snapshot_of}
 use Rattle.rex_state.specs.Value.{StateValue}
 use Rattle.std.specs.List.{filter_map}
 use Rattle.std.proofs.lemmas.Option.{same_Some}
 use Rattle.rex_node.specs.declared.contents.Place.{Place}
-use Rattle.rex_node.specs.Restarting.{bad_at, bad_behind, bad_in, first_bad, has_checkpoint, is_checkpoint, place_or}
+use Rattle.rex_node.specs.Restarting.{bad_at, bad_behind, bad_in, ends_old, first_bad, has_state, is_held, is_state, old_behind, old_in, place_or}
+use Rattle.rex_node.specs.Stated.{is_state_kind}
 
--- a number of 4 bytes, a length of 4 bytes, and then the value
-held : (n : ℕ) (value : List ℕ) → drop 8 (to_be_bytes w32 n ++ (to_be_bytes w32 (length value) ++ value)) ≡ value
-held n value = refl
+-- ---- one record
+
+-- no list of fewer bytes says an instance
+pub short_isn't_held : (offset : ℕ) (bytes : List ℕ) → length bytes < 5 → is_held offset bytes ≡ false
+short_isn't_held offset [] l = refl
+short_isn't_held offset (k ∷ []) l = refl
+short_isn't_held offset (k ∷ a ∷ []) l = refl
+short_isn't_held offset (k ∷ a ∷ b ∷ []) l = refl
+short_isn't_held offset (k ∷ a ∷ b ∷ c ∷ []) l = refl
+short_isn't_held offset (k ∷ a ∷ b ∷ c ∷ d ∷ content) l = absurd (omega arith)
+
+-- the instance of a known value is above the offset or isn't
+known_held : (offset instance : ℕ) (value : List ℕ) → HasSpelling (Known instance value) → is_held offset (record_bytes (Known instance value)) ≡ nat_lt offset instance
+known_held offset instance value s =
+    let few : instance < 2 ^ 32 = (let last = s.in_range.0.last in omega arith) in
+    ap (λ (n : ℕ). nat_lt offset n) (from_be_bytes-to_be_bytes_4 instance few)
+
+-- a state is looked into where none comes behind it
+only_last : (later : Bool) (bad : Option ℕ) → (if not later then bad else None) ≡ (if later then None else bad)
+only_last true bad = refl
+only_last false bad = refl
 
 -- what a record holds is bad where the record is
-pub bad_is : (service : Declarations) (r : Rec) (rs : List Rec) → bad_behind service (get_or (record_bytes r) 0 0) (drop 9 (record_bytes r)) (has_checkpoint rs) ≡ bad_in service r rs
-bad_is service (Promised ballot) rs = refl
-bad_is service (Accepted ballot instance value) rs = refl
-bad_is service (Known instance value) rs = ap (λ (bytes : List ℕ). bad_at (delta_in bytes)) (held instance value)
-bad_is service (Checkpoint deltas snapshot) rs = ap (λ (bytes : List ℕ). if has_checkpoint rs then None else bad_at (state_in service bytes)) (held deltas snapshot)
+pub bad_is : (service : Declarations) (offset : ℕ) (r : Rec) (rs : List Rec) → HasSpelling r
+    → bad_behind service (get_or (record_bytes r) 0 0) (is_held offset (record_bytes r)) (drop 9 (record_bytes r)) (has_state rs) ≡ bad_in service offset r rs
+bad_is service offset (Promised ballot) rs s = refl
+bad_is service offset (Accepted ballot instance value) rs s = refl
+bad_is service offset (Known instance value) rs s =
+    ap (λ (held : Bool). if held then bad_at (delta_in value) else None) (known_held offset instance value s)
+bad_is service offset (Checkpoint deltas snapshot) rs s = only_last (has_state rs) (bad_at (state_in service snapshot))
+bad_is service offset (Dropped deltas) rs s = refl
+bad_is service offset (Transferred deltas snapshot) rs s = only_last (has_state rs) (bad_at (state_in service snapshot))
+
+-- so is the version of the last checkpoint, if there is one, where this record is the last one
+old_is : (before : Bool) (r : Rec) → old_behind before (get_or (record_bytes r) 0 0) (drop 9 (record_bytes r)) ≡ old_in before r
+old_is before (Promised ballot) = refl
+old_is before (Accepted ballot instance value) = refl
+old_is before (Known instance value) = refl
+old_is before (Checkpoint deltas snapshot) = refl
+old_is before (Dropped deltas) = refl
+old_is before (Transferred deltas snapshot) = refl
+
+-- and whether a state comes behind the record, or is in it
+kind_of : (r : Rec) (later : Bool) → (later || is_state_kind (get_or (record_bytes r) 0 0)) ≡ (if is_state r then true else later)
+kind_of (Promised ballot) true = refl
+kind_of (Promised ballot) false = refl
+kind_of (Accepted ballot instance value) true = refl
+kind_of (Accepted ballot instance value) false = refl
+kind_of (Known instance value) true = refl
+kind_of (Known instance value) false = refl
+kind_of (Checkpoint deltas snapshot) true = refl
+kind_of (Checkpoint deltas snapshot) false = refl
+kind_of (Dropped deltas) true = refl
+kind_of (Dropped deltas) false = refl
+kind_of (Transferred deltas snapshot) true = refl
+kind_of (Transferred deltas snapshot) false = refl
+
+-- ---- one list of bytes
+
+module _ (kept : List (List ℕ)) (rs : List Rec) (s : Spell kept rs) where
+  -- there are as many records
+  pub many : length kept ≡ length rs
+  many = ap length s.bytes ∙ length-map rs record_bytes
+
+  -- each list of bytes spells its record
+  pub spelled_at : (index : ℕ) (d : Rec) → index < length rs → slice_index_or kept index [] ≡ record_bytes (get_or rs index d)
+  spelled_at index d there = ap (λ (lists : List (List ℕ)). slice_index_or lists index []) s.bytes ∙ get_or-map record_bytes rs index d [] there
 
 -- ---- from the last record on
 
--- the last records, so many, were looked into: this is the first bad place in them, and whether a checkpoint is among them
-pub record IsLooked (service : Declarations) (kept : List (List ℕ)) (back : ℕ) (found : Option Place) (later : Bool) : Type 0 where
-  pub bad : (rs : List Rec) → Spell kept rs → found ≡ first_bad service (suc (length rs - back)) (drop (length rs - back) rs)
-  pub more : (rs : List Rec) → Spell kept rs → later ≡ has_checkpoint (drop (length rs - back) rs)
+-- the last records, so many, were looked into: this is the first bad place in them, and whether one with a state is among them
+pub record IsLooked (service : Declarations) (offset : ℕ) (kept : List (List ℕ)) (back : ℕ) (found : Option Place) (later : Bool) : Type 0 where
+  pub bad : (rs : List Rec) → Spell kept rs → found ≡ first_bad service offset (suc (length rs - back)) (drop (length rs - back) rs)
+  pub more : (rs : List Rec) → Spell kept rs → later ≡ has_state (drop (length rs - back) rs)
 
-pub looked_none : (service : Declarations) (kept : List (List ℕ)) → IsLooked service kept 0 None false
-looked_none service kept = record {
-  bad = λ rs h. ap (first_bad service (suc (length rs - 0))) (sym (none_left rs));
-  more = λ rs h. ap has_checkpoint (sym (none_left rs));
+pub looked_none : (service : Declarations) (offset : ℕ) (kept : List (List ℕ)) → IsLooked service offset kept 0 None false
+looked_none service offset kept = record {
+  bad = λ rs h. ap (first_bad service offset (suc (length rs - 0))) (sym (none_left rs));
+  more = λ rs h. ap has_state (sym (none_left rs));
 }
   where
     none_left : (rs : List Rec) → drop (length rs - 0) rs ≡ []
     none_left rs = ap (λ (n : ℕ). drop n rs) (let e : length rs - 0 ≡ length rs = omega arith in e) ∙ drop-length rs
 
--- once all were looked into
-pub looked_all : (service : Declarations) (kept : List (List ℕ)) (count : ℕ) (found : Option Place) (later : Bool) → count ≡ length kept → IsLooked service kept count found later
-    → (rs : List Rec) → Spell kept rs → found ≡ first_bad service 1 rs
-looked_all service kept count found later e h rs s =
-    let none : length rs - count ≡ 0 = omega (arith, e, ap length s.bytes, length-map rs record_bytes) in
-    h.bad rs s ∙ ap (λ (n : ℕ). first_bad service (suc n) (drop n rs)) none
-
-module _ (service : Declarations) (kept : List (List ℕ)) (back index : ℕ) (found now : Option Place) (later now_later : Bool) (bytes : List ℕ) (bad : Option ℕ) (h : IsLooked service kept back found later)
-    (few : back < length kept) (index_is : index ≡ length kept - 1 - back) (bytes_are : bytes ≡ slice_index_or kept index []) (bad_is_so : bad ≡ bad_behind service (get_or bytes 0 0) (drop 9 bytes) later)
-    (now_is : now ≡ place_or (index + 1) bad found) (then_is : now_later ≡ (later || (get_or bytes 0 0 == 4))) where
+module _ (service : Declarations) (offset : ℕ) (kept : List (List ℕ)) (back index : ℕ) (found now : Option Place) (later now_later : Bool) (bytes : List ℕ) (bad : Option ℕ) (h : IsLooked service offset kept back found later)
+    (few : back < length kept) (index_is : index ≡ length kept - 1 - back) (bytes_are : bytes ≡ slice_index_or kept index [])
+    (bad_is_so : bad ≡ bad_behind service (get_or bytes 0 0) (is_held offset bytes) (drop 9 bytes) later)
+    (now_is : now ≡ place_or (index + 1) bad found) (then_is : now_later ≡ (later || is_state_kind (get_or bytes 0 0))) where
   module _ (rs : List Rec) (s : Spell kept rs) where
-    many : length kept ≡ length rs
-    many = ap length s.bytes ∙ length-map rs record_bytes
-
     abbrev d : Rec
     d = Promised 0
 
+    long : length kept ≡ length rs
+    long = many kept rs s
+
     there : index < length rs
-    there = omega (arith, few, index_is, many)
+    there = omega (arith, few, index_is, long)
 
     abbrev r : Rec
     r = get_or rs index d
 
+    spelling : HasSpelling r
+    spelling = (s.records.each index d there).spelling
+
     spelled : bytes ≡ record_bytes r
-    spelled = bytes_are ∙ ap (λ (lists : List (List ℕ)). slice_index_or lists index []) s.bytes ∙ get_or-map record_bytes rs index d [] there
+    spelled = bytes_are ∙ spelled_at kept rs s index d there
 
     after : length rs - back ≡ suc index
-    after = omega (arith, few, index_is, many)
+    after = omega (arith, few, index_is, long)
 
     at : length rs - (back + 1) ≡ index
-    at = omega (arith, few, index_is, many)
+    at = omega (arith, few, index_is, long)
 
     parts : drop (length rs - (back + 1)) rs ≡ r ∷ drop (length rs - back) rs
     parts = ap (λ (n : ℕ). drop n rs) at ∙ drop-cons rs index d there ∙ ap (λ (n : ℕ). r ∷ drop n rs) (sym after)
 
-    bad_here : bad ≡ bad_in service r (drop (length rs - back) rs)
+    bad_here : bad ≡ bad_in service offset r (drop (length rs - back) rs)
     bad_here =
-        bad_is_so ∙ ap (λ (b : List ℕ). bad_behind service (get_or b 0 0) (drop 9 b) later) spelled
-        ∙ ap (bad_behind service (get_or (record_bytes r) 0 0) (drop 9 (record_bytes r))) (h.more rs s) ∙ bad_is service r (drop (length rs - back) rs)
+        bad_is_so ∙ ap (λ (b : List ℕ). bad_behind service (get_or b 0 0) (is_held offset b) (drop 9 b) later) spelled
+        ∙ ap (bad_behind service (get_or (record_bytes r) 0 0) (is_held offset (record_bytes r)) (drop 9 (record_bytes r))) (h.more rs s) ∙ bad_is service offset r (drop (length rs - back) rs) spelling
 
-    bad_now : now ≡ first_bad service (suc (length rs - (back + 1))) (drop (length rs - (back + 1)) rs)
+    bad_now : now ≡ first_bad service offset (suc (length rs - (back + 1))) (drop (length rs - (back + 1)) rs)
     bad_now =
-        now_is ∙ ap (λ (o : Option ℕ). place_or (index + 1) o found) bad_here ∙ ap (place_or (index + 1) (bad_in service r (drop (length rs - back) rs))) (h.bad rs s)
-        ∙ ap (λ (n : ℕ). place_or n (bad_in service r (drop (length rs - back) rs)) (first_bad service (suc (length rs - back)) (drop (length rs - back) rs))) (let e : index + 1 ≡ suc (length rs - (back + 1)) = omega (arith, at) in e)
-        ∙ ap (λ (n : ℕ). place_or (suc (length rs - (back + 1))) (bad_in service r (drop (length rs - back) rs)) (first_bad service (suc n) (drop (length rs - back) rs))) (let e : length rs - back ≡ suc (length rs - (back + 1)) = omega (arith, at, after) in e)
-        ∙ ap (first_bad service (suc (length rs - (back + 1)))) (sym parts)
+        now_is ∙ ap (λ (o : Option ℕ). place_or (index + 1) o found) bad_here ∙ ap (place_or (index + 1) (bad_in service offset r (drop (length rs - back) rs))) (h.bad rs s)
+        ∙ ap (λ (n : ℕ). place_or n (bad_in service offset r (drop (length rs - back) rs)) (first_bad service offset (suc (length rs - back)) (drop (length rs - back) rs))) (let e : index + 1 ≡ suc (length rs - (back + 1)) = omega (arith, at) in e)
+        ∙ ap (λ (n : ℕ). place_or (suc (length rs - (back + 1))) (bad_in service offset r (drop (length rs - back) rs)) (first_bad service offset (suc n) (drop (length rs - back) rs))) (let e : length rs - back ≡ suc (length rs - (back + 1)) = omega (arith, at, after) in e)
+        ∙ ap (first_bad service offset (suc (length rs - (back + 1)))) (sym parts)
 
-    kind_of : (r : Rec) (b : Bool) → (b || (get_or (record_bytes r) 0 0 == 4)) ≡ (if is_checkpoint r then true else b)
-    kind_of (Promised ballot) true = refl
-    kind_of (Promised ballot) false = refl
-    kind_of (Accepted ballot instance value) true = refl
-    kind_of (Accepted ballot instance value) false = refl
-    kind_of (Known instance value) true = refl
-    kind_of (Known instance value) false = refl
-    kind_of (Checkpoint deltas snapshot) true = refl
-    kind_of (Checkpoint deltas snapshot) false = refl
-
-    more_now : now_later ≡ has_checkpoint (drop (length rs - (back + 1)) rs)
+    more_now : now_later ≡ has_state (drop (length rs - (back + 1)) rs)
     more_now =
-        then_is ∙ ap (λ (b : List ℕ). later || (get_or b 0 0 == 4)) spelled ∙ kind_of r later ∙ ap (λ (t : Bool). if is_checkpoint r then true else t) (h.more rs s)
-        ∙ ap has_checkpoint (sym parts)
+        then_is ∙ ap (λ (b : List ℕ). later || is_state_kind (get_or b 0 0)) spelled ∙ kind_of r later ∙ ap (λ (t : Bool). if is_state r then true else t) (h.more rs s)
+        ∙ ap has_state (sym parts)
 
-  pub looked_more : IsLooked service kept (back + 1) now now_later
+  pub looked_more : IsLooked service offset kept (back + 1) now now_later
   looked_more = record { bad = bad_now; more = more_now }
 
--- ---- the last checkpoint
+-- ---- from the first record on
+
+-- the first records, so many, were looked into: whether the last checkpoint among them is in the old version
+pub record EndsSo (kept : List (List ℕ)) (index : ℕ) (old : Bool) : Type 0 where
+  pub is : (rs : List Rec) → Spell kept rs → old ≡ ends_old (take index rs)
+
+pub ends_none : (kept : List (List ℕ)) → EndsSo kept 0 false
+ends_none kept = record { is = λ rs s. refl }
+
+pub ends_more : (kept : List (List ℕ)) (index : ℕ) (before after : Bool) (bytes : List ℕ) → EndsSo kept index before → index < length kept → bytes ≡ slice_index_or kept index []
+    → after ≡ old_behind before (get_or bytes 0 0) (drop 9 bytes) → EndsSo kept (index + 1) after
+ends_more kept index before after bytes h lt bytes_are e = record { is = is }
+  where
+    is : (rs : List Rec) → Spell kept rs → after ≡ ends_old (take (index + 1) rs)
+    is rs s =
+        let d = Promised 0 in
+        let there : index < length rs = omega (arith, lt, many kept rs s) in
+        let r = get_or rs index d in
+        e ∙ ap (λ (b : List ℕ). old_behind before (get_or b 0 0) (drop 9 b)) (bytes_are ∙ spelled_at kept rs s index d there)
+        ∙ old_is before r ∙ ap (λ (b : Bool). old_in b r) (h.is rs s) ∙ sym (fold_push old_in false (take index rs) r)
+        ∙ ap (λ (others : List Rec). ends_old others) (sym (take_more rs index d there))
+
+-- ---- the last state
 
 none_of : (number : ℕ) (o : Option ℕ) (later : Option Place) → place_or number o later ≡ None → (o ≡ None) × (later ≡ None)
 none_of number None later e = (refl, e)
@@ -120,34 +188,43 @@ good_of : (q : Result StateValue ℕ) → bad_at q ≡ None → IsOk q
 good_of (Ok s) e = refl
 good_of (Err at) e = absurd (cc)
 
--- where no record is bad, the last checkpoint's snapshot spells a state, unless it stands before them
-last_good : (service : Declarations) (rs : List Rec) (n : ℕ) (before : Option Saved) (saved : Saved) → first_bad service n rs ≡ None → fold (λ (b : Option Saved) x. Some x) before (filter_map checkpoint_in rs) ≡ Some saved
-    → ((has_checkpoint rs ≡ false) × (before ≡ Some saved)) ⊎ IsOk (state_in service saved.snapshot)
-last_good service [] n before saved good e = inl (refl, e)
-last_good service (Promised ballot ∷ rs) n before saved good e = last_good service rs (suc n) before saved good e
-last_good service (Accepted ballot instance value ∷ rs) n before saved good e = last_good service rs (suc n) before saved good e
-last_good service (Known instance value ∷ rs) n before saved good e = last_good service rs (suc n) before saved (none_of n (bad_at (delta_in value)) (first_bad service (suc n) rs) good).1 e
-last_good service (Checkpoint deltas snapshot ∷ rs) n before saved good e =
-    let parts = none_of n (if has_checkpoint rs then None else bad_at (state_in service snapshot)) (first_bad service (suc n) rs) good in
-    by parts.0 (last_good service rs (suc n) (Some (record { deltas = deltas; snapshot = snapshot })) saved parts.1 e)
-  where
-    by : (if has_checkpoint rs then None else bad_at (state_in service snapshot)) ≡ None
-        → ((has_checkpoint rs ≡ false) × (Some (record { deltas = deltas; snapshot = snapshot }) ≡ Some saved)) ⊎ IsOk (state_in service saved.snapshot)
-        → ((has_checkpoint (Checkpoint deltas snapshot ∷ rs) ≡ false) × (before ≡ Some saved)) ⊎ IsOk (state_in service saved.snapshot)
-    by none (inl h) =
-        let here : bad_at (state_in service snapshot) ≡ None = ap (λ (t : Bool). if t then None else bad_at (state_in service snapshot)) (sym h.0) ∙ none in
-        let same : snapshot ≡ saved.snapshot = ap (λ (x : Saved). x.snapshot) (same_Some _ saved h.1) in
-        inr (subst (λ (bytes : List ℕ). IsOk (state_in service bytes)) same (good_of (state_in service snapshot) here))
-    by none (inr h) = inr h
+-- the last snapshot spells a state, unless it stands before these records
+abbrev IsGood : Declarations → List Rec → Option Saved → Saved → Type 0
+IsGood service rs before saved = ((has_state rs ≡ false) × (before ≡ Some saved)) ⊎ IsOk (state_in service saved.snapshot)
+
+-- so it does with a record more before them that has a state
+good_more : (service : Declarations) (deltas : ℕ) (snapshot : List ℕ) (rs : List Rec) (saved : Saved) → (if has_state rs then None else bad_at (state_in service snapshot)) ≡ None
+    → IsGood service rs (Some (record { deltas = deltas; snapshot = snapshot })) saved → IsOk (state_in service saved.snapshot)
+good_more service deltas snapshot rs saved none (inl h) =
+    let here : bad_at (state_in service snapshot) ≡ None = ap (λ (t : Bool). if t then None else bad_at (state_in service snapshot)) (sym h.0) ∙ none in
+    let same : snapshot ≡ saved.snapshot = ap (λ (x : Saved). x.snapshot) (same_Some _ saved h.1) in
+    subst (λ (bytes : List ℕ). IsOk (state_in service bytes)) same (good_of (state_in service snapshot) here)
+good_more service deltas snapshot rs saved none (inr h) = h
+
+-- where no record is bad, the last snapshot spells a state, unless it stands before them
+last_good : (service : Declarations) (offset : ℕ) (rs : List Rec) (n : ℕ) (before : Option Saved) (saved : Saved) → first_bad service offset n rs ≡ None
+    → fold (λ (b : Option Saved) x. Some x) before (filter_map checkpoint_in rs) ≡ Some saved → IsGood service rs before saved
+last_good service offset [] n before saved good e = inl (refl, e)
+last_good service offset (Promised ballot ∷ rs) n before saved good e = last_good service offset rs (suc n) before saved good e
+last_good service offset (Accepted ballot instance value ∷ rs) n before saved good e = last_good service offset rs (suc n) before saved good e
+last_good service offset (Known instance value ∷ rs) n before saved good e =
+    last_good service offset rs (suc n) before saved (none_of n (if nat_lt offset instance then bad_at (delta_in value) else None) (first_bad service offset (suc n) rs) good).1 e
+last_good service offset (Checkpoint deltas snapshot ∷ rs) n before saved good e =
+    let parts = none_of n (if has_state rs then None else bad_at (state_in service snapshot)) (first_bad service offset (suc n) rs) good in
+    inr (good_more service deltas snapshot rs saved parts.0 (last_good service offset rs (suc n) (Some (record { deltas = deltas; snapshot = snapshot })) saved parts.1 e))
+last_good service offset (Dropped deltas ∷ rs) n before saved good e = last_good service offset rs (suc n) before saved good e
+last_good service offset (Transferred deltas snapshot ∷ rs) n before saved good e =
+    let parts = none_of n (if has_state rs then None else bad_at (state_in service snapshot)) (first_bad service offset (suc n) rs) good in
+    inr (good_more service deltas snapshot rs saved parts.0 (last_good service offset rs (suc n) (Some (record { deltas = deltas; snapshot = snapshot })) saved parts.1 e))
 
 -- so it is of all records
-pub saved_good : (service : Declarations) (rs : List Rec) (snapshot : List ℕ) → first_bad service 1 rs ≡ None → snapshot_of (checkpoint rs) ≡ Some snapshot → IsOk (state_in service snapshot)
-saved_good service rs snapshot good e = by (checkpoint rs) refl e
+pub saved_good : (service : Declarations) (offset : ℕ) (rs : List Rec) (snapshot : List ℕ) → first_bad service offset 1 rs ≡ None → snapshot_of (checkpoint rs) ≡ Some snapshot → IsOk (state_in service snapshot)
+saved_good service offset rs snapshot good e = by (checkpoint rs) refl e
   where
-    or_none : (saved : Saved) → ((has_checkpoint rs ≡ false) × (◌≡◌ {A = Option Saved} None (Some saved))) ⊎ IsOk (state_in service saved.snapshot) → IsOk (state_in service saved.snapshot)
+    or_none : (saved : Saved) → IsGood service rs None saved → IsOk (state_in service saved.snapshot)
     or_none saved (inl h) = let f = h.1 in absurd (cc)
     or_none saved (inr h) = h
 
     by : (o : Option Saved) → checkpoint rs ≡ o → snapshot_of o ≡ Some snapshot → IsOk (state_in service snapshot)
     by None f g = absurd (cc)
-    by (Some saved) f g = subst (λ (bytes : List ℕ). IsOk (state_in service bytes)) (same_Some saved.snapshot snapshot g) (or_none saved (last_good service rs 1 None saved good f))
+    by (Some saved) f g = subst (λ (bytes : List ℕ). IsOk (state_in service bytes)) (same_Some saved.snapshot snapshot g) (or_none saved (last_good service offset rs 1 None saved good f))

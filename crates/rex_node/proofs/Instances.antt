@@ -1,7 +1,7 @@
 -- Proposals by instance are in the model what they are at an acceptor.
-use Rattle.std.proofs.Common.{◌≡◌, ℕ, ◌+◌, ◌<◌, Bool, true, false, cond, ◌||◌, eqb, ltb, leb, List, [], ◌∷◌, ◌++◌, Some, refl, sym, ap, ◌∙◌, arith, eqb-true, ltb-true, ltb-false}
+use Rattle.std.proofs.Common.{◌≡◌, ℕ, ◌+◌, ◌<◌, ◌≤◌, Bool, true, false, cond, ◌||◌, eqb, ltb, leb, List, [], ◌∷◌, ◌++◌, Some, refl, sym, ap, ◌∙◌, arith, eqb-true, ltb-true, ltb-false}
 use Rattle.std.specs.Prelude.{map}
-use Rattle.std.proofs.lemmas.Bool.{eqb-false, lt-ltb, ne_eqb}
+use Rattle.std.proofs.lemmas.Bool.{eqb-false, le-leb, leb-false, lt-ltb, ne_eqb}
 use Rattle.rex_ballot.specs.declared.proposal.Proposal.{Proposal as Kept}
 use Rattle.rex_ballot.specs.Proposals.{AreRising, below, above, from_instance, proposal_for, with_proposal}
 use Rattle.rex_ballot.proofs.Lists.{rising_less, below_none}
@@ -10,7 +10,7 @@ use Rattle.rex_safety.specs.Records.{Proposal, placed, from_on}
 use Rattle.rex_safety.specs.Ranges as ranges
 use Rattle.rex_safety.specs.Calls.{has_last}
 use Rattle.rex_safety.specs.Values.{Value}
-use Rattle.rex_node.specs.Parts.{proposal_in}
+use Rattle.rex_log.specs.Log.{proposal_in}
 
 -- instances that rise in the model rise at an acceptor
 pub rising_kept : (least : ℕ) (ps : List Kept) → ranges.AreRising least (map proposal_in ps) → AreRising (least + 1) ps
@@ -82,3 +82,20 @@ last_kept b i least (p ∷ ps) h = by (eqb p.ballot b) refl (eqb p.instance i) r
     by true e false f ih = ih
     by false e true f ih = last_none b i (p.instance + 1) ps (let g = eqb-true p.instance i f in omega arith) h.1 ∙ sym e
     by false e false f ih = ih
+
+-- a proposal for a later instance takes the same place among those from an instance on
+pub placed_from : (first : ℕ) (p : Proposal Value) (ps : List (Proposal Value)) → first ≤ p.instance → from_on first (placed p ps) ≡ placed p (from_on first ps)
+placed_from first p [] l = rw (le-leb first p.instance l) refl
+placed_from first p (q ∷ qs) l = go (eqb p.instance q.instance) refl (ltb p.instance q.instance) refl (leb first q.instance) refl (placed_from first p qs l)
+  where
+    here : leb first p.instance ≡ true
+    here = le-leb first p.instance l
+
+    go : (same : Bool) → eqb p.instance q.instance ≡ same → (less : Bool) → ltb p.instance q.instance ≡ less → (late : Bool) → leb first q.instance ≡ late → from_on first (placed p qs) ≡ placed p (from_on first qs)
+        → from_on first (cond same (p ∷ qs) (cond less (p ∷ q ∷ qs) (q ∷ placed p qs))) ≡ placed p (cond late (q ∷ from_on first qs) (from_on first qs))
+    go true s less m true n ih = rw (here, s) refl
+    go true s less m false n ih = absurd (let e = eqb-true p.instance q.instance s in let f = leb-false first q.instance n in omega arith)
+    go false s true m true n ih = rw (here, n, s, m) refl
+    go false s true m false n ih = absurd (let e = ltb-true p.instance q.instance m in let f = leb-false first q.instance n in omega arith)
+    go false s false m true n ih = rw (n, s, m) (ap (λ (rs : List (Proposal Value)). q ∷ rs) ih)
+    go false s false m false n ih = rw n ih

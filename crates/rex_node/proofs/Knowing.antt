@@ -47,8 +47,9 @@ use Rattle.rex_safety.proofs.Lists.{length_push}
 use Rattle.rex_node.specs.declared.going.Going.{Going}
 use Rattle.rex_node.specs.declared.going.Going.TheVariants.{On, Down}
 use Rattle.rex_node.specs.declared.step.Draft.{Draft}
-use Rattle.rex_node.specs.Messages.{content_in, message_in}
-use Rattle.rex_node.specs.Parts.{NodeValue, ActingValue, Executes, IsActing, IsProposer, Proposes, IsCutAt, IsUp, IsKept, Keeps, Falls, ahead_of, here_of, lead_of, log_of, role_of, work_of}
+use Rattle.rex_log.specs.Messages.{content_in, message_in}
+use Rattle.rex_log.specs.Log.{log_of}
+use Rattle.rex_node.specs.Parts.{NodeValue, ActingValue, Executes, IsActing, IsProposer, Proposes, IsCutAt, IsUp, IsKept, Keeps, Falls, ahead_of, here_of, lead_of, role_of, work_of}
 use Rattle.rex_node.specs.Calls.{armed_with}
 use Rattle.rex_node.specs.Going.{Appends, IsStuck, Comes, so_far}
 use Rattle.rex_node.specs.Leading.{CanSettle, IsOwnCut, Learns, knowing, releases_in, replayed_to, settling}
@@ -170,10 +171,10 @@ ahead_known service values v (Some a) i replayed ahead start few h e = absurd (c
 
 -- ---- a node that learns
 
-module _ {K : Type 0} (records : K → List (List ℕ)) (gives : K → List ℕ → Answer → K → Type 0) (faults : K → ℕ) (service : Declarations) (good : IsService service) (x : NodeValue K) (u : IsUp service x (here_of records service x)) (id : (0 < x.id) × (x.id ≤ x.nodes)) (few : x.nodes ≤ most_nodes)
+module _ {K : Type 0} (records : K → List (List ℕ)) (gives : K → List ℕ → Answer → K → Type 0) (faults : K → ℕ) (service : Declarations) (past : List Value) (good : IsService service) (x : NodeValue K) (u : IsUp service x (here_of records service past x)) (id : (0 < x.id) × (x.id ≤ x.nodes)) (few : x.nodes ≤ most_nodes)
     (p : ProposerValue) (e : x.proposer ≡ Some p) (i : ℕ) (v : Value) (next : i ≡ length x.known + 1) (there : ballots.IsInstance i) (short : IsValue v) (fits : values_fit service (x.known ++ v ∷ []) ≡ true) (cut : IsOwnCut service x v) where
   abbrev log : List (Rec Value StateValue)
-  log = log_of service (records x.keeper)
+  log = log_of service past (records x.keeper)
 
   abbrev lead : Lead Value
   lead = lead_of x.acceptor p (is_some x.acting)
@@ -181,7 +182,7 @@ module _ {K : Type 0} (records : K → List (List ℕ)) (gives : K → List ℕ 
   place : i ≡ suc (length x.known)
   place = omega (arith, next)
 
-  due : i ≡ length (known (log_of service (records x.keeper))) + 1
+  due : i ≡ length (known (log_of service past (records x.keeper))) + 1
   due = next ∙ ap (λ (vs : List Value). length vs + 1) u.known
 
   acting : IsActing service x.known x.acceptor (Some p) x.acting
@@ -194,17 +195,17 @@ module _ {K : Type 0} (records : K → List (List ℕ)) (gives : K → List ℕ 
   z_at keeper = record x { keeper = keeper; known = x.known ++ v ∷ []; replayed = replayed_to x.acting i x.replayed; proposer = Some (closed p); acting = option_map (settling service) x.acting }
 
   module _ (keeper : K) (grown : records keeper ≡ records x.keeper ++ record_bytes (kept.Known i v) ∷ []) where
-    log_is : log_of service (records keeper) ≡ Known i v ∷ log
-    log_is = log_written records gives faults service x u (kept.Known i v) spelled due refl (records keeper) grown
+    log_is : log_of service past (records keeper) ≡ Known i v ∷ log
+    log_is = log_written records gives faults service past x u (kept.Known i v) spelled due refl (records keeper) grown
 
-    z_logged : IsLogged service (z_at keeper) (log_of service (records keeper))
+    z_logged : IsLogged service (z_at keeper) (log_of service past (records keeper))
     z_logged = subst (IsLogged service (z_at keeper)) (sym log_is)
-        (logged_as service (record x { known = x.known ++ v ∷ [] }) (z_at keeper) (Known i v ∷ log) refl refl refl refl refl
-        (logged_known service x log (logged_of records service x u) i v place (instance_fits i there) fits))
+        (logged_as service (record x { known = x.known ++ v ∷ [] }) (z_at keeper) (Known i v ∷ log) refl refl refl refl refl refl
+        (logged_known service x log (logged_of records service past x u) i v place (instance_fits i there) fits))
 
-    z_beside : Beside records service (z_at keeper)
+    z_beside : Beside records service past (z_at keeper)
     z_beside =
-        let b = beside_of records service x u in
+        let b = beside_of records service past x u in
         let based : x.base ≤ x.replayed = b.based in
         let replayed : x.replayed ≤ length x.known = b.replayed in
         record {
@@ -221,24 +222,24 @@ module _ {K : Type 0} (records : K → List (List ℕ)) (gives : K → List ℕ 
         seed_any : ℕ
         seed_any = x.seed
 
-    z_kept : IsKept records service (z_at keeper)
-    z_kept = record { id = id; few = few; up = λ t. up_of records service (z_at keeper) z_logged z_beside }
+    z_kept : IsKept records service past (z_at keeper)
+    z_kept = record { id = id; few = few; up = λ t. up_of records service past (z_at keeper) z_logged z_beside }
 
     -- the model's call comes to the same
-    z_comes : (before after : Draft) (f : Option Failure) → after.effects.items ≡ before.effects.items ++ effect.Known x.id i ∷ releases_in x.acting → map message_in after.sends.items ≡ map message_in before.sends.items ++ others x.nodes x.id (Chose i v)
-        → send (learned (service_of service x.seed) x.id lead i v (known log) (armed_with f (logged (Known i v) None (so_far records service x before)))) (others x.nodes x.id (Chose i v))
-        ≡ armed_with f (so_far records service (z_at keeper) after)
+    z_comes : (before after : Draft) (f : Option Failure) → after.effects.items ≡ before.effects.items ++ effect.Known x.id i ∷ releases_in x.acting → map (message_in past) after.sends.items ≡ map (message_in past) before.sends.items ++ others x.nodes x.id (Chose i v)
+        → send (learned (service_of service x.seed) x.id lead i v (known log) (armed_with f (logged (Known i v) None (so_far records service past x before)))) (others x.nodes x.id (Chose i v))
+        ≡ armed_with f (so_far records service past (z_at keeper) after)
     z_comes before after f effects sends =
-        call_is (Known i v ∷ log) (log_of service (records keeper)) x.up f (leading lead None [] (is_some x.acting)) (work_known (service_of service x.seed) (is_some x.acting) (known log ++ v ∷ []) (work_of x.acting)) (work_of (option_map (settling service) x.acting))
+        call_is (Known i v ∷ log) (log_of service past (records keeper)) x.up f (leading lead None [] (is_some x.acting)) (work_known (service_of service x.seed) (is_some x.acting) (known log ++ v ∷ []) (work_of x.acting)) (work_of (option_map (settling service) x.acting))
         (replayed_known (is_some x.acting) i x.replayed) (replayed_to x.acting i x.replayed)
-        (map message_in before.sends.items ++ others x.nodes x.id (Chose i v)) (map message_in after.sends.items)
+        (map (message_in past) before.sends.items ++ others x.nodes x.id (Chose i v)) (map (message_in past) after.sends.items)
         (before.effects.items ++ (effect.Known x.id i ∷ released (service_of service x.seed) (is_some x.acting) (known log) v)) after.effects.items
         (sym log_is)
         (ap (λ (vs : List Value). work_known (service_of service x.seed) (is_some x.acting) (vs ++ v ∷ []) (work_of x.acting)) (sym u.known) ∙ work_is service good x.seed x.known x.acceptor p v x.acting acting cut)
         (replayed_same x.acting i x.replayed)
         (sym sends)
         (ap (λ (es : List Effect). before.effects.items ++ (effect.Known x.id i ∷ es)) (ap (λ (vs : List Value). released (service_of service x.seed) (is_some x.acting) vs v) (sym u.known) ∙ released_are service good x.seed x.known x.acceptor p v x.acting acting cut) ∙ sym effects)
-        ∙ ap (λ (t : Bool). record (armed_with f (so_far records service (z_at keeper) after)) { node = record (armed_with f (so_far records service (z_at keeper) after)).node { role = leading lead None [] t } }) (sym (active_same service x.acting))
+        ∙ ap (λ (t : Bool). record (armed_with f (so_far records service past (z_at keeper) after)) { node = record (armed_with f (so_far records service past (z_at keeper) after)).node { role = leading lead None [] t } }) (sym (active_same service x.acting))
 
   abbrev whole : (CallHere → CallHere) → CallHere → CallHere
   whole k d = decide x.nodes (service_of service x.seed) x.id d lead i v k
@@ -248,14 +249,14 @@ module _ {K : Type 0} (records : K → List (List ℕ)) (gives : K → List ℕ 
 
   -- the call goes on with the value known
   learns_on : (up : x.up ≡ true) (y z : NodeValue K) (before mid after : Draft) → Keeps records faults gives x y (record_bytes (kept.Known i v)) → mid.effects.items ≡ before.effects.items → mid.sends.items ≡ before.sends.items
-      → z ≡ knowing service y i v → after.effects.items ≡ mid.effects.items ++ effect.Known y.id i ∷ releases_in y.acting → map message_in after.sends.items ≡ map message_in mid.sends.items ++ others y.nodes y.id (Chose i v)
-      → Learns records gives faults service i v x z before after On
+      → z ≡ knowing service y i v → after.effects.items ≡ mid.effects.items ++ effect.Known y.id i ∷ releases_in y.acting → map (message_in past) after.sends.items ≡ map (message_in past) mid.sends.items ++ others y.nodes y.id (Chose i v)
+      → Learns records gives faults service past i v x z before after On
   learns_on up y z before mid after h effects sends z_is more_effects more_sends =
-      subst (λ (o : Option ProposerValue). IfSome o (λ (q : ProposerValue). (k : CallHere → CallHere) → Comes records gives faults service (λ d. decide x.nodes (service_of service x.seed) x.id d (lead_of x.acceptor q (is_some x.acting)) i v k) k x z before after On)) (sym e)
-      (λ k. subst (λ (n : NodeValue K). Comes records gives faults service (whole k) k x n before after On) (sym all) (
-        leads_then records gives faults (whole k) (rest k) k x.keeper y.keeper y.keeper (so_far records service x before) (logged (Known i v) None (so_far records service x before)) (so_far records service (z_at y.keeper) after)
-            (written_on records gives faults service x u (kept.Known i v) spelled due refl y before (whole k) (rest k) (λ f. refl) h)
-            (leads_same records gives faults (rest k) k y.keeper (logged (Known i v) None (so_far records service x before)) (so_far records service (z_at y.keeper) after) (ap length (log_is y.keeper h.records))
+      subst (λ (o : Option ProposerValue). IfSome o (λ (q : ProposerValue). (k : CallHere → CallHere) → Comes records gives faults service past (λ d. decide x.nodes (service_of service x.seed) x.id d (lead_of x.acceptor q (is_some x.acting)) i v k) k x z before after On)) (sym e)
+      (λ k. subst (λ (n : NodeValue K). Comes records gives faults service past (whole k) k x n before after On) (sym all) (
+        leads_then records gives faults service (whole k) (rest k) k x.keeper y.keeper y.keeper (so_far records service past x before) (logged (Known i v) None (so_far records service past x before)) (so_far records service past (z_at y.keeper) after)
+            (written_on records gives faults service past x u (kept.Known i v) spelled due refl y before (whole k) (rest k) (λ f. refl) h)
+            (leads_same records gives faults service (rest k) k y.keeper (logged (Known i v) None (so_far records service past x before)) (so_far records service past (z_at y.keeper) after) (ap length (log_is y.keeper h.records))
             (λ f. ap k (z_comes y.keeper h.records before after f effects_are sends_are))),
         z_kept y.keeper h.records,
         up,
@@ -270,19 +271,19 @@ module _ {K : Type 0} (records : K → List (List ℕ)) (gives : K → List ℕ 
       effects_are : after.effects.items ≡ before.effects.items ++ effect.Known x.id i ∷ releases_in x.acting
       effects_are = more_effects ∙ ap (λ (n : NodeValue K). mid.effects.items ++ effect.Known n.id i ∷ releases_in n.acting) y_is ∙ ap (λ (es : List Effect). es ++ effect.Known x.id i ∷ releases_in x.acting) effects
 
-      sends_are : map message_in after.sends.items ≡ map message_in before.sends.items ++ others x.nodes x.id (Chose i v)
-      sends_are = more_sends ∙ ap (λ (n : NodeValue K). map message_in mid.sends.items ++ others n.nodes n.id (Chose i v)) y_is ∙ ap (λ (ms : List Sent). map message_in ms ++ others x.nodes x.id (Chose i v)) sends
+      sends_are : map (message_in past) after.sends.items ≡ map (message_in past) before.sends.items ++ others x.nodes x.id (Chose i v)
+      sends_are = more_sends ∙ ap (λ (n : NodeValue K). map (message_in past) mid.sends.items ++ others n.nodes n.id (Chose i v)) y_is ∙ ap (λ (ms : List Sent). map (message_in past) ms ++ others x.nodes x.id (Chose i v)) sends
 
   -- or the node is down
   learns_down : (y : NodeValue K) (before after : Draft) → Falls records faults gives x y (record_bytes (kept.Known i v)) → after.effects.items ≡ before.effects.items ++ effect.Down x.id ∷ [] → after.sends.items ≡ []
-      → Learns records gives faults service i v x y before after Down
+      → Learns records gives faults service past i v x y before after Down
   learns_down y before after h effects sends =
-      subst (λ (o : Option ProposerValue). IfSome o (λ (q : ProposerValue). (k : CallHere → CallHere) → Comes records gives faults service (λ d. decide x.nodes (service_of service x.seed) x.id d (lead_of x.acceptor q (is_some x.acting)) i v k) k x y before after Down)) (sym e)
-      (λ k. written_down records gives faults service x u (kept.Known i v) spelled due refl y before (whole k) (rest k) (λ f. refl) after refl h effects sends k)
+      subst (λ (o : Option ProposerValue). IfSome o (λ (q : ProposerValue). (k : CallHere → CallHere) → Comes records gives faults service past (λ d. decide x.nodes (service_of service x.seed) x.id d (lead_of x.acceptor q (is_some x.acting)) i v k) k x y before after Down)) (sym e)
+      (λ k. written_down records gives faults service past x u (kept.Known i v) spelled due refl y before (whole k) (rest k) (λ f. refl) after refl h effects sends k)
 
 -- ---- the same of the call
 
-module _ {K : Type 0} (records : K → List (List ℕ)) (gives : K → List ℕ → Answer → K → Type 0) (faults : K → ℕ) (service : Declarations) (good : IsService service) (x : NodeValue K) (kept_so : IsKept records service x) (up : x.up ≡ true) (leads : IsSome x.proposer)
+module _ {K : Type 0} (records : K → List (List ℕ)) (gives : K → List ℕ → Answer → K → Type 0) (faults : K → ℕ) (service : Declarations) (past : List Value) (good : IsService service) (x : NodeValue K) (kept_so : IsKept records service past x) (up : x.up ≡ true) (leads : IsSome x.proposer)
     (i : ℕ) (v : Value) (next : i ≡ length x.known + 1) (there : ballots.IsInstance i) (short : IsValue v) (fits : values_fit service (x.known ++ v ∷ []) ≡ true) (cut : IsOwnCut service x v) where
   -- its recorder can settle
   pub learn_settles : (y : NodeValue K) → y ≡ record x { keeper = y.keeper } → IfSome y.acting (CanSettle service v)
@@ -298,22 +299,22 @@ module _ {K : Type 0} (records : K → List (List ℕ)) (gives : K → List ℕ 
     pub learn_parts : g ≡ On → y ≡ record x { keeper = y.keeper }
     learn_parts e = let k : Appends records faults gives x y before mid (record_bytes (kept.Known i v)) On = appends_as records gives faults x y before mid (kept.Known i w) (kept.Known i v) g On same_rec e h in k.0.parts
 
-    pub learn_down : g ≡ Down → Learns records gives faults service i v x y before mid Down
+    pub learn_down : g ≡ Down → Learns records gives faults service past i v x y before mid Down
     learn_down e =
         let s = some_of x.proposer leads in
         let k : Appends records faults gives x y before mid (record_bytes (kept.Known i v)) Down = appends_as records gives faults x y before mid (kept.Known i w) (kept.Known i v) g Down same_rec e h in
-        learns_down records gives faults service good x (kept_so.up up) kept_so.id kept_so.few s.0 s.1 i v next there short fits cut y before mid k.0 k.1 k.2
+        learns_down records gives faults service past good x (kept_so.up up) kept_so.id kept_so.few s.0 s.1 i v next there short fits cut y before mid k.0 k.1 k.2
 
-    pub learn_on : g ≡ On → (z : NodeValue K) (after : Draft) → z ≡ knowing service y i v → after.effects.items ≡ mid.effects.items ++ effect.Known y.id i ∷ releases_in y.acting → map message_in after.sends.items ≡ map message_in mid.sends.items ++ others y.nodes y.id (content_in (sent.Chosen i v))
-        → Learns records gives faults service i v x z before after On
+    pub learn_on : g ≡ On → (z : NodeValue K) (after : Draft) → z ≡ knowing service y i v → after.effects.items ≡ mid.effects.items ++ effect.Known y.id i ∷ releases_in y.acting → map (message_in past) after.sends.items ≡ map (message_in past) mid.sends.items ++ others y.nodes y.id (content_in past (sent.Chosen i v))
+        → Learns records gives faults service past i v x z before after On
     learn_on e z after z_is effects sends =
         let s = some_of x.proposer leads in
         let k : Appends records faults gives x y before mid (record_bytes (kept.Known i v)) On = appends_as records gives faults x y before mid (kept.Known i w) (kept.Known i v) g On same_rec e h in
-        learns_on records gives faults service good x (kept_so.up up) kept_so.id kept_so.few s.0 s.1 i v next there short fits cut up y z before mid after k.0 k.1 k.2 z_is effects sends
+        learns_on records gives faults service past good x (kept_so.up up) kept_so.id kept_so.few s.0 s.1 i v next there short fits cut up y z before mid after k.0 k.1 k.2 z_is effects sends
 
-    pub learn_stuck : g ≡ On → (z : NodeValue K) → z.keeper ≡ y.keeper → z.base ≡ y.base → IsStuck records service x z
+    pub learn_stuck : g ≡ On → (z : NodeValue K) → z.keeper ≡ y.keeper → z.base ≡ y.base → IsStuck records service past x z
     learn_stuck e z keeper based =
         let s = some_of x.proposer leads in
         let k : Appends records faults gives x y before mid (record_bytes (kept.Known i v)) On = appends_as records gives faults x y before mid (kept.Known i w) (kept.Known i v) g On same_rec e h in
-        stuck_written records gives faults service x (kept_so.up up) (kept.Known i v) (spelled records gives faults service good x (kept_so.up up) kept_so.id kept_so.few s.0 s.1 i v next there short fits cut)
-        (due records gives faults service good x (kept_so.up up) kept_so.id kept_so.few s.0 s.1 i v next there short fits cut) refl y z refl k.0 keeper based
+        stuck_written records gives faults service past x (kept_so.up up) (kept.Known i v) (spelled records gives faults service past good x (kept_so.up up) kept_so.id kept_so.few s.0 s.1 i v next there short fits cut)
+        (due records gives faults service past good x (kept_so.up up) kept_so.id kept_so.few s.0 s.1 i v next there short fits cut) refl y z refl k.0 keeper based

@@ -14,7 +14,7 @@ use Rattle.rex_safety.specs.Node.Role.{Follower}
 use Rattle.rex_safety.specs.Calls.{begin, work_left, replayed_left, with_role}
 use Rattle.rex_safety.specs.Values.{Value, trace_of}
 use Rattle.rex_safety.specs.Lanes.{Here}
-use Rattle.rex_node.specs.Parts.{ActingValue, NodeValue, IsActing, IsUp, IsNode, here_of, role_of, work_of, ahead_of, ahead_left, leaving}
+use Rattle.rex_node.specs.Parts.{ActingValue, NodeValue, IsActing, IsUp, IsResting, here_of, role_of, work_of, ahead_of, ahead_left, leaving}
 
 pub role_active : (service : Declarations) (values : List Value) (a : AcceptorValue) (o : Option ProposerValue) (w : Option ActingValue) → IsActing service values a o w → is_active (role_of a o (is_some w)) ≡ is_some w
 role_active service values a None None h = refl
@@ -38,28 +38,30 @@ pub state_left : (P : ℕ → StateValue → Type 0) (w : Option ActingValue) (a
 state_left P None ahead start based replayed h k = k refl
 state_left P (Some a) ahead start based replayed h k = h
 
-module _ {K : Type 0} (records : K → List (List ℕ)) (service : Declarations) (x : NodeValue K) (u : IsUp service x (here_of records service x)) where
+module _ {K : Type 0} (records : K → List (List ℕ)) (service : Declarations) (past : List Value) (x : NodeValue K) (u : IsUp service x (here_of records service past x)) where
   -- the node is then a follower, as in the model
-  pub leaves : here_of records service (leaving x) ≡ (with_role Follower (begin (here_of records service x))).node
+  pub leaves : here_of records service past (leaving x) ≡ (with_role Follower (begin (here_of records service past x))).node
   leaves =
       ap (λ (b : ℕ). record h { role = Follower; work = no_work; replayed = replayed_left (is_some x.acting) b x.replayed }) u.base
       ∙ ap (λ (work : Work). record h { role = Follower; work = work; replayed = replayed_left (is_some x.acting) (base h.log) x.replayed }) (sym (no_work_left x.acting))
       ∙ ap (λ (t : Bool). record h { role = Follower; work = work_left t (work_of x.acting); replayed = replayed_left t (base h.log) x.replayed }) (sym (role_active service x.known x.acceptor x.proposer x.acting u.acting))
     where
       h : Here
-      h = here_of records service x
+      h = here_of records service past x
 
-  pub up_left : IsUp service (leaving x) (here_of records service (leaving x))
+  pub up_left : IsUp service (leaving x) (here_of records service past (leaving x))
   up_left = record {
     promised = u.promised;
     accepted = u.accepted;
+    offset = u.offset;
+    low = u.low;
     known = u.known;
     base = u.base;
     old_base = u.old_base;
     start = u.start;
     replayed = record {
       based = subst (λ (b : ℕ). b ≤ replayed_left (is_some x.acting) x.base x.replayed) u.base (replayed_from x.acting x.base x.replayed based);
-      replayed = replayed_to x.acting x.base x.replayed (length (known (here_of records service x).log)) based u.replayed.replayed;
+      replayed = replayed_to x.acting x.base x.replayed (length (known (here_of records service past x).log)) based u.replayed.replayed;
     };
     ahead = λ _. state_left (λ n s. run service (start_of service) (trace_of (take n x.known)) ≡ Some s) x.acting x.ahead x.start x.base x.replayed u.start u.ahead;
     caught_up = λ t. absurd (false≢true t);
@@ -73,5 +75,5 @@ module _ {K : Type 0} (records : K → List (List ℕ)) (service : Declarations)
       based : x.base ≤ x.replayed
       based = subst (λ (b : ℕ). b ≤ x.replayed) (sym u.base) u.replayed.based
 
-pub node_left : {K : Type 0} (records : K → List (List ℕ)) (service : Declarations) (x : NodeValue K) → IsNode records service x → IsNode records service (leaving x)
-node_left records service x h = record { id = h.id; few = h.few; up = λ t. up_left records service x (h.up t); rests = λ t. tt }
+pub node_left : {K : Type 0} (records : K → List (List ℕ)) (service : Declarations) (past : List Value) (x : NodeValue K) → IsResting records service past x → IsResting records service past (leaving x)
+node_left records service past x h = record { id = h.id; few = h.few; up = λ t. up_left records service past x (h.up t); rests = λ t. tt }

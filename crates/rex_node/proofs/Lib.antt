@@ -2,6 +2,7 @@ pub mod Blocks
 pub mod Adopting
 pub mod Bridges
 pub mod Following
+pub mod Fronts
 pub mod GoingLemmas
 pub mod Grows
 pub mod Instances
@@ -12,10 +13,11 @@ pub mod Counts
 pub mod Ending
 pub mod Executing
 pub mod Knowing
+pub mod Knows
 pub mod Leaving
 pub mod Limited
-pub mod Logs
 pub mod Majorities
+pub mod Moving
 pub mod Opening
 pub mod Proposed
 pub mod Quiet
@@ -23,9 +25,11 @@ pub mod Recorded
 pub mod Promises
 pub mod Choices
 pub mod Asked
+pub mod Bases
 pub mod ReplayLemmas
 pub mod Replays
 pub mod Proposing
+pub mod Dropping
 pub mod Dues
 pub mod Openings
 pub mod ProposedCuts
@@ -34,6 +38,7 @@ pub mod Recalling
 pub mod Restarts
 pub mod Rounds
 pub mod Spelled
+pub mod Told
 pub mod Turns
 pub mod Votes
 pub mod Written

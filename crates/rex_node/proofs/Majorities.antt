@@ -35,7 +35,8 @@ use Rattle.rex_node.specs.declared.going.Going.{Going}
 use Rattle.rex_node.specs.declared.going.Going.TheVariants.{On, Down}
 use Rattle.rex_node.specs.declared.step.Draft.{Draft}
 use Rattle.rex_node.specs.Electing.{acceptance_vote_on, reports_of}
-use Rattle.rex_node.specs.Parts.{NodeValue, ActingValue, HasGoneOn, IsActing, IsCutAt, IsKept, IsNode, IsProposer, IsSame, IsUp, OpenIsCut, Proposes, here_of, lead_of, open_of, proposal_in, role_of}
+use Rattle.rex_log.specs.Log.{proposal_in}
+use Rattle.rex_node.specs.Parts.{NodeValue, ActingValue, HasGoneOn, IsActing, IsCutAt, IsKept, IsResting, IsProposer, IsSame, IsUp, OpenIsCut, Proposes, here_of, lead_of, open_of, role_of}
 use Rattle.rex_node.specs.Calls.{armed_with}
 use Rattle.rex_node.specs.Going.{Comes, Ends, IsStuck, Leads, MayGoOn, RunsOn, above, so_far}
 use Rattle.rex_node.specs.Leading.{IsFree, IsOwnCut, Learns, knowing, replayed_to, settling}
@@ -67,9 +68,9 @@ chosen_of {K} x from ballot i v vote_is value_is = by x.proposer refl vote_is (p
         let n = is_quorum (acceptance_refusal p ballot i from) p.nodes (length p.accepted + 1) f in
         record { p = p; p_is = e; none = n.0; many = n.1; q = q; q_is = s; v_is = same_Some q.value v t }
 
-module _ {K : Type 0} (records : K → List (List ℕ)) (gives : K → List ℕ → Answer → K → Type 0) (faults : K → ℕ) (service : Declarations) (good : IsService service) (checked : IsChecked service) (x : NodeValue K) (node : IsNode records service x) (up : x.up ≡ true) (from ballot i : ℕ) (there : IsNodeOf x.nodes from) (before : Draft)
+module _ {K : Type 0} (records : K → List (List ℕ)) (gives : K → List ℕ → Answer → K → Type 0) (faults : K → ℕ) (service : Declarations) (past : List Value) (good : IsService service) (checked : IsChecked service) (x : NodeValue K) (node : IsResting records service past x) (up : x.up ≡ true) (from ballot i : ℕ) (there : IsNodeOf x.nodes from) (before : Draft)
     (v : Value) (c : Chosen x from ballot i v) where
-  u : IsUp service x (here_of records service x)
+  u : IsUp service x (here_of records service past x)
   u = node.up up
 
   abbrev whole : CallHere → CallHere
@@ -85,10 +86,10 @@ module _ {K : Type 0} (records : K → List (List ℕ)) (gives : K → List ℕ 
   proposes = subst (IsProposer x.nodes x.id x.acceptor) c.p_is u.proposer
 
   lead_fits : LeadFits (length x.known) (lead_of x.acceptor c.p (is_some x.acting))
-  lead_fits = subst (λ (o : Option ProposerValue). RoleFits (length x.known) (role_of x.acceptor o (is_some x.acting))) c.p_is (beside_of records service x u).role
+  lead_fits = subst (λ (o : Option ProposerValue). RoleFits (length x.known) (role_of x.acceptor o (is_some x.acting))) c.p_is (beside_of records service past x u).role
 
   opens_i : c.p.open_instance ≡ Some i
-  opens_i = opens records gives faults service x node up from ballot i there before c.p c.p_is c.none
+  opens_i = opens records gives faults service past x node up from ballot i there before c.p c.p_is c.none
 
   proposal_is : open_of x.acceptor c.p.open_instance ≡ Some (proposal_in c.q)
   proposal_is = ap (open_of x.acceptor) opens_i ∙ ap (option_map proposal_in) c.q_is
@@ -111,7 +112,7 @@ module _ {K : Type 0} (records : K → List (List ℕ)) (gives : K → List ℕ 
   pub choose_leads : IsSome x.proposer
   choose_leads = subst (λ (o : Option ProposerValue). IsSome o) (sym c.p_is) refl
 
-  pub choose_kept : IsKept records service x
+  pub choose_kept : IsKept records service past x
   choose_kept = record { id = node.id; few = node.few; up = node.up }
 
   cut_of : (w : Option ActingValue) → IsActing service x.known x.acceptor (Some c.p) w → IfSome w (λ (a : ActingValue). IsCutAt service x.known a v)
@@ -130,7 +131,7 @@ module _ {K : Type 0} (records : K → List (List ℕ)) (gives : K → List ℕ 
 
   majority : is_majority x.nodes (c.p.accepted ++ from ∷ []) ≡ true
   majority =
-      majority_more x.nodes x.id x.acceptor c.p proposes (is_some x.acting) sv from ballot i (one records gives faults service x node up from ballot i there before) (so_far records service x before) (parts records gives faults service x node up from ballot i there before c.p c.p_is c.none).2
+      majority_more x.nodes x.id x.acceptor c.p proposes (is_some x.acting) sv from ballot i (one records gives faults service past x node up from ballot i there before) (so_far records service past x before) (parts records gives faults service past x node up from ballot i there before c.p c.p_is c.none).2
       ∙ c.many
 
   vote_at : acceptance_vote c.p ballot i from ≡ vote.Quorum
@@ -141,7 +142,7 @@ module _ {K : Type 0} (records : K → List (List ℕ)) (gives : K → List ℕ 
 
   decides : (d : CallHere) → d.node.role ≡ role_of x.acceptor x.proposer (is_some x.acting) → whole d ≡ decide x.nodes sv x.id d l i v rest
   decides d role =
-      whole_is records gives faults service x node up from ballot i there before c.p c.p_is d role
+      whole_is records gives faults service past x node up from ballot i there before c.p c.p_is d role
       ∙ ap (λ (w : Vote). outcome x.nodes sv x.id from (lead_of x.acceptor c.p (is_some x.acting)) w d) vote_at
       ∙ ap (λ (t : ℕ). settle t x.nodes sv x.id (led (Leading more) d)) turns_are
       ∙ ap (λ (o : Option (Proposal Value)). lead_on x.nodes sv x.id (led (Leading more) d) more o rest) proposal_is
@@ -150,31 +151,31 @@ module _ {K : Type 0} (records : K → List (List ℕ)) (gives : K → List ℕ 
       ∙ ap (λ (w : Value). decide x.nodes sv x.id (led (Leading more) d) more i w rest) c.v_is
       ∙ decide_led x.nodes sv x.id d l (Leading more) (open_of x.acceptor c.p.open_instance) (c.p.accepted ++ from ∷ []) i v rest
 
-  leads_decide : Leads records gives faults whole (λ d. decide x.nodes sv x.id d l i v rest) x.keeper x.keeper (so_far records service x before) (so_far records service x before)
-  leads_decide = leads_same records gives faults whole (λ d. decide x.nodes sv x.id d l i v rest) x.keeper (so_far records service x before) (so_far records service x before) refl (λ f. decides (armed_with f (so_far records service x before)) refl)
+  leads_decide : Leads records gives faults service whole (λ d. decide x.nodes sv x.id d l i v rest) x.keeper x.keeper (so_far records service past x before) (so_far records service past x before)
+  leads_decide = leads_same records gives faults service whole (λ d. decide x.nodes sv x.id d l i v rest) x.keeper (so_far records service past x before) (so_far records service past x before) refl (λ f. decides (armed_with f (so_far records service past x before)) refl)
 
   -- what it knows then runs on
-  pub choose_fits : RunsOn service whole (so_far records service x before) → values_fit service (x.known ++ v ∷ []) ≡ true
+  pub choose_fits : RunsOn service whole (so_far records service past x before) → values_fit service (x.known ++ v ∷ []) ≡ true
   choose_fits runs =
       subst (λ (vs : List Value). values_fit service (vs ++ v ∷ []) ≡ true) (sym u.known)
       (fits_before service good checked d (rest d) (settle_learns x.nodes sv x.id (2 * length c.p.reported + 2) d)
-      (subst (λ (e : CallHere). values_fit service (known e.node.log) ≡ true) (decides (so_far records service x before) refl) runs))
+      (subst (λ (e : CallHere). values_fit service (known e.node.log) ≡ true) (decides (so_far records service past x before) refl) runs))
     where
       d : CallHere
-      d = send (learned sv x.id l i v (known (so_far records service x before).node.log) (logged (Known i v) None (so_far records service x before))) (others x.nodes x.id (Chose i v))
+      d = send (learned sv x.id l i v (known (so_far records service past x before).node.log) (logged (Known i v) None (so_far records service past x before))) (others x.nodes x.id (Chose i v))
 
   -- ---- and learns the value
 
-  learns_at : (z : NodeValue K) (mid : Draft) (g : Going) → Learns records gives faults service i v x z before mid g → Comes records gives faults service (λ d. decide x.nodes sv x.id d l i v rest) rest x z before mid g
+  learns_at : (z : NodeValue K) (mid : Draft) (g : Going) → Learns records gives faults service past i v x z before mid g → Comes records gives faults service past (λ d. decide x.nodes sv x.id d l i v rest) rest x z before mid g
   learns_at z mid g learns =
-      subst (λ (o : Option ProposerValue). IfSome o (λ (q : ProposerValue). (k : CallHere → CallHere) → Comes records gives faults service (λ d. decide x.nodes sv x.id d (lead_of x.acceptor q (is_some x.acting)) i v k) k x z before mid g)) c.p_is learns rest
+      subst (λ (o : Option ProposerValue). IfSome o (λ (q : ProposerValue). (k : CallHere → CallHere) → Comes records gives faults service past (λ d. decide x.nodes sv x.id d (lead_of x.acceptor q (is_some x.acting)) i v k) k x z before mid g)) c.p_is learns rest
 
   -- the append failed
-  pub choose_down : (z : NodeValue K) (mid : Draft) → IsSame x z → Learns records gives faults service i v x z before mid Down → Ends records gives faults service whole x z before mid Down
+  pub choose_down : (z : NodeValue K) (mid : Draft) → IsSame x z → Learns records gives faults service past i v x z before mid Down → Ends records gives faults service past whole x z before mid Down
   choose_down z mid same learns =
       let o = learns_at z mid Down learns in
       let down : z.up ≡ false = o.1 in (
-        (leads_fell records gives faults whole (λ d. decide x.nodes sv x.id d l i v rest) x.id x.keeper x.keeper z.keeper (so_far records service x before) (so_far records service x before) (so_far records service z mid) leads_decide o.0, o.1),
+        (leads_fell records gives faults service whole (λ d. decide x.nodes sv x.id d l i v rest) x.id x.keeper x.keeper z.keeper (so_far records service past x before) (so_far records service past x before) (so_far records service past z mid) leads_decide o.0, o.1),
         record {
           id = (subst (λ (n : ℕ). 0 < n) (sym same.id) node.id.0, let least = node.id.1 in let a : z.id ≡ x.id = same.id in let b : z.nodes ≡ x.nodes = same.nodes in omega (arith, least));
           few = subst (λ (n : ℕ). n ≤ most_nodes) (sym same.nodes) node.few;
@@ -183,13 +184,13 @@ module _ {K : Type 0} (records : K → List (List ℕ)) (gives : K → List ℕ 
         },
       )
 
-  module _ (z : NodeValue K) (mid : Draft) (same : IsSame x z) (learns : Learns records gives faults service i v x z before mid On) (known_is : z ≡ record (knowing service x i v) { keeper = z.keeper }) (longer : length (records x.keeper) < length (records z.keeper))
+  module _ (z : NodeValue K) (mid : Draft) (same : IsSame x z) (learns : Learns records gives faults service past i v x z before mid On) (known_is : z ≡ record (knowing service x i v) { keeper = z.keeper }) (longer : length (records x.keeper) < length (records z.keeper))
       (turns : ℕ) (turns_is : turns ≡ 2 * reports_of x.proposer + 3) where
-    comes_z : Comes records gives faults service (λ d. decide x.nodes sv x.id d l i v rest) rest x z before mid On
+    comes_z : Comes records gives faults service past (λ d. decide x.nodes sv x.id d l i v rest) rest x z before mid On
     comes_z = learns_at z mid On learns
 
-    leads_z : Leads records gives faults whole rest x.keeper z.keeper (so_far records service x before) (so_far records service z mid)
-    leads_z = leads_then records gives faults whole (λ d. decide x.nodes sv x.id d l i v rest) rest x.keeper x.keeper z.keeper (so_far records service x before) (so_far records service x before) (so_far records service z mid) leads_decide comes_z.0
+    leads_z : Leads records gives faults service whole rest x.keeper z.keeper (so_far records service past x before) (so_far records service past z mid)
+    leads_z = leads_then records gives faults service whole (λ d. decide x.nodes sv x.id d l i v rest) rest x.keeper x.keeper z.keeper (so_far records service past x before) (so_far records service past x before) (so_far records service past z mid) leads_decide comes_z.0
 
     left : turns - 1 ≡ 2 * length c.p.reported + 2
     left = let e : turns ≡ 2 * length c.p.reported + 3 = turns_is ∙ ap (λ (o : Option ProposerValue). 2 * reports_of o + 3) c.p_is in omega (arith, e)
@@ -197,7 +198,7 @@ module _ {K : Type 0} (records : K → List (List ℕ)) (gives : K → List ℕ 
     z_is : z ≡ record x { keeper = z.keeper; known = x.known ++ v ∷ []; replayed = replayed_to x.acting i x.replayed; proposer = Some (closed c.p); acting = option_map (settling service) x.acting }
     z_is = known_is ∙ ap (λ (o : Option ProposerValue). record (knowing service x i v) { keeper = z.keeper; proposer = option_map closed o }) c.p_is
 
-    pub chosen_kept : IsKept records service z
+    pub chosen_kept : IsKept records service past z
     chosen_kept = comes_z.1
 
     pub chosen_up : z.up ≡ true
@@ -221,19 +222,19 @@ module _ {K : Type 0} (records : K → List (List ℕ)) (gives : K → List ℕ 
         (let few : above (length (x.known ++ v ∷ [])) c.p.reported ≤ length c.p.reported = above_most (length (x.known ++ v ∷ [])) c.p.reported in omega (arith, few, left))
 
     rest_of : settle (turns - 1) z.nodes (service_of service z.seed) z.id ≡ rest
-    rest_of = settles_as records gives faults service x z (turns - 1) same ∙ ap (λ (t : ℕ). settle t x.nodes sv x.id) left
+    rest_of = settles_as records gives faults service past x z (turns - 1) same ∙ ap (λ (t : ℕ). settle t x.nodes sv x.id) left
 
-    pub chosen_runs : RunsOn service whole (so_far records service x before) → RunsOn service (settle (turns - 1) z.nodes (service_of service z.seed) z.id) (so_far records service z mid)
-    chosen_runs runs = subst (λ (k : CallHere → CallHere). RunsOn service k (so_far records service z mid)) (sym rest_of) (rest_runs records gives faults service whole rest x z before mid leads_z runs)
+    pub chosen_runs : RunsOn service whole (so_far records service past x before) → RunsOn service (settle (turns - 1) z.nodes (service_of service z.seed) z.id) (so_far records service past z mid)
+    chosen_runs runs = subst (λ (k : CallHere → CallHere). RunsOn service k (so_far records service past z mid)) (sym rest_of) (rest_runs records gives faults service past whole rest x z before mid leads_z runs)
 
     pub chosen_count : faults x.keeper < 2 ^ 64 - 1 → faults z.keeper < 2 ^ 64 - 1
     chosen_count h = subst (λ (n : ℕ). n < 2 ^ 64 - 1) (sym leads_z.counted) h
 
     -- as going on ends, so does the call
-    pub chosen_ends : (y : NodeValue K) (after : Draft) (result : Result Going AllocError) → IfOk result (Ends records gives faults service (settle (turns - 1) z.nodes (service_of service z.seed) z.id) z y mid after) → IfOk result (Ends records gives faults service whole x y before after)
-    chosen_ends y after (Ok going) h = ends_then records gives faults service whole rest x z y before mid after going same.id leads_z (subst (λ (k : CallHere → CallHere). Ends records gives faults service k z y mid after going) rest_of h)
+    pub chosen_ends : (y : NodeValue K) (after : Draft) (result : Result Going AllocError) → IfOk result (Ends records gives faults service past (settle (turns - 1) z.nodes (service_of service z.seed) z.id) z y mid after) → IfOk result (Ends records gives faults service past whole x y before after)
+    chosen_ends y after (Ok going) h = ends_then records gives faults service past whole rest x z y before mid after going same.id leads_z (subst (λ (k : CallHere → CallHere). Ends records gives faults service past k z y mid after going) rest_of h)
     chosen_ends y after (Err e) h = tt
 
-    pub chosen_stuck : (y : NodeValue K) (result : Result Going AllocError) → OnErr result (IsStuck records service z y) → OnErr result (IsStuck records service x y)
+    pub chosen_stuck : (y : NodeValue K) (result : Result Going AllocError) → OnErr result (IsStuck records service past z y) → OnErr result (IsStuck records service past x y)
     chosen_stuck y (Ok going) h = tt
-    chosen_stuck y (Err e) h = stuck_then records service x z y (stuck_longer records service x z leads_z.written leads_z.grown longer (chosen_kept.up chosen_up).base) h
+    chosen_stuck y (Err e) h = stuck_then records service past x z y (stuck_longer records service past x z leads_z.written leads_z.grown longer (chosen_kept.up chosen_up).base) h

@@ -22,7 +22,7 @@ use Rattle.rex_report.specs.declared.effect.Effect.{Effect}
 use Rattle.rex_report.specs.declared.effect.Effect.TheVariants as effect
 use Rattle.rex_msg.specs.declared.message.Message.{Message as Sent}
 use Rattle.rex_msg.specs.declared.message.Content.TheVariants as sent
-use Rattle.rex_safety.specs.Records.{Rec, Proposal, proposal_of, known}
+use Rattle.rex_safety.specs.Records.{Rec, Proposal, proposal_of, offset, known}
 use Rattle.rex_safety.specs.Records.Rec.{Accepted}
 use Rattle.rex_safety.specs.Node.{Failure}
 use Rattle.rex_safety.specs.Node.Role.{Leads as Leading}
@@ -35,8 +35,9 @@ use Rattle.std.proofs.lemmas.Option.{same_Some}
 use Rattle.rex_node.specs.declared.going.Going.{Going}
 use Rattle.rex_node.specs.declared.going.Going.TheVariants.{On, Down}
 use Rattle.rex_node.specs.declared.step.Draft.{Draft}
-use Rattle.rex_node.specs.Messages.{content_in, message_in}
-use Rattle.rex_node.specs.Parts.{NodeValue, ActingValue, ActsFor, IsActing, IsProposer, Proposes, IsCutAt, IsUp, IsKept, HasOpen, OpenIsCut, AreShort, Keeps, Falls, here_of, lead_of, log_of, open_of, proposal_in, role_of, work_of}
+use Rattle.rex_log.specs.Messages.{content_in, message_in}
+use Rattle.rex_log.specs.Log.{log_of, proposal_in}
+use Rattle.rex_node.specs.Parts.{NodeValue, ActingValue, ActsFor, IsActing, IsProposer, Proposes, IsCutAt, IsUp, IsKept, HasOpen, OpenIsCut, AreShort, Keeps, Falls, here_of, lead_of, open_of, role_of, work_of}
 use Rattle.rex_node.specs.Calls.{armed_with}
 use Rattle.rex_node.specs.Going.{Appends, IsStuck, Comes, so_far}
 use Rattle.rex_node.specs.Leading.{FromLead, IsOwnCut, Opens, accept_own, opened}
@@ -45,10 +46,12 @@ use Rattle.rex_node.proofs.GoingLemmas.{leads_same, leads_then}
 use Rattle.rex_node.proofs.Written.{appends_as, call_is, log_written, stuck_written, written_on, written_down}
 
 -- the parts that a node has of its records don't know its role
-pub logged_as : {K : Type 0} (service : Declarations) (x y : NodeValue K) (log : List (Rec Value StateValue)) → y.acceptor ≡ x.acceptor → y.known ≡ x.known → y.base ≡ x.base → y.old_base ≡ x.old_base → y.start ≡ x.start → IsLogged service x log → IsLogged service y log
-logged_as service x y log a k b o s h = record {
+pub logged_as : {K : Type 0} (service : Declarations) (x y : NodeValue K) (log : List (Rec Value StateValue)) → y.acceptor ≡ x.acceptor → y.offset ≡ x.offset → y.known ≡ x.known → y.base ≡ x.base → y.old_base ≡ x.old_base → y.start ≡ x.start → IsLogged service x log → IsLogged service y log
+logged_as service x y log a f k b o s h = record {
   promised = ap (λ (v : AcceptorValue). v.promised) a ∙ h.promised;
   accepted = ap (λ (v : AcceptorValue). map proposal_in v.accepted) a ∙ h.accepted;
+  offset_is = f ∙ h.offset_is;
+  low = subst (λ (n : ℕ). n ≤ y.base) (sym f) (subst (λ (n : ℕ). x.offset ≤ n) (sym b) h.low);
   known = k ∙ h.known;
   base = b ∙ h.base;
   old_base = o ∙ h.old_base;
@@ -147,19 +150,19 @@ some_of (Some x) h = (x, refl)
 
 -- ---- a node that proposes
 
-module _ {K : Type 0} (records : K → List (List ℕ)) (gives : K → List ℕ → Answer → K → Type 0) (faults : K → ℕ) (service : Declarations) (x : NodeValue K) (u : IsUp service x (here_of records service x)) (id : (0 < x.id) × (x.id ≤ x.nodes)) (few : x.nodes ≤ most_nodes)
+module _ {K : Type 0} (records : K → List (List ℕ)) (gives : K → List ℕ → Answer → K → Type 0) (faults : K → ℕ) (service : Declarations) (past : List Value) (x : NodeValue K) (u : IsUp service x (here_of records service past x)) (id : (0 < x.id) × (x.id ≤ x.nodes)) (few : x.nodes ≤ most_nodes)
     (p : ProposerValue) (e : x.proposer ≡ Some p) (i : ℕ) (v : Value) (next : i ≡ length x.known + 1) (there : ballots.IsInstance i) (short : IsValue v) (cut : IsOwnCut service x v) where
   abbrev r : Rec Value StateValue
   r = Accepted p.ballot i v
 
   abbrev log : List (Rec Value StateValue)
-  log = log_of service (records x.keeper)
+  log = log_of service past (records x.keeper)
 
   proposes : Proposes x.nodes x.id x.acceptor p
   proposes = subst (IsProposer x.nodes x.id x.acceptor) e u.proposer
 
   lead_fits : LeadFits (length x.known) (lead_of x.acceptor p (is_some x.acting))
-  lead_fits = subst (λ (o : Option ProposerValue). RoleFits (length x.known) (role_of x.acceptor o (is_some x.acting))) e (beside_of records service x u).role
+  lead_fits = subst (λ (o : Option ProposerValue). RoleFits (length x.known) (role_of x.acceptor o (is_some x.acting))) e (beside_of records service past x u).role
 
   pub spelled : HasSpelling (kept.Accepted p.ballot i v)
   spelled = record { in_range = (fits_ballot p.ballot lead_fits.ballot, there, short) }
@@ -171,16 +174,21 @@ module _ {K : Type 0} (records : K → List (List ℕ)) (gives : K → List ℕ 
     abbrev z : NodeValue K
     z = record x { keeper = keeper; acceptor = accepting x.acceptor (own p i v); proposer = Some (proposed p i) }
 
-    log_is : log_of service (records keeper) ≡ r ∷ log
-    log_is = log_written records gives faults service x u (kept.Accepted p.ballot i v) spelled tt refl (records keeper) grown
+    log_is : log_of service past (records keeper) ≡ r ∷ log
+    log_is = log_written records gives faults service past x u (kept.Accepted p.ballot i v) spelled tt refl (records keeper) grown
 
-    z_logged : IsLogged service z (log_of service (records keeper))
+    late : offset log < i
+    late =
+        let l = logged_of records service past x u in
+        omega (arith, l.low, l.few, next, l.offset_is)
+
+    z_logged : IsLogged service z (log_of service past (records keeper))
     z_logged = subst (IsLogged service z) (sym log_is)
-        (logged_as service (record x { acceptor = accepting x.acceptor (own p i v) }) z (r ∷ log) refl refl refl refl refl
-        (logged_accepted service x log (logged_of records service x u) p.ballot i v lead_fits.ballot (instance_fits i there) short))
+        (logged_as service (record x { acceptor = accepting x.acceptor (own p i v) }) z (r ∷ log) refl refl refl refl refl refl
+        (logged_accepted service x log (logged_of records service past x u) p.ballot i v lead_fits.ballot (instance_fits i there) short late))
 
-    z_beside : Beside records service z
-    z_beside = let b = beside_of records service x u in record {
+    z_beside : Beside records service past z
+    z_beside = let b = beside_of records service past x u in record {
       based = b.based;
       replayed = b.replayed;
       ahead = b.ahead;
@@ -190,31 +198,31 @@ module _ {K : Type 0} (records : K → List (List ℕ)) (gives : K → List ℕ 
       role = role_opened (length x.known) x.acceptor p (is_some x.acting) i v (omega (arith, next)) (instance_fits i there) lead_fits;
     }
 
-    z_kept : IsKept records service z
-    z_kept = record { id = id; few = few; up = λ t. up_of records service z z_logged z_beside }
+    z_kept : IsKept records service past z
+    z_kept = record { id = id; few = few; up = λ t. up_of records service past z z_logged z_beside }
 
     -- the model's call comes to the same
-    z_comes : (told : Effect) (before after : Draft) (k : CallHere → CallHere) (f : Option Failure) → after.effects.items ≡ before.effects.items ++ told ∷ [] → map message_in after.sends.items ≡ map message_in before.sends.items ++ others x.nodes x.id (Accept p.ballot i v)
-        → k (send (say told (led (leading (lead_of x.acceptor p (is_some x.acting)) (Some (proposal_of p.ballot i v)) (x.id ∷ []) (is_some x.acting)) (armed_with f (logged r None (so_far records service x before))))) (others x.nodes x.id (Accept p.ballot i v)))
-        ≡ k (led (leading (lead_of x.acceptor p (is_some x.acting)) (Some (proposal_of p.ballot i v)) (x.id ∷ []) (is_some x.acting)) (armed_with f (so_far records service z after)))
+    z_comes : (told : Effect) (before after : Draft) (k : CallHere → CallHere) (f : Option Failure) → after.effects.items ≡ before.effects.items ++ told ∷ [] → map (message_in past) after.sends.items ≡ map (message_in past) before.sends.items ++ others x.nodes x.id (Accept p.ballot i v)
+        → k (send (say told (led (leading (lead_of x.acceptor p (is_some x.acting)) (Some (proposal_of p.ballot i v)) (x.id ∷ []) (is_some x.acting)) (armed_with f (logged r None (so_far records service past x before))))) (others x.nodes x.id (Accept p.ballot i v)))
+        ≡ k (led (leading (lead_of x.acceptor p (is_some x.acting)) (Some (proposal_of p.ballot i v)) (x.id ∷ []) (is_some x.acting)) (armed_with f (so_far records service past z after)))
     z_comes told before after k f effects sends =
-        ap k (call_is (r ∷ log) (log_of service (records keeper)) x.up f (leading (lead_of x.acceptor p (is_some x.acting)) (Some (proposal_of p.ballot i v)) (x.id ∷ []) (is_some x.acting)) (work_of x.acting) (work_of x.acting) x.replayed x.replayed
-        (map message_in before.sends.items ++ others x.nodes x.id (Accept p.ballot i v)) (map message_in after.sends.items) (before.effects.items ++ told ∷ []) after.effects.items
+        ap k (call_is (r ∷ log) (log_of service past (records keeper)) x.up f (leading (lead_of x.acceptor p (is_some x.acting)) (Some (proposal_of p.ballot i v)) (x.id ∷ []) (is_some x.acting)) (work_of x.acting) (work_of x.acting) x.replayed x.replayed
+        (map (message_in past) before.sends.items ++ others x.nodes x.id (Accept p.ballot i v)) (map (message_in past) after.sends.items) (before.effects.items ++ told ∷ []) after.effects.items
         (sym log_is) refl refl (sym sends) (sym effects))
 
   -- the call goes on with its proposal open
   pub opens_on : (up : x.up ≡ true) (told : Effect) (y z : NodeValue K) (before mid after : Draft) → Keeps records faults gives x y (record_bytes (kept.Accepted p.ballot i v)) → mid.effects.items ≡ before.effects.items → mid.sends.items ≡ before.sends.items
-      → z ≡ opened y i v → after.effects.items ≡ mid.effects.items ++ told ∷ [] → FromLead y (λ l. map message_in after.sends.items ≡ map message_in mid.sends.items ++ others y.nodes y.id (content_in (sent.Accept l.ballot i v)))
-      → Opens records gives faults service told i v x z before after On
+      → z ≡ opened y i v → after.effects.items ≡ mid.effects.items ++ told ∷ [] → FromLead y (λ l. map (message_in past) after.sends.items ≡ map (message_in past) mid.sends.items ++ others y.nodes y.id (content_in past (sent.Accept l.ballot i v)))
+      → Opens records gives faults service past told i v x z before after On
   opens_on up told y z before mid after h effects sends z_is more_effects more_sends =
-      subst (λ (o : Option ProposerValue). IfSome o (λ (q : ProposerValue). (k : CallHere → CallHere) → Comes records gives faults service (λ d. propose x.nodes x.id told d (lead_of x.acceptor q (is_some x.acting)) i v k) (λ d. k (led (leading (lead_of x.acceptor q (is_some x.acting)) (Some (proposal_of q.ballot i v)) (x.id ∷ []) (is_some x.acting)) d)) x z before after On))
+      subst (λ (o : Option ProposerValue). IfSome o (λ (q : ProposerValue). (k : CallHere → CallHere) → Comes records gives faults service past (λ d. propose x.nodes x.id told d (lead_of x.acceptor q (is_some x.acting)) i v k) (λ d. k (led (leading (lead_of x.acceptor q (is_some x.acting)) (Some (proposal_of q.ballot i v)) (x.id ∷ []) (is_some x.acting)) d)) x z before after On))
       (sym e)
-      (λ k. subst (λ (n : NodeValue K). Comes records gives faults service (λ d. propose x.nodes x.id told d (lead_of x.acceptor p (is_some x.acting)) i v k) (λ d. k (led (leading (lead_of x.acceptor p (is_some x.acting)) (Some (proposal_of p.ballot i v)) (x.id ∷ []) (is_some x.acting)) d)) x n before after On) (sym all) (
-        leads_then records gives faults (λ d. propose x.nodes x.id told d (lead_of x.acceptor p (is_some x.acting)) i v k) (λ d. k (send (say told (led (leading (lead_of x.acceptor p (is_some x.acting)) (Some (proposal_of p.ballot i v)) (x.id ∷ []) (is_some x.acting)) d)) (others x.nodes x.id (Accept p.ballot i v)))) (λ d. k (led (leading (lead_of x.acceptor p (is_some x.acting)) (Some (proposal_of p.ballot i v)) (x.id ∷ []) (is_some x.acting)) d))
-            x.keeper y.keeper y.keeper (so_far records service x before) (logged r None (so_far records service x before)) (so_far records service (z_at y.keeper) after)
-            (written_on records gives faults service x u (kept.Accepted p.ballot i v) spelled tt refl y before (λ d. propose x.nodes x.id told d (lead_of x.acceptor p (is_some x.acting)) i v k) (λ d. k (send (say told (led (leading (lead_of x.acceptor p (is_some x.acting)) (Some (proposal_of p.ballot i v)) (x.id ∷ []) (is_some x.acting)) d)) (others x.nodes x.id (Accept p.ballot i v)))) (λ f. refl) h)
-            (leads_same records gives faults (λ d. k (send (say told (led (leading (lead_of x.acceptor p (is_some x.acting)) (Some (proposal_of p.ballot i v)) (x.id ∷ []) (is_some x.acting)) d)) (others x.nodes x.id (Accept p.ballot i v)))) (λ d. k (led (leading (lead_of x.acceptor p (is_some x.acting)) (Some (proposal_of p.ballot i v)) (x.id ∷ []) (is_some x.acting)) d))
-            y.keeper (logged r None (so_far records service x before)) (so_far records service (z_at y.keeper) after) (ap length (log_is y.keeper h.records))
+      (λ k. subst (λ (n : NodeValue K). Comes records gives faults service past (λ d. propose x.nodes x.id told d (lead_of x.acceptor p (is_some x.acting)) i v k) (λ d. k (led (leading (lead_of x.acceptor p (is_some x.acting)) (Some (proposal_of p.ballot i v)) (x.id ∷ []) (is_some x.acting)) d)) x n before after On) (sym all) (
+        leads_then records gives faults service (λ d. propose x.nodes x.id told d (lead_of x.acceptor p (is_some x.acting)) i v k) (λ d. k (send (say told (led (leading (lead_of x.acceptor p (is_some x.acting)) (Some (proposal_of p.ballot i v)) (x.id ∷ []) (is_some x.acting)) d)) (others x.nodes x.id (Accept p.ballot i v)))) (λ d. k (led (leading (lead_of x.acceptor p (is_some x.acting)) (Some (proposal_of p.ballot i v)) (x.id ∷ []) (is_some x.acting)) d))
+            x.keeper y.keeper y.keeper (so_far records service past x before) (logged r None (so_far records service past x before)) (so_far records service past (z_at y.keeper) after)
+            (written_on records gives faults service past x u (kept.Accepted p.ballot i v) spelled tt refl y before (λ d. propose x.nodes x.id told d (lead_of x.acceptor p (is_some x.acting)) i v k) (λ d. k (send (say told (led (leading (lead_of x.acceptor p (is_some x.acting)) (Some (proposal_of p.ballot i v)) (x.id ∷ []) (is_some x.acting)) d)) (others x.nodes x.id (Accept p.ballot i v)))) (λ f. refl) h)
+            (leads_same records gives faults service (λ d. k (send (say told (led (leading (lead_of x.acceptor p (is_some x.acting)) (Some (proposal_of p.ballot i v)) (x.id ∷ []) (is_some x.acting)) d)) (others x.nodes x.id (Accept p.ballot i v)))) (λ d. k (led (leading (lead_of x.acceptor p (is_some x.acting)) (Some (proposal_of p.ballot i v)) (x.id ∷ []) (is_some x.acting)) d))
+            y.keeper (logged r None (so_far records service past x before)) (so_far records service past (z_at y.keeper) after) (ap length (log_is y.keeper h.records))
             (λ f. z_comes y.keeper h.records told before after k f (more_effects ∙ ap (λ (es : List Effect). es ++ told ∷ []) effects) sends_are)),
         z_kept y.keeper h.records,
         up,
@@ -226,23 +234,23 @@ module _ {K : Type 0} (records : K → List (List ℕ)) (gives : K → List ℕ 
       all : z ≡ z_at y.keeper
       all = z_is ∙ ap (λ (n : NodeValue K). opened n i v) y_is ∙ ap (λ (o : Option ProposerValue). record x { keeper = y.keeper; acceptor = accept_own o x.acceptor i v; proposer = option_map (λ (q : ProposerValue). proposed q i) o }) e
 
-      sends_are : map message_in after.sends.items ≡ map message_in before.sends.items ++ others x.nodes x.id (Accept p.ballot i v)
-      sends_are = subst (λ (o : Option ProposerValue). IfSome o (λ (q : ProposerValue). map message_in after.sends.items ≡ map message_in before.sends.items ++ others x.nodes x.id (Accept q.ballot i v))) e
-          (subst (λ (ms : List Sent). IfSome x.proposer (λ (q : ProposerValue). map message_in after.sends.items ≡ map message_in ms ++ others x.nodes x.id (Accept q.ballot i v))) sends
-          (subst (λ (n : NodeValue K). FromLead n (λ l. map message_in after.sends.items ≡ map message_in mid.sends.items ++ others n.nodes n.id (content_in (sent.Accept l.ballot i v)))) y_is more_sends))
+      sends_are : map (message_in past) after.sends.items ≡ map (message_in past) before.sends.items ++ others x.nodes x.id (Accept p.ballot i v)
+      sends_are = subst (λ (o : Option ProposerValue). IfSome o (λ (q : ProposerValue). map (message_in past) after.sends.items ≡ map (message_in past) before.sends.items ++ others x.nodes x.id (Accept q.ballot i v))) e
+          (subst (λ (ms : List Sent). IfSome x.proposer (λ (q : ProposerValue). map (message_in past) after.sends.items ≡ map (message_in past) ms ++ others x.nodes x.id (Accept q.ballot i v))) sends
+          (subst (λ (n : NodeValue K). FromLead n (λ l. map (message_in past) after.sends.items ≡ map (message_in past) mid.sends.items ++ others n.nodes n.id (content_in past (sent.Accept l.ballot i v)))) y_is more_sends))
 
   -- or the node is down
   pub opens_down : (told : Effect) (y : NodeValue K) (before after : Draft) → Falls records faults gives x y (record_bytes (kept.Accepted p.ballot i v)) → after.effects.items ≡ before.effects.items ++ effect.Down x.id ∷ [] → after.sends.items ≡ []
-      → Opens records gives faults service told i v x y before after Down
+      → Opens records gives faults service past told i v x y before after Down
   opens_down told y before after h effects sends =
-      subst (λ (o : Option ProposerValue). IfSome o (λ (q : ProposerValue). (k : CallHere → CallHere) → Comes records gives faults service (λ d. propose x.nodes x.id told d (lead_of x.acceptor q (is_some x.acting)) i v k) (λ d. k (led (leading (lead_of x.acceptor q (is_some x.acting)) (Some (proposal_of q.ballot i v)) (x.id ∷ []) (is_some x.acting)) d)) x y before after Down))
+      subst (λ (o : Option ProposerValue). IfSome o (λ (q : ProposerValue). (k : CallHere → CallHere) → Comes records gives faults service past (λ d. propose x.nodes x.id told d (lead_of x.acceptor q (is_some x.acting)) i v k) (λ d. k (led (leading (lead_of x.acceptor q (is_some x.acting)) (Some (proposal_of q.ballot i v)) (x.id ∷ []) (is_some x.acting)) d)) x y before after Down))
       (sym e)
-      (λ k. written_down records gives faults service x u (kept.Accepted p.ballot i v) spelled tt refl y before (λ d. propose x.nodes x.id told d (lead_of x.acceptor p (is_some x.acting)) i v k) (λ d. k (send (say told (led (leading (lead_of x.acceptor p (is_some x.acting)) (Some (proposal_of p.ballot i v)) (x.id ∷ []) (is_some x.acting)) d)) (others x.nodes x.id (Accept p.ballot i v)))) (λ f. refl)
+      (λ k. written_down records gives faults service past x u (kept.Accepted p.ballot i v) spelled tt refl y before (λ d. propose x.nodes x.id told d (lead_of x.acceptor p (is_some x.acting)) i v k) (λ d. k (send (say told (led (leading (lead_of x.acceptor p (is_some x.acting)) (Some (proposal_of p.ballot i v)) (x.id ∷ []) (is_some x.acting)) d)) (others x.nodes x.id (Accept p.ballot i v)))) (λ f. refl)
       after refl h effects sends (λ d. k (led (leading (lead_of x.acceptor p (is_some x.acting)) (Some (proposal_of p.ballot i v)) (x.id ∷ []) (is_some x.acting)) d)))
 
 -- ---- the same of the call
 
-module _ {K : Type 0} (records : K → List (List ℕ)) (gives : K → List ℕ → Answer → K → Type 0) (faults : K → ℕ) (service : Declarations) (x : NodeValue K) (kept_so : IsKept records service x) (up : x.up ≡ true) (leads : IsSome x.proposer)
+module _ {K : Type 0} (records : K → List (List ℕ)) (gives : K → List ℕ → Answer → K → Type 0) (faults : K → ℕ) (service : Declarations) (past : List Value) (x : NodeValue K) (kept_so : IsKept records service past x) (up : x.up ≡ true) (leads : IsSome x.proposer)
     (i : ℕ) (v : Value) (next : i ≡ length x.known + 1) (there : ballots.IsInstance i) (short : IsValue v) (cut : IsOwnCut service x v)
     (b : ℕ) (b_is : b ≡ unwrap_or (option_map (λ (p : ProposerValue). p.ballot) x.proposer) 0) where
   p_of : (p : ProposerValue) × (x.proposer ≡ Some p)
@@ -255,27 +263,27 @@ module _ {K : Type 0} (records : K → List (List ℕ)) (gives : K → List ℕ 
   propose_spelled w w_is =
       let s = some_of x.proposer leads in
       subst (λ (n : ℕ). HasSpelling (kept.Accepted n i w)) (sym (b_own s.0 s.1)) (subst (λ (z : Value). HasSpelling (kept.Accepted s.0.ballot i z)) (sym w_is)
-      (spelled records gives faults service x (kept_so.up up) kept_so.id kept_so.few s.0 s.1 i v next there short cut))
+      (spelled records gives faults service past x (kept_so.up up) kept_so.id kept_so.few s.0 s.1 i v next there short cut))
 
   module _ (told : Effect) (w : Value) (w_is : w ≡ v) (y : NodeValue K) (before mid : Draft) (g : Going) (h : Appends records faults gives x y before mid (record_bytes (kept.Accepted b i w)) g) where
     same_rec : (p : ProposerValue) → x.proposer ≡ Some p → (let r : KeptRec = kept.Accepted b i w in r) ≡ kept.Accepted p.ballot i v
     same_rec p e = ap (λ (n : ℕ). kept.Accepted n i w) (b_own p e) ∙ ap (λ (z : Value). kept.Accepted p.ballot i z) w_is
 
-    pub propose_down : g ≡ Down → Opens records gives faults service told i v x y before mid Down
+    pub propose_down : g ≡ Down → Opens records gives faults service past told i v x y before mid Down
     propose_down e =
         let s = some_of x.proposer leads in
         let k : Appends records faults gives x y before mid (record_bytes (kept.Accepted s.0.ballot i v)) Down = appends_as records gives faults x y before mid (kept.Accepted b i w) (kept.Accepted s.0.ballot i v) g Down (same_rec s.0 s.1) e h in
-        opens_down records gives faults service x (kept_so.up up) kept_so.id kept_so.few s.0 s.1 i v next there short cut told y before mid k.0 k.1 k.2
+        opens_down records gives faults service past x (kept_so.up up) kept_so.id kept_so.few s.0 s.1 i v next there short cut told y before mid k.0 k.1 k.2
 
-    pub propose_on : g ≡ On → (z : NodeValue K) (after : Draft) → z ≡ opened y i v → after.effects.items ≡ mid.effects.items ++ told ∷ [] → FromLead y (λ l. map message_in after.sends.items ≡ map message_in mid.sends.items ++ others y.nodes y.id (content_in (sent.Accept l.ballot i v)))
-        → Opens records gives faults service told i v x z before after On
+    pub propose_on : g ≡ On → (z : NodeValue K) (after : Draft) → z ≡ opened y i v → after.effects.items ≡ mid.effects.items ++ told ∷ [] → FromLead y (λ l. map (message_in past) after.sends.items ≡ map (message_in past) mid.sends.items ++ others y.nodes y.id (content_in past (sent.Accept l.ballot i v)))
+        → Opens records gives faults service past told i v x z before after On
     propose_on e z after z_is effects sends =
         let s = some_of x.proposer leads in
         let k : Appends records faults gives x y before mid (record_bytes (kept.Accepted s.0.ballot i v)) On = appends_as records gives faults x y before mid (kept.Accepted b i w) (kept.Accepted s.0.ballot i v) g On (same_rec s.0 s.1) e h in
-        opens_on records gives faults service x (kept_so.up up) kept_so.id kept_so.few s.0 s.1 i v next there short cut up told y z before mid after k.0 k.1 k.2 z_is effects sends
+        opens_on records gives faults service past x (kept_so.up up) kept_so.id kept_so.few s.0 s.1 i v next there short cut up told y z before mid after k.0 k.1 k.2 z_is effects sends
 
-    pub propose_stuck : g ≡ On → (z : NodeValue K) → z.keeper ≡ y.keeper → z.base ≡ y.base → IsStuck records service x z
+    pub propose_stuck : g ≡ On → (z : NodeValue K) → z.keeper ≡ y.keeper → z.base ≡ y.base → IsStuck records service past x z
     propose_stuck e z keeper based =
         let s = some_of x.proposer leads in
         let k : Appends records faults gives x y before mid (record_bytes (kept.Accepted s.0.ballot i v)) On = appends_as records gives faults x y before mid (kept.Accepted b i w) (kept.Accepted s.0.ballot i v) g On (same_rec s.0 s.1) e h in
-        stuck_written records gives faults service x (kept_so.up up) (kept.Accepted s.0.ballot i v) (spelled records gives faults service x (kept_so.up up) kept_so.id kept_so.few s.0 s.1 i v next there short cut) tt refl y z refl k.0 keeper based
+        stuck_written records gives faults service past x (kept_so.up up) (kept.Accepted s.0.ballot i v) (spelled records gives faults service past x (kept_so.up up) kept_so.id kept_so.few s.0 s.1 i v next there short cut) tt refl y z refl k.0 keeper based

@@ -18,7 +18,8 @@ use Rattle.rex_safety.specs.Values.{Value}
 use Rattle.rex_safety.specs.Lanes.{CallHere}
 use Rattle.rex_state.specs.Value.{StateValue}
 use Rattle.rex_node.specs.Calls.{armed_with}
-use Rattle.rex_node.specs.Parts.{NodeValue, Proposes, lead_of, role_of, proposal_in}
+use Rattle.rex_log.specs.Log.{proposal_in}
+use Rattle.rex_node.specs.Parts.{NodeValue, Proposes, lead_of, role_of}
 use Rattle.rex_node.specs.Leading.{FromLead}
 use Rattle.rex_node.proofs.Bridges.{majority_is}
 

@@ -24,7 +24,7 @@ use Rattle.rex_node.specs.Calls.{armed_with, counts_for}
 use Rattle.rex_node.specs.Going.{Ends, Fell, Leads as LeadsOn, so_far}
 use Rattle.rex_node.specs.Leading.{IsOwnCut}
 use Rattle.rex_node.specs.Cutting.{HasPiece, IsIdle, IsOwnPiece, IsPieceOf, ProposesCut, ProposesPiece, counts_in, cut_at, cut_in, with_cut}
-use Rattle.rex_node.specs.Parts.{ActingValue, NodeValue, Executes, IsCutAt, IsNode, IsUp, here_of, lead_of, open_of, role_of, work_of}
+use Rattle.rex_node.specs.Parts.{ActingValue, NodeValue, Executes, IsCutAt, IsResting, IsUp, here_of, lead_of, open_of, role_of, work_of}
 use Rattle.rex_node.proofs.Dues.{counts_are}
 use Rattle.rex_node.proofs.Executing.{executes}
 use Rattle.rex_node.proofs.GoingLemmas.{leads_fell, leads_same, leads_then}
@@ -40,14 +40,14 @@ own_piece : (w : Option ActingValue) (limits : Option (List ℕ)) (p : Piece) �
 own_piece None limits p h = absurd h
 own_piece (Some a) limits p h = (a, refl, h)
 
-module _ {K : Type 0} (records : K → List (List ℕ)) (gives : K → List ℕ → Answer → K → Type 0) (faults : K → ℕ) (service : Declarations) where
+module _ {K : Type 0} (records : K → List (List ℕ)) (gives : K → List ℕ → Answer → K → Type 0) (faults : K → ℕ) (service : Declarations) (past : List Value) where
   -- a call that does the same ends as the other
-  ends_as : (whole other : CallHere → CallHere) (x y : NodeValue K) (first draft : Draft) (going : Going) → ((f : Option Failure) → other (armed_with f (so_far records service x first)) ≡ whole (armed_with f (so_far records service x first)))
-      → Ends records gives faults service whole x y first draft going → Ends records gives faults service other x y first draft going
+  ends_as : (whole other : CallHere → CallHere) (x y : NodeValue K) (first draft : Draft) (going : Going) → ((f : Option Failure) → other (armed_with f (so_far records service past x first)) ≡ whole (armed_with f (so_far records service past x first)))
+      → Ends records gives faults service past whole x y first draft going → Ends records gives faults service past other x y first draft going
   ends_as whole other x y first draft On same h = (
     (
-      leads_then records gives faults other whole (λ d. d) x.keeper x.keeper y.keeper (so_far records service x first) (so_far records service x first) (so_far records service y draft)
-          (leads_same records gives faults other whole x.keeper (so_far records service x first) (so_far records service x first) refl same) h.0.0,
+      leads_then records gives faults service other whole (λ d. d) x.keeper x.keeper y.keeper (so_far records service past x first) (so_far records service past x first) (so_far records service past y draft)
+          (leads_same records gives faults service other whole x.keeper (so_far records service past x first) (so_far records service past x first) refl same) h.0.0,
       h.0.1,
       h.0.2,
     ),
@@ -55,15 +55,15 @@ module _ {K : Type 0} (records : K → List (List ℕ)) (gives : K → List ℕ 
   )
   ends_as whole other x y first draft Down same h = (
     (
-      leads_fell records gives faults other whole x.id x.keeper x.keeper y.keeper (so_far records service x first) (so_far records service x first) (so_far records service y draft)
-          (leads_same records gives faults other whole x.keeper (so_far records service x first) (so_far records service x first) refl same) h.0.0,
+      leads_fell records gives faults service other whole x.id x.keeper x.keeper y.keeper (so_far records service past x first) (so_far records service past x first) (so_far records service past y draft)
+          (leads_same records gives faults service other whole x.keeper (so_far records service past x first) (so_far records service past x first) refl same) h.0.0,
       h.0.1,
     ),
     h.1,
   )
 
-module _ {K : Type 0} (records : K → List (List ℕ)) (service : Declarations) (x : NodeValue K) (node : IsNode records service x) (p : Piece) (has : HasPiece service x p) where
-  is_up : IsUp service x (here_of records service x)
+module _ {K : Type 0} (records : K → List (List ℕ)) (service : Declarations) (past : List Value) (x : NodeValue K) (node : IsResting records service past x) (p : Piece) (has : HasPiece service x p) where
+  is_up : IsUp service x (here_of records service past x)
   is_up = node.up has.can.up
 
   -- what is executed
@@ -96,12 +96,12 @@ module _ {K : Type 0} (records : K → List (List ℕ)) (service : Declarations)
     at = with_cut x cut
 
     -- the model sees nothing of the cut that was proposed last
-    here_with : (w : Option ActingValue) → here_of records service (record x { acting = option_map (cut_at cut) w }) ≡ here_of records service (record x { acting = w })
+    here_with : (w : Option ActingValue) → here_of records service past (record x { acting = option_map (cut_at cut) w }) ≡ here_of records service past (record x { acting = w })
     here_with None = refl
     here_with (Some a) = refl
 
-    draft_with : (before : Draft) → so_far records service at before ≡ so_far records service x before
-    draft_with before = ap (λ (h : Here). record (so_far records service x before) { node = h }) (here_with x.acting)
+    draft_with : (before : Draft) → so_far records service past at before ≡ so_far records service past x before
+    draft_with before = ap (λ (h : Here). record (so_far records service past x before) { node = h }) (here_with x.acting)
 
     active_same : (w : Option ActingValue) → is_some (option_map (cut_at cut) w) ≡ is_some w
     active_same None = refl
@@ -114,7 +114,7 @@ module _ {K : Type 0} (records : K → List (List ℕ)) (service : Declarations)
     -- it is the one that proposes the cut
     module _ (before : Draft) (l : Lead Value) (armed : Option Failure) where
       abbrev now : CallHere
-      now = armed_with armed (so_far records service x before)
+      now = armed_with armed (so_far records service past x before)
 
       abbrev of_parts : ℕ → ℕ → Value → CallHere
       of_parts i events v = propose x.nodes x.id (effect.Proposes x.id i events) now l i v (settle (enough l.reported) x.nodes (service_of service x.seed) x.id)
@@ -133,29 +133,29 @@ module _ {K : Type 0} (records : K → List (List ℕ)) (service : Declarations)
 
     module _ (y : NodeValue K) (before after : Draft) where
       abbrev EndsBy : (CallHere → CallHere) → NodeValue K → Going → Type 0
-      EndsBy whole z going = Ends records gives faults service whole z y before after going
+      EndsBy whole z going = Ends records gives faults service past whole z y before after going
 
       -- a call of the node with this cut is one of the node
       ends_with : (l : Lead Value) (going : Going) → EndsBy (proposes p.events p.value l) at going → EndsBy (propose_cut service x.seed x.nodes x.id cut l) x going
       ends_with l going h =
-          ends_as records gives faults service (proposes p.events p.value l) (propose_cut service x.seed x.nodes x.id cut l) x y before after going (λ f. same_call before l f) (begins_here l going h)
+          ends_as records gives faults service past (proposes p.events p.value l) (propose_cut service x.seed x.nodes x.id cut l) x y before after going (λ f. same_call before l f) (begins_here l going h)
         where
           begins_here : (m : Lead Value) (going : Going) → EndsBy (proposes p.events p.value m) at going → EndsBy (proposes p.events p.value m) x going
-          begins_here m On k = ((subst (λ (d : CallHere). LeadsOn records gives faults (proposes p.events p.value m) (λ e. e) x.keeper y.keeper d (so_far records service y after)) (draft_with before) k.0.0, k.0.1, k.0.2), k.1)
-          begins_here m Down k = ((subst (λ (d : CallHere). Fell records gives faults (proposes p.events p.value m) x.id x.keeper y.keeper d (so_far records service y after)) (draft_with before) k.0.0, k.0.1), k.1)
+          begins_here m On k = ((subst (λ (d : CallHere). LeadsOn records gives faults service (proposes p.events p.value m) (λ e. e) x.keeper y.keeper d (so_far records service past y after)) (draft_with before) k.0.0, k.0.1, k.0.2), k.1)
+          begins_here m Down k = ((subst (λ (d : CallHere). Fell records gives faults service (proposes p.events p.value m) x.id x.keeper y.keeper d (so_far records service past y after)) (draft_with before) k.0.0, k.0.1), k.1)
 
       pub piece_ends : (mid : NodeValue K) → mid ≡ with_cut x p.cut.counts → (value : Value) → value ≡ p.value → (going : Going)
-          → ProposesCut records gives faults service p.events value mid y before after going → ProposesPiece records gives faults service p.cut.counts x y before after going
+          → ProposesCut records gives faults service past p.events value mid y before after going → ProposesPiece records gives faults service past p.cut.counts x y before after going
       piece_ends mid mid_is value value_is going h =
           from_lead x (λ l. EndsBy (propose_cut service x.seed x.nodes x.id cut l) x going)
           (λ q leads. ends_with (lead_of x.acceptor q (is_some x.acting)) going
           (subst (λ (t : Bool). EndsBy (proposes p.events p.value (lead_of x.acceptor q t)) at going) (active_same x.acting)
           (lead_from at (λ l. EndsBy (proposes p.events p.value l) at going) q leads h_at)))
         where
-          h_at : ProposesCut records gives faults service p.events p.value at y before after going
+          h_at : ProposesCut records gives faults service past p.events p.value at y before after going
           h_at =
-              subst (λ (z : NodeValue K). ProposesCut records gives faults service p.events p.value z y before after going) mid_is
-              (subst (λ (v : Value). ProposesCut records gives faults service p.events v mid y before after going) value_is h)
+              subst (λ (z : NodeValue K). ProposesCut records gives faults service past p.events p.value z y before after going) mid_is
+              (subst (λ (v : Value). ProposesCut records gives faults service past p.events v mid y before after going) value_is h)
 
 -- a result that is an error says nothing
 pub if_error : {A E : Type 0} (P : A → Type 0) (r : Result A E) → is_err r ≡ true → IfOk r P
@@ -168,8 +168,8 @@ if_then P Q (Err e) f h = tt
 
 -- ---- the whole call
 
-module _ {K : Type 0} (records : K → List (List ℕ)) (service : Declarations) (x : NodeValue K) (node : IsNode records service x) (p : Piece) (has : HasPiece service x p) (good : IsService service) (q : ProposerValue) (leads : x.proposer ≡ Some q) (first : Draft) (armed : Option Failure) where
-  up_now : IsUp service x (here_of records service x)
+module _ {K : Type 0} (records : K → List (List ℕ)) (service : Declarations) (past : List Value) (x : NodeValue K) (node : IsResting records service past x) (p : Piece) (has : HasPiece service x p) (good : IsService service) (q : ProposerValue) (leads : x.proposer ≡ Some q) (first : Draft) (armed : Option Failure) where
+  up_now : IsUp service x (here_of records service past x)
   up_now = node.up has.can.up
 
   abbrev has_one : (a : ActingValue) × (x.acting ≡ Some a) × IsPieceOf a (cut_in a has.limits) p
@@ -179,10 +179,10 @@ module _ {K : Type 0} (records : K → List (List ℕ)) (service : Declarations)
   a = has_one.0
 
   abbrev counts : List ℕ
-  counts = counts_for service (here_of records service x) has.limits
+  counts = counts_for service (here_of records service past x) has.limits
 
   abbrev d : CallHere
-  d = armed_with armed (so_far records service x first)
+  d = armed_with armed (so_far records service past x first)
 
   abbrev l : Lead Value
   l = lead_of x.acceptor q (is_some x.acting)
@@ -191,7 +191,7 @@ module _ {K : Type 0} (records : K → List (List ℕ)) (service : Declarations)
   live = (work_of x.acting).live
 
   counts_of_it : counts ≡ counts_in a has.limits
-  counts_of_it = counts_are records service x node has.can.up a has_one.1 has.limits
+  counts_of_it = counts_are records service past x node has.can.up a has_one.1 has.limits
 
   -- what is computed from the node's counts and live events is computed from what it executes
   there : {T : Type 0} (f : List ℕ → List Event → T) → f counts live ≡ f (counts_in a has.limits) a.recorder.live
@@ -226,13 +226,13 @@ module _ {K : Type 0} (records : K → List (List ℕ)) (service : Declarations)
       ∙ proposes_some (below (greatest_cut counts live) live) some
       ∙ ap (λ (c : List ℕ). propose_cut service x.seed x.nodes x.id c l d) (there greatest_cut ∙ sym has_one.2.cut_is)
 
-module _ {K : Type 0} (records : K → List (List ℕ)) (gives : K → List ℕ → Answer → K → Type 0) (faults : K → ℕ) (service : Declarations) where
+module _ {K : Type 0} (records : K → List (List ℕ)) (gives : K → List ℕ → Answer → K → Type 0) (faults : K → ℕ) (service : Declarations) (past : List Value) where
   -- a cut ends as its piece is proposed
-  pub cut_ends : (x : NodeValue K) (node : IsNode records service x) (p : Piece) (has : HasPiece service x p) → IsService service → (y : NodeValue K) (first draft : Draft) (going : Going)
-      → ProposesPiece records gives faults service p.cut.counts x y first draft going
-      → Ends records gives faults service (lanes.cut service x.seed x.nodes x.id (counts_for service (here_of records service x) has.limits)) x y first draft going
+  pub cut_ends : (x : NodeValue K) (node : IsResting records service past x) (p : Piece) (has : HasPiece service x p) → IsService service → (y : NodeValue K) (first draft : Draft) (going : Going)
+      → ProposesPiece records gives faults service past p.cut.counts x y first draft going
+      → Ends records gives faults service past (lanes.cut service x.seed x.nodes x.id (counts_for service (here_of records service past x) has.limits)) x y first draft going
   cut_ends x node p has good y first draft going h =
       let o = idle_leads x.acceptor x.proposer has.can.idle in
-      ends_as records gives faults service (propose_cut service x.seed x.nodes x.id p.cut.counts (lead_of x.acceptor o.0 (is_some x.acting))) (lanes.cut service x.seed x.nodes x.id (counts_for service (here_of records service x) has.limits)) x y first draft going
-      (λ f. cuts_piece records service x node p has good o.0 o.1 first f)
-      (lead_from x (λ l. Ends records gives faults service (propose_cut service x.seed x.nodes x.id p.cut.counts l) x y first draft going) o.0 o.1 h)
+      ends_as records gives faults service past (propose_cut service x.seed x.nodes x.id p.cut.counts (lead_of x.acceptor o.0 (is_some x.acting))) (lanes.cut service x.seed x.nodes x.id (counts_for service (here_of records service past x) has.limits)) x y first draft going
+      (λ f. cuts_piece records service past x node p has good o.0 o.1 first f)
+      (lead_from x (λ l. Ends records gives faults service past (propose_cut service x.seed x.nodes x.id p.cut.counts l) x y first draft going) o.0 o.1 h)

@@ -1,7 +1,7 @@
 -- What a node does on a Prepare and on an Accept.
 use Rattle.std.proofs.Common.{◌≡◌, ℕ, ◌<◌, Bool, true, false, List, [], ◌∷◌, Option, None, refl, sym, ap, subst, ◌∙◌, arith, le_refl}
-use Rattle.std.specs.Prelude.{map, not, nat_lt, is_some, cond, Result, Ok, Err, OnErr}
-use Rattle.std.proofs.lemmas.Bool.{lt-ltb, le-ltb}
+use Rattle.std.specs.Prelude.{◌≤◌, map, not, nat_le, nat_lt, is_some, cond, Result, Ok, Err, OnErr}
+use Rattle.std.proofs.lemmas.Bool.{lt-ltb, le-ltb, lt-leb, le-leb}
 use Rattle.rex_msg.specs.declared.message.Content.TheVariants as sent
 use Rattle.rex_ballot.specs.Ballot.{IsBallot, IsInstance}
 use Rattle.rex_ballot.specs.Proposals.{IsValue, from_instance, proposal_for}
@@ -13,22 +13,25 @@ use Rattle.rex_durable.specs.declared.records.Rec.TheVariants as kept
 use Rattle.rex_durable.specs.Spelling.{HasSpelling, record_bytes}
 use Rattle.rex_report.specs.declared.effect.Effect.TheVariants as effect
 use Rattle.rex_traits.specs.Chains.{Answer}
-use Rattle.rex_safety.specs.Records.{Proposal, promise, accepted, from_on}
+use Rattle.rex_safety.specs.Records.{Proposal, promise, accepted, offset, known, from_on}
 use Rattle.rex_safety.specs.Records.Rec.{Promised, Accepted}
 use Rattle.rex_safety.specs.Node.{Failure}
 use Rattle.rex_safety.specs.Node.Content.{Promise, Accepted as Voted, Nack}
-use Rattle.rex_safety.specs.Calls.{answer, append, follow, followed, has_last, logged, on_accept, on_prepare, promised, send}
+use Rattle.rex_safety.specs.Calls.{answer, answer_base, append, follow, followed, has_last, logged, on_accept, on_prepare, promised, send}
 use Rattle.rex_safety.specs.Values.{Value}
 use Rattle.rex_safety.specs.Lanes.{CallHere}
+use Rattle.rex_safety.specs.Invariant.{Begins}
 use Rattle.rex_safety.specs.Ranges.{AreRising}
 use Rattle.rex_safety.proofs.Ranged.{accepted_rising}
 use Rattle.rex_node.specs.declared.step.Draft.{Draft}
 use Rattle.rex_node.specs.declared.going.Going.{Going}
 use Rattle.rex_node.specs.declared.going.Going.TheVariants.{On, Down}
 use Rattle.rex_node.specs.Calls.{armed_with}
-use Rattle.rex_node.specs.Going.{Appends, Fell, IsStuck, Sends, Tells, answering, so_far}
-use Rattle.rex_node.specs.Parts.{NodeValue, IsUp, IsNode, here_of, leaving, log_of, proposal_in, role_of}
+use Rattle.rex_node.specs.Going.{Appends, Fell, IsStuck, Sends, Tells, TellsBase, answering, so_far}
+use Rattle.rex_log.specs.Log.{log_of, proposal_in}
+use Rattle.rex_node.specs.Parts.{NodeValue, IsUp, IsResting, here_of, leaving, role_of}
 use Rattle.rex_node.proofs.Appended.{ballot_fits, instance_fits, logged_of, logged_promised, logged_accepted, IsLogged}
+use Rattle.rex_node.proofs.Bases.{tells_base}
 use Rattle.rex_node.proofs.Instances.{from_kept, last_kept, rising_zero}
 use Rattle.rex_node.proofs.Following.{EndsWell, ends_same}
 use Rattle.rex_node.proofs.Recorded.{sends_to, recorded_stuck, recorded_down, recorded_on, follows_node, follows_up, follows_keeper, follows_to}
@@ -44,8 +47,8 @@ pub appends_at : {K : Type 0} (records : K → List (List ℕ)) (gives : K → L
 appends_at records gives faults x y before mid r s g h a b k =
     subst (λ (z : Going). Appends records faults gives x y before mid (record_bytes s) z) b (subst (λ (z : KeptRec). Appends records faults gives x y before mid (record_bytes z) g) a k)
 
-module _ {K : Type 0} (records : K → List (List ℕ)) (gives : K → List ℕ → Answer → K → Type 0) (faults : K → ℕ) (service : Declarations) (x : NodeValue K) (node : IsNode records service x) (up : x.up ≡ true) (before : Draft) (from b : ℕ) where
-  u : IsUp service x (here_of records service x)
+module _ {K : Type 0} (records : K → List (List ℕ)) (gives : K → List ℕ → Answer → K → Type 0) (faults : K → ℕ) (service : Declarations) (past : List Value) (x : NodeValue K) (node : IsResting records service past x) (up : x.up ≡ true) (before : Draft) (from b : ℕ) where
+  u : IsUp service x (here_of records service past x)
   u = node.up up
 
   -- ---- a Prepare
@@ -55,82 +58,111 @@ module _ {K : Type 0} (records : K → List (List ℕ)) (gives : K → List ℕ 
     prepare = on_prepare x.id from b first
 
     -- one below the promise is refused
-    pub prepare_refused : (after : Draft) → b < x.acceptor.promised → Sends before after (answering x.id from (sent.Nack b x.acceptor.promised)) → EndsWell records gives faults service x x before after prepare
+    pub prepare_refused : (after : Draft) → b < x.acceptor.promised → Sends before after (answering x.id from (sent.Nack b x.acceptor.promised)) → EndsWell records gives faults service past x x before after prepare
     prepare_refused after less s =
-        ends_same records gives faults service x x before after prepare refl node up
-        (λ f. ap (λ (t : Bool). cond t (nacks f) (others f)) (lt-ltb b (promise (here_of records service x).log) (omega (arith, less, u.promised)))
-        ∙ ap (λ (p : ℕ). send (armed_with f (so_far records service x before)) (answer x.id from (Nack b p))) (sym u.promised)
-        ∙ ap (armed_with f) (sym (sends_to records service x before after from (sent.Nack b x.acceptor.promised) s)))
+        ends_same records gives faults service past x x before after prepare refl node up
+        (λ f. ap (λ (t : Bool). cond t (nacks f) (others f)) (lt-ltb b (promise (here_of records service past x).log) (omega (arith, less, u.promised)))
+        ∙ ap (λ (p : ℕ). send (armed_with f (so_far records service past x before)) (answer x.id from (Nack b p))) (sym u.promised)
+        ∙ ap (armed_with f) (sym (sends_to records service past x before after from (sent.Nack b x.acceptor.promised) s)))
       where
         nacks : Option Failure → CallHere
-        nacks f = send (armed_with f (so_far records service x before)) (answer x.id from (Nack b (promise (here_of records service x).log)))
+        nacks f = send (armed_with f (so_far records service past x before)) (answer x.id from (Nack b (promise (here_of records service past x).log)))
 
         others : Option Failure → CallHere
         others f =
-            cond (nat_lt (promise (here_of records service x).log) b)
-            (append f x.id (Promised b) (armed_with f (so_far records service x before)) (λ e. promised x.id from b first (follow x.id (effect.Promised x.id b ∷ []) e)))
-            (promised x.id from b first (armed_with f (so_far records service x before)))
+            cond (nat_le first (offset (here_of records service past x).log)) (answer_base x.id from (armed_with f (so_far records service past x before)))
+            (cond (nat_lt (promise (here_of records service past x).log) b)
+            (append f x.id (Promised b) (armed_with f (so_far records service past x before)) (λ e. promised x.id from b first (follow x.id (effect.Promised x.id b ∷ []) e)))
+            (promised x.id from b first (armed_with f (so_far records service past x before))))
 
-    -- the same promise is made again
-    pub prepare_again : (after : Draft) → b ≡ x.acceptor.promised → Sends before after (answering x.id from (sent.Promise b (from_instance first x.acceptor.accepted))) → EndsWell records gives faults service x x before after prepare
-    prepare_again after same s =
-        ends_same records gives faults service x x before after prepare refl node up
-        (λ f. ap (λ (t : Bool). cond t (nacks f) (cond (nat_lt (promise (here_of records service x).log) b) (raises f) (again f))) (le-ltb b (promise (here_of records service x).log) (omega (arith, same, u.promised)))
-        ∙ ap (λ (t : Bool). cond t (raises f) (again f)) (le-ltb (promise (here_of records service x).log) b (omega (arith, same, u.promised)))
-        ∙ ap (λ (ps : List (Proposal Value)). send (armed_with f (so_far records service x before)) (answer x.id from (Promise b ps))) (sym (from_kept first x.acceptor.accepted ∙ ap (from_on first) u.accepted))
-        ∙ ap (armed_with f) (sym (sends_to records service x before after from (sent.Promise b (from_instance first x.acceptor.accepted)) s)))
+    -- one from an instance on whose value isn't held is told the state at the base
+    pub prepare_old : Begins (known (here_of records service past x).log) past → (after : Draft) → x.acceptor.promised ≤ b → first ≤ x.offset → TellsBase service x from before after → EndsWell records gives faults service past x x before after prepare
+    prepare_old begins after more old t =
+        ends_same records gives faults service past x x before after prepare refl node up
+        (λ f. ap (λ (t : Bool). cond t (nacks f) (cond (nat_le first (offset (here_of records service past x).log)) (tells f) (others f))) (le-ltb b (promise (here_of records service past x).log) (omega (arith, more, u.promised)))
+        ∙ ap (λ (t : Bool). cond t (tells f) (others f)) (le-leb first (offset (here_of records service past x).log) (subst (λ (o : ℕ). first ≤ o) u.offset old))
+        ∙ ap (armed_with f) (sym (tells_base records service past x u begins before after from t)))
       where
         nacks : Option Failure → CallHere
-        nacks f = send (armed_with f (so_far records service x before)) (answer x.id from (Nack b (promise (here_of records service x).log)))
+        nacks f = send (armed_with f (so_far records service past x before)) (answer x.id from (Nack b (promise (here_of records service past x).log)))
+
+        tells : Option Failure → CallHere
+        tells f = answer_base x.id from (armed_with f (so_far records service past x before))
+
+        others : Option Failure → CallHere
+        others f =
+            cond (nat_lt (promise (here_of records service past x).log) b)
+            (append f x.id (Promised b) (armed_with f (so_far records service past x before)) (λ e. promised x.id from b first (follow x.id (effect.Promised x.id b ∷ []) e)))
+            (promised x.id from b first (armed_with f (so_far records service past x before)))
+
+    -- the same promise is made again
+    pub prepare_again : (after : Draft) → b ≡ x.acceptor.promised → x.offset < first → Sends before after (answering x.id from (sent.Promise b (from_instance first x.acceptor.accepted))) → EndsWell records gives faults service past x x before after prepare
+    prepare_again after same late s =
+        ends_same records gives faults service past x x before after prepare refl node up
+        (λ f. ap (λ (t : Bool). cond t (nacks f) (cond (nat_le first (offset (here_of records service past x).log)) (tells f) (cond (nat_lt (promise (here_of records service past x).log) b) (raises f) (again f)))) (le-ltb b (promise (here_of records service past x).log) (omega (arith, same, u.promised)))
+        ∙ ap (λ (t : Bool). cond t (tells f) (cond (nat_lt (promise (here_of records service past x).log) b) (raises f) (again f))) (lt-leb first (offset (here_of records service past x).log) (subst (λ (o : ℕ). o < first) u.offset late))
+        ∙ ap (λ (t : Bool). cond t (raises f) (again f)) (le-ltb (promise (here_of records service past x).log) b (omega (arith, same, u.promised)))
+        ∙ ap (λ (ps : List (Proposal Value)). send (armed_with f (so_far records service past x before)) (answer x.id from (Promise b ps))) (sym (from_kept first x.acceptor.accepted ∙ ap (from_on first) u.accepted))
+        ∙ ap (armed_with f) (sym (sends_to records service past x before after from (sent.Promise b (from_instance first x.acceptor.accepted)) s)))
+      where
+        nacks : Option Failure → CallHere
+        nacks f = send (armed_with f (so_far records service past x before)) (answer x.id from (Nack b (promise (here_of records service past x).log)))
+
+        tells : Option Failure → CallHere
+        tells f = answer_base x.id from (armed_with f (so_far records service past x before))
 
         raises : Option Failure → CallHere
-        raises f = append f x.id (Promised b) (armed_with f (so_far records service x before)) (λ e. promised x.id from b first (follow x.id (effect.Promised x.id b ∷ []) e))
+        raises f = append f x.id (Promised b) (armed_with f (so_far records service past x before)) (λ e. promised x.id from b first (follow x.id (effect.Promised x.id b ∷ []) e))
 
         again : Option Failure → CallHere
-        again f = promised x.id from b first (armed_with f (so_far records service x before))
+        again f = promised x.id from b first (armed_with f (so_far records service past x before))
 
     -- a greater one is promised
-    module _ (ballot : IsBallot b) (above : x.acceptor.promised < b) (y : NodeValue K) (mid : Draft) where
+    module _ (ballot : IsBallot b) (late : x.offset < first) (above : x.acceptor.promised < b) (y : NodeValue K) (mid : Draft) where
       spelled : HasSpelling (kept.Promised b)
       spelled = record { in_range = ballot }
 
-      raises_is : (f : Option Failure) → on_prepare x.id from b first (armed_with f (so_far records service x before))
-          ≡ append f x.id (Promised b) (armed_with f (so_far records service x before)) (λ e. promised x.id from b first (follow x.id (effect.Promised x.id b ∷ []) e))
+      raises_is : (f : Option Failure) → on_prepare x.id from b first (armed_with f (so_far records service past x before))
+          ≡ append f x.id (Promised b) (armed_with f (so_far records service past x before)) (λ e. promised x.id from b first (follow x.id (effect.Promised x.id b ∷ []) e))
       raises_is f =
-          ap (λ (t : Bool). cond t nacks (cond (nat_lt (promise (here_of records service x).log) b) raises again)) (le-ltb b (promise (here_of records service x).log) (omega (arith, above, u.promised)))
-          ∙ ap (λ (t : Bool). cond t raises again) (lt-ltb (promise (here_of records service x).log) b (omega (arith, above, u.promised)))
+          ap (λ (t : Bool). cond t nacks (cond (nat_le first (offset (here_of records service past x).log)) tells (cond (nat_lt (promise (here_of records service past x).log) b) raises again))) (le-ltb b (promise (here_of records service past x).log) (omega (arith, above, u.promised)))
+          ∙ ap (λ (t : Bool). cond t tells (cond (nat_lt (promise (here_of records service past x).log) b) raises again)) (lt-leb first (offset (here_of records service past x).log) (subst (λ (o : ℕ). o < first) u.offset late))
+          ∙ ap (λ (t : Bool). cond t raises again) (lt-ltb (promise (here_of records service past x).log) b (omega (arith, above, u.promised)))
         where
           nacks : CallHere
-          nacks = send (armed_with f (so_far records service x before)) (answer x.id from (Nack b (promise (here_of records service x).log)))
+          nacks = send (armed_with f (so_far records service past x before)) (answer x.id from (Nack b (promise (here_of records service past x).log)))
+
+          tells : CallHere
+          tells = answer_base x.id from (armed_with f (so_far records service past x before))
 
           raises : CallHere
-          raises = append f x.id (Promised b) (armed_with f (so_far records service x before)) (λ e. promised x.id from b first (follow x.id (effect.Promised x.id b ∷ []) e))
+          raises = append f x.id (Promised b) (armed_with f (so_far records service past x before)) (λ e. promised x.id from b first (follow x.id (effect.Promised x.id b ∷ []) e))
 
           again : CallHere
-          again = promised x.id from b first (armed_with f (so_far records service x before))
+          again = promised x.id from b first (armed_with f (so_far records service past x before))
 
       pub raise_down : Appends records faults gives x y before mid (record_bytes (kept.Promised b)) Down
-          → (Fell records gives faults prepare x.id x.keeper y.keeper (so_far records service x before) (so_far records service y mid) × (y.up ≡ false)) × IsNode records service y
-      raise_down h = recorded_down records gives faults service x y before mid node up (kept.Promised b) spelled tt refl refl prepare _ raises_is h
+          → (Fell records gives faults service prepare x.id x.keeper y.keeper (so_far records service past x before) (so_far records service past y mid) × (y.up ≡ false)) × IsResting records service past y
+      raise_down h = recorded_down records gives faults service past x y before mid node up (kept.Promised b) spelled tt refl refl prepare _ raises_is h
 
-      pub raise_stuck : Appends records faults gives x y before mid (record_bytes (kept.Promised b)) On → (z : NodeValue K) → z.keeper ≡ y.keeper → z.base ≡ y.base → IsStuck records service x z
-      raise_stuck h z keeper based = recorded_stuck records gives faults service x y before mid node up (kept.Promised b) spelled tt refl refl h z keeper based
+      pub raise_stuck : Appends records faults gives x y before mid (record_bytes (kept.Promised b)) On → (z : NodeValue K) → z.keeper ≡ y.keeper → z.base ≡ y.base → IsStuck records service past x z
+      raise_stuck h z keeper based = recorded_stuck records gives faults service past x y before mid node up (kept.Promised b) spelled tt refl refl h z keeper based
 
       pub raise_on : Appends records faults gives x y before mid (record_bytes (kept.Promised b)) On → (z : NodeValue K) (told after : Draft) → z ≡ record (leaving y) { acceptor = promising y.acceptor b }
           → Tells mid told (effect.Promised y.id b ∷ followed y.id (role_of y.acceptor y.proposer (is_some y.acting)))
-          → Sends told after (answering z.id from (sent.Promise b (from_instance first z.acceptor.accepted))) → EndsWell records gives faults service x z before after prepare
+          → Sends told after (answering z.id from (sent.Promise b (from_instance first z.acceptor.accepted))) → EndsWell records gives faults service past x z before after prepare
       raise_on h z told after z_is t s =
-          recorded_on records gives faults service x y before mid node up (kept.Promised b) spelled tt refl refl prepare (λ e. promised x.id from b first (follow x.id (effect.Promised x.id b ∷ []) e)) raises_is h z after
-          (follows_keeper records gives faults service x y before mid node up (kept.Promised b) spelled tt refl refl h a x.known logged_here (le_refl _) (λ n l. refl) z z_here)
-          (follows_node records gives faults service x y before mid node up (kept.Promised b) spelled tt refl refl h a x.known logged_here (le_refl _) (λ n l. refl) z z_here)
-          (follows_up records gives faults service x y before mid node up (kept.Promised b) spelled tt refl refl h a x.known logged_here (le_refl _) (λ n l. refl) z z_here)
+          recorded_on records gives faults service past x y before mid node up (kept.Promised b) spelled tt refl refl prepare (λ e. promised x.id from b first (follow x.id (effect.Promised x.id b ∷ []) e)) raises_is h z after
+          (follows_keeper records gives faults service past x y before mid node up (kept.Promised b) spelled tt refl refl h a x.known logged_here (le_refl _) (λ n l. refl) z z_here)
+          (follows_node records gives faults service past x y before mid node up (kept.Promised b) spelled tt refl refl h a x.known logged_here (le_refl _) (λ n l. refl) z z_here)
+          (follows_up records gives faults service past x y before mid node up (kept.Promised b) spelled tt refl refl h a x.known logged_here (le_refl _) (λ n l. refl) z z_here)
           (λ f. refl)
-          (sends_to records service z told after from (sent.Promise b (from_instance first z.acceptor.accepted)) s
+          (sends_to records service past z told after from (sent.Promise b (from_instance first z.acceptor.accepted)) s
           ∙ ap (λ (e : CallHere). send e (answer z.id from (Promise b (map proposal_in (from_instance first z.acceptor.accepted)))))
-          (follows_to records gives faults service x y before mid node up (kept.Promised b) spelled tt refl refl h a x.known logged_here (le_refl _) (λ n l. refl) z z_here told (effect.Promised x.id b)
+          (follows_to records gives faults service past x y before mid node up (kept.Promised b) spelled tt refl refl h a x.known logged_here (le_refl _) (λ n l. refl) z z_here told (effect.Promised x.id b)
           (subst (λ (i : ℕ). Tells mid told (effect.Promised i b ∷ followed y.id (role_of y.acceptor y.proposer (is_some y.acting)))) (ap (λ (n : NodeValue K). n.id) h.0.parts) t))
-          ∙ ap (λ (n : NodeValue K). send (follow x.id (effect.Promised x.id b ∷ []) (logged (Promised b) None (so_far records service x before))) (answer n.id from (Promise b (map proposal_in (from_instance first n.acceptor.accepted))))) z_here
-          ∙ ap (λ (ps : List (Proposal Value)). send (follow x.id (effect.Promised x.id b ∷ []) (logged (Promised b) None (so_far records service x before))) (answer x.id from (Promise b ps))) (from_kept first x.acceptor.accepted ∙ ap (from_on first) u.accepted))
+          ∙ ap (λ (n : NodeValue K). send (follow x.id (effect.Promised x.id b ∷ []) (logged (Promised b) None (so_far records service past x before))) (answer n.id from (Promise b (map proposal_in (from_instance first n.acceptor.accepted))))) z_here
+          ∙ ap (λ (ps : List (Proposal Value)). send (follow x.id (effect.Promised x.id b ∷ []) (logged (Promised b) None (so_far records service past x before))) (answer x.id from (Promise b ps))) (from_kept first x.acceptor.accepted ∙ ap (from_on first) u.accepted))
         where
           a : AcceptorValue
           a = promising x.acceptor b
@@ -138,10 +170,10 @@ module _ {K : Type 0} (records : K → List (List ℕ)) (gives : K → List ℕ 
           z_here : z ≡ record (leaving x) { keeper = y.keeper; acceptor = promising x.acceptor b; known = x.known }
           z_here = z_is ∙ ap (λ (n : NodeValue K). record (leaving n) { acceptor = promising n.acceptor b }) h.0.parts
 
-          logged_here : IsLogged service (record x { keeper = y.keeper; acceptor = promising x.acceptor b; known = x.known }) (Promised b ∷ log_of service (records x.keeper))
+          logged_here : IsLogged service (record x { keeper = y.keeper; acceptor = promising x.acceptor b; known = x.known }) (Promised b ∷ log_of service past (records x.keeper))
           logged_here =
-              let l : IsLogged service (record x { acceptor = promising x.acceptor b }) (Promised b ∷ log_of service (records x.keeper)) = logged_promised service x (log_of service (records x.keeper)) (logged_of records service x u) b (ballot_fits b ballot) in
-              record { promised = l.promised; accepted = l.accepted; known = l.known; base = l.base; old_base = l.old_base; few = l.few; start = l.start; short = l.short; fits = l.fits; numbers = l.numbers }
+              let l : IsLogged service (record x { acceptor = promising x.acceptor b }) (Promised b ∷ log_of service past (records x.keeper)) = logged_promised service x (log_of service past (records x.keeper)) (logged_of records service past x u) b (ballot_fits b ballot) in
+              record { promised = l.promised; accepted = l.accepted; offset_is = l.offset_is; low = l.low; known = l.known; base = l.base; old_base = l.old_base; few = l.few; start = l.start; short = l.short; fits = l.fits; numbers = l.numbers }
 
   -- ---- an Accept
 
@@ -158,56 +190,73 @@ module _ {K : Type 0} (records : K → List (List ℕ)) (gives : K → List ℕ 
     accept = on_accept x.id from b i v
 
     module _ (fresh : Bool) (answer_is : answer_to_accept x.acceptor b i ≡ asked.Accept fresh) where
-      not_less : nat_lt b (promise (here_of records service x).log) ≡ false
+      not_less : nat_lt b (promise (here_of records service past x).log) ≡ false
       not_less = ap (nat_lt b) (sym u.promised) ∙ (asked_parts (nat_lt b x.acceptor.promised) (is_of_ballot b (proposal_for i x.acceptor.accepted)) fresh x.acceptor.promised answer_is).0
 
-      has_it : has_last b i (accepted (here_of records service x).log) ≡ not fresh
+      has_it : has_last b i (accepted (here_of records service past x).log) ≡ not fresh
       has_it =
           ap (has_last b i) (sym u.accepted)
-          ∙ last_kept b i 0 x.acceptor.accepted (rising_zero x.acceptor.accepted (subst (λ (ps : List (Proposal Value)). AreRising 0 ps) (sym u.accepted) (accepted_rising (here_of records service x).log u.numbers.log.instances)))
+          ∙ last_kept b i 0 x.acceptor.accepted (rising_zero x.acceptor.accepted (subst (λ (ps : List (Proposal Value)). AreRising 0 ps) (sym u.accepted) (accepted_rising (here_of records service past x).log u.numbers.log.instances)))
           ∙ (asked_parts (nat_lt b x.acceptor.promised) (is_of_ballot b (proposal_for i x.acceptor.accepted)) fresh x.acceptor.promised answer_is).1
 
       -- then the call is this
       abbrev accepts : Option Failure → CallHere
-      accepts f = append f x.id (Accepted b i v) (armed_with f (so_far records service x before)) (λ e. send (follow x.id (effect.Accepted x.id b i ∷ []) e) (answer x.id from (Voted b i)))
+      accepts f = append f x.id (Accepted b i v) (armed_with f (so_far records service past x before)) (λ e. send (follow x.id (effect.Accepted x.id b i ∷ []) e) (answer x.id from (Voted b i)))
 
-      accept_is : (f : Option Failure) → on_accept x.id from b i v (armed_with f (so_far records service x before)) ≡ cond (not fresh) (send (armed_with f (so_far records service x before)) (answer x.id from (Voted b i))) (accepts f)
-      accept_is f =
-          ap (λ (t : Bool). cond t (send (armed_with f (so_far records service x before)) (answer x.id from (Nack b (promise (here_of records service x).log)))) (cond (has_last b i (accepted (here_of records service x).log)) (send (armed_with f (so_far records service x before)) (answer x.id from (Voted b i))) (accepts f))) not_less
-          ∙ ap (λ (t : Bool). cond t (send (armed_with f (so_far records service x before)) (answer x.id from (Voted b i))) (accepts f)) has_it
+      -- unless the instance's value isn't held
+      abbrev goes : Option Failure → CallHere
+      goes f = cond (has_last b i (accepted (here_of records service past x).log)) (send (armed_with f (so_far records service past x before)) (answer x.id from (Voted b i))) (accepts f)
+
+      after_promise : (f : Option Failure) → on_accept x.id from b i v (armed_with f (so_far records service past x before)) ≡ cond (nat_le i (offset (here_of records service past x).log)) (answer_base x.id from (armed_with f (so_far records service past x before))) (goes f)
+      after_promise f =
+          ap (λ (t : Bool). cond t (send (armed_with f (so_far records service past x before)) (answer x.id from (Nack b (promise (here_of records service past x).log)))) (cond (nat_le i (offset (here_of records service past x).log)) (answer_base x.id from (armed_with f (so_far records service past x before))) (goes f))) not_less
+
+      accept_is : x.offset < i → (f : Option Failure) → on_accept x.id from b i v (armed_with f (so_far records service past x before)) ≡ cond (not fresh) (send (armed_with f (so_far records service past x before)) (answer x.id from (Voted b i))) (accepts f)
+      accept_is late f =
+          after_promise f
+          ∙ ap (λ (t : Bool). cond t (answer_base x.id from (armed_with f (so_far records service past x before))) (goes f)) (lt-leb i (offset (here_of records service past x).log) (subst (λ (o : ℕ). o < i) u.offset late))
+          ∙ ap (λ (t : Bool). cond t (send (armed_with f (so_far records service past x before)) (answer x.id from (Voted b i))) (accepts f)) has_it
+
+    -- one whose value isn't held is told the state at the base
+    pub accept_old : Begins (known (here_of records service past x).log) past → (fresh : Bool) (after : Draft) → answer_to_accept x.acceptor b i ≡ asked.Accept fresh → i ≤ x.offset → TellsBase service x from before after → EndsWell records gives faults service past x x before after accept
+    accept_old begins fresh after e old t =
+        ends_same records gives faults service past x x before after accept refl node up
+        (λ f. after_promise fresh e f
+        ∙ ap (λ (t : Bool). cond t (answer_base x.id from (armed_with f (so_far records service past x before))) (goes fresh e f)) (le-leb i (offset (here_of records service past x).log) (subst (λ (o : ℕ). i ≤ o) u.offset old))
+        ∙ ap (armed_with f) (sym (tells_base records service past x u begins before after from t)))
 
     -- the last acceptance for the instance is at the ballot
-    pub accept_again : (after : Draft) → answer_to_accept x.acceptor b i ≡ asked.Accept false → Sends before after (answering x.id from (sent.Accepted b i)) → EndsWell records gives faults service x x before after accept
-    accept_again after e s =
-        ends_same records gives faults service x x before after accept refl node up
-        (λ f. accept_is false e f ∙ ap (armed_with f) (sym (sends_to records service x before after from (sent.Accepted b i) s)))
+    pub accept_again : (after : Draft) → answer_to_accept x.acceptor b i ≡ asked.Accept false → x.offset < i → Sends before after (answering x.id from (sent.Accepted b i)) → EndsWell records gives faults service past x x before after accept
+    accept_again after e late s =
+        ends_same records gives faults service past x x before after accept refl node up
+        (λ f. accept_is false e late f ∙ ap (armed_with f) (sym (sends_to records service past x before after from (sent.Accepted b i) s)))
 
     -- or it is accepted
-    module _ (ballot : IsBallot b) (there : IsInstance i) (short : IsValue v) (e : answer_to_accept x.acceptor b i ≡ asked.Accept true) (y : NodeValue K) (mid : Draft) where
+    module _ (ballot : IsBallot b) (there : IsInstance i) (short : IsValue v) (late : x.offset < i) (e : answer_to_accept x.acceptor b i ≡ asked.Accept true) (y : NodeValue K) (mid : Draft) where
       valued : HasSpelling (kept.Accepted b i v)
       valued = record { in_range = (ballot, there, short) }
 
       pub accept_down : Appends records faults gives x y before mid (record_bytes (kept.Accepted b i v)) Down
-          → (Fell records gives faults accept x.id x.keeper y.keeper (so_far records service x before) (so_far records service y mid) × (y.up ≡ false)) × IsNode records service y
-      accept_down h = recorded_down records gives faults service x y before mid node up (kept.Accepted b i v) valued tt refl refl accept _ (accept_is true e) h
+          → (Fell records gives faults service accept x.id x.keeper y.keeper (so_far records service past x before) (so_far records service past y mid) × (y.up ≡ false)) × IsResting records service past y
+      accept_down h = recorded_down records gives faults service past x y before mid node up (kept.Accepted b i v) valued tt refl refl accept _ (accept_is true e late) h
 
-      pub accept_stuck : Appends records faults gives x y before mid (record_bytes (kept.Accepted b i v)) On → (z : NodeValue K) → z.keeper ≡ y.keeper → z.base ≡ y.base → IsStuck records service x z
-      accept_stuck h z keeper based = recorded_stuck records gives faults service x y before mid node up (kept.Accepted b i v) valued tt refl refl h z keeper based
+      pub accept_stuck : Appends records faults gives x y before mid (record_bytes (kept.Accepted b i v)) On → (z : NodeValue K) → z.keeper ≡ y.keeper → z.base ≡ y.base → IsStuck records service past x z
+      accept_stuck h z keeper based = recorded_stuck records gives faults service past x y before mid node up (kept.Accepted b i v) valued tt refl refl h z keeper based
 
       pub accept_on : Appends records faults gives x y before mid (record_bytes (kept.Accepted b i v)) On → (z : NodeValue K) (told after : Draft) → z ≡ record (leaving y) { acceptor = accepting y.acceptor (record { instance = i; ballot = b; value = v }) }
           → Tells mid told (effect.Accepted y.id b i ∷ followed y.id (role_of y.acceptor y.proposer (is_some y.acting)))
-          → Sends told after (answering z.id from (sent.Accepted b i)) → EndsWell records gives faults service x z before after accept
+          → Sends told after (answering z.id from (sent.Accepted b i)) → EndsWell records gives faults service past x z before after accept
       accept_on h z told after z_is t s =
-          recorded_on records gives faults service x y before mid node up (kept.Accepted b i v) valued tt refl refl accept (λ n. send (follow x.id (effect.Accepted x.id b i ∷ []) n) (answer x.id from (Voted b i))) (accept_is true e) h z after
-          (follows_keeper records gives faults service x y before mid node up (kept.Accepted b i v) valued tt refl refl h a x.known logged_here (le_refl _) (λ n l. refl) z z_here)
-          (follows_node records gives faults service x y before mid node up (kept.Accepted b i v) valued tt refl refl h a x.known logged_here (le_refl _) (λ n l. refl) z z_here)
-          (follows_up records gives faults service x y before mid node up (kept.Accepted b i v) valued tt refl refl h a x.known logged_here (le_refl _) (λ n l. refl) z z_here)
+          recorded_on records gives faults service past x y before mid node up (kept.Accepted b i v) valued tt refl refl accept (λ n. send (follow x.id (effect.Accepted x.id b i ∷ []) n) (answer x.id from (Voted b i))) (accept_is true e late) h z after
+          (follows_keeper records gives faults service past x y before mid node up (kept.Accepted b i v) valued tt refl refl h a x.known logged_here (le_refl _) (λ n l. refl) z z_here)
+          (follows_node records gives faults service past x y before mid node up (kept.Accepted b i v) valued tt refl refl h a x.known logged_here (le_refl _) (λ n l. refl) z z_here)
+          (follows_up records gives faults service past x y before mid node up (kept.Accepted b i v) valued tt refl refl h a x.known logged_here (le_refl _) (λ n l. refl) z z_here)
           (λ f. refl)
-          (sends_to records service z told after from (sent.Accepted b i) s
+          (sends_to records service past z told after from (sent.Accepted b i) s
           ∙ ap (λ (n : CallHere). send n (answer z.id from (Voted b i)))
-          (follows_to records gives faults service x y before mid node up (kept.Accepted b i v) valued tt refl refl h a x.known logged_here (le_refl _) (λ n l. refl) z z_here told (effect.Accepted x.id b i)
+          (follows_to records gives faults service past x y before mid node up (kept.Accepted b i v) valued tt refl refl h a x.known logged_here (le_refl _) (λ n l. refl) z z_here told (effect.Accepted x.id b i)
           (subst (λ (j : ℕ). Tells mid told (effect.Accepted j b i ∷ followed y.id (role_of y.acceptor y.proposer (is_some y.acting)))) (ap (λ (n : NodeValue K). n.id) h.0.parts) t))
-          ∙ ap (λ (j : ℕ). send (follow x.id (effect.Accepted x.id b i ∷ []) (logged (Accepted b i v) None (so_far records service x before))) (answer j from (Voted b i))) (ap (λ (n : NodeValue K). n.id) z_here))
+          ∙ ap (λ (j : ℕ). send (follow x.id (effect.Accepted x.id b i ∷ []) (logged (Accepted b i v) None (so_far records service past x before))) (answer j from (Voted b i))) (ap (λ (n : NodeValue K). n.id) z_here))
         where
           a : AcceptorValue
           a = accepting x.acceptor (record { instance = i; ballot = b; value = v })
@@ -215,8 +264,8 @@ module _ {K : Type 0} (records : K → List (List ℕ)) (gives : K → List ℕ 
           z_here : z ≡ record (leaving x) { keeper = y.keeper; acceptor = accepting x.acceptor (record { instance = i; ballot = b; value = v }); known = x.known }
           z_here = z_is ∙ ap (λ (n : NodeValue K). record (leaving n) { acceptor = accepting n.acceptor (record { instance = i; ballot = b; value = v }) }) h.0.parts
 
-          logged_here : IsLogged service (record x { keeper = y.keeper; acceptor = accepting x.acceptor (record { instance = i; ballot = b; value = v }); known = x.known }) (Accepted b i v ∷ log_of service (records x.keeper))
+          logged_here : IsLogged service (record x { keeper = y.keeper; acceptor = accepting x.acceptor (record { instance = i; ballot = b; value = v }); known = x.known }) (Accepted b i v ∷ log_of service past (records x.keeper))
           logged_here =
-              let l : IsLogged service (record x { acceptor = accepting x.acceptor (record { instance = i; ballot = b; value = v }) }) (Accepted b i v ∷ log_of service (records x.keeper)) =
-              logged_accepted service x (log_of service (records x.keeper)) (logged_of records service x u) b i v (ballot_fits b ballot) (instance_fits i there) short in
-              record { promised = l.promised; accepted = l.accepted; known = l.known; base = l.base; old_base = l.old_base; few = l.few; start = l.start; short = l.short; fits = l.fits; numbers = l.numbers }
+              let l : IsLogged service (record x { acceptor = accepting x.acceptor (record { instance = i; ballot = b; value = v }) }) (Accepted b i v ∷ log_of service past (records x.keeper)) =
+              logged_accepted service x (log_of service past (records x.keeper)) (logged_of records service past x u) b i v (ballot_fits b ballot) (instance_fits i there) short (subst (λ (o : ℕ). o < i) u.offset late) in
+              record { promised = l.promised; accepted = l.accepted; offset_is = l.offset_is; low = l.low; known = l.known; base = l.base; old_base = l.old_base; few = l.few; start = l.start; short = l.short; fits = l.fits; numbers = l.numbers }

@@ -23,7 +23,8 @@ use Rattle.rex_node.specs.declared.going.Going.TheVariants.{On, Down}
 use Rattle.rex_node.specs.declared.step.Draft.{Draft}
 use Rattle.rex_node.specs.Calls.{armed_with}
 use Rattle.rex_node.specs.Going.{Comes, Ends, Fell, IsStuck, Leads as LeadsOn, later, so_far}
-use Rattle.rex_node.specs.Parts.{ActingValue, NodeValue, HasGoneOn, IsKept, IsNode, IsProposer, IsSame, Proposes, here_of, lead_of, log_of, role_of}
+use Rattle.rex_log.specs.Log.{log_of}
+use Rattle.rex_node.specs.Parts.{ActingValue, NodeValue, HasGoneOn, IsKept, IsResting, IsProposer, IsSame, Proposes, here_of, lead_of, role_of}
 use Rattle.rex_node.specs.Leading.{HasLearned, HasOpened, Learns, Opens, accept_own, settling}
 use Rattle.rex_node.specs.Cutting.{IsIdle, ProposesCut, has_open}
 use Rattle.rex_node.proofs.GoingLemmas.{leads_fell, leads_same, leads_then}
@@ -57,9 +58,9 @@ pub idle_leads : (acceptor : AcceptorValue) (o : Option ProposerValue) → IsIdl
 idle_leads acceptor None h = absurd h
 idle_leads acceptor (Some p) h = (p, refl)
 
-module _ {K : Type 0} (records : K → List (List ℕ)) (gives : K → List ℕ → Answer → K → Type 0) (faults : K → ℕ) (service : Declarations) where
+module _ {K : Type 0} (records : K → List (List ℕ)) (gives : K → List ℕ → Answer → K → Type 0) (faults : K → ℕ) (service : Declarations) (past : List Value) where
   -- a node that is down is kept
-  down_kept : (x y : NodeValue K) → IsNode records service x → IsSame x y → y.up ≡ false → IsNode records service y
+  down_kept : (x y : NodeValue K) → IsResting records service past x → IsSame x y → y.up ≡ false → IsResting records service past y
   down_kept x y node same down = record {
     id = subst (λ (n : ℕ). (0 < n) × (n ≤ y.nodes)) (sym same.id) (subst (λ (n : ℕ). (0 < x.id) × (x.id ≤ n)) (sym same.nodes) node.id);
     few = subst (λ (n : ℕ). n ≤ most_nodes) (sym same.nodes) node.few;
@@ -67,10 +68,10 @@ module _ {K : Type 0} (records : K → List (List ℕ)) (gives : K → List ℕ 
     rests = λ t. absurd (false_or_true y.up t down);
   }
 
-  up_kept : (y : NodeValue K) → IsKept records service y → HasGoneOn y.proposer (is_some y.acting) → IsNode records service y
+  up_kept : (y : NodeValue K) → IsKept records service past y → HasGoneOn y.proposer (is_some y.acting) → IsResting records service past y
   up_kept y kept rests = record { id = kept.id; few = kept.few; up = kept.up; rests = λ _. rests }
 
-  module _ (x : NodeValue K) (node : IsNode records service x) (up : x.up ≡ true) (a : ActingValue) (acts : x.acting ≡ Some a) (events instance : ℕ) (value : Value) (told : Effect) (told_is : told ≡ effect.Proposes x.id (length x.known + 1) events) (next : instance ≡ length x.known + 1)
+  module _ (x : NodeValue K) (node : IsResting records service past x) (up : x.up ≡ true) (a : ActingValue) (acts : x.acting ≡ Some a) (events instance : ℕ) (value : Value) (told : Effect) (told_is : told ≡ effect.Proposes x.id (length x.known + 1) events) (next : instance ≡ length x.known + 1)
       (mid : NodeValue K) (before between : Draft) where
     abbrev sv : Service Value StateValue
     sv = service_of service x.seed
@@ -88,19 +89,19 @@ module _ {K : Type 0} (records : K → List (List ℕ)) (gives : K → List ℕ 
     open_at n l d = goes l (led (leading l (Some (proposal_of l.ballot n value)) (x.id ∷ []) l.active) d)
 
     abbrev ComesAt : Going → ℕ → Effect → Lead Value → Type 0
-    ComesAt going n t l = Comes records gives faults service (whole_of n t l) (open_at n l) x mid before between going
+    ComesAt going n t l = Comes records gives faults service past (whole_of n t l) (open_at n l) x mid before between going
 
     abbrev EndsAt : NodeValue K → Draft → Going → Lead Value → Type 0
-    EndsAt y after going l = Ends records gives faults service (whole_of (length x.known + 1) (effect.Proposes x.id (length x.known + 1) events) l) x y before after going
+    EndsAt y after going l = Ends records gives faults service past (whole_of (length x.known + 1) (effect.Proposes x.id (length x.known + 1) events) l) x y before after going
 
     -- the model's call goes on so, whatever is left of it
     abbrev OpensAt : Going → Lead Value → Type 0
     OpensAt going l =
         (k : CallHere → CallHere)
-        → Comes records gives faults service (λ d. propose x.nodes x.id told d l instance value k)
+        → Comes records gives faults service past (λ d. propose x.nodes x.id told d l instance value k)
         (λ d. k (led (leading l (Some (proposal_of l.ballot instance value)) (x.id ∷ []) l.active) d)) x mid before between going
 
-    opens_next : (going : Going) → Opens records gives faults service told instance value x mid before between going → (p : ProposerValue) → x.proposer ≡ Some p
+    opens_next : (going : Going) → Opens records gives faults service past told instance value x mid before between going → (p : ProposerValue) → x.proposer ≡ Some p
         → ComesAt going (length x.known + 1) (effect.Proposes x.id (length x.known + 1) events) (lead_of x.acceptor p (is_some x.acting))
     opens_next going h p leads =
         subst (λ (n : ℕ). ComesAt going n (effect.Proposes x.id (length x.known + 1) events) (lead_of x.acceptor p (is_some x.acting))) next
@@ -109,7 +110,7 @@ module _ {K : Type 0} (records : K → List (List ℕ)) (gives : K → List ℕ 
 
     -- ---- the append failed
 
-    pub cut_fell : Opens records gives faults service told instance value x mid before between Down → IsSame x mid → ProposesCut records gives faults service events value x mid before between Down
+    pub cut_fell : Opens records gives faults service past told instance value x mid before between Down → IsSame x mid → ProposesCut records gives faults service past events value x mid before between Down
     cut_fell h same = from_lead x (EndsAt mid between Down) (λ p leads. fell p (opens_next Down h p leads))
       where
         fell : (p : ProposerValue) → ComesAt Down (length x.known + 1) (effect.Proposes x.id (length x.known + 1) events) (lead_of x.acceptor p (is_some x.acting)) → EndsAt mid between Down (lead_of x.acceptor p (is_some x.acting))
@@ -117,7 +118,7 @@ module _ {K : Type 0} (records : K → List (List ℕ)) (gives : K → List ℕ 
 
     -- ---- the node goes on
 
-    module _ (h : Opens records gives faults service told instance value x mid before between On) (parts : HasOpened x mid instance value On) (p : ProposerValue) (leads : x.proposer ≡ Some p) where
+    module _ (h : Opens records gives faults service past told instance value x mid before between On) (parts : HasOpened x mid instance value On) (p : ProposerValue) (leads : x.proposer ≡ Some p) where
       abbrev l : Lead Value
       l = lead_of x.acceptor p (is_some x.acting)
 
@@ -125,25 +126,25 @@ module _ {K : Type 0} (records : K → List (List ℕ)) (gives : K → List ℕ 
       role_open = leading l (Some (proposal_of l.ballot instance value)) (x.id ∷ []) l.active
 
       -- no more than the append was done
-      appended : LeadsOn records gives faults (λ d. propose x.nodes x.id told d l instance value (λ e. e)) (led role_open) x.keeper mid.keeper (so_far records service x before) (so_far records service mid between)
+      appended : LeadsOn records gives faults service (λ d. propose x.nodes x.id told d l instance value (λ e. e)) (led role_open) x.keeper mid.keeper (so_far records service past x before) (so_far records service past mid between)
       appended = (lead_from x (OpensAt On) p leads h (λ d. d)).0
 
       -- the node has one record more, at least
       grown_some : appended.written ≡ [] → ⊥
       grown_some none =
           let keeper : mid.keeper ≡ x.keeper = (subst (λ (ws : List (List ℕ)). AppendsInTurn gives x.keeper ws (Ok tt) mid.keeper) none appended.appends).1 in
-          let comes = subst (λ (ws : List (List ℕ)). propose x.nodes x.id told (armed_with (later ws None) (so_far records service x before)) l instance value (λ e. e) ≡ led role_open (armed_with None (so_far records service mid between))) none (appended.comes None) in
-          let longer : suc (length (log_of service (records x.keeper))) ≡ length (log_of service (records x.keeper)) =
-          ap (λ (d : CallHere). length d.node.log) comes ∙ ap (λ (k : K). length (log_of service (records k))) keeper in
+          let comes = subst (λ (ws : List (List ℕ)). propose x.nodes x.id told (armed_with (later ws None) (so_far records service past x before)) l instance value (λ e. e) ≡ led role_open (armed_with None (so_far records service past mid between))) none (appended.comes None) in
+          let longer : suc (length (log_of service past (records x.keeper))) ≡ length (log_of service past (records x.keeper)) =
+          ap (λ (d : CallHere). length d.node.log) comes ∙ ap (λ (k : K). length (log_of service past (records k))) keeper in
           absurd (omega arith)
 
       pub counted_between : faults mid.keeper ≡ faults x.keeper
       counted_between = appended.counted
 
-      pub kept_between : IsKept records service mid
+      pub kept_between : IsKept records service past mid
       kept_between = (opens_next On h p leads).1
 
-      pub stuck_after : (y : NodeValue K) → IsStuck records service mid y → IsStuck records service x y
+      pub stuck_after : (y : NodeValue K) → IsStuck records service past mid y → IsStuck records service past x y
       stuck_after y s = record {
         more = appended.written ++ s.more;
         grown = s.grown ∙ ap (λ (r : List (List ℕ)). r ++ s.more) appended.grown ∙ append_assoc (records x.keeper) appended.written s.more;
@@ -194,17 +195,17 @@ module _ {K : Type 0} (records : K → List (List ℕ)) (gives : K → List ℕ 
       ends_open e =
           let o = opens_next On h p leads in (
             (
-              leads_then records gives faults (whole_of (length x.known + 1) (effect.Proposes x.id (length x.known + 1) events) l) (open_at (length x.known + 1) l) (λ d. d) x.keeper mid.keeper mid.keeper
-                  (so_far records service x before) (so_far records service mid between) (so_far records service mid between) o.0
-                  (leads_same records gives faults (open_at (length x.known + 1) l) (λ d. d) mid.keeper (so_far records service mid between) (so_far records service mid between) refl
-                  (λ f. stays_open x.nodes sv x.id l (proposal_of p.ballot (length x.known + 1) value) (armed_with f (so_far records service mid between)) role (alone ∙ majority_where false e))),
+              leads_then records gives faults service (whole_of (length x.known + 1) (effect.Proposes x.id (length x.known + 1) events) l) (open_at (length x.known + 1) l) (λ d. d) x.keeper mid.keeper mid.keeper
+                  (so_far records service past x before) (so_far records service past mid between) (so_far records service past mid between) o.0
+                  (leads_same records gives faults service (open_at (length x.known + 1) l) (λ d. d) mid.keeper (so_far records service past mid between) (so_far records service past mid between) refl
+                  (λ f. stays_open x.nodes sv x.id l (proposal_of p.ballot (length x.known + 1) value) (armed_with f (so_far records service past mid between)) role (alone ∙ majority_where false e))),
               o.1,
               o.2,
             ),
             up_kept mid o.1 rests_between,
           )
         where
-          role : (here_of records service mid).role ≡ leading l (Some (proposal_of p.ballot (length x.known + 1) value)) (x.id ∷ []) l.active
+          role : (here_of records service past mid).role ≡ leading l (Some (proposal_of p.ballot (length x.known + 1) value)) (x.id ∷ []) l.active
           role =
               ap (λ (c : AcceptorValue). role_of c mid.proposer (is_some mid.acting)) mid_acceptor
               ∙ ap (λ (q : Option ProposerValue). role_of (accepting x.acceptor (record { instance = instance; ballot = p.ballot; value = value })) q (is_some mid.acting)) mid_proposer
@@ -232,35 +233,35 @@ module _ {K : Type 0} (records : K → List (List ℕ)) (gives : K → List ℕ 
 
         abbrev LearnsAt : Going → Lead Value → Type 0
         LearnsAt going m =
-            (k : CallHere → CallHere) → Comes records gives faults service (λ d. decide mid.nodes (service_of service mid.seed) mid.id d m instance value k) k mid y between after going
+            (k : CallHere → CallHere) → Comes records gives faults service past (λ d. decide mid.nodes (service_of service mid.seed) mid.id d m instance value k) k mid y between after going
 
-        learns_next : (going : Going) → Learns records gives faults service instance value mid y between after going
-            → Comes records gives faults service (decides x.nodes x.seed x.id (is_some x.acting) (length x.known + 1)) (settle left x.nodes sv x.id) mid y between after going
+        learns_next : (going : Going) → Learns records gives faults service past instance value mid y between after going
+            → Comes records gives faults service past (decides x.nodes x.seed x.id (is_some x.acting) (length x.known + 1)) (settle left x.nodes sv x.id) mid y between after going
         learns_next going hl =
-            subst (λ (i : ℕ). Comes records gives faults service (decides x.nodes x.seed x.id (is_some x.acting) i) (settle left x.nodes sv x.id) mid y between after going) next
-            (subst (λ (w : Option ActingValue). Comes records gives faults service (decides x.nodes x.seed x.id (is_some w) instance) (settle left x.nodes sv x.id) mid y between after going) mid_acting
-            (subst (λ (id : ℕ). Comes records gives faults service (decides x.nodes x.seed id (is_some mid.acting) instance) (settle left x.nodes sv x.id) mid y between after going) same.id
-            (subst (λ (seed : ℕ). Comes records gives faults service (decides x.nodes seed mid.id (is_some mid.acting) instance) (settle left x.nodes sv x.id) mid y between after going) same.seed
-            (subst (λ (n : ℕ). Comes records gives faults service (decides n mid.seed mid.id (is_some mid.acting) instance) (settle left x.nodes sv x.id) mid y between after going) same.nodes
+            subst (λ (i : ℕ). Comes records gives faults service past (decides x.nodes x.seed x.id (is_some x.acting) i) (settle left x.nodes sv x.id) mid y between after going) next
+            (subst (λ (w : Option ActingValue). Comes records gives faults service past (decides x.nodes x.seed x.id (is_some w) instance) (settle left x.nodes sv x.id) mid y between after going) mid_acting
+            (subst (λ (id : ℕ). Comes records gives faults service past (decides x.nodes x.seed id (is_some mid.acting) instance) (settle left x.nodes sv x.id) mid y between after going) same.id
+            (subst (λ (seed : ℕ). Comes records gives faults service past (decides x.nodes seed mid.id (is_some mid.acting) instance) (settle left x.nodes sv x.id) mid y between after going) same.seed
+            (subst (λ (n : ℕ). Comes records gives faults service past (decides n mid.seed mid.id (is_some mid.acting) instance) (settle left x.nodes sv x.id) mid y between after going) same.nodes
             (lead_from mid (LearnsAt going) closed_one mid_closed hl (settle left x.nodes sv x.id))))))
 
-        to_decide : LeadsOn records gives faults (whole_of (length x.known + 1) (effect.Proposes x.id (length x.known + 1) events) l) (decides x.nodes x.seed x.id (is_some x.acting) (length x.known + 1)) x.keeper mid.keeper (so_far records service x before) (so_far records service mid between)
+        to_decide : LeadsOn records gives faults service (whole_of (length x.known + 1) (effect.Proposes x.id (length x.known + 1) events) l) (decides x.nodes x.seed x.id (is_some x.acting) (length x.known + 1)) x.keeper mid.keeper (so_far records service past x before) (so_far records service past mid between)
         to_decide =
-            leads_then records gives faults (whole_of (length x.known + 1) (effect.Proposes x.id (length x.known + 1) events) l) (open_at (length x.known + 1) l) (decides x.nodes x.seed x.id (is_some x.acting) (length x.known + 1)) x.keeper mid.keeper mid.keeper
-            (so_far records service x before) (so_far records service mid between) (so_far records service mid between) (opens_next On h p leads).0
-            (leads_same records gives faults (open_at (length x.known + 1) l) (decides x.nodes x.seed x.id (is_some x.acting) (length x.known + 1)) mid.keeper (so_far records service mid between) (so_far records service mid between) refl
-            (λ f. knows_at_once x.nodes sv x.id l (proposal_of p.ballot (length x.known + 1) value) (armed_with f (so_far records service mid between)) (alone ∙ majority_where true closed_now)))
+            leads_then records gives faults service (whole_of (length x.known + 1) (effect.Proposes x.id (length x.known + 1) events) l) (open_at (length x.known + 1) l) (decides x.nodes x.seed x.id (is_some x.acting) (length x.known + 1)) x.keeper mid.keeper mid.keeper
+            (so_far records service past x before) (so_far records service past mid between) (so_far records service past mid between) (opens_next On h p leads).0
+            (leads_same records gives faults service (open_at (length x.known + 1) l) (decides x.nodes x.seed x.id (is_some x.acting) (length x.known + 1)) mid.keeper (so_far records service past mid between) (so_far records service past mid between) refl
+            (λ f. knows_at_once x.nodes sv x.id l (proposal_of p.ballot (length x.known + 1) value) (armed_with f (so_far records service past mid between)) (alone ∙ majority_where true closed_now)))
 
-        ends_learned : (going : Going) → Learns records gives faults service instance value mid y between after going → HasLearned service mid y instance value going → IsSame mid y → EndsAt y after going l
+        ends_learned : (going : Going) → Learns records gives faults service past instance value mid y between after going → HasLearned service mid y instance value going → IsSame mid y → EndsAt y after going l
         ends_learned On hl learned same_now =
             let o = learns_next On hl in (
               (
-                leads_then records gives faults (whole_of (length x.known + 1) (effect.Proposes x.id (length x.known + 1) events) l) (decides x.nodes x.seed x.id (is_some x.acting) (length x.known + 1)) (λ d. d) x.keeper mid.keeper y.keeper
-                    (so_far records service x before) (so_far records service mid between) (so_far records service y after) to_decide
-                    (leads_then records gives faults (decides x.nodes x.seed x.id (is_some x.acting) (length x.known + 1)) (settle left x.nodes sv x.id) (λ d. d) mid.keeper y.keeper y.keeper
-                    (so_far records service mid between) (so_far records service y after) (so_far records service y after) o.0
-                    (leads_same records gives faults (settle left x.nodes sv x.id) (λ d. d) y.keeper (so_far records service y after) (so_far records service y after) refl
-                    (λ f. settles_active left x.nodes sv x.id (armed_with f (so_far records service y after)) (lead_of y.acceptor (closed closed_one) true) role refl refl))),
+                leads_then records gives faults service (whole_of (length x.known + 1) (effect.Proposes x.id (length x.known + 1) events) l) (decides x.nodes x.seed x.id (is_some x.acting) (length x.known + 1)) (λ d. d) x.keeper mid.keeper y.keeper
+                    (so_far records service past x before) (so_far records service past mid between) (so_far records service past y after) to_decide
+                    (leads_then records gives faults service (decides x.nodes x.seed x.id (is_some x.acting) (length x.known + 1)) (settle left x.nodes sv x.id) (λ d. d) mid.keeper y.keeper y.keeper
+                    (so_far records service past mid between) (so_far records service past y after) (so_far records service past y after) o.0
+                    (leads_same records gives faults service (settle left x.nodes sv x.id) (λ d. d) y.keeper (so_far records service past y after) (so_far records service past y after) refl
+                    (λ f. settles_active left x.nodes sv x.id (armed_with f (so_far records service past y after)) (lead_of y.acceptor (closed closed_one) true) role refl refl))),
                 o.1,
                 o.2,
               ),
@@ -273,7 +274,7 @@ module _ {K : Type 0} (records : K → List (List ℕ)) (gives : K → List ℕ 
             y_acting : y.acting ≡ Some (settling service a)
             y_acting = ap (λ (z : NodeValue K). z.acting) learned ∙ ap (option_map (settling service)) (mid_acting ∙ acts)
 
-            role : (here_of records service y).role ≡ Leads (lead_of y.acceptor (closed closed_one) true)
+            role : (here_of records service past y).role ≡ Leads (lead_of y.acceptor (closed closed_one) true)
             role = ap (λ (q : Option ProposerValue). role_of y.acceptor q (is_some y.acting)) y_proposer ∙ ap (λ (w : Option ActingValue). role_of y.acceptor (Some (closed closed_one)) (is_some w)) y_acting
 
             rests : HasGoneOn y.proposer (is_some y.acting)
@@ -281,9 +282,9 @@ module _ {K : Type 0} (records : K → List (List ℕ)) (gives : K → List ℕ 
         ends_learned Down hl learned same_now =
             let o = learns_next Down hl in (
               (
-                leads_fell records gives faults (whole_of (length x.known + 1) (effect.Proposes x.id (length x.known + 1) events) l) (decides x.nodes x.seed x.id (is_some x.acting) (length x.known + 1)) x.id x.keeper mid.keeper y.keeper
-                    (so_far records service x before) (so_far records service mid between) (so_far records service y after) to_decide
-                    (subst (λ (id : ℕ). Fell records gives faults (decides x.nodes x.seed x.id (is_some x.acting) (length x.known + 1)) id mid.keeper y.keeper (so_far records service mid between) (so_far records service y after)) same.id o.0),
+                leads_fell records gives faults service (whole_of (length x.known + 1) (effect.Proposes x.id (length x.known + 1) events) l) (decides x.nodes x.seed x.id (is_some x.acting) (length x.known + 1)) x.id x.keeper mid.keeper y.keeper
+                    (so_far records service past x before) (so_far records service past mid between) (so_far records service past y after) to_decide
+                    (subst (λ (id : ℕ). Fell records gives faults service (decides x.nodes x.seed x.id (is_some x.acting) (length x.known + 1)) id mid.keeper y.keeper (so_far records service past mid between) (so_far records service past y after)) same.id o.0),
                 o.1,
               ),
               down_kept x y node (record { id = same_now.id ∙ same.id; nodes = same_now.nodes ∙ same.nodes; seed = same_now.seed ∙ same.seed }) o.1,
@@ -291,10 +292,10 @@ module _ {K : Type 0} (records : K → List (List ℕ)) (gives : K → List ℕ 
 
     -- ---- the same, whatever the node leads with
 
-    pub cut_waits : Opens records gives faults service told instance value x mid before between On → HasOpened x mid instance value On → has_open mid.proposer ≡ true → ProposesCut records gives faults service events value x mid before between On
+    pub cut_waits : Opens records gives faults service past told instance value x mid before between On → HasOpened x mid instance value On → has_open mid.proposer ≡ true → ProposesCut records gives faults service past events value x mid before between On
     cut_waits h parts e = from_lead x (EndsAt mid between On) (λ p leads. ends_open h parts p leads e)
 
-    pub cut_known : Opens records gives faults service told instance value x mid before between On → HasOpened x mid instance value On → has_open mid.proposer ≡ false → IsSame x mid
-        → (y : NodeValue K) (after : Draft) (going : Going) → Learns records gives faults service instance value mid y between after going → HasLearned service mid y instance value going → IsSame mid y
-        → ProposesCut records gives faults service events value x y before after going
+    pub cut_known : Opens records gives faults service past told instance value x mid before between On → HasOpened x mid instance value On → has_open mid.proposer ≡ false → IsSame x mid
+        → (y : NodeValue K) (after : Draft) (going : Going) → Learns records gives faults service past instance value mid y between after going → HasLearned service mid y instance value going → IsSame mid y
+        → ProposesCut records gives faults service past events value x y before after going
     cut_known h parts e same y after going hl learned same_now = from_lead x (EndsAt y after going) (λ p leads. ends_learned h parts p leads e same y after going hl learned same_now)

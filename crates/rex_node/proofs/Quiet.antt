@@ -9,16 +9,16 @@ use Rattle.rex_record.specs.Value.{releases}
 use Rattle.rex_syntax.specs.declared.service.Declarations.{Declarations}
 use Rattle.rex_report.specs.declared.effect.Effect.{Effect}
 use Rattle.rex_report.specs.declared.effect.Effect.TheVariants as effect
-use Rattle.rex_safety.specs.Records.{Rec, Proposal, promise, accepted, known}
-use Rattle.rex_safety.specs.Records.Rec.{Promised, Accepted, Known}
+use Rattle.rex_safety.specs.Records.{Rec, Proposal, promise, accepted, offset, base, known}
+use Rattle.rex_safety.specs.Records.Rec.{Promised, Accepted, Known, Dropped, Transferred}
 use Rattle.rex_safety.specs.Quorum.{round_of, ballot_above, is_in, is_majority}
 use Rattle.rex_safety.specs.Node.{Service, Content, Lead, Role, Failure, role_name}
-use Rattle.rex_safety.specs.Node.Content.{Prepare, Promise, Accept, Accepted as Voted, Chosen as Chose, Nack, Ask}
+use Rattle.rex_safety.specs.Node.Content.{Prepare, Promise, Accept, Accepted as Voted, Chosen as Chose, Nack, Ask, Snapshot}
 use Rattle.rex_safety.specs.Node.Role.{Follower, Leads}
 use Rattle.rex_safety.specs.Releases.{IsAmong}
 use Rattle.rex_safety.specs.Values.{Value, events_of, trace_of, state_after, release_effect, service_of}
 use Rattle.rex_safety.specs.Lanes.{CallHere, active_only, is_faithful, cut_live, cut_lead, cut_role, cut, value_at}
-use Rattle.rex_safety.specs.Calls.{Call, say, follow, followed, append, logged, propose, released, decide, best, choose, lead, turn, settle, enough, own_reports, stand, elect, on_prepare, heard, on_own_promise, on_promise, has_last, on_accept, voted, on_own_vote, on_voted, on_chosen, on_nack, receive}
+use Rattle.rex_safety.specs.Calls.{Call, say, follow, followed, append, logged, propose, released, decide, best, choose, lead, turn, settle, enough, own_reports, stand, elect, on_prepare, heard, on_own_promise, on_promise, has_last, on_accept, voted, on_own_vote, on_voted, on_chosen, on_nack, on_snapshot, drop_known, receive}
 use Rattle.rex_safety.proofs.Saying.{among_either}
 
 -- ---- effects
@@ -132,9 +132,10 @@ module _ {V S : Type 0} (n : ℕ) (sv : Service V S) (me : ℕ) (replies : (befo
   prepare_well : (from b first : ℕ) (d : Call V S) → IsWell d → IsWell (on_prepare me from b first d)
   prepare_well from b first d h =
       if_well (nat_lt b (promise d.node.log)) (sent_well _ d h)
+      (if_well (nat_le first (offset d.node.log)) (sent_well _ d h)
       (if_well (nat_lt (promise d.node.log) b)
       (append_well d.node.armed (Promised b) d _ h.armed (sent_well _ _ (followed_well (Promised b) (effect.Promised me b ∷ []) d h (quiet_one (effect.Promised me b) (λ id e. cc)))))
-      (sent_well _ d h))
+      (sent_well _ d h)))
 
   promise_well : (from b : ℕ) (ps : List (Proposal V)) (d : Call V S) → IsWell d → (r : Role V) → IsWell (on_promise n sv me from b ps d r)
   promise_well from b ps d h Follower = say_well (effect.IgnoredBallot b 0) d h (λ id e. cc)
@@ -151,8 +152,9 @@ module _ {V S : Type 0} (n : ℕ) (sv : Service V S) (me : ℕ) (replies : (befo
   accept_well : (from b i : ℕ) (v : V) (d : Call V S) → IsWell d → IsWell (on_accept me from b i v d)
   accept_well from b i v d h =
       if_well (nat_lt b (promise d.node.log)) (sent_well _ d h)
+      (if_well (nat_le i (offset d.node.log)) (sent_well _ d h)
       (if_well (has_last b i (accepted d.node.log)) (sent_well _ d h)
-      (append_well d.node.armed (Accepted b i v) d _ h.armed (sent_well _ _ (followed_well (Accepted b i v) (effect.Accepted me b i ∷ []) d h (quiet_one (effect.Accepted me b i) (λ id e. cc))))))
+      (append_well d.node.armed (Accepted b i v) d _ h.armed (sent_well _ _ (followed_well (Accepted b i v) (effect.Accepted me b i ∷ []) d h (quiet_one (effect.Accepted me b i) (λ id e. cc)))))))
 
   voted_well : (from b i : ℕ) (d : Call V S) → IsWell d → (r : Role V) → IsWell (on_voted n sv me from b i d r)
   voted_well from b i d h Follower = say_well (effect.IgnoredBallot b 0) d h (λ id e. cc)
@@ -177,6 +179,17 @@ module _ {V S : Type 0} (n : ℕ) (sv : Service V S) (me : ℕ) (replies : (befo
   nack_well p d h Follower = say_well (effect.IgnoredBallot p 0) d h (λ id e. cc)
   nack_well p d h (Leads l) = if_well (nat_lt l.ballot p) (follow_well [] d h quiet_none) (say_well (effect.IgnoredBallot p l.ballot) d h (λ id e. cc))
 
+  snapshot_well : (values : List V) (d : Call V S) → IsWell d → IsWell (on_snapshot sv me values d)
+  snapshot_well values d h =
+      if_well (nat_le (length values) (length (known d.node.log))) (say_well (effect.IgnoredInstance (length values) (suc (length (known d.node.log)))) d h (λ id e. cc))
+      (append_well d.node.armed (Transferred values (sv.state values)) d _ h.armed
+      (follow_well (effect.Transferred me (length values) ∷ []) _ (record { armed = refl; quiet = h.quiet }) (quiet_one (effect.Transferred me (length values)) (λ id e. cc))))
+
+  pub dropped_well : (d : Call V S) → IsWell d → IsWell (drop_known me d)
+  dropped_well d h =
+      if_well (base d.node.log == offset d.node.log) (say_well effect.Nothing d h (λ id e. cc))
+      (append_well d.node.armed (Dropped (base d.node.log)) d _ h.armed (say_well (effect.Dropped me (base d.node.log)) _ (record { armed = refl; quiet = h.quiet }) (λ id e. cc)))
+
   pub receive_well : (from : ℕ) (m : Content V) → Goes (receive n sv me from m)
   receive_well from (Prepare b first) d h = prepare_well from b first d h
   receive_well from (Promise b ps) d h = promise_well from b ps d h d.node.role
@@ -184,7 +197,8 @@ module _ {V S : Type 0} (n : ℕ) (sv : Service V S) (me : ℕ) (replies : (befo
   receive_well from (Voted b i) d h = voted_well from b i d h d.node.role
   receive_well from (Chose i v) d h = chosen_well i v d h
   receive_well from (Nack b p) d h = nack_well p d h d.node.role
-  receive_well from (Ask first) d h = if_well (nat_lt (length (known d.node.log)) first) (say_well effect.Nothing d h (λ id e. cc)) (sent_well _ d h)
+  receive_well from (Ask first) d h = if_well (nat_le first (offset d.node.log)) (sent_well _ d h) (if_well (nat_lt (length (known d.node.log)) first) (say_well effect.Nothing d h (λ id e. cc)) (sent_well _ d h))
+  receive_well from (Snapshot values) d h = snapshot_well values d h
 
 -- ---- a service's replies
 

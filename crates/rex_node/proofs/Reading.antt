@@ -1,22 +1,21 @@
 -- A keeper whose records are all read.
-use Rattle.std.proofs.Common.{◌≡◌, ℕ, suc, ◌+◌, ◌≤◌, Bool, true, false, List, [], ◌∷◌, ◌++◌, length, Result, Ok, Err, refl, sym, ap, subst, ◌∙◌, inl, inr, arith, length-append, append_assoc, get_or}
-use Rattle.std.specs.Prelude.{fold, map, is_ok, Option, Some, None, if◌then◌else◌}
-use Rattle.std.specs.List.{list_all}
-use Rattle.std.proofs.Math.Seq.{get_or-append_seam, take-append_seam}
+use Rattle.std.proofs.Common.{◌≡◌, ℕ, suc, ◌+◌, ◌<◌, ◌≤◌, Bool, true, false, List, [], ◌∷◌, ◌++◌, length, take, drop, Result, Ok, Err, refl, sym, ap, subst, ◌∙◌, inl, inr, arith, append_assoc, length-append, take-append-drop}
+use Rattle.std.specs.Prelude.{map, nat_lt, is_ok, slice_index_or, Option, Some, None, if◌then◌else◌}
+use Rattle.std.specs.List.{cons_option, list_all}
+use Rattle.std.proofs.Math.Seq.{drop-cons}
 use Rattle.std.proofs.lemmas.Bool.{and_parts, and_from}
-use Rattle.std.proofs.lemmas.List.{length-map}
+use Rattle.std.proofs.lemmas.List.Folds.{list_all-append}
+use Rattle.std.proofs.lemmas.List.Sums.{fold-append}
 use Rattle.rex_syntax.specs.declared.service.Declarations.{Declarations}
 use Rattle.rex_state.specs.Value.{StateValue}
 use Rattle.rex_traits.specs.Chains.{Answer}
 use Rattle.rex_durable.specs.declared.records.Rec.{Rec as KeptRec}
 use Rattle.rex_durable.specs.declared.records.Rec.TheVariants as rec
+use Rattle.rex_durable.specs.declared.records.Standing.{Standing}
+use Rattle.rex_durable.specs.Spelling.{record_bytes}
 use Rattle.rex_durable.specs.Reading.{record_in}
-use Rattle.rex_durable.specs.Recovery.{recovered}
-use Rattle.rex_durable.specs.Spelling.{AreRecords, Follows, IsDue, record_bytes}
 use Rattle.rex_durable.specs.Recovery as durable
-use Rattle.rex_durable.specs.Kept.{Place as Bad, records_behind, and_then, recovered_in, told}
-use Rattle.rex_durable.proofs.OneMore.{more_none, more_some}
-use Rattle.rex_durable.proofs.RecordsAgain.{record_read}
+use Rattle.rex_durable.specs.Kept.{IsFirstBad}
 use Rattle.rex_event.specs.declared.delta.Delta.{Delta}
 use Rattle.rex_delta.specs.Reading.{delta_in}
 use Rattle.rex_snapshot.specs.Reading.{state_in}
@@ -28,158 +27,143 @@ use Rattle.rex_node.specs.declared.contents.Place.{Place}
 use Rattle.rex_node.specs.declared.restart.RestartFault.{RestartFault}
 use Rattle.rex_node.specs.declared.restart.RestartFault.TheVariants.{BadRecord, OutOfMemory}
 use Rattle.rex_node.specs.declared.step.Step.{Step}
-use Rattle.rex_node.specs.Parts.{AreRead, NodeValue, failed_records, here_of, log_of, log_with, rec_of, says_something}
+use Rattle.rex_log.specs.Log.{AreRead, log_behind, log_of, log_with, rec_of, standing_in}
+use Rattle.rex_node.specs.Parts.{NodeValue, failed_records, here_of}
 use Rattle.rex_node.specs.Calls.{call_of, failed_many, Does, FailsAfter, GoesWell}
-use Rattle.rex_node.specs.Restarting.{HasFirstBad, IsRestartFault, bad_at, bad_in, first_bad, has_checkpoint, place_or}
-use Rattle.rex_node.proofs.Recalling.{recovered_says}
+use Rattle.rex_node.specs.Restarting.{HasFirstBad, IsRestartFault, bad_at, bad_in, first_bad, has_state, place_or}
+use Rattle.rex_node.specs.Stated.{AreStated, is_stated}
+use Rattle.rex_node.proofs.GoingLemmas.{stated_both}
+use Rattle.rex_node.proofs.Recalling.{recovered_says, stands_behind}
 
 -- ---- the only fault is want of memory
 
--- so many values are known with one record more, wherever it is read
-known_more : (service : Declarations) (before : List KeptRec) (log : List (Rec Value StateValue)) (r : KeptRec) → length (known log) ≡ length (durable.known before)
-    → length (known (rec_of service r ∷ log)) ≡ length (durable.known (before ++ r ∷ []))
-known_more service before log (rec.Promised b) e = e ∙ ap length (sym (more_none durable.value_in before (rec.Promised b) refl))
-known_more service before log (rec.Accepted b i v) e = e ∙ ap length (sym (more_none durable.value_in before (rec.Accepted b i v) refl))
-known_more service before log (rec.Checkpoint k bytes) e = e ∙ ap length (sym (more_none durable.value_in before (rec.Checkpoint k bytes) refl))
-known_more service before log (rec.Known i v) e =
-    length-append (known log) (v ∷ []) ∙ ap (λ (n : ℕ). n + 1) e ∙ sym (length-append (durable.known before) (v ∷ []))
-    ∙ ap length (sym (more_some durable.value_in before (rec.Known i v) v refl))
-
-module _ (service : Declarations) where
-  abbrev read_behind : List (Rec Value StateValue) → List (List ℕ) → List (Rec Value StateValue)
-  read_behind log kept = fold (λ log bytes. log_with service log (record_in (length (known log)) bytes)) log kept
-
-  -- one that says something, or nothing more
-  abbrev log_if : Bool → List (Rec Value StateValue) → KeptRec → List (Rec Value StateValue)
-  log_if b log r = if b then rec_of service r ∷ log else log
-
+module _ (service : Declarations) (past : List Value) where
   -- no more records are read than there are lists of bytes
-  at_most : (kept : List (List ℕ)) (log : List (Rec Value StateValue)) → length (read_behind log kept) ≤ length kept + length log
+  at_most : (lists : List (List ℕ)) (log : List (Rec Value StateValue)) → length (log_behind service past log lists) ≤ length lists + length log
   at_most [] log = omega arith
-  at_most (bytes ∷ kept) log = by (at_most kept) (record_in (length (known log)) bytes)
+  at_most (bytes ∷ lists) log = by (at_most lists) (record_in (standing_in log) bytes)
     where
-      said : ((l : List (Rec Value StateValue)) → length (read_behind l kept) ≤ length kept + length l) → (r : KeptRec) (b : Bool) → length (read_behind (log_if b log r) kept) ≤ suc (length kept) + length log
-      said most r true = let h = most (rec_of service r ∷ log) in omega arith
-      said most r false = let h = most log in omega arith
-
-      by : ((l : List (Rec Value StateValue)) → length (read_behind l kept) ≤ length kept + length l) → (r : Result KeptRec ℕ) → length (read_behind (log_with service log r) kept) ≤ suc (length kept) + length log
-      by most (Ok r) = said most r (says_something service r)
+      by : ((l : List (Rec Value StateValue)) → length (log_behind service past l lists) ≤ length lists + length l) → (r : Result KeptRec ℕ)
+          → length (log_behind service past (log_with service past log r) lists) ≤ suc (length lists) + length log
+      by most (Ok r) = let h = most (rec_of service past r ∷ log) in omega arith
       by most (Err at) = let h = most log in omega arith
 
-  -- where as many are read, the next one says something
-  all_say : (kept : List (List ℕ)) (log : List (Rec Value StateValue)) (r : KeptRec) (b : Bool) → length (read_behind (log_if b log r) kept) ≡ suc (length kept) + length log
-      → (b ≡ true) × (length (read_behind (rec_of service r ∷ log) kept) ≡ length kept + suc (length log))
-  all_say kept log r true all = (refl, omega (arith, all))
-  all_say kept log r false all = let h = at_most kept log in absurd (omega (arith, all, h))
+  -- fewer are where one of them is bad
+  fewer : (before : List (List ℕ)) (bytes : List ℕ) (rest : List (List ℕ)) (at : ℕ) → record_in (standing_in (log_of service past before)) bytes ≡ Err at
+      → length (log_of service past (before ++ bytes ∷ rest)) < length (before ++ bytes ∷ rest)
+  fewer before bytes rest at bad =
+      let log = log_of service past before in
+      let is : log_of service past (before ++ bytes ∷ rest) ≡ log_behind service past log rest =
+      fold-append (λ log bytes. log_with service past log (record_in (standing_in log) bytes)) [] before (bytes ∷ rest) ∙ ap (λ r. log_behind service past (log_with service past log r) rest) bad in
+      let most = at_most rest log in
+      let front = at_most before [] in
+      let long = length-append before (bytes ∷ rest) in
+      subst (λ (l : List (Rec Value StateValue)). length l < length (before ++ bytes ∷ rest)) (sym is) (omega arith)
 
-  -- where as many are read, none is bad
-  none_bad : (kept : List (List ℕ)) (before : List KeptRec) (log : List (Rec Value StateValue)) (place : Bad) → length (known log) ≡ length (durable.known before)
-      → length (read_behind log kept) ≡ length kept + length log → records_behind before kept ≡ Err place → ⊥
-  none_bad [] before log place same all e = cc
-  none_bad (bytes ∷ kept) before log place same all e =
-      by (λ r. none_bad kept (before ++ r ∷ []) (rec_of service r ∷ log) place (known_more service before log r same)) (record_in (length (known log)) bytes) all (subst (λ (n : ℕ). and_then (record_in n bytes) before (λ rs. records_behind rs kept) ≡ Err place) (sym same) e)
-    where
-      by : ((r : KeptRec) → length (read_behind (rec_of service r ∷ log) kept) ≡ length kept + suc (length log) → records_behind (before ++ r ∷ []) kept ≡ Err place → ⊥)
-          → (r : Result KeptRec ℕ) → length (read_behind (log_with service log r) kept) ≡ suc (length kept) + length log → and_then r before (λ rs. records_behind rs kept) ≡ Err place → ⊥
-      by none (Ok r) all e = none r (all_say kept log r (says_something service r) all).1 e
-      by none (Err at) all e = let h = at_most kept log in absurd (omega (arith, all, h))
+  -- where all are read, none is bad
+  pub not_refused : (kept : List (List ℕ)) (number at : ℕ) → AreRead service past kept → IsFirstBad kept number at → ⊥
+  not_refused kept number at all h =
+      let n = length h.before in
+      let front = take n kept in
+      let bytes = slice_index_or kept n [] in
+      let rest = drop (suc n) kept in
+      let parts : kept ≡ front ++ bytes ∷ rest = sym (take-append-drop n kept) ∙ ap (λ (bs : List (List ℕ)). front ++ bs) (drop-cons kept n [] h.there) in
+      let bad : record_in (standing_in (log_of service past front)) bytes ≡ Err at =
+      subst (λ (s : Standing). record_in s bytes ≡ Err at) (stands_behind service past front h.before h.spelled) h.bad in
+      let less = fewer front bytes rest at bad in
+      let same : length (log_of service past (front ++ bytes ∷ rest)) ≡ length (front ++ bytes ∷ rest) = subst (λ (lists : List (List ℕ)). AreRead service past lists) parts all in
+      absurd (omega arith)
 
-  -- and nothing that they hold, where the known values spell deltas
-  holds_good : (r : KeptRec) (later : List KeptRec) → says_something service r ≡ true → list_all (spells service) (durable.known (r ∷ [])) ≡ true → bad_in service r later ≡ None
-  holds_good (rec.Promised b) later says fit = refl
-  holds_good (rec.Accepted b i v) later says fit = refl
-  holds_good (rec.Known i v) later says fit = by (delta_in v) (and_parts (may_be_value v) (is_piece service (delta_in v)) (and_parts (spells service v) true fit).0).1
+module _ (service : Declarations) where
+  -- a value that spells a delta isn't bad, nor is one that isn't held
+  value_good : (v : Value) (held : Bool) → list_all (spells service) (cons_option (if held then Some v else None) []) ≡ true → ◌≡◌ {A = Option ℕ} (if held then bad_at (delta_in v) else None) None
+  value_good v false fit = refl
+  value_good v true fit = by (delta_in v) (and_parts (may_be_value v) (is_piece service (delta_in v)) (and_parts (spells service v) true fit).0).1
     where
       by : (d : Result Delta ℕ) → is_piece service d ≡ true → bad_at d ≡ None
       by (Ok d) h = refl
       by (Err at) h = absurd (cc)
-  holds_good (rec.Checkpoint k bytes) later says fit = by (has_checkpoint later) (state_in service bytes) says
-    where
-      by : (b : Bool) (s : Result StateValue ℕ) → is_ok s ≡ true → ◌≡◌ {A = Option ℕ} (if b then None else bad_at s) None
-      by true s h = refl
-      by false (Ok s) h = refl
-      by false (Err at) h = absurd (cc)
 
-  no_bad : (rs before : List KeptRec) (log : List (Rec Value StateValue)) (n : ℕ) → AreRecords (before ++ rs) → length (known log) ≡ length (durable.known before)
-      → length (read_behind log (map record_bytes rs)) ≡ length rs + length log → list_all (spells service) (durable.known rs) ≡ true → first_bad service n rs ≡ None
-  no_bad [] before log n each same all fit = refl
-  no_bad (r ∷ rs) before log n each same all fit =
-      ap (λ (o : Option ℕ). place_or n o (first_bad service (suc n) rs)) (holds_good r rs next.0 (known_first r rs fit))
-      ∙ no_bad rs (before ++ r ∷ []) (rec_of service r ∷ log) (suc n) (subst AreRecords (sym (append_assoc before (r ∷ []) rs)) each) (known_more service before log r same)
-      (next.1 ∙ ap (λ (m : ℕ). m + suc (length log)) (length-map rs record_bytes)) (known_rest r rs fit)
-    where
-      follows : Follows before r
-      follows =
-          let f = each.each (length before) r (omega (arith, length-append before (r ∷ rs))) in
-          subst (λ (q : KeptRec). Follows before q) (get_or-append_seam before r rs r)
-          (subst (λ (front : List KeptRec). Follows front (get_or (before ++ r ∷ rs) (length before) r)) (take-append_seam before (r ∷ rs)) f)
+  -- nor a state that is spelled
+  state_good : (later : Bool) (s : Result StateValue ℕ) → is_ok s ≡ true → ◌≡◌ {A = Option ℕ} (if later then None else bad_at s) None
+  state_good true s h = refl
+  state_good false (Ok s) h = refl
+  state_good false (Err at) h = absurd (cc)
 
-      read : record_in (length (known log)) (record_bytes r) ≡ Ok r
-      read = record_read (length (known log)) r follows.spelling (subst (λ (m : ℕ). IsDue m r) (sym same) follows.due)
+  holds_good : (offset : ℕ) (r : KeptRec) (later : List KeptRec) → is_stated service (record_bytes r) ≡ true → list_all (spells service) (cons_option (durable.value_above offset r) []) ≡ true → bad_in service offset r later ≡ None
+  holds_good offset (rec.Promised b) later stated fit = refl
+  holds_good offset (rec.Accepted b i v) later stated fit = refl
+  holds_good offset (rec.Known i v) later stated fit = value_good v (nat_lt offset i) fit
+  holds_good offset (rec.Checkpoint k bytes) later stated fit = state_good (has_state later) (state_in service bytes) stated
+  holds_good offset (rec.Dropped k) later stated fit = refl
+  holds_good offset (rec.Transferred k bytes) later stated fit = state_good (has_state later) (state_in service bytes) stated
 
-      next : (says_something service r ≡ true) × (length (read_behind (rec_of service r ∷ log) (map record_bytes rs)) ≡ length (map record_bytes rs) + suc (length log))
-      next =
-          all_say (map record_bytes rs) log r (says_something service r)
-          (ap (λ (q : Result KeptRec ℕ). length (read_behind (log_with service log q) (map record_bytes rs))) (sym read) ∙ all ∙ ap (λ (m : ℕ). suc m + length log) (sym (length-map rs record_bytes)))
+  -- a list's first value, if it has one, and the others
+  fit_parts : (o : Option Value) (vs : List Value) → list_all (spells service) (cons_option o vs) ≡ true → (list_all (spells service) (cons_option o []) ≡ true) × (list_all (spells service) vs ≡ true)
+  fit_parts None vs h = (refl, h)
+  fit_parts (Some v) vs h = let parts = and_parts (spells service v) (list_all (spells service) vs) h in (and_from (spells service v) true parts.0 refl, parts.1)
 
-      known_first : (r : KeptRec) (rs : List KeptRec) → list_all (spells service) (durable.known (r ∷ rs)) ≡ true → list_all (spells service) (durable.known (r ∷ [])) ≡ true
-      known_first (rec.Promised b) rs h = refl
-      known_first (rec.Accepted b i v) rs h = refl
-      known_first (rec.Checkpoint k bytes) rs h = refl
-      known_first (rec.Known i v) rs h = and_from (spells service v) true (and_parts (spells service v) (list_all (spells service) (durable.known rs)) h).0 refl
+  no_bad : (offset : ℕ) (rs : List KeptRec) (n : ℕ) → list_all (is_stated service) (map record_bytes rs) ≡ true → list_all (spells service) (durable.known_above offset rs) ≡ true → first_bad service offset n rs ≡ None
+  no_bad offset [] n stated fit = refl
+  no_bad offset (r ∷ rs) n stated fit =
+      let states = and_parts (is_stated service (record_bytes r)) (list_all (is_stated service) (map record_bytes rs)) stated in
+      let values = fit_parts (durable.value_above offset r) (durable.known_above offset rs) fit in
+      ap (λ (o : Option ℕ). place_or n o (first_bad service offset (suc n) rs)) (holds_good offset r rs states.0 values.0) ∙ no_bad offset rs (suc n) states.1 values.1
 
-      known_rest : (r : KeptRec) (rs : List KeptRec) → list_all (spells service) (durable.known (r ∷ rs)) ≡ true → list_all (spells service) (durable.known rs) ≡ true
-      known_rest (rec.Promised b) rs h = h
-      known_rest (rec.Accepted b i v) rs h = h
-      known_rest (rec.Checkpoint k bytes) rs h = h
-      known_rest (rec.Known i v) rs h = (and_parts (spells service v) (list_all (spells service) (durable.known rs)) h).1
+  -- what is past the first values fits, too
+  fits_past : (n : ℕ) (vs : List Value) → list_all (spells service) vs ≡ true → list_all (spells service) (drop n vs) ≡ true
+  fits_past n vs h =
+      (and_parts (list_all (spells service) (take n vs)) (list_all (spells service) (drop n vs))
+      (sym (list_all-append (spells service) (take n vs) (drop n vs)) ∙ ap (list_all (spells service)) (take-append-drop n vs) ∙ h)).1
 
-  pub not_refused : (kept : List (List ℕ)) (place : Bad) → AreRead service kept → recovered_in kept ≡ Err place → ⊥
-  unfolding recovered_in
-  not_refused kept place all e = by (records_behind [] kept) refl e
-    where
-      by : (r : Result (List KeptRec) Bad) → records_behind [] kept ≡ r → told r ≡ Err place → ⊥
-      by (Ok rs) same e = cc
-      by (Err at) same e = none_bad kept [] [] at refl (all ∙ (omega arith)) same
-
-  -- nor is what they hold
-  good_read : (kept : List (List ℕ)) (place : Place) → AreRead service kept → list_all (spells service) (known (log_of service kept)) ≡ true → HasFirstBad service kept (Some place) → ⊥
-  good_read kept place all fit h =
-      let said = recovered_says service kept h.rs (recovered h.rs) h.spelled refl in
-      let values : list_all (spells service) (durable.known h.rs) ≡ true = subst (λ (vs : List Value). list_all (spells service) vs ≡ true) (sym said.known) fit in
-      let many : length (read_behind [] (map record_bytes h.rs)) ≡ length h.rs + 0 =
-      subst (λ (lists : List (List ℕ)). length (log_of service lists) ≡ length lists) h.spelled.bytes all ∙ length-map h.rs record_bytes ∙ omega arith in
-      absurd (some_none place (sym h.first ∙ no_bad h.rs [] [] 1 h.spelled.records refl many values))
+  -- where each state is spelled, and each known value spells a delta, nothing that records hold is bad
+  good_read : (past : List Value) (kept : List (List ℕ)) (place : Place) → AreStated service kept → list_all (spells service) (known (log_of service past kept)) ≡ true → HasFirstBad service kept (Some place) → ⊥
+  good_read past kept place stated fit h =
+      let said = recovered_says service past kept h.rs (durable.recovered h.rs) h.spelled refl in
+      let values : list_all (spells service) (durable.known h.rs) ≡ true =
+      ap (λ (vs : List Value). list_all (spells service) vs) said.held ∙ fits_past (durable.offset h.rs) (known (log_of service past kept)) fit in
+      let states : list_all (is_stated service) (map record_bytes h.rs) ≡ true = subst (λ (lists : List (List ℕ)). AreStated service lists) h.spelled.bytes stated in
+      absurd (some_none place (sym h.first ∙ no_bad (durable.offset h.rs) h.rs 1 states values))
     where
       some_none : (p : Place) → Some p ≡ None → ⊥
       some_none p e = cc
 
-  -- a keeper whose records are all read, and whose known values spell deltas, is refused for want of memory only
-  pub only_memory : (kept : List (List ℕ)) (fault : RestartFault) → IsRestartFault service kept fault → AreRead service kept → list_all (spells service) (known (log_of service kept)) ≡ true → fault ≡ OutOfMemory
-  only_memory kept (BadRecord number at) (inl h) all fit = absurd (not_refused kept (record { number = number; at = at }) all h)
-  only_memory kept (BadRecord number at) (inr h) all fit = absurd (good_read kept (record { number = number; at = at }) all fit h)
-  only_memory kept OutOfMemory h all fit = refl
+  -- a keeper whose records are all read, whose states are spelled and whose known values spell deltas, is refused for want of memory only
+  pub only_memory : (past : List Value) (kept : List (List ℕ)) (fault : RestartFault) → IsRestartFault service kept fault → AreRead service past kept → AreStated service kept
+      → list_all (spells service) (known (log_of service past kept)) ≡ true → fault ≡ OutOfMemory
+  only_memory past kept (BadRecord number at) (inl h) all stated fit = absurd (not_refused service past kept number at all h)
+  only_memory past kept (BadRecord number at) (inr h) all stated fit = absurd (good_read past kept (record { number = number; at = at }) stated fit h)
+  only_memory past kept OutOfMemory h all stated fit = refl
 
--- ---- a call leaves a keeper whose records are all read
+-- ---- a call leaves a keeper whose records are all read, and whose states are spelled
 
 failed_length : (kept : Bool) (old written : List (List ℕ)) (bytes : List ℕ) → length (failed_records kept (old ++ written) bytes) ≡ failed_many kept (length written) + length old
 failed_length true old written bytes = let e = length-append (old ++ written) (bytes ∷ []) in let f = length-append old written in omega arith
 failed_length false old written bytes = let f = length-append old written in omega arith
 
-module _ {K : Type 0} (records : K → List (List ℕ)) (gives : K → List ℕ → Answer → K → Type 0) (faults : K → ℕ) (service : Declarations) (call : CallHere → CallHere) (old new : NodeValue K) (step : Step) where
-  pub well_read : GoesWell records gives faults call old.keeper new.keeper (begin (here_of records service old)) (call_of records service new step) → AreRead service (records old.keeper) → AreRead service (records new.keeper)
+failed_states : (service : Declarations) (kept : Bool) (old written : List (List ℕ)) (bytes : List ℕ) → AreStated service old → AreStated service (written ++ bytes ∷ []) → AreStated service (failed_records kept (old ++ written) bytes)
+failed_states service true old written bytes h k = subst (λ (lists : List (List ℕ)). AreStated service lists) (sym (append_assoc old written (bytes ∷ []))) (stated_both service old (written ++ bytes ∷ []) h k)
+failed_states service false old written bytes h k =
+    stated_both service old written h (and_parts (list_all (is_stated service) written) (list_all (is_stated service) (bytes ∷ [])) (sym (list_all-append (is_stated service) written (bytes ∷ [])) ∙ k)).0
+
+module _ {K : Type 0} (records : K → List (List ℕ)) (gives : K → List ℕ → Answer → K → Type 0) (faults : K → ℕ) (service : Declarations) (past : List Value) (call : CallHere → CallHere) (old new : NodeValue K) (step : Step) where
+  well_read : GoesWell records gives faults service call old.keeper new.keeper (begin (here_of records service past old)) (call_of records service past new step) → AreRead service past (records old.keeper) → AreRead service past (records new.keeper)
   well_read h read =
       h.many ∙ ap (λ (n : ℕ). length h.written + n) read
       ∙ (let e = length-append (records old.keeper) h.written in let same : length h.written + length (records old.keeper) ≡ length (records old.keeper ++ h.written) = omega arith in same)
       ∙ ap length (sym h.grown)
 
-  pub failed_read : FailsAfter records gives faults call old.keeper new.keeper (begin (here_of records service old)) (call_of records service new step) → AreRead service (records old.keeper) → AreRead service (records new.keeper)
+  failed_read : FailsAfter records gives faults service call old.keeper new.keeper (begin (here_of records service past old)) (call_of records service past new step) → AreRead service past (records old.keeper) → AreRead service past (records new.keeper)
   failed_read h read =
       h.many ∙ ap (λ (n : ℕ). failed_many h.kept (length h.written) + n) read
       ∙ sym (failed_length h.kept (records old.keeper) h.written h.bytes)
       ∙ ap length (sym h.grown)
 
   -- whatever the keeper is
-  pub does_read : Does records gives faults service call old new step → AreRead service (records old.keeper) → AreRead service (records new.keeper)
+  pub does_read : Does records gives faults service past call old new step → AreRead service past (records old.keeper) → AreRead service past (records new.keeper)
   does_read (inl h) = well_read h
   does_read (inr h) = failed_read h
+
+  pub does_state : Does records gives faults service past call old new step → AreStated service (records old.keeper) → AreStated service (records new.keeper)
+  does_state (inl h) stated = subst (λ (lists : List (List ℕ)). AreStated service lists) (sym h.grown) (stated_both service (records old.keeper) h.written stated h.stated)
+  does_state (inr h) stated = subst (λ (lists : List (List ℕ)). AreStated service lists) (sym h.grown) (failed_states service h.kept (records old.keeper) h.written h.bytes stated h.stated)

@@ -11,94 +11,96 @@ use Rattle.rex_durable.specs.declared.records.Rec.{Rec as KeptRec}
 use Rattle.rex_durable.specs.Spelling.{HasSpelling, IsDue, record_bytes}
 use Rattle.rex_report.specs.declared.effect.Effect.{Effect}
 use Rattle.rex_traits.specs.Chains.{Answer}
-use Rattle.rex_safety.specs.Records.{Rec, known, base}
+use Rattle.rex_safety.specs.Records.{Rec, base}
 use Rattle.rex_safety.specs.Node.{Failure}
 use Rattle.rex_safety.specs.Calls.{answer, append, follow, followed, logged, send}
 use Rattle.rex_safety.specs.Values.{Value}
 use Rattle.rex_safety.specs.Lanes.{Here, CallHere}
 use Rattle.rex_node.specs.declared.step.Draft.{Draft}
 use Rattle.rex_node.specs.declared.going.Going.TheVariants.{On, Down}
-use Rattle.rex_node.specs.Messages.{content_in, message_in}
+use Rattle.rex_log.specs.Messages.{content_in, message_in}
 use Rattle.rex_node.specs.Calls.{armed_with}
 use Rattle.rex_node.specs.Going.{Appends, Fell, IsStuck, Leads, Sends, Tells, answering, so_far}
-use Rattle.rex_node.specs.Parts.{NodeValue, IsUp, IsNode, here_of, log_of, rec_of, role_of, leaving, says_something}
+use Rattle.rex_log.specs.Log.{log_of, rec_of, standing_in}
+use Rattle.rex_node.specs.Parts.{NodeValue, IsUp, IsResting, here_of, role_of, leaving}
 use Rattle.rex_node.proofs.Appended.{IsLogged, call_at, appended_log, appended_here, appended_leads, appended_fell}
 use Rattle.rex_node.proofs.GoingLemmas.{leads_same, leads_then}
 use Rattle.rex_node.proofs.Following.{EndsWell, far, within, follower_here, follower_node}
+use Rattle.rex_node.specs.Stated.{is_stated}
 
 -- ---- more messages
 
-module _ {K : Type 0} (records : K → List (List ℕ)) (service : Declarations) (z : NodeValue K) (before after : Draft) (to : ℕ) (content : Content) where
+module _ {K : Type 0} (records : K → List (List ℕ)) (service : Declarations) (past : List Value) (z : NodeValue K) (before after : Draft) (to : ℕ) (content : Content) where
   -- one more message is sent in the model too
-  pub sends_to : Sends before after (answering z.id to content) → so_far records service z after ≡ send (so_far records service z before) (answer z.id to (content_in content))
-  sends_to s = far records service z after _ _ s.effects_are (ap (map message_in) s.sends_are ∙ map-append message_in before.sends.items (answering z.id to content))
+  pub sends_to : Sends before after (answering z.id to content) → so_far records service past z after ≡ send (so_far records service past z before) (answer z.id to (content_in past content))
+  sends_to s = far records service past z after _ _ s.effects_are (ap (map (message_in past)) s.sends_are ∙ map-append (message_in past) before.sends.items (answering z.id to content))
 
 -- ---- one record
 
-module _ {K : Type 0} (records : K → List (List ℕ)) (gives : K → List ℕ → Answer → K → Type 0) (faults : K → ℕ) (service : Declarations) (x y : NodeValue K) (before mid : Draft) (node : IsNode records service x) (up : x.up ≡ true)
-    (r : KeptRec) (spelling : HasSpelling r) (due : IsDue (length (known (log_of service (records x.keeper)))) r) (says : says_something service r ≡ true)
-    (plain : base (rec_of service r ∷ log_of service (records x.keeper)) ≡ base (log_of service (records x.keeper))) where
+module _ {K : Type 0} (records : K → List (List ℕ)) (gives : K → List ℕ → Answer → K → Type 0) (faults : K → ℕ) (service : Declarations) (past : List Value) (x y : NodeValue K) (before mid : Draft) (node : IsResting records service past x) (up : x.up ≡ true)
+    (r : KeptRec) (spelling : HasSpelling r) (due : IsDue (standing_in (log_of service past (records x.keeper))) r) (stated : is_stated service (record_bytes r) ≡ true)
+    (plain : base (rec_of service past r ∷ log_of service past (records x.keeper)) ≡ base (log_of service past (records x.keeper))) where
   abbrev log : List (Rec Value StateValue)
-  log = log_of service (records x.keeper)
+  log = log_of service past (records x.keeper)
 
   abbrev one : Rec Value StateValue
-  one = rec_of service r
+  one = rec_of service past r
 
-  u : IsUp service x (here_of records service x)
+  u : IsUp service x (here_of records service past x)
   u = node.up up
 
   -- the record is there when memory is short
-  pub recorded_stuck : Appends records faults gives x y before mid (record_bytes r) On → (z : NodeValue K) → z.keeper ≡ y.keeper → z.base ≡ y.base → IsStuck records service x z
+  pub recorded_stuck : Appends records faults gives x y before mid (record_bytes r) On → (z : NodeValue K) → z.keeper ≡ y.keeper → z.base ≡ y.base → IsStuck records service past x z
   recorded_stuck h z keeper based = record {
     more = record_bytes r ∷ [];
     grown = ap records keeper ∙ h.0.records;
     same = λ e. absurd (some e);
     based =
         based ∙ ap (λ (n : NodeValue K). n.base) h.0.parts ∙ u.base ∙ sym plain
-        ∙ ap base (sym (ap (λ (k : K). log_of service (records k)) keeper ∙ appended_log records gives faults service x y before mid r spelling due says h));
+        ∙ ap base (sym (ap (λ (k : K). log_of service past (records k)) keeper ∙ appended_log records gives faults service past x y before mid r spelling due stated h));
   }
     where
       some : record_bytes r ∷ [] ≡ [] → ⊥
       some e = cc
 
-  module _ (whole k : CallHere → CallHere) (is : (f : Option Failure) → whole (armed_with f (so_far records service x before)) ≡ append f x.id one (armed_with f (so_far records service x before)) k) where
+  module _ (whole k : CallHere → CallHere) (is : (f : Option Failure) → whole (armed_with f (so_far records service past x before)) ≡ append f x.id one (armed_with f (so_far records service past x before)) k) where
     -- the append failed
     pub recorded_down : Appends records faults gives x y before mid (record_bytes r) Down
-        → (Fell records gives faults whole x.id x.keeper y.keeper (so_far records service x before) (so_far records service y mid) × (y.up ≡ false)) × IsNode records service y
+        → (Fell records gives faults service whole x.id x.keeper y.keeper (so_far records service past x before) (so_far records service past y mid) × (y.up ≡ false)) × IsResting records service past y
     recorded_down h = (
-      (appended_fell records gives faults service x y before mid r spelling due says whole k is u.base plain h, ap (λ (n : NodeValue K). n.up) h.0.parts),
-      subst (IsNode records service) (sym h.0.parts) (record { id = node.id; few = node.few; up = λ t. absurd (false≢true t); rests = λ t. absurd (false≢true t) }),
+      (appended_fell records gives faults service past x y before mid r spelling due stated whole k is u.base plain h, ap (λ (n : NodeValue K). n.up) h.0.parts),
+      subst (IsResting records service past) (sym h.0.parts) (record { id = node.id; few = node.few; up = λ t. absurd (false≢true t); rests = λ t. absurd (false≢true t) }),
     )
 
     -- or the call ends with the record
-    pub recorded_on : Appends records faults gives x y before mid (record_bytes r) On → (z : NodeValue K) (after : Draft) → z.keeper ≡ y.keeper → IsNode records service z → z.up ≡ true
-        → ((f : Option Failure) → k (armed_with f (logged one None (so_far records service x before))) ≡ armed_with f (k (logged one None (so_far records service x before))))
-        → so_far records service z after ≡ k (logged one None (so_far records service x before)) → EndsWell records gives faults service x z before after whole
+    pub recorded_on : Appends records faults gives x y before mid (record_bytes r) On → (z : NodeValue K) (after : Draft) → z.keeper ≡ y.keeper → IsResting records service past z → z.up ≡ true
+        → ((f : Option Failure) → k (armed_with f (logged one None (so_far records service past x before))) ≡ armed_with f (k (logged one None (so_far records service past x before))))
+        → so_far records service past z after ≡ k (logged one None (so_far records service past x before)) → EndsWell records gives faults service past x z before after whole
     recorded_on h z after keeper n t arms e = (
       (
-        leads_then records gives faults whole k (λ d. d) x.keeper y.keeper z.keeper (so_far records service x before) (so_far records service y mid) (so_far records service z after)
-            (appended_leads records gives faults service x y before mid r spelling due says whole k is h) last,
-        within records service z n,
+        leads_then records gives faults service whole k (λ d. d) x.keeper y.keeper z.keeper (so_far records service past x before) (so_far records service past y mid) (so_far records service past z after)
+            (appended_leads records gives faults service past x y before mid r spelling due stated whole k is h) last,
+        within records service past z n,
         t,
       ),
       n,
     )
       where
-        last : Leads records gives faults k (λ d. d) y.keeper z.keeper (so_far records service y mid) (so_far records service z after)
+        last : Leads records gives faults service k (λ d. d) y.keeper z.keeper (so_far records service past y mid) (so_far records service past z after)
         last =
-            subst (λ (j : K). Leads records gives faults k (λ d. d) y.keeper j (so_far records service y mid) (so_far records service z after)) (sym keeper)
-            (leads_same records gives faults k (λ d. d) y.keeper (so_far records service y mid) (so_far records service z after) (ap (λ (j : K). length (log_of service (records j))) keeper)
-            (λ f. ap (λ (d : CallHere). k (armed_with f d)) (appended_here records gives faults service x y before mid r spelling due says h) ∙ arms f ∙ ap (armed_with f) (sym e)))
+            subst (λ (j : K). Leads records gives faults service k (λ d. d) y.keeper j (so_far records service past y mid) (so_far records service past z after)) (sym keeper)
+            (leads_same records gives faults service k (λ d. d) y.keeper (so_far records service past y mid) (so_far records service past z after) (ap (λ (j : K). length (log_of service past (records j))) keeper)
+            (λ f. ap (λ (d : CallHere). k (armed_with f d)) (appended_here records gives faults service past x y before mid r spelling due stated h) ∙ arms f ∙ ap (armed_with f) (sym e)))
 
   -- ---- the node leaves its role then
 
   module _ (h : Appends records faults gives x y before mid (record_bytes r) On) (a : AcceptorValue) (vs : List Value)
-      (logged_here : IsLogged service (record x { keeper = y.keeper; acceptor = a; known = vs }) (rec_of service r ∷ log_of service (records x.keeper)))
+      (logged_here : IsLogged service (record x { keeper = y.keeper; acceptor = a; known = vs }) (rec_of service past r ∷ log_of service past (records x.keeper)))
       (more : length x.known ≤ length vs) (front : (n : ℕ) → n ≤ length x.known → take n vs ≡ take n x.known)
       (z : NodeValue K) (z_is : z ≡ record (leaving x) { keeper = y.keeper; acceptor = a; known = vs }) where
     -- it is kept
-    pub follows_node : IsNode records service z
-    follows_node = subst (IsNode records service) (sym z_is) (follower_node records service x node up y.keeper one a vs (appended_log records gives faults service x y before mid r spelling due says h) plain logged_here more front)
+    pub follows_node : IsResting records service past z
+    follows_node = subst (IsResting records service past) (sym z_is) (follower_node records service past x node up y.keeper one a vs (appended_log records gives faults service past x y before mid r spelling due stated h) plain logged_here more front)
 
     pub follows_up : z.up ≡ true
     follows_up = ap (λ (n : NodeValue K). n.up) z_is ∙ up
@@ -108,12 +110,12 @@ module _ {K : Type 0} (records : K → List (List ℕ)) (gives : K → List ℕ 
 
     -- it has told what it did, and that it follows
     pub follows_to : (after : Draft) (cause : Effect) → Tells mid after (cause ∷ followed y.id (role_of y.acceptor y.proposer (is_some y.acting)))
-        → so_far records service z after ≡ follow x.id (cause ∷ []) (logged one None (so_far records service x before))
+        → so_far records service past z after ≡ follow x.id (cause ∷ []) (logged one None (so_far records service past x before))
     follows_to after cause t =
-        far records service z after (before.effects.items ++ (cause ∷ followed x.id (role_of x.acceptor x.proposer (is_some x.acting)))) (map message_in before.sends.items)
+        far records service past z after (before.effects.items ++ (cause ∷ followed x.id (role_of x.acceptor x.proposer (is_some x.acting)))) (map (message_in past) before.sends.items)
         (t.effects_are ∙ ap (λ (es : List Effect). es ++ (cause ∷ followed y.id (role_of y.acceptor y.proposer (is_some y.acting)))) h.1
         ∙ ap (λ (n : NodeValue K). before.effects.items ++ (cause ∷ followed n.id (role_of n.acceptor n.proposer (is_some n.acting)))) h.0.parts)
-        (ap (map message_in) (t.sends_are ∙ h.2))
-        ∙ ap (λ (n : Here). call_at n (map message_in before.sends.items) (before.effects.items ++ (cause ∷ followed x.id (role_of x.acceptor x.proposer (is_some x.acting)))))
-        (ap (here_of records service) z_is
-        ∙ follower_here records service x node up y.keeper one a vs (appended_log records gives faults service x y before mid r spelling due says h) plain logged_here more front (map message_in before.sends.items) before.effects.items)
+        (ap (map (message_in past)) (t.sends_are ∙ h.2))
+        ∙ ap (λ (n : Here). call_at n (map (message_in past) before.sends.items) (before.effects.items ++ (cause ∷ followed x.id (role_of x.acceptor x.proposer (is_some x.acting)))))
+        (ap (here_of records service past) z_is
+        ∙ follower_here records service past x node up y.keeper one a vs (appended_log records gives faults service past x y before mid r spelling due stated h) plain logged_here more front (map (message_in past) before.sends.items) before.effects.items)

@@ -1,8 +1,8 @@
 -- What a node has still to replay leads from the state that it has replayed to the one after all that it knows.
-use Rattle.std.proofs.Common.{◌≡◌, ℕ, ◌-◌, ◌≤◌, ◌||◌, inl, eqb, le_refl, Bool, true, false, List, [], ◌∷◌, length, take, drop, refl, sym, ap, subst, ◌∙◌, arith, append-nil}
+use Rattle.std.proofs.Common.{◌≡◌, ℕ, ◌≤◌, ◌||◌, inl, eqb, le_refl, Bool, true, false, List, [], ◌∷◌, length, take, drop, refl, sym, ap, subst, ◌∙◌, arith, append-nil}
 use Rattle.std.specs.Prelude.{Option, Some, None, IsSome, is_some, map, ◌==◌, if◌then◌else◌}
 use Rattle.std.proofs.lemmas.Bool.{false≢true}
-use Rattle.std.proofs.lemmas.List.{take_all, take-append-drop, length-drop}
+use Rattle.std.proofs.lemmas.List.{take_all, take-append-drop}
 use Rattle.rex_syntax.specs.declared.service.Declarations.{Declarations}
 use Rattle.rex_syntax.specs.Service.{IsService}
 use Rattle.rex_syntax.specs.Check.{IsChecked}
@@ -22,14 +22,15 @@ use Rattle.rex_safety.specs.Lanes.{Here, CallHere}
 use Rattle.rex_safety.specs.Values.{Value, runs, trace_of}
 use Rattle.rex_safety.proofs.Replies.{trace_both, fits_run}
 use Rattle.rex_node.specs.declared.step.Step.{Step}
-use Rattle.rex_node.specs.Messages.{message_in}
+use Rattle.rex_log.specs.Messages.{message_in}
 use Rattle.rex_node.specs.Calls.{Does}
-use Rattle.rex_node.specs.Parts.{ActingValue, NodeValue, IsKept, IsNode, IsUp, StaysNode, here_of, log_of, state_of}
+use Rattle.rex_log.specs.Log.{log_of}
+use Rattle.rex_node.specs.Parts.{ActingValue, NodeValue, IsKept, IsResting, IsUp, StaysResting, here_of, state_of}
 use Rattle.rex_node.proofs.Appended.{IsLogged, Beside, logged_of, beside_of, up_of}
 use Rattle.rex_node.proofs.Leaving.{role_active}
 
-module _ {K : Type 0} (records : K → List (List ℕ)) (service : Declarations) (x : NodeValue K) (node : IsKept records service x) (up : x.up ≡ true) (none : x.acting ≡ None) where
-  is_up : IsUp service x (here_of records service x)
+module _ {K : Type 0} (records : K → List (List ℕ)) (service : Declarations) (past : List Value) (x : NodeValue K) (node : IsKept records service past x) (up : x.up ≡ true) (none : x.acting ≡ None) where
+  is_up : IsUp service x (here_of records service past x)
   is_up = node.up up
 
   from_runs : run service (start_of service) (trace_of (take x.replayed x.known)) ≡ Some (state_of x)
@@ -40,84 +41,88 @@ module _ {K : Type 0} (records : K → List (List ℕ)) (service : Declarations)
       sym (run-then service (start_of service) (state_of x) (trace_of (take x.replayed x.known)) (trace_of (drop x.replayed x.known)) from_runs)
       ∙ ap (run service (start_of service)) (sym (trace_both (take x.replayed x.known) (drop x.replayed x.known)) ∙ ap trace_of (take-append-drop x.replayed x.known))
 
-  rest_is : (known : List Value) (n : ℕ) → known ≡ x.known → n ≡ x.replayed → take (length known - n) (drop n known) ≡ drop x.replayed x.known
-  rest_is known n known_is n_is =
-      take_all (length known - n) (drop n known) (omega (arith, length-drop n known))
-      ∙ ap (λ (k : ℕ). drop k known) n_is ∙ ap (drop x.replayed) known_is
-
   pub from_sound : (from : StateValue) → from ≡ state_of x → IsService service → IsChecked service → IsSound service from
   from_sound from from_is good checked =
       subst (IsSound service) (sym from_is) (run_keeps service (start_of service) (state_of x) (trace_of (take x.replayed x.known)) good (start_keeps service good checked) from_runs)
 
-  pub rest_runs_to : (from : StateValue) (known : List Value) (n : ℕ) → from ≡ state_of x → known ≡ x.known → n ≡ x.replayed → run service from (trace_of (take (length known - n) (drop n known))) ≡ run service (start_of service) (trace_of x.known)
-  rest_runs_to from known n from_is known_is n_is =
-      ap (λ (vs : List Value). run service from (trace_of vs)) (rest_is known n known_is n_is)
+  pub rest_runs_to : (from : StateValue) (rest : List Value) → from ≡ state_of x → rest ≡ drop x.replayed x.known → run service from (trace_of rest) ≡ run service (start_of service) (trace_of x.known)
+  rest_runs_to from rest from_is rest_is =
+      ap (λ (vs : List Value). run service from (trace_of vs)) rest_is
       ∙ ap (λ (s : StateValue). run service s (trace_of (drop x.replayed x.known))) from_is
       ∙ rest_leads
 
-  pub rest_runs : (from : StateValue) (known : List Value) (n : ℕ) → from ≡ state_of x → known ≡ x.known → n ≡ x.replayed → IsSome (run service from (trace_of (take (length known - n) (drop n known))))
-  rest_runs from known n from_is known_is n_is =
+  pub rest_runs : (from : StateValue) (rest : List Value) → from ≡ state_of x → rest ≡ drop x.replayed x.known → IsSome (run service from (trace_of rest))
+  rest_runs from rest from_is rest_is =
       let r = fits_run service x.known is_up.fits in
-      subst (λ (o : Option StateValue). IsSome o) (sym (rest_runs_to from known n from_is known_is n_is ∙ r.1)) refl
+      subst (λ (o : Option StateValue). IsSome o) (sym (rest_runs_to from rest from_is rest_is ∙ r.1)) refl
+
+  -- what was replayed is among what is known
+  pub within_known : x.replayed ≤ length x.known
+  within_known = omega (arith, is_up.replayed.replayed, ap (λ (vs : List Value). length vs) is_up.known)
+
+  -- and above the offset
+  pub above_offset : x.offset ≤ x.replayed
+  above_offset = let b = is_up.base in omega (arith, is_up.low, is_up.replayed.based, b)
 
 -- ---- all that the node knows was replayed
 
-module _ {K : Type 0} (records : K → List (List ℕ)) (gives : K → List ℕ → Answer → K → Type 0) (faults : K → ℕ) (service : Declarations) (x : NodeValue K) (node : IsNode records service x) (up : x.up ≡ true) (none : x.acting ≡ None) (n : ℕ) (n_is : n ≡ length x.known) (s : StateValue) where
+module _ {K : Type 0} (records : K → List (List ℕ)) (gives : K → List ℕ → Answer → K → Type 0) (faults : K → ℕ) (service : Declarations) (past : List Value) (x : NodeValue K) (node : IsResting records service past x) (up : x.up ≡ true) (none : x.acting ≡ None) (n : ℕ) (n_is : n ≡ length x.known) (s : StateValue) where
   abbrev pub after_replay : NodeValue K
   after_replay = record x { replayed = n; ahead = Some s }
 
-  u : IsUp service x (here_of records service x)
+  u : IsUp service x (here_of records service past x)
   u = node.up up
 
   pub replay_does : eqb x.replayed n ≡ false → (step : Step) → step.effects ≡ Replayed x.id n ∷ [] → step.sends ≡ []
-      → Does records gives faults service (replay x.id) x after_replay step
+      → Does records gives faults service past (replay x.id) x after_replay step
   replay_does old step effects sends = inl (record {
     written = [];
     grown = sym (append-nil (records x.keeper));
     appends = (refl, refl);
     counted = refl;
+    stated = refl;
     many = omega arith;
     is =
         ap (λ (t : Bool). replay_if t) idle
         ∙ ap (λ (k : ℕ). record { node = record h { replayed = k }; sends = []; effects = Replayed x.id k ∷ [] }) (sym here)
-        ∙ ap (λ (ms : List _). record { node = record h { replayed = n }; sends = map message_in ms; effects = Replayed x.id n ∷ [] }) (sym sends)
-        ∙ ap (λ (es : List Effect). record { node = record h { replayed = n }; sends = map message_in step.sends; effects = es }) (sym effects);
+        ∙ ap (λ (ms : List _). record { node = record h { replayed = n }; sends = map (message_in past) ms; effects = Replayed x.id n ∷ [] }) (sym sends)
+        ∙ ap (λ (es : List Effect). record { node = record h { replayed = n }; sends = map (message_in past) step.sends; effects = es }) (sym effects);
   })
     where
       h : Here
-      h = here_of records service x
+      h = here_of records service past x
 
-      here : n ≡ length (known (here_of records service x).log)
+      here : n ≡ length (known (here_of records service past x).log)
       here = n_is ∙ ap length u.known
 
       replay_if : Bool → CallHere
       replay_if t =
-          if t then say (UpToDate x.id) (begin (here_of records service x))
-          else record { node = record (here_of records service x) { replayed = length (known (here_of records service x).log) }; sends = []; effects = Replayed x.id (length (known (here_of records service x).log)) ∷ [] }
+          if t then say (UpToDate x.id) (begin (here_of records service past x))
+          else record { node = record (here_of records service past x) { replayed = length (known (here_of records service past x).log) }; sends = []; effects = Replayed x.id (length (known (here_of records service past x).log)) ∷ [] }
 
-      idle : (is_active (here_of records service x).role || (x.replayed == length (known (here_of records service x).log))) ≡ false
+      idle : (is_active (here_of records service past x).role || (x.replayed == length (known (here_of records service past x).log))) ≡ false
       idle =
-          ap (λ (t : Bool). t || (x.replayed == length (known (here_of records service x).log))) (role_active service x.known x.acceptor x.proposer x.acting u.acting ∙ ap (λ (w : Option ActingValue). is_some w) none)
+          ap (λ (t : Bool). t || (x.replayed == length (known (here_of records service past x).log))) (role_active service x.known x.acceptor x.proposer x.acting u.acting ∙ ap (λ (w : Option ActingValue). is_some w) none)
           ∙ ap (λ (k : ℕ). x.replayed == k) (sym here) ∙ old
 
-  pub replay_stays : run service (start_of service) (trace_of x.known) ≡ Some s → StaysNode records service x after_replay
+  pub replay_stays : run service (start_of service) (trace_of x.known) ≡ Some s → StaysResting records service past x after_replay
   replay_stays runs = record {
     same = record { id = refl; nodes = refl; seed = refl };
     kept = record { id = node.id; few = node.few; up = λ t. up_after; rests = node.rests };
   }
     where
-      l : IsLogged service x (log_of service (records x.keeper))
-      l = logged_of records service x u
+      l : IsLogged service x (log_of service past (records x.keeper))
+      l = logged_of records service past x u
 
-      b : Beside records service x
-      b = beside_of records service x u
+      b : Beside records service past x
+      b = beside_of records service past x u
 
       whole : take n x.known ≡ x.known
       whole = take_all n x.known (omega arith)
 
-      up_after : IsUp service after_replay (here_of records service after_replay)
-      up_after = up_of records service after_replay
-          (record { promised = l.promised; accepted = l.accepted; known = l.known; base = l.base; old_base = l.old_base; few = l.few; start = l.start; short = l.short; fits = l.fits; numbers = l.numbers })
+      up_after : IsUp service after_replay (here_of records service past after_replay)
+      up_after = up_of records service past after_replay
+          (record { promised = l.promised; accepted = l.accepted; offset_is = l.offset_is; low = l.low; known = l.known; base = l.base; old_base = l.old_base; few = l.few; start = l.start; short = l.short; fits = l.fits; numbers = l.numbers })
           (record {
             based = subst (λ (k : ℕ). x.base ≤ k) (sym n_is) l.few;
             replayed = subst (λ (k : ℕ). k ≤ length x.known) (sym n_is) (le_refl (length x.known));

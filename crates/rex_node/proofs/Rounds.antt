@@ -26,8 +26,9 @@ use Rattle.rex_safety.specs.Lanes.{CallHere}
 use Rattle.rex_node.specs.declared.going.Going.TheVariants.{On}
 use Rattle.rex_node.specs.declared.going.Round.TheVariants.{Done}
 use Rattle.rex_node.specs.declared.step.Draft.{Draft}
-use Rattle.rex_node.specs.Messages.{message_in}
-use Rattle.rex_node.specs.Parts.{NodeValue, ActingValue, ActsFor, HasGoneOn, IsActing, IsKept, IsProposer, IsUp, OpenIsCut, Proposes, here_of, lead_of, log_of, open_of, proposal_in, role_of, work_of}
+use Rattle.rex_log.specs.Messages.{message_in}
+use Rattle.rex_log.specs.Log.{log_of, proposal_in}
+use Rattle.rex_node.specs.Parts.{NodeValue, ActingValue, ActsFor, HasGoneOn, IsActing, IsKept, IsProposer, IsUp, OpenIsCut, Proposes, here_of, lead_of, open_of, role_of, work_of}
 use Rattle.rex_node.specs.Calls.{armed_with}
 use Rattle.rex_node.specs.Going.{MayGoOn, above, so_far}
 use Rattle.rex_node.specs.Leading.{GoesRound, IsActive, IsFree, activated, fresh, goes_on, may_lead, reported_value}
@@ -69,11 +70,11 @@ module _ {V S : Type 0} (n : ℕ) (sv : Service V S) (me : ℕ) where
   settle_follows zero d role = refl
   settle_follows (suc t) d role = ap (λ (r : Role V). turn n sv me d r (settle t n sv me)) role
 
-module _ {K : Type 0} (records : K → List (List ℕ)) (gives : K → List ℕ → Answer → K → Type 0) (faults : K → ℕ) (service : Declarations) (x : NodeValue K) (kept_so : IsKept records service x) (up : x.up ≡ true) (turns : ℕ) (before : Draft) where
+module _ {K : Type 0} (records : K → List (List ℕ)) (gives : K → List ℕ → Answer → K → Type 0) (faults : K → ℕ) (service : Declarations) (past : List Value) (x : NodeValue K) (kept_so : IsKept records service past x) (up : x.up ≡ true) (turns : ℕ) (before : Draft) where
   abbrev settles : CallHere → CallHere
   settles = settle turns x.nodes (service_of service x.seed) x.id
 
-  u : IsUp service x (here_of records service x)
+  u : IsUp service x (here_of records service past x)
   u = kept_so.up up
 
   same_majority : (p : ProposerValue) → x.proposer ≡ Some p → is_majority x.nodes p.promised ≡ counting.is_majority p.nodes (length p.promised)
@@ -90,19 +91,19 @@ module _ {K : Type 0} (records : K → List (List ℕ)) (gives : K → List ℕ 
       by false true o n e f = (refl, sym (ap (λ (z : Option ℕ). not (is_some z)) n))
       by false false o n e f = absurd (let q : is_none o ≡ true = ap (λ (z : Option ℕ). is_none z) n in let r : (is_none o && true) ≡ false = e in let s : (is_none o && true) ≡ true = ap (λ (t : Bool). t && true) q in cc)
 
-  stays : HasGoneOn x.proposer (is_some x.acting) → ((f : Option Failure) → settles (armed_with f (so_far records service x before)) ≡ armed_with f (so_far records service x before)) → GoesRound records gives faults service turns x x before before (Done On)
-  stays gone same = ((leads_same records gives faults settles (λ d. d) x.keeper (so_far records service x before) (so_far records service x before) refl same, kept_so, up), record { id = kept_so.id; few = kept_so.few; up = kept_so.up; rests = λ t. gone })
+  stays : HasGoneOn x.proposer (is_some x.acting) → ((f : Option Failure) → settles (armed_with f (so_far records service past x before)) ≡ armed_with f (so_far records service past x before)) → GoesRound records gives faults service past turns x x before before (Done On)
+  stays gone same = ((leads_same records gives faults service settles (λ d. d) x.keeper (so_far records service past x before) (so_far records service past x before) refl same, kept_so, up), record { id = kept_so.id; few = kept_so.few; up = kept_so.up; rests = λ t. gone })
 
-  pub round_rests : goes_on x.proposer (is_some x.acting) ≡ false → IsFree x.proposer (is_some x.acting) → GoesRound records gives faults service turns x x before before (Done On)
+  pub round_rests : goes_on x.proposer (is_some x.acting) ≡ false → IsFree x.proposer (is_some x.acting) → GoesRound records gives faults service past turns x x before before (Done On)
   round_rests g free = by x.proposer refl g free
     where
-      by : (o : Option ProposerValue) → x.proposer ≡ o → goes_on o (is_some x.acting) ≡ false → IsFree o (is_some x.acting) → GoesRound records gives faults service turns x x before before (Done On)
+      by : (o : Option ProposerValue) → x.proposer ≡ o → goes_on o (is_some x.acting) ≡ false → IsFree o (is_some x.acting) → GoesRound records gives faults service past turns x x before before (Done On)
       by None e g free = stays (subst (λ (o : Option ProposerValue). HasGoneOn o (is_some x.acting)) (sym e) tt)
-          (λ f. settle_follows x.nodes (service_of service x.seed) x.id turns (armed_with f (so_far records service x before)) (ap (λ (o : Option ProposerValue). role_of x.acceptor o (is_some x.acting)) e))
+          (λ f. settle_follows x.nodes (service_of service x.seed) x.id turns (armed_with f (so_far records service past x before)) (ap (λ (o : Option ProposerValue). role_of x.acceptor o (is_some x.acting)) e))
       by (Some p) e g free =
           let r = rests_with p (is_some x.acting) g free in
           stays (subst (λ (o : Option ProposerValue). HasGoneOn o (is_some x.acting)) (sym e) r.1)
-          (λ f. settle_rests x.nodes (service_of service x.seed) x.id turns (armed_with f (so_far records service x before)) (lead_of x.acceptor p (is_some x.acting)) (ap (λ (o : Option ProposerValue). role_of x.acceptor o (is_some x.acting)) e) (ap (open_of x.acceptor) free.0)
+          (λ f. settle_rests x.nodes (service_of service x.seed) x.id turns (armed_with f (so_far records service past x before)) (lead_of x.acceptor p (is_some x.acting)) (ap (λ (o : Option ProposerValue). role_of x.acceptor o (is_some x.acting)) e) (ap (open_of x.acceptor) free.0)
           (ap (λ (t : Bool). is_some x.acting || not t) (same_majority p e) ∙ r.0))
 
   -- ---- it is active
@@ -141,7 +142,7 @@ module _ {K : Type 0} (records : K → List (List ℕ)) (gives : K → List ℕ 
       best_none : best i (map proposal_in p.reported) ≡ None
       best_none = bridges.best_is i p.reported ∙ ap (option_map proposal_in) (none_best (best_for i p.reported) (subst (λ (o : Option ProposerValue). reported_value o i ≡ None) e unreported))
 
-      place : suc (length (known (so_far records service x before).node.log)) ≡ i
+      place : suc (length (known (so_far records service past x before).node.log)) ≡ i
       place = ap (λ (vs : List Value). suc (length vs)) (sym u.known) ∙ (let n : suc (length x.known) ≡ i = omega (arith, next) in n)
 
       some : turns ≡ suc (turns - 1)
@@ -150,12 +151,12 @@ module _ {K : Type 0} (records : K → List (List ℕ)) (gives : K → List ℕ 
           omega (arith, m)
 
       -- the model's node is active too
-      activates : (f : Option Failure) → settles (armed_with f (so_far records service x before)) ≡ activate (service_of service x.seed) x.id l (armed_with f (so_far records service x before))
+      activates : (f : Option Failure) → settles (armed_with f (so_far records service past x before)) ≡ activate (service_of service x.seed) x.id l (armed_with f (so_far records service past x before))
       activates f =
-          ap (λ (t : ℕ). settle t x.nodes (service_of service x.seed) x.id (armed_with f (so_far records service x before))) some
-          ∙ turn_chooses x.nodes (service_of service x.seed) x.id (armed_with f (so_far records service x before)) l (settle (turns - 1) x.nodes (service_of service x.seed) x.id)
+          ap (λ (t : ℕ). settle t x.nodes (service_of service x.seed) x.id (armed_with f (so_far records service past x before))) some
+          ∙ turn_chooses x.nodes (service_of service x.seed) x.id (armed_with f (so_far records service past x before)) l (settle (turns - 1) x.nodes (service_of service x.seed) x.id)
           (ap (λ (o : Option ProposerValue). role_of x.acceptor o (is_some x.acting)) e) (ap (open_of x.acceptor) none) (ap (λ (w : Option ActingValue). is_some w) idle) (same_majority p e ∙ majority)
-          ∙ ap (λ (o : Option (Proposal Value)). choose x.nodes (service_of service x.seed) x.id (armed_with f (so_far records service x before)) l (suc (length (known (so_far records service x before).node.log))) o (settle (turns - 1) x.nodes (service_of service x.seed) x.id))
+          ∙ ap (λ (o : Option (Proposal Value)). choose x.nodes (service_of service x.seed) x.id (armed_with f (so_far records service past x before)) l (suc (length (known (so_far records service past x before).node.log))) o (settle (turns - 1) x.nodes (service_of service x.seed) x.id))
           (ap (λ (j : ℕ). best j (map proposal_in p.reported)) place ∙ best_none)
 
       role_is : leading (lead_of x.acceptor p (is_some x.acting)) None [] true ≡ role_of x.acceptor x.proposer true
@@ -164,14 +165,14 @@ module _ {K : Type 0} (records : K → List (List ℕ)) (gives : K → List ℕ 
           ∙ ap (λ (o : Option ℕ). leading (lead_of x.acceptor p (is_some x.acting)) (open_of x.acceptor o) p.accepted true) (sym none)
           ∙ ap (λ (o : Option ProposerValue). role_of x.acceptor o true) (sym e)
 
-      comes : (f : Option Failure) → settles (armed_with f (so_far records service x before)) ≡ armed_with f (so_far records service z_at after)
+      comes : (f : Option Failure) → settles (armed_with f (so_far records service past x before)) ≡ armed_with f (so_far records service past z_at after)
       comes f =
           activates f
-          ∙ call_is (log_of service (records x.keeper)) (log_of service (records x.keeper)) x.up f (leading (lead_of x.acceptor p (is_some x.acting)) None [] true) (work_of (Some (fresh x.seed p.ballot h.state))) (work_of (Some (fresh x.seed p.ballot h.state)))
-          (length (known (log_of service (records x.keeper)))) (length x.known) (map message_in before.sends.items) (map message_in after.sends.items) (before.effects.items ++ effect.Active x.id p.ballot ∷ []) after.effects.items
-          refl refl (ap (λ (vs : List Value). length vs) (sym u.known)) (ap (map message_in) (sym sends))
+          ∙ call_is (log_of service past (records x.keeper)) (log_of service past (records x.keeper)) x.up f (leading (lead_of x.acceptor p (is_some x.acting)) None [] true) (work_of (Some (fresh x.seed p.ballot h.state))) (work_of (Some (fresh x.seed p.ballot h.state)))
+          (length (known (log_of service past (records x.keeper)))) (length x.known) (map (message_in past) before.sends.items) (map (message_in past) after.sends.items) (before.effects.items ++ effect.Active x.id p.ballot ∷ []) after.effects.items
+          refl refl (ap (λ (vs : List Value). length vs) (sym u.known)) (ap (map (message_in past)) (sym sends))
           (sym (effects ∙ ap (λ (o : Option ProposerValue). before.effects.items ++ effect.Active x.id (unwrap_or (option_map (λ (q : ProposerValue). q.ballot) o) 0) ∷ []) e))
-          ∙ ap (λ (r : Role Value). record (armed_with f (so_far records service z_at after)) { node = record (armed_with f (so_far records service z_at after)).node { role = r } }) role_is
+          ∙ ap (λ (r : Role Value). record (armed_with f (so_far records service past z_at after)) { node = record (armed_with f (so_far records service past z_at after)).node { role = r } }) role_is
 
       acts : ActsFor service x.known (open_of x.acceptor p.open_instance) (fresh x.seed p.ballot h.state)
       acts = record {
@@ -187,12 +188,12 @@ module _ {K : Type 0} (records : K → List (List ℕ)) (gives : K → List ℕ 
       lead_same : (k : ℕ) (a b : Bool) → LeadFits k (lead_of x.acceptor p a) → LeadFits k (lead_of x.acceptor p b)
       lead_same k a b f = record { ballot = f.ballot; reported = f.reported; next = f.next }
 
-      z_up : IsUp service z_at (here_of records service z_at)
+      z_up : IsUp service z_at (here_of records service past z_at)
       z_up =
-          let b = beside_of records service x u in
-          let g = logged_of records service x u in
-          up_of records service z_at
-          (logged_as service x z_at (log_of service (records x.keeper)) refl refl refl refl refl g)
+          let b = beside_of records service past x u in
+          let g = logged_of records service past x u in
+          up_of records service past z_at
+          (logged_as service x z_at (log_of service past (records x.keeper)) refl refl refl refl refl refl g)
           (record {
             based = g.few;
             replayed = le_refl (length x.known);
@@ -207,13 +208,13 @@ module _ {K : Type 0} (records : K → List (List ℕ)) (gives : K → List ℕ 
       gone : HasGoneOn x.proposer true
       gone = subst (λ (o : Option ProposerValue). HasGoneOn o true) (sym e) (ap not majority)
 
-      active_at : GoesRound records gives faults service turns x z before after (Done On)
-      active_at = subst (λ (n : NodeValue K). GoesRound records gives faults service turns x n before after (Done On)) (sym z_is)
-          ((leads_same records gives faults settles (λ d. d) x.keeper (so_far records service x before) (so_far records service z_at after) refl comes, record { id = kept_so.id; few = kept_so.few; up = λ t. z_up }, up), record { id = kept_so.id; few = kept_so.few; up = λ t. z_up; rests = λ t. gone })
+      active_at : GoesRound records gives faults service past turns x z before after (Done On)
+      active_at = subst (λ (n : NodeValue K). GoesRound records gives faults service past turns x n before after (Done On)) (sym z_is)
+          ((leads_same records gives faults service settles (λ d. d) x.keeper (so_far records service past x before) (so_far records service past z_at after) refl comes, record { id = kept_so.id; few = kept_so.few; up = λ t. z_up }, up), record { id = kept_so.id; few = kept_so.few; up = λ t. z_up; rests = λ t. gone })
 
-    pub round_active : GoesRound records gives faults service turns x z before after (Done On)
+    pub round_active : GoesRound records gives faults service past turns x z before after (Done On)
     round_active = by x.proposer refl
       where
-        by : (o : Option ProposerValue) → x.proposer ≡ o → GoesRound records gives faults service turns x z before after (Done On)
+        by : (o : Option ProposerValue) → x.proposer ≡ o → GoesRound records gives faults service past turns x z before after (Done On)
         by None e = absurd (let t : false ≡ true = subst (λ (o : Option ProposerValue). goes_on o (is_some x.acting) ≡ true) e goes in cc)
         by (Some p) e = active_at p e

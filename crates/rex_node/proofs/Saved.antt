@@ -36,17 +36,20 @@ use Rattle.rex_node.specs.declared.refusal.Refusal.TheVariants as why
 use Rattle.rex_node.specs.declared.step.Step.{Step}
 use Rattle.rex_node.specs.Calls.{Does, EndsDown, armed_with, call_of, if_up, last_of, refusal_of_checkpoint}
 use Rattle.rex_node.specs.Checkpointing.{FallsSaving, IsCheckpoint, Saves, fallen_with, rebased, replayed_state, replayed_with}
-use Rattle.rex_node.specs.Messages.{message_in}
-use Rattle.rex_node.specs.Parts.{ActingValue, NodeValue, IsNode, IsUp, StaysNode, failed_records, here_of, log_of, read_state, rec_of, says_something, state_of}
+use Rattle.rex_log.specs.Messages.{message_in}
+use Rattle.rex_log.specs.Log.{standing_in, log_of, read_state, rec_of}
+use Rattle.rex_node.specs.Parts.{ActingValue, NodeValue, IsResting, IsUp, StaysResting, failed_records, here_of, state_of}
+use Rattle.rex_log.proofs.Pasts.{log_then}
+use Rattle.rex_node.specs.Stated.{is_stated}
 use Rattle.rex_node.proofs.Appended.{IsLogged, beside_of, call_at, logged_of, up_of}
-use Rattle.rex_node.proofs.GoingLemmas.{fell_append}
+use Rattle.rex_node.proofs.GoingLemmas.{stated_one, fell_append}
 use Rattle.rex_node.proofs.Executing.{executes}
-use Rattle.rex_node.proofs.Logs.{log_more}
-use Rattle.rex_node.proofs.Restarts.{front_runs}
+use Rattle.rex_log.proofs.Pasts.{log_then}
+use Rattle.rex_node.proofs.Fronts.{front_runs}
 
 -- ---- the state that was replayed
 
-module _ {K : Type 0} (records : K → List (List ℕ)) (service : Declarations) (x : NodeValue K) (u : IsUp service x (here_of records service x)) where
+module _ {K : Type 0} (records : K → List (List ℕ)) (service : Declarations) (past : List Value) (x : NodeValue K) (u : IsUp service x (here_of records service past x)) where
   replayed_runs_with : (w : Option ActingValue) → x.acting ≡ w → run service (start_of service) (trace_of (take x.replayed x.known)) ≡ Some (replayed_with w (state_of x))
   replayed_runs_with None e = u.ahead e
   replayed_runs_with (Some a) e =
@@ -70,10 +73,10 @@ front_fits service n vs h =
     and_from _ _ (spelled_first (spells service) n vs q.0) (ap (λ (o : Option StateValue). is_some o) (front_runs service n vs h).1)
 
 -- the state after the first values is within the limits
-pub front_limited : {K : Type 0} (records : K → List (List ℕ)) (service : Declarations) (x : NodeValue K) → IsUp service x (here_of records service x) → IsService service → IsChecked service → (n : ℕ) → n ≤ length x.known → (s : StateValue)
+pub front_limited : {K : Type 0} (records : K → List (List ℕ)) (service : Declarations) (past : List Value) (x : NodeValue K) → IsUp service x (here_of records service past x) → IsService service → IsChecked service → (n : ℕ) → n ≤ length x.known → (s : StateValue)
     → run service (start_of service) (trace_of (take n x.known)) ≡ Some s → IsLimited s
-front_limited records service x u good checked n le s runs =
-    let l = values_limited service (take n x.known) s good checked (front_fits service n x.known u.fits) (omega (arith, le, (logged_of records service x u).numbers.few, ap length u.known, length-take-le n x.known le)) runs in
+front_limited records service past x u good checked n le s runs =
+    let l = values_limited service (take n x.known) s good checked (front_fits service n x.known u.fits) (omega (arith, le, (logged_of records service past x u).numbers.few, ap length u.known, length-take-le n x.known le)) runs in
     record {
       lanes = All-weaker (λ (lane : Lane). lane.done ≤ 268431360) HasFewEvents (λ lane h. record { few = h }) s.lanes l.lanes;
       nobody = l.nobody;
@@ -109,29 +112,29 @@ free h e = by (h.replayed == base h.log) (nat_lt 0 (length h.work.live)) refl re
 
 -- ---- the state is saved
 
-module _ {K : Type 0} (records : K → List (List ℕ)) (service : Declarations) (x : NodeValue K) (node : IsNode records service x) (due : refusal_of_checkpoint (here_of records service x) ≡ None) (s : StateValue) (s_is : s ≡ replayed_state x)
+module _ {K : Type 0} (records : K → List (List ℕ)) (service : Declarations) (past : List Value) (x : NodeValue K) (node : IsResting records service past x) (due : refusal_of_checkpoint (here_of records service past x) ≡ None) (s : StateValue) (s_is : s ≡ replayed_state x)
     (good : IsService service) (checked : IsChecked service) where
-  up_now : IsUp service x (here_of records service x)
-  up_now = node.up (free (here_of records service x) due).up
+  up_now : IsUp service x (here_of records service past x)
+  up_now = node.up (free (here_of records service past x) due).up
 
   runs_now : run service (start_of service) (trace_of (take x.replayed x.known)) ≡ Some s
-  runs_now = replayed_runs records service x up_now ∙ ap Some (sym s_is)
+  runs_now = replayed_runs records service past x up_now ∙ ap Some (sym s_is)
 
   pub replayed_sound_now : IsSound service s
   replayed_sound_now = run_keeps service (start_of service) s (trace_of (take x.replayed x.known)) good (start_keeps service good checked) runs_now
 
   pub replayed_limited : IsLimited s
-  replayed_limited = front_limited records service x up_now good checked x.replayed (beside_of records service x up_now).replayed s runs_now
+  replayed_limited = front_limited records service past x up_now good checked x.replayed (beside_of records service past x up_now).replayed s runs_now
 
 -- ---- the call
 
-module _ {K : Type 0} (records : K → List (List ℕ)) (gives : K → List ℕ → Answer → K → Type 0) (faults : K → ℕ) (service : Declarations) (x : NodeValue K) (node : IsNode records service x) (due : refusal_of_checkpoint (here_of records service x) ≡ None)
+module _ {K : Type 0} (records : K → List (List ℕ)) (gives : K → List ℕ → Answer → K → Type 0) (faults : K → ℕ) (service : Declarations) (past : List Value) (x : NodeValue K) (node : IsResting records service past x) (due : refusal_of_checkpoint (here_of records service past x) ≡ None)
     (version : Version) (s : StateValue) (s_is : s ≡ replayed_state x) (r : KeptRec) (rec : IsCheckpoint service version x.replayed s r) where
   abbrev h : Here
-  h = here_of records service x
+  h = here_of records service past x
 
   abbrev log : List (Rec Value StateValue)
-  log = log_of service (records x.keeper)
+  log = log_of service past (records x.keeper)
 
   abbrev call : CallHere → CallHere
   call = checkpoint version (service_of service x.seed) x.id
@@ -146,35 +149,35 @@ module _ {K : Type 0} (records : K → List (List ℕ)) (gives : K → List ℕ 
   u = node.up f.up
 
   few : x.replayed ≤ length x.known
-  few = (beside_of records service x u).replayed
+  few = (beside_of records service past x u).replayed
 
   based : x.base ≤ x.replayed
-  based = (beside_of records service x u).based
+  based = (beside_of records service past x u).based
 
   more : x.base < x.replayed
   more = let old : x.replayed ≢ base log = eqb-false x.replayed (base log) f.old in omega (arith, based, u.base, old)
 
   pub spelling : HasSpelling r
-  spelling = subst HasSpelling (sym rec.is) (record { in_range = (record { first = omega (arith, more); last = omega (arith, few, (logged_of records service x u).numbers.few, ap length u.known) }, rec.short) })
+  spelling = subst HasSpelling (sym rec.is) (record { in_range = (record { first = omega (arith, more); last = omega (arith, few, (logged_of records service past x u).numbers.few, ap length u.known) }, rec.short) })
 
-  is_due : IsDue (length (known log)) r
-  is_due = subst (IsDue (length (known log))) (sym rec.is) (subst (λ (vs : List Value). x.replayed ≤ length vs) u.known few)
+  is_due : IsDue (standing_in log) r
+  is_due = subst (IsDue (standing_in log)) (sym rec.is) (subst (λ (o : ℕ). o ≤ x.replayed) u.offset (omega (arith, u.low, based)), subst (λ (vs : List Value). x.replayed ≤ length vs) u.known few)
 
-  says : says_something service r ≡ true
-  says = ap (says_something service) rec.is ∙ ap (λ (q : Result StateValue ℕ). is_ok q) rec.spells
+  stated : is_stated service (record_bytes r) ≡ true
+  stated = ap (λ (m : KeptRec). is_stated service (record_bytes m)) rec.is ∙ ap (λ (q : Result StateValue ℕ). is_ok q) rec.spells
 
-  rec_is : rec_of service r ≡ said
+  rec_is : rec_of service past r ≡ said
   rec_is =
-      ap (rec_of service) rec.is ∙ ap (λ (q : Result StateValue ℕ). Checkpoint (version_in rec.snapshot) x.replayed (read_state service q)) rec.spells
+      ap (rec_of service past) rec.is ∙ ap (λ (q : Result StateValue ℕ). Checkpoint (version_in rec.snapshot) x.replayed (read_state service q)) rec.spells
       ∙ ap (λ (v : Version). Checkpoint v x.replayed s) rec.version_is
 
-  log_saved : (lists : List (List ℕ)) → lists ≡ records x.keeper ++ record_bytes r ∷ [] → log_of service lists ≡ said ∷ log
-  log_saved lists e = ap (log_of service) e ∙ log_more service (records x.keeper) r spelling is_due says ∙ ap (λ (m : Rec Value StateValue). m ∷ log) rec_is
+  log_saved : (lists : List (List ℕ)) → lists ≡ records x.keeper ++ record_bytes r ∷ [] → log_of service past lists ≡ said ∷ log
+  log_saved lists e = ap (log_of service past) e ∙ log_then service past (records x.keeper) r spelling is_due ∙ ap (λ (m : Rec Value StateValue). m ∷ log) rec_is
 
   state_now : state_after service (trace_of (take x.replayed (known log))) ≡ s
   state_now =
       ap (λ (vs : List Value). state_after service (trace_of (take x.replayed vs))) (sym u.known)
-      ∙ state_is service (trace_of (take x.replayed x.known)) (replayed_state x) (replayed_runs records service x u) ∙ sym s_is
+      ∙ state_is service (trace_of (take x.replayed x.known)) (replayed_state x) (replayed_runs records service past x u) ∙ sym s_is
 
   -- the model appends the state
   appends : (g : Option Failure) → call (armed_with g (begin h)) ≡ append g x.id said (armed_with g (begin h)) (say (effect.Checkpointed x.id x.replayed))
@@ -192,23 +195,24 @@ module _ {K : Type 0} (records : K → List (List ℕ)) (gives : K → List ℕ 
   module _ (y : NodeValue K) (step : Step) (sends : step.sends ≡ []) where
     -- it is kept
     module _ (k : Saves records faults gives version x y s (record_bytes r)) (effects : step.effects ≡ effect.Checkpointed x.id x.replayed ∷ []) where
-      log_is : log_of service (records y.keeper) ≡ said ∷ log
+      log_is : log_of service past (records y.keeper) ≡ said ∷ log
       log_is = log_saved (records y.keeper) k.records_are
 
-      comes : say (effect.Checkpointed x.id x.replayed) (logged said None (begin h)) ≡ call_of records service y step
+      comes : say (effect.Checkpointed x.id x.replayed) (logged said None (begin h)) ≡ call_of records service past y step
       comes =
           ap (λ (l : List (Rec Value StateValue)). call_at (record h { log = l }) [] (effect.Checkpointed x.id x.replayed ∷ [])) (sym log_is)
-          ∙ ap (λ (n : NodeValue K). call_at (here_of records service n) [] (effect.Checkpointed x.id x.replayed ∷ [])) (sym k.parts)
-          ∙ ap (λ (es : List Effect). call_at (here_of records service y) [] es) (sym effects)
-          ∙ ap (λ (ms : List _). call_at (here_of records service y) (map message_in ms) step.effects) (sym sends)
+          ∙ ap (λ (n : NodeValue K). call_at (here_of records service past n) [] (effect.Checkpointed x.id x.replayed ∷ [])) (sym k.parts)
+          ∙ ap (λ (es : List Effect). call_at (here_of records service past y) [] es) (sym effects)
+          ∙ ap (λ (ms : List _). call_at (here_of records service past y) (map (message_in past) ms) step.effects) (sym sends)
 
-      pub saved_does : Does records gives faults service call x y step
+      pub saved_does : Does records gives faults service past call x y step
       saved_does =
           inl (record {
             written = record_bytes r ∷ [];
             grown = k.records_are;
             appends = (Ok tt, y.keeper, k.answer, (refl, refl));
             counted = k.faults_are;
+            stated = stated_one service (record_bytes r) stated;
             many = ap length log_is ∙ (let e : suc (length log) ≡ 1 + length log = omega arith in e);
             is = appends None ∙ comes;
           })
@@ -226,16 +230,18 @@ module _ {K : Type 0} (records : K → List (List ℕ)) (gives : K → List ℕ 
       z : NodeValue K
       z = record (rebased version x s) { keeper = y.keeper }
 
-      z_up : IsUp service (record (rebased version x s) { keeper = y.keeper }) (here_of records service (record (rebased version x s) { keeper = y.keeper }))
+      z_up : IsUp service (record (rebased version x s) { keeper = y.keeper }) (here_of records service past (record (rebased version x s) { keeper = y.keeper }))
       z_up =
-          let l = logged_of records service x u in
-          let b = beside_of records service x u in
-          let runs : run service (start_of service) (trace_of (take x.replayed x.known)) ≡ Some s = replayed_runs records service x u ∙ ap Some (sym s_is) in
-          up_of records service (record (rebased version x s) { keeper = y.keeper })
+          let l = logged_of records service past x u in
+          let b = beside_of records service past x u in
+          let runs : run service (start_of service) (trace_of (take x.replayed x.known)) ≡ Some s = replayed_runs records service past x u ∙ ap Some (sym s_is) in
+          up_of records service past (record (rebased version x s) { keeper = y.keeper })
           (subst (IsLogged service (record (rebased version x s) { keeper = y.keeper })) (sym log_is)
           (record {
             promised = l.promised;
             accepted = l.accepted;
+            offset_is = l.offset_is;
+            low = omega (arith, l.low, b.based);
             known = l.known;
             base = refl;
             old_base = refl;
@@ -247,39 +253,39 @@ module _ {K : Type 0} (records : K → List (List ℕ)) (gives : K → List ℕ 
           }))
           (record { based = omega arith; replayed = b.replayed; ahead = λ _. runs; caught_up = b.caught_up; proposer = b.proposer; acting = b.acting; role = b.role })
 
-      pub saved_stays : StaysNode records service x y
-      saved_stays = subst (StaysNode records service x) (sym k.parts) (record {
+      pub saved_stays : StaysResting records service past x y
+      saved_stays = subst (StaysResting records service past x) (sym k.parts) (record {
         same = record { id = refl; nodes = refl; seed = refl };
         kept = record { id = node.id; few = node.few; up = λ _. z_up; rests = node.rests };
       })
 
     -- its append failed
     module _ (k : FallsSaving records faults gives x y (record_bytes r)) (effects : step.effects ≡ effect.Down x.id ∷ []) where
-      log_in : (b : Bool) (lists : List (List ℕ)) → lists ≡ failed_records b (records x.keeper) (record_bytes r) → log_of service lists ≡ (if b then said ∷ log else log)
+      log_in : (b : Bool) (lists : List (List ℕ)) → lists ≡ failed_records b (records x.keeper) (record_bytes r) → log_of service past lists ≡ (if b then said ∷ log else log)
       log_in true lists e = log_saved lists e
-      log_in false lists e = ap (log_of service) e
+      log_in false lists e = ap (log_of service past) e
 
       base_in : (b : Bool) → (if b then x.replayed else x.base) ≡ base (if b then said ∷ log else log)
       base_in true = refl
       base_in false = u.base
 
-      downs : call_of records service y step ≡ record { node = down_node (if k.kept then said ∷ log else log) None; sends = []; effects = effect.Down x.id ∷ [] }
+      downs : call_of records service past y step ≡ record { node = down_node (if k.kept then said ∷ log else log) None; sends = []; effects = effect.Down x.id ∷ [] }
       downs =
-          ap (λ (ms : List _). call_at (here_of records service y) (map message_in ms) step.effects) sends
-          ∙ ap (λ (es : List Effect). call_at (here_of records service y) [] es) effects
-          ∙ ap (λ (n : NodeValue K). call_at (here_of records service n) [] (effect.Down x.id ∷ [])) k.parts
-          ∙ ap (λ (l : List (Rec Value StateValue)). call_at (record (here_of records service (fallen_with k.kept x)) { log = l }) [] (effect.Down x.id ∷ [])) (log_in k.kept (records y.keeper) k.records_are)
-          ∙ ap (λ (b : ℕ). call_at (record (here_of records service (fallen_with k.kept x)) { log = if k.kept then said ∷ log else log; replayed = b }) [] (effect.Down x.id ∷ [])) (base_in k.kept)
+          ap (λ (ms : List _). call_at (here_of records service past y) (map (message_in past) ms) step.effects) sends
+          ∙ ap (λ (es : List Effect). call_at (here_of records service past y) [] es) effects
+          ∙ ap (λ (n : NodeValue K). call_at (here_of records service past n) [] (effect.Down x.id ∷ [])) k.parts
+          ∙ ap (λ (l : List (Rec Value StateValue)). call_at (record (here_of records service past (fallen_with k.kept x)) { log = l }) [] (effect.Down x.id ∷ [])) (log_in k.kept (records y.keeper) k.records_are)
+          ∙ ap (λ (b : ℕ). call_at (record (here_of records service past (fallen_with k.kept x)) { log = if k.kept then said ∷ log else log; replayed = b }) [] (effect.Down x.id ∷ [])) (base_in k.kept)
 
-      pub fell_does : Does records gives faults service call x y step
+      pub fell_does : Does records gives faults service past call x y step
       fell_does =
-          inr (fell_append records gives faults call (say (effect.Checkpointed x.id x.replayed)) x.id said (begin h) appends x.keeper y.keeper (record_bytes r) k.kept k.answer k.records_are k.faults_are (call_of records service y step) downs).fails
+          inr (fell_append records gives faults service call (say (effect.Checkpointed x.id x.replayed)) x.id said (begin h) appends x.keeper y.keeper (record_bytes r) stated k.kept k.answer k.records_are k.faults_are (call_of records service past y step) downs).fails
 
       pub fell_down : EndsDown x.id (faults x.keeper) (faults y.keeper) step
       fell_down = record { down = λ l. ap last_of effects; only = λ e. k.faults_are; quiet = λ l. sends }
 
-      pub fell_stays : StaysNode records service x y
-      fell_stays = subst (StaysNode records service x) (sym k.parts) (record {
+      pub fell_stays : StaysResting records service past x y
+      fell_stays = subst (StaysResting records service past x) (sym k.parts) (record {
         same = record { id = refl; nodes = refl; seed = refl };
         kept = record { id = node.id; few = node.few; up = λ t. absurd (false≢true t); rests = λ t. absurd (false≢true t) };
       })

@@ -30,11 +30,14 @@ use Rattle.rex_node.specs.declared.refusal.Refusal.TheVariants as why
 use Rattle.rex_node.specs.declared.step.Step.{Step}
 use Rattle.rex_node.specs.Calls.{Does, EndsDown, armed_with, call_of, last_of, refusal_of_migrate}
 use Rattle.rex_node.specs.Checkpointing.{IsCheckpoint, Migrates}
-use Rattle.rex_node.specs.Messages.{message_in}
-use Rattle.rex_node.specs.Parts.{Falls, NodeValue, fallen, IsNode, IsUp, StaysNode, failed_records, here_of, log_of, read_state, rec_of, says_something}
+use Rattle.rex_log.specs.Messages.{message_in}
+use Rattle.rex_log.specs.Log.{standing_in, log_of, read_state, rec_of}
+use Rattle.rex_node.specs.Parts.{Falls, NodeValue, fallen, IsResting, IsUp, StaysResting, failed_records, here_of}
+use Rattle.rex_log.proofs.Pasts.{log_then}
+use Rattle.rex_node.specs.Stated.{is_stated}
 use Rattle.rex_node.proofs.Appended.{IsLogged, beside_of, call_at, logged_of, up_of}
-use Rattle.rex_node.proofs.GoingLemmas.{fell_append}
-use Rattle.rex_node.proofs.Logs.{log_more}
+use Rattle.rex_node.proofs.GoingLemmas.{stated_one, fell_append}
+use Rattle.rex_log.proofs.Pasts.{log_then}
 use Rattle.rex_node.proofs.OldBase.{old_based}
 use Rattle.rex_node.proofs.Saved.{front_limited, refused_none}
 
@@ -54,25 +57,25 @@ old_there h e = by (has_old_base h.log) refl (refused_none h.up _ e)
 
 -- ---- the state at the base
 
-module _ {K : Type 0} (records : K → List (List ℕ)) (service : Declarations) (x : NodeValue K) (node : IsNode records service x) (due : refusal_of_migrate (here_of records service x) ≡ None) (good : IsService service) (checked : IsChecked service) where
-  up_now : IsUp service x (here_of records service x)
-  up_now = node.up (old_there (here_of records service x) due).up
+module _ {K : Type 0} (records : K → List (List ℕ)) (service : Declarations) (past : List Value) (x : NodeValue K) (node : IsResting records service past x) (due : refusal_of_migrate (here_of records service past x) ≡ None) (good : IsService service) (checked : IsChecked service) where
+  up_now : IsUp service x (here_of records service past x)
+  up_now = node.up (old_there (here_of records service past x) due).up
 
   pub start_sound : IsSound service x.start
   start_sound = run_keeps service (start_of service) x.start (trace_of (take x.base x.known)) good (start_keeps service good checked) up_now.start
 
   pub start_limited : IsLimited x.start
-  start_limited = front_limited records service x up_now good checked x.base (logged_of records service x up_now).few x.start up_now.start
+  start_limited = front_limited records service past x up_now good checked x.base (logged_of records service past x up_now).few x.start up_now.start
 
 -- ---- the call
 
-module _ {K : Type 0} (records : K → List (List ℕ)) (gives : K → List ℕ → Answer → K → Type 0) (faults : K → ℕ) (service : Declarations) (x : NodeValue K) (node : IsNode records service x) (due : refusal_of_migrate (here_of records service x) ≡ None)
+module _ {K : Type 0} (records : K → List (List ℕ)) (gives : K → List ℕ → Answer → K → Type 0) (faults : K → ℕ) (service : Declarations) (past : List Value) (x : NodeValue K) (node : IsResting records service past x) (due : refusal_of_migrate (here_of records service past x) ≡ None)
     (r : KeptRec) (rec : IsCheckpoint service Two x.base x.start r) where
   abbrev h : Here
-  h = here_of records service x
+  h = here_of records service past x
 
   abbrev log : List (Rec Value StateValue)
-  log = log_of service (records x.keeper)
+  log = log_of service past (records x.keeper)
 
   abbrev call : CallHere → CallHere
   call = migrate (service_of service x.seed) x.id
@@ -87,27 +90,27 @@ module _ {K : Type 0} (records : K → List (List ℕ)) (gives : K → List ℕ 
   u = node.up f.up
 
   few : x.base ≤ length x.known
-  few = (logged_of records service x u).few
+  few = (logged_of records service past x u).few
 
   some : 0 < x.base
-  some = subst (λ (n : ℕ). 0 < n) (sym u.base) (old_based service (records x.keeper) f.old)
+  some = subst (λ (n : ℕ). 0 < n) (sym u.base) (old_based service past (records x.keeper) f.old)
 
   pub spelling : HasSpelling r
-  spelling = subst HasSpelling (sym rec.is) (record { in_range = (record { first = omega (arith, some); last = omega (arith, few, (logged_of records service x u).numbers.few, ap length u.known) }, rec.short) })
+  spelling = subst HasSpelling (sym rec.is) (record { in_range = (record { first = omega (arith, some); last = omega (arith, few, (logged_of records service past x u).numbers.few, ap length u.known) }, rec.short) })
 
-  is_due : IsDue (length (known log)) r
-  is_due = subst (IsDue (length (known log))) (sym rec.is) (subst (λ (vs : List Value). x.base ≤ length vs) u.known few)
+  is_due : IsDue (standing_in log) r
+  is_due = subst (IsDue (standing_in log)) (sym rec.is) (subst (λ (o : ℕ). o ≤ x.base) u.offset (omega (arith, u.low)), subst (λ (vs : List Value). x.base ≤ length vs) u.known few)
 
-  says : says_something service r ≡ true
-  says = ap (says_something service) rec.is ∙ ap (λ (q : Result StateValue ℕ). is_ok q) rec.spells
+  stated : is_stated service (record_bytes r) ≡ true
+  stated = ap (λ (m : KeptRec). is_stated service (record_bytes m)) rec.is ∙ ap (λ (q : Result StateValue ℕ). is_ok q) rec.spells
 
-  rec_is : rec_of service r ≡ said
+  rec_is : rec_of service past r ≡ said
   rec_is =
-      ap (rec_of service) rec.is ∙ ap (λ (q : Result StateValue ℕ). Checkpoint (version_in rec.snapshot) x.base (read_state service q)) rec.spells
+      ap (rec_of service past) rec.is ∙ ap (λ (q : Result StateValue ℕ). Checkpoint (version_in rec.snapshot) x.base (read_state service q)) rec.spells
       ∙ ap (λ (v : Version). Checkpoint v x.base x.start) rec.version_is
 
-  log_saved : (lists : List (List ℕ)) → lists ≡ records x.keeper ++ record_bytes r ∷ [] → log_of service lists ≡ said ∷ log
-  log_saved lists e = ap (log_of service) e ∙ log_more service (records x.keeper) r spelling is_due says ∙ ap (λ (m : Rec Value StateValue). m ∷ log) rec_is
+  log_saved : (lists : List (List ℕ)) → lists ≡ records x.keeper ++ record_bytes r ∷ [] → log_of service past lists ≡ said ∷ log
+  log_saved lists e = ap (log_of service past) e ∙ log_then service past (records x.keeper) r spelling is_due ∙ ap (λ (m : Rec Value StateValue). m ∷ log) rec_is
 
   state_now : state_after service (trace_of (take x.base (known log))) ≡ x.start
   state_now =
@@ -127,23 +130,24 @@ module _ {K : Type 0} (records : K → List (List ℕ)) (gives : K → List ℕ 
   module _ (y : NodeValue K) (step : Step) (sends : step.sends ≡ []) where
     -- it is kept
     module _ (k : Migrates records faults gives x y (record_bytes r)) (effects : step.effects ≡ effect.Migrated x.id x.base ∷ []) where
-      log_is : log_of service (records y.keeper) ≡ said ∷ log
+      log_is : log_of service past (records y.keeper) ≡ said ∷ log
       log_is = log_saved (records y.keeper) k.records_are
 
-      comes : say (effect.Migrated x.id x.base) (logged said None (begin h)) ≡ call_of records service y step
+      comes : say (effect.Migrated x.id x.base) (logged said None (begin h)) ≡ call_of records service past y step
       comes =
           ap (λ (l : List (Rec Value StateValue)). call_at (record h { log = l }) [] (effect.Migrated x.id x.base ∷ [])) (sym log_is)
-          ∙ ap (λ (n : NodeValue K). call_at (here_of records service n) [] (effect.Migrated x.id x.base ∷ [])) (sym k.parts)
-          ∙ ap (λ (es : List Effect). call_at (here_of records service y) [] es) (sym effects)
-          ∙ ap (λ (ms : List _). call_at (here_of records service y) (map message_in ms) step.effects) (sym sends)
+          ∙ ap (λ (n : NodeValue K). call_at (here_of records service past n) [] (effect.Migrated x.id x.base ∷ [])) (sym k.parts)
+          ∙ ap (λ (es : List Effect). call_at (here_of records service past y) [] es) (sym effects)
+          ∙ ap (λ (ms : List _). call_at (here_of records service past y) (map (message_in past) ms) step.effects) (sym sends)
 
-      pub migrated_does : Does records gives faults service call x y step
+      pub migrated_does : Does records gives faults service past call x y step
       migrated_does =
           inl (record {
             written = record_bytes r ∷ [];
             grown = k.records_are;
             appends = (Ok tt, y.keeper, k.answer, (refl, refl));
             counted = k.faults_are;
+            stated = stated_one service (record_bytes r) stated;
             many = ap length log_is ∙ (let e : suc (length log) ≡ 1 + length log = omega arith in e);
             is = appends None ∙ comes;
           })
@@ -158,15 +162,17 @@ module _ {K : Type 0} (records : K → List (List ℕ)) (gives : K → List ℕ 
           other : ◌≡◌ {A = Option Effect} (Some (effect.Migrated x.id x.base)) (Some (effect.Down x.id)) → ⊥
           other e = cc
 
-      z_up : IsUp service (record x { keeper = y.keeper; old_base = false }) (here_of records service (record x { keeper = y.keeper; old_base = false }))
+      z_up : IsUp service (record x { keeper = y.keeper; old_base = false }) (here_of records service past (record x { keeper = y.keeper; old_base = false }))
       z_up =
-          let l = logged_of records service x u in
-          let b = beside_of records service x u in
-          up_of records service (record x { keeper = y.keeper; old_base = false })
+          let l = logged_of records service past x u in
+          let b = beside_of records service past x u in
+          up_of records service past (record x { keeper = y.keeper; old_base = false })
           (subst (IsLogged service (record x { keeper = y.keeper; old_base = false })) (sym log_is)
           (record {
             promised = l.promised;
             accepted = l.accepted;
+            offset_is = l.offset_is;
+            low = l.low;
             known = l.known;
             base = refl;
             old_base = refl;
@@ -178,39 +184,39 @@ module _ {K : Type 0} (records : K → List (List ℕ)) (gives : K → List ℕ 
           }))
           (record { based = b.based; replayed = b.replayed; ahead = b.ahead; caught_up = b.caught_up; proposer = b.proposer; acting = b.acting; role = b.role })
 
-      pub migrated_stays : StaysNode records service x y
-      migrated_stays = subst (StaysNode records service x) (sym k.parts) (record {
+      pub migrated_stays : StaysResting records service past x y
+      migrated_stays = subst (StaysResting records service past x) (sym k.parts) (record {
         same = record { id = refl; nodes = refl; seed = refl };
         kept = record { id = node.id; few = node.few; up = λ _. z_up; rests = node.rests };
       })
 
     -- its append failed
     module _ (k : Falls records faults gives x y (record_bytes r)) (effects : step.effects ≡ effect.Down x.id ∷ []) where
-      log_in : (b : Bool) (lists : List (List ℕ)) → lists ≡ failed_records b (records x.keeper) (record_bytes r) → log_of service lists ≡ (if b then said ∷ log else log)
+      log_in : (b : Bool) (lists : List (List ℕ)) → lists ≡ failed_records b (records x.keeper) (record_bytes r) → log_of service past lists ≡ (if b then said ∷ log else log)
       log_in true lists e = log_saved lists e
-      log_in false lists e = ap (log_of service) e
+      log_in false lists e = ap (log_of service past) e
 
       base_in : (b : Bool) → x.base ≡ base (if b then said ∷ log else log)
       base_in true = refl
       base_in false = u.base
 
-      downs : call_of records service y step ≡ record { node = down_node (if k.kept then said ∷ log else log) None; sends = []; effects = effect.Down x.id ∷ [] }
+      downs : call_of records service past y step ≡ record { node = down_node (if k.kept then said ∷ log else log) None; sends = []; effects = effect.Down x.id ∷ [] }
       downs =
-          ap (λ (ms : List _). call_at (here_of records service y) (map message_in ms) step.effects) sends
-          ∙ ap (λ (es : List Effect). call_at (here_of records service y) [] es) effects
-          ∙ ap (λ (n : NodeValue K). call_at (here_of records service n) [] (effect.Down x.id ∷ [])) k.parts
-          ∙ ap (λ (l : List (Rec Value StateValue)). call_at (record (here_of records service (fallen x)) { log = l }) [] (effect.Down x.id ∷ [])) (log_in k.kept (records y.keeper) k.records)
-          ∙ ap (λ (b : ℕ). call_at (record (here_of records service (fallen x)) { log = if k.kept then said ∷ log else log; replayed = b }) [] (effect.Down x.id ∷ [])) (base_in k.kept)
+          ap (λ (ms : List _). call_at (here_of records service past y) (map (message_in past) ms) step.effects) sends
+          ∙ ap (λ (es : List Effect). call_at (here_of records service past y) [] es) effects
+          ∙ ap (λ (n : NodeValue K). call_at (here_of records service past n) [] (effect.Down x.id ∷ [])) k.parts
+          ∙ ap (λ (l : List (Rec Value StateValue)). call_at (record (here_of records service past (fallen x)) { log = l }) [] (effect.Down x.id ∷ [])) (log_in k.kept (records y.keeper) k.records)
+          ∙ ap (λ (b : ℕ). call_at (record (here_of records service past (fallen x)) { log = if k.kept then said ∷ log else log; replayed = b }) [] (effect.Down x.id ∷ [])) (base_in k.kept)
 
-      pub fell_does : Does records gives faults service call x y step
+      pub fell_does : Does records gives faults service past call x y step
       fell_does =
-          inr (fell_append records gives faults call (say (effect.Migrated x.id x.base)) x.id said (begin h) appends x.keeper y.keeper (record_bytes r) k.kept k.answer k.records k.faults (call_of records service y step) downs).fails
+          inr (fell_append records gives faults service call (say (effect.Migrated x.id x.base)) x.id said (begin h) appends x.keeper y.keeper (record_bytes r) stated k.kept k.answer k.records k.faults (call_of records service past y step) downs).fails
 
       pub fell_down : EndsDown x.id (faults x.keeper) (faults y.keeper) step
       fell_down = record { down = λ l. ap last_of effects; only = λ e. k.faults; quiet = λ l. sends }
 
-      pub fell_stays : StaysNode records service x y
-      fell_stays = subst (StaysNode records service x) (sym k.parts) (record {
+      pub fell_stays : StaysResting records service past x y
+      fell_stays = subst (StaysResting records service past x) (sym k.parts) (record {
         same = record { id = refl; nodes = refl; seed = refl };
         kept = record { id = node.id; few = node.few; up = λ t. absurd (false≢true t); rests = λ t. absurd (false≢true t) };
       })

@@ -5,14 +5,15 @@ use Rattle.rex_syntax.specs.declared.service.Declarations.{Declarations}
 use Rattle.rex_traits.specs.Chains.{Answer}
 use Rattle.rex_safety.specs.Records.{base}
 use Rattle.rex_safety.specs.Calls.{settle}
-use Rattle.rex_safety.specs.Values.{service_of}
+use Rattle.rex_safety.specs.Values.{service_of, Value}
 use Rattle.rex_safety.specs.Lanes.{CallHere}
 use Rattle.rex_node.specs.declared.going.Going.{Going}
 use Rattle.rex_node.specs.declared.going.Going.TheVariants.{On, Down}
 use Rattle.rex_node.specs.declared.going.Round.{Round}
 use Rattle.rex_node.specs.declared.going.Round.TheVariants.{Again, Done}
 use Rattle.rex_node.specs.declared.step.Draft.{Draft}
-use Rattle.rex_node.specs.Parts.{NodeValue, IsKept, IsSame, log_of}
+use Rattle.rex_log.specs.Log.{log_of}
+use Rattle.rex_node.specs.Parts.{NodeValue, IsKept, IsSame}
 use Rattle.rex_node.specs.Going.{Comes, Ends, Fell, IsStuck, Leads, MayGoOn, RunsOn, so_far}
 use Rattle.rex_node.specs.Leading.{GoesRound, IsFree}
 use Rattle.rex_node.proofs.Adopting.{same_then}
@@ -25,8 +26,8 @@ both_empty [] ys e = (refl, e)
 both_empty (x ∷ xs) ys e = absurd (cc)
 
 -- memory was short, once after the other
-pub stuck_then : {K : Type 0} (records : K → List (List ℕ)) (service : Declarations) (x y z : NodeValue K) → IsStuck records service x y → IsStuck records service y z → IsStuck records service x z
-stuck_then records service x y z h k = record {
+pub stuck_then : {K : Type 0} (records : K → List (List ℕ)) (service : Declarations) (past : List Value) (x y z : NodeValue K) → IsStuck records service past x y → IsStuck records service past y z → IsStuck records service past x z
+stuck_then records service past x y z h k = record {
   more = h.more ++ k.more;
   grown = k.grown ∙ ap (λ (l : List (List ℕ)). l ++ k.more) h.grown ∙ append_assoc (records x.keeper) h.more k.more;
   same = λ e. let b = both_empty h.more k.more e in k.same b.1 ∙ ap (λ (n : NodeValue _). record n { keeper = z.keeper }) (h.same b.0);
@@ -34,8 +35,8 @@ stuck_then records service x y z h k = record {
 }
 
 -- memory was short once more records were kept
-pub stuck_longer : {K : Type 0} (records : K → List (List ℕ)) (service : Declarations) (x y : NodeValue K) (written : List (List ℕ)) → records y.keeper ≡ records x.keeper ++ written → length (records x.keeper) < length (records y.keeper) → y.base ≡ base (log_of service (records y.keeper)) → IsStuck records service x y
-stuck_longer records service x y written grown longer based = record { more = written; grown = grown; same = λ e. absurd (none e); based = based }
+pub stuck_longer : {K : Type 0} (records : K → List (List ℕ)) (service : Declarations) (past : List Value) (x y : NodeValue K) (written : List (List ℕ)) → records y.keeper ≡ records x.keeper ++ written → length (records x.keeper) < length (records y.keeper) → y.base ≡ base (log_of service past (records y.keeper)) → IsStuck records service past x y
+stuck_longer records service past x y written grown longer based = record { more = written; grown = grown; same = λ e. absurd (none e); based = based }
   where
     none : written ≡ [] → ⊥
     none e =
@@ -43,89 +44,89 @@ stuck_longer records service x y written grown longer based = record { more = wr
         let zero : length written ≡ 0 = ap (λ (l : List (List ℕ)). length l) e in
         omega (arith, longer, some, zero)
 
-module _ {K : Type 0} (records : K → List (List ℕ)) (gives : K → List ℕ → Answer → K → Type 0) (faults : K → ℕ) (service : Declarations) where
+module _ {K : Type 0} (records : K → List (List ℕ)) (gives : K → List ℕ → Answer → K → Type 0) (faults : K → ℕ) (service : Declarations) (past : List Value) where
   -- the model's turns for a node
   abbrev pub settles : NodeValue K → ℕ → CallHere → CallHere
   settles x turns = settle turns x.nodes (service_of service x.seed) x.id
 
   -- the node has gone on from there, and so many turns are left
   pub record GoneOn (turns left : ℕ) (x y : NodeValue K) (before after : Draft) : Type 0 where
-    pub comes : Comes records gives faults service (settles x turns) (settles x left) x y before after On
+    pub comes : Comes records gives faults service past (settles x turns) (settles x left) x y before after On
     pub same : IsSame x y
     pub free : IsFree y.proposer (is_some y.acting)
     pub may : MayGoOn y left
-    pub runs : RunsOn service (settles y left) (so_far records service y after)
+    pub runs : RunsOn service (settles y left) (so_far records service past y after)
     pub count : faults y.keeper < 2 ^ 64 - 1
-    pub stuck : IsStuck records service x y
+    pub stuck : IsStuck records service past x y
 
   pub settles_as : (x y : NodeValue K) (turns : ℕ) → IsSame x y → settles y turns ≡ settles x turns
   settles_as x y turns h =
       ap (λ (n : ℕ). settle turns n (service_of service y.seed) y.id) h.nodes ∙ ap (λ (n : ℕ). settle turns x.nodes (service_of service n) y.id) h.seed ∙ ap (λ (n : ℕ). settle turns x.nodes (service_of service x.seed) n) h.id
 
-  pub gone_none : (turns : ℕ) (x : NodeValue K) (before : Draft) → IsKept records service x → x.up ≡ true → IsFree x.proposer (is_some x.acting) → MayGoOn x turns → RunsOn service (settles x turns) (so_far records service x before) → faults x.keeper < 2 ^ 64 - 1 → GoneOn turns turns x x before before
+  pub gone_none : (turns : ℕ) (x : NodeValue K) (before : Draft) → IsKept records service past x → x.up ≡ true → IsFree x.proposer (is_some x.acting) → MayGoOn x turns → RunsOn service (settles x turns) (so_far records service past x before) → faults x.keeper < 2 ^ 64 - 1 → GoneOn turns turns x x before before
   gone_none turns x before kept up free may runs count = record {
-    comes = (leads_same records gives faults (settles x turns) (settles x turns) x.keeper (so_far records service x before) (so_far records service x before) refl (λ f. refl), kept, up);
+    comes = (leads_same records gives faults service (settles x turns) (settles x turns) x.keeper (so_far records service past x before) (so_far records service past x before) refl (λ f. refl), kept, up);
     same = record { id = refl; nodes = refl; seed = refl };
     free = free;
     may = may;
     runs = runs;
     count = count;
-    stuck = stuck_same records service x (kept.up up);
+    stuck = stuck_same records service past x (kept.up up);
   }
 
   module _ (turns left : ℕ) (x y : NodeValue K) (before mid : Draft) (h : GoneOn turns left x y before mid) (z : NodeValue K) (after : Draft) (same : IsSame y z) where
     -- the part of a round, as the first node's
-    first_leads : (rest : CallHere → CallHere) → Leads records gives faults (settles y left) rest y.keeper z.keeper (so_far records service y mid) (so_far records service z after) → Leads records gives faults (settles x turns) rest x.keeper z.keeper (so_far records service x before) (so_far records service z after)
+    first_leads : (rest : CallHere → CallHere) → Leads records gives faults service (settles y left) rest y.keeper z.keeper (so_far records service past y mid) (so_far records service past z after) → Leads records gives faults service (settles x turns) rest x.keeper z.keeper (so_far records service past x before) (so_far records service past z after)
     first_leads rest k =
-        leads_then records gives faults (settles x turns) (settles x left) rest x.keeper y.keeper z.keeper (so_far records service x before) (so_far records service y mid) (so_far records service z after) h.comes.0
-        (subst (λ (whole : CallHere → CallHere). Leads records gives faults whole rest y.keeper z.keeper (so_far records service y mid) (so_far records service z after)) (settles_as x y left h.same) k)
+        leads_then records gives faults service (settles x turns) (settles x left) rest x.keeper y.keeper z.keeper (so_far records service past x before) (so_far records service past y mid) (so_far records service past z after) h.comes.0
+        (subst (λ (whole : CallHere → CallHere). Leads records gives faults service whole rest y.keeper z.keeper (so_far records service past y mid) (so_far records service past z after)) (settles_as x y left h.same) k)
 
-    pub gone_again : GoesRound records gives faults service left y z mid after Again → GoneOn turns (left - 2) x z before after
+    pub gone_again : GoesRound records gives faults service past left y z mid after Again → GoneOn turns (left - 2) x z before after
     gone_again k = record {
-      comes = (first_leads (settles x (left - 2)) (subst (λ (rest : CallHere → CallHere). Leads records gives faults (settles y left) rest y.keeper z.keeper (so_far records service y mid) (so_far records service z after)) (settles_as x y (left - 2) h.same) k.0.0), k.0.1, k.0.2);
+      comes = (first_leads (settles x (left - 2)) (subst (λ (rest : CallHere → CallHere). Leads records gives faults service (settles y left) rest y.keeper z.keeper (so_far records service past y mid) (so_far records service past z after)) (settles_as x y (left - 2) h.same) k.0.0), k.0.1, k.0.2);
       same = same_then x y z h.same same;
       free = k.2;
       may = k.1;
-      runs = subst (λ (rest : CallHere → CallHere). RunsOn service rest (so_far records service z after)) (sym (settles_as y z (left - 2) same)) (rest_runs records gives faults service (settles y left) (settles y (left - 2)) y z mid after k.0.0 h.runs);
+      runs = subst (λ (rest : CallHere → CallHere). RunsOn service rest (so_far records service past z after)) (sym (settles_as y z (left - 2) same)) (rest_runs records gives faults service past (settles y left) (settles y (left - 2)) y z mid after k.0.0 h.runs);
       count = subst (λ (n : ℕ). n < 2 ^ 64 - 1) (sym k.0.0.counted) h.count;
-      stuck = stuck_then records service x y z h.stuck (stuck_longer records service y z k.0.0.written k.0.0.grown k.4 (k.0.1.up k.0.2).base);
+      stuck = stuck_then records service past x y z h.stuck (stuck_longer records service past y z k.0.0.written k.0.0.grown k.4 (k.0.1.up k.0.2).base);
     }
 
-    pub gone_less : GoesRound records gives faults service left y z mid after Again → (left - 2 < left) × (2 ≤ left)
+    pub gone_less : GoesRound records gives faults service past left y z mid after Again → (left - 2 < left) × (2 ≤ left)
     gone_less k = let n : 3 ≤ left = k.3 in (omega (arith, n), omega (arith, n))
 
-    pub gone_done : (going : Going) → GoesRound records gives faults service left y z mid after (Done going) → Ends records gives faults service (settles x turns) x z before after going
+    pub gone_done : (going : Going) → GoesRound records gives faults service past left y z mid after (Done going) → Ends records gives faults service past (settles x turns) x z before after going
     gone_done On k = ((first_leads (λ d. d) k.0.0, k.0.1, k.0.2), k.1)
     gone_done Down k = (
       (
-        leads_fell records gives faults (settles x turns) (settles x left) x.id x.keeper y.keeper z.keeper (so_far records service x before) (so_far records service y mid) (so_far records service z after) h.comes.0
-            (subst (λ (whole : CallHere → CallHere). Fell records gives faults whole x.id y.keeper z.keeper (so_far records service y mid) (so_far records service z after)) (settles_as x y left h.same)
-            (subst (λ (n : ℕ). Fell records gives faults (settles y left) n y.keeper z.keeper (so_far records service y mid) (so_far records service z after)) h.same.id k.0.0)),
+        leads_fell records gives faults service (settles x turns) (settles x left) x.id x.keeper y.keeper z.keeper (so_far records service past x before) (so_far records service past y mid) (so_far records service past z after) h.comes.0
+            (subst (λ (whole : CallHere → CallHere). Fell records gives faults service whole x.id y.keeper z.keeper (so_far records service past y mid) (so_far records service past z after)) (settles_as x y left h.same)
+            (subst (λ (n : ℕ). Fell records gives faults service (settles y left) n y.keeper z.keeper (so_far records service past y mid) (so_far records service past z after)) h.same.id k.0.0)),
         k.0.1,
       ),
       k.1,
     )
 
-    pub gone_stuck : IsStuck records service y z → IsStuck records service x z
-    gone_stuck k = stuck_then records service x y z h.stuck k
+    pub gone_stuck : IsStuck records service past y z → IsStuck records service past x z
+    gone_stuck k = stuck_then records service past x y z h.stuck k
 
     pub gone_same : IsSame x z
     gone_same = same_then x y z h.same same
 
 -- a call that has come so far ends as the rest of it does
-pub ends_then : {K : Type 0} (records : K → List (List ℕ)) (gives : K → List ℕ → Answer → K → Type 0) (faults : K → ℕ) (service : Declarations) (whole middle : CallHere → CallHere) (x y z : NodeValue K) (before mid after : Draft) (going : Going) → y.id ≡ x.id
-    → Leads records gives faults whole middle x.keeper y.keeper (so_far records service x before) (so_far records service y mid) → Ends records gives faults service middle y z mid after going → Ends records gives faults service whole x z before after going
-ends_then records gives faults service whole middle x y z before mid after On same h k =
-    ((leads_then records gives faults whole middle (λ d. d) x.keeper y.keeper z.keeper (so_far records service x before) (so_far records service y mid) (so_far records service z after) h k.0.0, k.0.1, k.0.2), k.1)
-ends_then records gives faults service whole middle x y z before mid after Down same h k = (
+pub ends_then : {K : Type 0} (records : K → List (List ℕ)) (gives : K → List ℕ → Answer → K → Type 0) (faults : K → ℕ) (service : Declarations) (past : List Value) (whole middle : CallHere → CallHere) (x y z : NodeValue K) (before mid after : Draft) (going : Going) → y.id ≡ x.id
+    → Leads records gives faults service whole middle x.keeper y.keeper (so_far records service past x before) (so_far records service past y mid) → Ends records gives faults service past middle y z mid after going → Ends records gives faults service past whole x z before after going
+ends_then records gives faults service past whole middle x y z before mid after On same h k =
+    ((leads_then records gives faults service whole middle (λ d. d) x.keeper y.keeper z.keeper (so_far records service past x before) (so_far records service past y mid) (so_far records service past z after) h k.0.0, k.0.1, k.0.2), k.1)
+ends_then records gives faults service past whole middle x y z before mid after Down same h k = (
   (
-    leads_fell records gives faults whole middle x.id x.keeper y.keeper z.keeper (so_far records service x before) (so_far records service y mid) (so_far records service z after) h
-        (subst (λ (n : ℕ). Fell records gives faults middle n y.keeper z.keeper (so_far records service y mid) (so_far records service z after)) same k.0.0),
+    leads_fell records gives faults service whole middle x.id x.keeper y.keeper z.keeper (so_far records service past x before) (so_far records service past y mid) (so_far records service past z after) h
+        (subst (λ (n : ℕ). Fell records gives faults service middle n y.keeper z.keeper (so_far records service past y mid) (so_far records service past z after)) same k.0.0),
     k.0.1,
   ),
   k.1,
 )
 
 -- a round's end, as it was named
-pub round_as : {K : Type 0} (records : K → List (List ℕ)) (gives : K → List ℕ → Answer → K → Type 0) (faults : K → ℕ) (service : Declarations) (left : ℕ) (y z : NodeValue K) (mid after : Draft) (r s : Round) → r ≡ s → GoesRound records gives faults service left y z mid after r → GoesRound records gives faults service left y z mid after s
-round_as records gives faults service left y z mid after r s e h = subst (λ (t : Round). GoesRound records gives faults service left y z mid after t) e h
+pub round_as : {K : Type 0} (records : K → List (List ℕ)) (gives : K → List ℕ → Answer → K → Type 0) (faults : K → ℕ) (service : Declarations) (past : List Value) (left : ℕ) (y z : NodeValue K) (mid after : Draft) (r s : Round) → r ≡ s → GoesRound records gives faults service past left y z mid after r → GoesRound records gives faults service past left y z mid after s
+round_as records gives faults service past left y z mid after r s e h = subst (λ (t : Round). GoesRound records gives faults service past left y z mid after t) e h

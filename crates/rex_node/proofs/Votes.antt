@@ -30,10 +30,11 @@ use Rattle.rex_safety.specs.Calls as calls
 use Rattle.rex_safety.specs.Values.{Value, service_of}
 use Rattle.rex_safety.specs.Lanes.{CallHere}
 use Rattle.rex_node.specs.Electing.{acceptance_vote_on, accepting_from, told_of}
-use Rattle.rex_node.specs.Messages.{message_in}
+use Rattle.rex_log.specs.Messages.{message_in}
 use Rattle.rex_node.specs.declared.going.Going.TheVariants.{On}
 use Rattle.rex_node.specs.declared.step.Draft.{Draft}
-use Rattle.rex_node.specs.Parts.{NodeValue, ActingValue, HasGoneOn, HasOpen, IsActing, IsKept, IsNode, IsProposer, IsUp, Proposes, here_of, lead_of, log_of, open_of, proposal_in, role_of, work_of}
+use Rattle.rex_log.specs.Log.{log_of, proposal_in}
+use Rattle.rex_node.specs.Parts.{NodeValue, ActingValue, HasGoneOn, HasOpen, IsActing, IsKept, IsResting, IsProposer, IsUp, Proposes, here_of, lead_of, open_of, role_of, work_of}
 use Rattle.rex_node.specs.Calls.{armed_with}
 use Rattle.rex_node.specs.Going.{Ends, so_far}
 use Rattle.rex_node.proofs.Appended.{beside_of, logged_of, up_of}
@@ -175,8 +176,8 @@ told_from _ = effect.IgnoredLate
 
 -- ---- a node
 
-module _ {K : Type 0} (records : K → List (List ℕ)) (gives : K → List ℕ → Answer → K → Type 0) (faults : K → ℕ) (service : Declarations) (x : NodeValue K) (node : IsNode records service x) (up : x.up ≡ true) (from ballot i : ℕ) (there : IsNodeOf x.nodes from) (before : Draft) where
-  u : IsUp service x (here_of records service x)
+module _ {K : Type 0} (records : K → List (List ℕ)) (gives : K → List ℕ → Answer → K → Type 0) (faults : K → ℕ) (service : Declarations) (past : List Value) (x : NodeValue K) (node : IsResting records service past x) (up : x.up ≡ true) (from ballot i : ℕ) (there : IsNodeOf x.nodes from) (before : Draft) where
+  u : IsUp service x (here_of records service past x)
   u = node.up up
 
   abbrev whole : CallHere → CallHere
@@ -195,7 +196,7 @@ module _ {K : Type 0} (records : K → List (List ℕ)) (gives : K → List ℕ 
       ap (λ (r : Role Value). on_voted x.nodes (service_of service x.seed) x.id from ballot i d r) (role ∙ ap (λ (o : Option ProposerValue). role_of x.acceptor o (is_some x.acting)) e)
       ∙ voted_is x.nodes x.id x.acceptor p (proposes_of p e) (is_some x.acting) (service_of service x.seed) from ballot i one d
 
-  kept_so : IsKept records service x
+  kept_so : IsKept records service past x
   kept_so = record { id = node.id; few = node.few; up = node.up }
 
   -- ---- it isn't counted
@@ -209,13 +210,13 @@ module _ {K : Type 0} (records : K → List (List ℕ)) (gives : K → List ℕ 
           ∙ ap (λ (t : Effect). say t d) (ap told_from f)
       by (Some p) e f = whole_is p e d role ∙ ap (λ (z : Vote). outcome x.nodes (service_of service x.seed) x.id from (lead_of x.acceptor p (is_some x.acting)) z d) f
 
-  pub vote_ignored : (w : Why) → acceptance_vote_on x.proposer ballot i from ≡ vote.Ignored w → (after : Draft) → after.effects.items ≡ before.effects.items ++ told_of w ∷ [] → after.sends.items ≡ before.sends.items → Ends records gives faults service whole x x before after On
+  pub vote_ignored : (w : Why) → acceptance_vote_on x.proposer ballot i from ≡ vote.Ignored w → (after : Draft) → after.effects.items ≡ before.effects.items ++ told_of w ∷ [] → after.sends.items ≡ before.sends.items → Ends records gives faults service past whole x x before after On
   vote_ignored w v after effects sends = (
     (
-      leads_same records gives faults whole (λ d. d) x.keeper (so_far records service x before) (so_far records service x after) refl
-          (λ f. ignores w v (armed_with f (so_far records service x before)) refl
-          ∙ call_is (log_of service (records x.keeper)) (log_of service (records x.keeper)) x.up f (role_of x.acceptor x.proposer (is_some x.acting)) (work_of x.acting) (work_of x.acting) x.replayed x.replayed
-          (map message_in before.sends.items) (map message_in after.sends.items) (before.effects.items ++ told_of w ∷ []) after.effects.items refl refl refl (ap (map message_in) (sym sends)) (sym effects)),
+      leads_same records gives faults service whole (λ d. d) x.keeper (so_far records service past x before) (so_far records service past x after) refl
+          (λ f. ignores w v (armed_with f (so_far records service past x before)) refl
+          ∙ call_is (log_of service past (records x.keeper)) (log_of service past (records x.keeper)) x.up f (role_of x.acceptor x.proposer (is_some x.acting)) (work_of x.acting) (work_of x.acting) x.replayed x.replayed
+          (map (message_in past) before.sends.items) (map (message_in past) after.sends.items) (before.effects.items ++ told_of w ∷ []) after.effects.items refl refl refl (ap (map (message_in past)) (sym sends)) (sym effects)),
       kept_so,
       up,
     ),
@@ -266,12 +267,12 @@ module _ {K : Type 0} (records : K → List (List ℕ)) (gives : K → List ℕ 
       acting_more None h = h
       acting_more (Some a) h = h
 
-      y_up : IsUp service y_at (here_of records service y_at)
+      y_up : IsUp service y_at (here_of records service past y_at)
       y_up =
-          let b = beside_of records service x u in
-          let g = logged_of records service x u in
-          up_of records service y_at
-          (logged_as service x y_at (log_of service (records x.keeper)) refl refl refl refl refl g)
+          let b = beside_of records service past x u in
+          let g = logged_of records service past x u in
+          up_of records service past y_at
+          (logged_as service x y_at (log_of service past (records x.keeper)) refl refl refl refl refl refl g)
           (record {
             based = b.based;
             replayed = b.replayed;
@@ -282,20 +283,20 @@ module _ {K : Type 0} (records : K → List (List ℕ)) (gives : K → List ℕ 
             role = let f : LeadFits (length x.known) (lead_of x.acceptor p (is_some x.acting)) = subst (λ (o : Option ProposerValue). RoleFits (length x.known) (role_of x.acceptor o (is_some x.acting))) e b.role in record { ballot = f.ballot; reported = f.reported; next = f.next };
           })
 
-      y_node : IsNode records service y_at
+      y_node : IsResting records service past y_at
       y_node = record { id = node.id; few = node.few; up = λ t. y_up; rests = λ t. let h : HasGoneOn (Some p) (is_some x.acting) = subst (λ (o : Option ProposerValue). HasGoneOn o (is_some x.acting)) e (node.rests up) in h }
 
       vote_at : acceptance_vote p ballot i from ≡ vote.NotYet (length p.accepted + 1)
       vote_at = ap (λ (r : Option Why). voted r p.nodes (length p.accepted + 1)) none ∙ ap (λ (t : Bool). counting.vote_of (if t then count.Quorum else count.NotYet (length p.accepted + 1))) few
 
-      counted_at : (after : Draft) → after.effects.items ≡ before.effects.items ++ effect.Have (length p.accepted + 1) ∷ [] → after.sends.items ≡ before.sends.items → Ends records gives faults service whole x y_at before after On
+      counted_at : (after : Draft) → after.effects.items ≡ before.effects.items ++ effect.Have (length p.accepted + 1) ∷ [] → after.sends.items ≡ before.sends.items → Ends records gives faults service past whole x y_at before after On
       counted_at after effects sends = (
         (
-          leads_same records gives faults whole (λ d. d) x.keeper (so_far records service x before) (so_far records service y_at after) refl
-              (λ f. whole_is p e (armed_with f (so_far records service x before)) refl
-              ∙ ap (λ (z : Vote). outcome x.nodes (service_of service x.seed) x.id from (lead_of x.acceptor p (is_some x.acting)) z (armed_with f (so_far records service x before))) vote_at
-              ∙ call_is (log_of service (records x.keeper)) (log_of service (records x.keeper)) x.up f (Leading (lead_of x.acceptor q (is_some x.acting))) (work_of x.acting) (work_of x.acting) x.replayed x.replayed
-              (map message_in before.sends.items) (map message_in after.sends.items) (before.effects.items ++ effect.Have (length p.accepted + 1) ∷ []) after.effects.items refl refl refl (ap (map message_in) (sym sends)) (sym effects)),
+          leads_same records gives faults service whole (λ d. d) x.keeper (so_far records service past x before) (so_far records service past y_at after) refl
+              (λ f. whole_is p e (armed_with f (so_far records service past x before)) refl
+              ∙ ap (λ (z : Vote). outcome x.nodes (service_of service x.seed) x.id from (lead_of x.acceptor p (is_some x.acting)) z (armed_with f (so_far records service past x before))) vote_at
+              ∙ call_is (log_of service past (records x.keeper)) (log_of service past (records x.keeper)) x.up f (Leading (lead_of x.acceptor q (is_some x.acting))) (work_of x.acting) (work_of x.acting) x.replayed x.replayed
+              (map (message_in past) before.sends.items) (map (message_in past) after.sends.items) (before.effects.items ++ effect.Have (length p.accepted + 1) ∷ []) after.effects.items refl refl refl (ap (map (message_in past)) (sym sends)) (sym effects)),
           record { id = node.id; few = node.few; up = λ t. y_up },
           up,
         ),
@@ -303,16 +304,16 @@ module _ {K : Type 0} (records : K → List (List ℕ)) (gives : K → List ℕ 
       )
 
   pub vote_counted : (have : ℕ) → acceptance_vote_on x.proposer ballot i from ≡ vote.NotYet have → (y : NodeValue K) → y ≡ accepting_from x ballot i from → (after : Draft) → after.effects.items ≡ before.effects.items ++ effect.Have have ∷ [] → after.sends.items ≡ before.sends.items
-      → Ends records gives faults service whole x y before after On
+      → Ends records gives faults service past whole x y before after On
   vote_counted have v y y_is after effects sends = by x.proposer refl v
     where
-      by : (o : Option ProposerValue) → x.proposer ≡ o → acceptance_vote_on o ballot i from ≡ vote.NotYet have → Ends records gives faults service whole x y before after On
+      by : (o : Option ProposerValue) → x.proposer ≡ o → acceptance_vote_on o ballot i from ≡ vote.NotYet have → Ends records gives faults service past whole x y before after On
       by None e f = absurd (cc)
       by (Some p) e f =
           let n = not_yet (acceptance_refusal p ballot i from) p.nodes (length p.accepted + 1) have f in
           let all : y ≡ record x { proposer = Some (record p { accepted = p.accepted ++ from ∷ [] }) } =
           y_is ∙ ap (λ (o : Option ProposerValue). record x { proposer = option_map (λ (q : ProposerValue). acceptance_counted q ballot i from) o }) e ∙ ap (λ (q : ProposerValue). record x { proposer = Some q }) (q_is p e n.0 n.1) in
-          subst (λ (z : NodeValue K). Ends records gives faults service whole x z before after On) (sym all)
+          subst (λ (z : NodeValue K). Ends records gives faults service past whole x z before after On) (sym all)
           (counted_at p e n.0 n.1 after (effects ∙ ap (λ (k : ℕ). before.effects.items ++ effect.Have k ∷ []) n.2) sends)
 
   pub vote_one : IfSome x.proposer (λ (p : ProposerValue). IsOneOf p.nodes from)

@@ -1,5 +1,5 @@
 -- What a call comes to where a record was appended, or its append failed.
-use Rattle.std.proofs.Common.{◌≡◌, ℕ, Bool, true, false, cond, List, [], ◌∷◌, ◌++◌, length, Result, Ok, Err, Option, None, refl, sym, ap, subst, ◌∙◌}
+use Rattle.std.proofs.Common.{◌≡◌, ℕ, Bool, true, false, cond, List, [], ◌∷◌, ◌++◌, Result, Ok, Err, Option, None, refl, sym, ap, subst, ◌∙◌}
 use Rattle.std.specs.Prelude.{map, OnErr}
 use Rattle.std.proofs.lemmas.List.{append-nil}
 use Rattle.rex_syntax.specs.declared.service.Declarations.{Declarations}
@@ -10,7 +10,7 @@ use Rattle.rex_durable.specs.Spelling.{HasSpelling, IsDue, record_bytes}
 use Rattle.rex_report.specs.declared.effect.Effect.{Effect}
 use Rattle.rex_report.specs.declared.effect.Effect.TheVariants as effect
 use Rattle.rex_msg.specs.declared.message.Message.{Message as Sent}
-use Rattle.rex_safety.specs.Records.{Rec, base, known}
+use Rattle.rex_safety.specs.Records.{Rec, base}
 use Rattle.rex_safety.specs.Node.{Failure, Message, Role, Work, down_node}
 use Rattle.rex_safety.specs.Calls.{append, logged}
 use Rattle.rex_safety.specs.Values.{Value}
@@ -18,28 +18,30 @@ use Rattle.rex_safety.specs.Lanes.{Here, CallHere}
 use Rattle.rex_node.specs.declared.going.Going.{Going}
 use Rattle.rex_node.specs.declared.going.Going.TheVariants.{Down}
 use Rattle.rex_node.specs.declared.step.Draft.{Draft}
-use Rattle.rex_node.specs.Messages.{message_in}
-use Rattle.rex_node.specs.Parts.{NodeValue, IsUp, Keeps, Falls, Stands, fallen, failed_records, here_of, log_of, rec_of, says_something}
+use Rattle.rex_log.specs.Messages.{message_in}
+use Rattle.rex_log.specs.Log.{log_of, rec_of, standing_in}
+use Rattle.rex_node.specs.Parts.{NodeValue, IsUp, Keeps, Falls, Stands, fallen, failed_records, here_of}
 use Rattle.rex_node.specs.Calls.{armed_with}
 use Rattle.rex_node.specs.Going.{Appends, IsStuck, Leads, Comes, so_far}
 use Rattle.rex_node.proofs.GoingLemmas.{leads_append, fell_append}
-use Rattle.rex_node.proofs.Logs.{log_more}
+use Rattle.rex_log.proofs.Pasts.{log_then}
+use Rattle.rex_node.specs.Stated.{is_stated}
 
 pub on_err : {T E P : Type 0} (r : Result T E) → P → OnErr r P
 on_err (Ok x) p = tt
 on_err (Err e) p = p
 
-module _ {K : Type 0} (records : K → List (List ℕ)) (service : Declarations) (x : NodeValue K) (u : IsUp service x (here_of records service x)) where
+module _ {K : Type 0} (records : K → List (List ℕ)) (service : Declarations) (past : List Value) (x : NodeValue K) (u : IsUp service x (here_of records service past x)) where
   -- memory was short before anything was appended
-  pub stuck_same : IsStuck records service x x
+  pub stuck_same : IsStuck records service past x x
   stuck_same = record { more = []; grown = sym (append-nil (records x.keeper)); same = λ e. refl; based = u.base }
 
-  pub stuck_stands : (y : NodeValue K) → Stands records x y → IsStuck records service x y
+  pub stuck_stands : (y : NodeValue K) → Stands records x y → IsStuck records service past x y
   stuck_stands y h = record {
     more = [];
     grown = h.records ∙ sym (append-nil (records x.keeper));
     same = λ e. h.parts;
-    based = ap (λ (n : NodeValue K). n.base) h.parts ∙ u.base ∙ ap (λ (bytes : List (List ℕ)). base (log_of service bytes)) (sym h.records);
+    based = ap (λ (n : NodeValue K). n.base) h.parts ∙ u.base ∙ ap (λ (bytes : List (List ℕ)). base (log_of service past bytes)) (sym h.records);
   }
 
 -- calls with the same parts are the same
@@ -60,18 +62,18 @@ pub appends_as : {K : Type 0} (records : K → List (List ℕ)) (gives : K → L
 appends_as records gives faults x y before after r s g h a b k =
     subst (λ (z : Going). Appends records faults gives x y before after (record_bytes s) z) b (subst (λ (z : KeptRec). Appends records faults gives x y before after (record_bytes z) g) a k)
 
-module _ {K : Type 0} (records : K → List (List ℕ)) (gives : K → List ℕ → Answer → K → Type 0) (faults : K → ℕ) (service : Declarations) (x : NodeValue K) (u : IsUp service x (here_of records service x))
-    (r : KeptRec) (spelling : HasSpelling r) (due : IsDue (length (known (log_of service (records x.keeper)))) r) (says : says_something service r ≡ true) where
+module _ {K : Type 0} (records : K → List (List ℕ)) (gives : K → List ℕ → Answer → K → Type 0) (faults : K → ℕ) (service : Declarations) (past : List Value) (x : NodeValue K) (u : IsUp service x (here_of records service past x))
+    (r : KeptRec) (spelling : HasSpelling r) (due : IsDue (standing_in (log_of service past (records x.keeper))) r) (stated : is_stated service (record_bytes r) ≡ true) where
   abbrev more : List (Rec Value StateValue)
-  more = rec_of service r ∷ log_of service (records x.keeper)
+  more = rec_of service past r ∷ log_of service past (records x.keeper)
 
   -- the log has the record in front
-  pub log_written : (kept : List (List ℕ)) → kept ≡ records x.keeper ++ record_bytes r ∷ [] → log_of service kept ≡ rec_of service r ∷ log_of service (records x.keeper)
-  log_written kept e = ap (log_of service) e ∙ log_more service (records x.keeper) r spelling due says
+  pub log_written : (kept : List (List ℕ)) → kept ≡ records x.keeper ++ record_bytes r ∷ [] → log_of service past kept ≡ rec_of service past r ∷ log_of service past (records x.keeper)
+  log_written kept e = ap (log_of service past) e ∙ log_then service past (records x.keeper) r spelling due
 
   -- memory was short after it
-  pub stuck_written : (y z : NodeValue K) → base (rec_of service r ∷ log_of service (records x.keeper)) ≡ base (log_of service (records x.keeper)) → Keeps records faults gives x y (record_bytes r)
-      → z.keeper ≡ y.keeper → z.base ≡ y.base → IsStuck records service x z
+  pub stuck_written : (y z : NodeValue K) → base (rec_of service past r ∷ log_of service past (records x.keeper)) ≡ base (log_of service past (records x.keeper)) → Keeps records faults gives x y (record_bytes r)
+      → z.keeper ≡ y.keeper → z.base ≡ y.base → IsStuck records service past x z
   stuck_written y z same h keeper based = record {
     more = record_bytes r ∷ [];
     grown = grown;
@@ -83,35 +85,35 @@ module _ {K : Type 0} (records : K → List (List ℕ)) (gives : K → List ℕ 
       grown = ap records keeper ∙ h.records
 
   module _ (y : NodeValue K) (before : Draft) (whole k : CallHere → CallHere)
-      (is : (f : Option Failure) → whole (armed_with f (so_far records service x before)) ≡ append f x.id (rec_of service r) (armed_with f (so_far records service x before)) k) where
+      (is : (f : Option Failure) → whole (armed_with f (so_far records service past x before)) ≡ append f x.id (rec_of service past r) (armed_with f (so_far records service past x before)) k) where
     -- the call goes on from where the record is there
-    pub written_on : Keeps records faults gives x y (record_bytes r) → Leads records gives faults whole k x.keeper y.keeper (so_far records service x before) (logged (rec_of service r) None (so_far records service x before))
-    written_on h = leads_append records gives faults whole k x.id (rec_of service r) (so_far records service x before) is x.keeper y.keeper (record_bytes r) h.answer h.records h.faults
+    pub written_on : Keeps records faults gives x y (record_bytes r) → Leads records gives faults service whole k x.keeper y.keeper (so_far records service past x before) (logged (rec_of service past r) None (so_far records service past x before))
+    written_on h = leads_append records gives faults service whole k x.id (rec_of service past r) (so_far records service past x before) is x.keeper y.keeper (record_bytes r) stated h.answer h.records h.faults
 
     -- or the node is down
-    pub written_down : (after : Draft) → base (rec_of service r ∷ log_of service (records x.keeper)) ≡ base (log_of service (records x.keeper))
+    pub written_down : (after : Draft) → base (rec_of service past r ∷ log_of service past (records x.keeper)) ≡ base (log_of service past (records x.keeper))
         → Falls records faults gives x y (record_bytes r) → after.effects.items ≡ before.effects.items ++ effect.Down x.id ∷ [] → after.sends.items ≡ []
-        → (rest : CallHere → CallHere) → Comes records gives faults service whole rest x y before after Down
+        → (rest : CallHere → CallHere) → Comes records gives faults service past whole rest x y before after Down
     written_down after same h effects sends rest =
-        (fell_append records gives faults whole k x.id (rec_of service r) (so_far records service x before) is x.keeper y.keeper (record_bytes r) h.kept h.answer h.records h.faults (so_far records service y after) (downs h.kept h.records), ap (λ (n : NodeValue K). n.up) h.parts)
+        (fell_append records gives faults service whole k x.id (rec_of service past r) (so_far records service past x before) is x.keeper y.keeper (record_bytes r) stated h.kept h.answer h.records h.faults (so_far records service past y after) (downs h.kept h.records), ap (λ (n : NodeValue K). n.up) h.parts)
       where
-        logs : (kept : Bool) (now : List (List ℕ)) → now ≡ failed_records kept (records x.keeper) (record_bytes r) → log_of service now ≡ cond kept more (log_of service (records x.keeper))
+        logs : (kept : Bool) (now : List (List ℕ)) → now ≡ failed_records kept (records x.keeper) (record_bytes r) → log_of service past now ≡ cond kept more (log_of service past (records x.keeper))
         logs true now e = log_written now e
-        logs false now e = ap (log_of service) e
+        logs false now e = ap (log_of service past) e
 
-        bases : (kept : Bool) → x.base ≡ base (cond kept more (log_of service (records x.keeper)))
+        bases : (kept : Bool) → x.base ≡ base (cond kept more (log_of service past (records x.keeper)))
         bases true = u.base ∙ sym same
         bases false = u.base
 
-        here_down : (kept : Bool) → records y.keeper ≡ failed_records kept (records x.keeper) (record_bytes r) → here_of records service y ≡ down_node (cond kept more (log_of service (records x.keeper))) None
+        here_down : (kept : Bool) → records y.keeper ≡ failed_records kept (records x.keeper) (record_bytes r) → here_of records service past y ≡ down_node (cond kept more (log_of service past (records x.keeper))) None
         here_down kept e =
-            ap (λ (n : NodeValue K). here_of records service n) h.parts
-            ∙ ap (λ (l : List (Rec Value StateValue)). record (here_of records service (fallen x)) { log = l }) (logs kept (records y.keeper) e)
-            ∙ ap (λ (b : ℕ). record (here_of records service (fallen x)) { log = cond kept more (log_of service (records x.keeper)); replayed = b }) (bases kept)
+            ap (λ (n : NodeValue K). here_of records service past n) h.parts
+            ∙ ap (λ (l : List (Rec Value StateValue)). record (here_of records service past (fallen x)) { log = l }) (logs kept (records y.keeper) e)
+            ∙ ap (λ (b : ℕ). record (here_of records service past (fallen x)) { log = cond kept more (log_of service past (records x.keeper)); replayed = b }) (bases kept)
 
         downs : (kept : Bool) → records y.keeper ≡ failed_records kept (records x.keeper) (record_bytes r)
-            → so_far records service y after ≡ record { node = down_node (cond kept more (log_of service (records x.keeper))) None; sends = []; effects = before.effects.items ++ effect.Down x.id ∷ [] }
+            → so_far records service past y after ≡ record { node = down_node (cond kept more (log_of service past (records x.keeper))) None; sends = []; effects = before.effects.items ++ effect.Down x.id ∷ [] }
         downs kept e =
-            ap (λ (n : Here). record (so_far records service y after) { node = n }) (here_down kept e)
-            ∙ ap (λ (ms : List Sent). let z : CallHere = record { node = down_node (cond kept more (log_of service (records x.keeper))) None; sends = map message_in ms; effects = after.effects.items } in z) sends
-            ∙ ap (λ (es : List Effect). let z : CallHere = record { node = down_node (cond kept more (log_of service (records x.keeper))) None; sends = []; effects = es } in z) effects
+            ap (λ (n : Here). record (so_far records service past y after) { node = n }) (here_down kept e)
+            ∙ ap (λ (ms : List Sent). let z : CallHere = record { node = down_node (cond kept more (log_of service past (records x.keeper))) None; sends = map (message_in past) ms; effects = after.effects.items } in z) sends
+            ∙ ap (λ (es : List Effect). let z : CallHere = record { node = down_node (cond kept more (log_of service past (records x.keeper))) None; sends = []; effects = es } in z) effects

@@ -12,7 +12,7 @@ use Rattle.rex_record.specs.declared.turns.Turn.{Turn}
 use Rattle.rex_record.specs.Turn.{turn_of}
 use Rattle.rex_report.specs.declared.effect.Effect.{Effect}
 use Rattle.rex_report.specs.declared.effect.Effect.TheVariants as effect
-use Rattle.rex_safety.specs.Records.{Rec, Proposal, promise, known, base, has_old_base}
+use Rattle.rex_safety.specs.Records.{Rec, Proposal, promise, offset, known, base, has_old_base}
 use Rattle.rex_safety.specs.Quorum.{ballot_above, round_of}
 use Rattle.rex_traits.specs.Chains.{Answer, AppendsInTurn}
 use Rattle.rex_traits.specs.declared.keeper.KeepFault.TheVariants.{Failed}
@@ -25,25 +25,27 @@ use Rattle.rex_safety.specs.Lanes.{Here, CallHere, live_state, no_limits, with_l
 use Rattle.rex_node.specs.declared.refusal.Refusal.{Refusal}
 use Rattle.rex_node.specs.declared.refusal.Refusal.TheVariants as why
 use Rattle.rex_node.specs.declared.step.Step.{Step}
-use Rattle.rex_node.specs.Messages.{message_in}
+use Rattle.rex_log.specs.Messages.{message_in}
+use Rattle.rex_node.specs.Stated.{AreStated}
 use Rattle.rex_node.specs.Parts.{NodeValue, failed_records, here_of}
 
 -- ---- steps
 
 -- the call of the model that has come to this node, and has sent and reported what the step has
-abbrev pub call_of : {K : Type 0} → (K → List (List ℕ)) → Declarations → NodeValue K → Step → CallHere
-call_of records service x step = record { node = here_of records service x; sends = map message_in step.sends; effects = step.effects }
+abbrev pub call_of : {K : Type 0} → (K → List (List ℕ)) → Declarations → List Value → NodeValue K → Step → CallHere
+call_of records service past x step = record { node = here_of records service past x; sends = map (message_in past) step.sends; effects = step.effects }
 
 -- the call where this append of its node will fail
 abbrev pub armed_with : Option Failure → CallHere → CallHere
 armed_with failure d = record d { node = record d.node { armed = failure } }
 
--- appends went well, one after the other, and the model's call comes to the same, with as many records more
-pub record GoesWell {K : Type 0} (records : K → List (List ℕ)) (gives : K → List ℕ → Answer → K → Type 0) (faults : K → ℕ) (call : CallHere → CallHere) (old new : K) (before after : CallHere) : Type 0 where
+-- appends went well, one after the other, each state in them being spelled, and the model's call comes to the same, with as many records more
+pub record GoesWell {K : Type 0} (records : K → List (List ℕ)) (gives : K → List ℕ → Answer → K → Type 0) (faults : K → ℕ) (service : Declarations) (call : CallHere → CallHere) (old new : K) (before after : CallHere) : Type 0 where
   pub written : List (List ℕ)
   pub grown : records new ≡ records old ++ written
   pub appends : AppendsInTurn gives old written (Ok tt) new
   pub counted : faults new ≡ faults old
+  pub stated : AreStated service written
   pub many : length after.node.log ≡ length written + length before.node.log
   pub is : call before ≡ after
 
@@ -53,7 +55,7 @@ failed_many true written = suc written
 failed_many false written = written
 
 -- appends went well, one after the other, and then one failed, which kept or lost its record; the model's call under that failure comes to the same, with as many records more
-pub record FailsAfter {K : Type 0} (records : K → List (List ℕ)) (gives : K → List ℕ → Answer → K → Type 0) (faults : K → ℕ) (call : CallHere → CallHere) (old new : K) (before after : CallHere) : Type 0 where
+pub record FailsAfter {K : Type 0} (records : K → List (List ℕ)) (gives : K → List ℕ → Answer → K → Type 0) (faults : K → ℕ) (service : Declarations) (call : CallHere → CallHere) (old new : K) (before after : CallHere) : Type 0 where
   pub written : List (List ℕ)
   pub bytes : List ℕ
   pub kept : Bool
@@ -62,14 +64,15 @@ pub record FailsAfter {K : Type 0} (records : K → List (List ℕ)) (gives : K 
   pub appends : AppendsInTurn gives old written (Ok tt) between
   pub fails : gives between bytes (Err Failed) new
   pub counted : faults old < faults new
+  pub stated : AreStated service (written ++ bytes ∷ [])
   pub many : length after.node.log ≡ failed_many kept (length written) + length before.node.log
   pub is : call (armed_with (Some (After (length written) kept)) before) ≡ after
 
 -- a call of a node is this one of the model, under a failure where the keeper's count rose, and under none where it didn't
-abbrev pub Does : {K : Type 0} → (K → List (List ℕ)) → (K → List ℕ → Answer → K → Type 0) → (K → ℕ) → Declarations → (CallHere → CallHere) → NodeValue K → NodeValue K → Step → Type 0
-Does records gives faults service call old new step =
-    GoesWell records gives faults call old.keeper new.keeper (begin (here_of records service old)) (call_of records service new step)
-    ⊎ FailsAfter records gives faults call old.keeper new.keeper (begin (here_of records service old)) (call_of records service new step)
+abbrev pub Does : {K : Type 0} → (K → List (List ℕ)) → (K → List ℕ → Answer → K → Type 0) → (K → ℕ) → Declarations → List Value → (CallHere → CallHere) → NodeValue K → NodeValue K → Step → Type 0
+Does records gives faults service past call old new step =
+    GoesWell records gives faults service call old.keeper new.keeper (begin (here_of records service past old)) (call_of records service past new step)
+    ⊎ FailsAfter records gives faults service call old.keeper new.keeper (begin (here_of records service past old)) (call_of records service past new step)
 
 -- a call that appends nothing changes the node as this one of the model does
 abbrev pub LeadsTo : (CallHere → CallHere) → Here → Here → Type 0
@@ -124,6 +127,10 @@ refusal_of_replay h = if_up h.up (if is_active h.role then Some why.UpToDate els
 -- of a checkpoint: there is nothing to write down, or events are live
 abbrev pub refusal_of_checkpoint : Here → Option Refusal
 refusal_of_checkpoint h = if_up h.up (if h.replayed == base h.log then Some why.Nothing else if nat_lt 0 (length h.work.live) then Some (why.Live (length h.work.live)) else None)
+
+-- of dropping values: none up to the base is held
+abbrev pub refusal_of_drop : Here → Option Refusal
+refusal_of_drop h = if_up h.up (if base h.log == offset h.log then Some why.Nothing else None)
 
 -- of writing down again: the last checkpoint isn't in the old version, or there is none
 abbrev pub refusal_of_migrate : Here → Option Refusal

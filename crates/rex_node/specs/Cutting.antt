@@ -99,14 +99,14 @@ has_open None = false
 has_open (Some p) = is_some p.open_instance
 
 -- the node proposes a value of so many events, and goes on as the model does
-abbrev pub ProposesCut : {K : Type 0} → (K → List (List ℕ)) → (K → List ℕ → Answer → K → Type 0) → (K → ℕ) → Declarations → ℕ → Value → (old new : NodeValue K) → (before after : Draft) → Going → Type 0
-ProposesCut records gives faults service events value old new before after going =
+abbrev pub ProposesCut : {K : Type 0} → (K → List (List ℕ)) → (K → List ℕ → Answer → K → Type 0) → (K → ℕ) → Declarations → List Value → ℕ → Value → (old new : NodeValue K) → (before after : Draft) → Going → Type 0
+ProposesCut records gives faults service past events value old new before after going =
     FromLead old (λ l.
-    Ends records gives faults service
+    Ends records gives faults service past
     (λ d. propose old.nodes old.id (effect.Proposes old.id (length old.known + 1) events) d l (length old.known + 1) value (settle (enough l.reported) old.nodes (service_of service old.seed) old.id))
     old new before after going)
 
 -- the same of a cut, whose value and events are those of what is executed
-abbrev pub ProposesPiece : {K : Type 0} → (K → List (List ℕ)) → (K → List ℕ → Answer → K → Type 0) → (K → ℕ) → Declarations → List ℕ → (old new : NodeValue K) → (before after : Draft) → Going → Type 0
-ProposesPiece records gives faults service cut old new before after going =
-    FromLead old (λ l. Ends records gives faults service (propose_cut service old.seed old.nodes old.id cut l) old new before after going)
+abbrev pub ProposesPiece : {K : Type 0} → (K → List (List ℕ)) → (K → List ℕ → Answer → K → Type 0) → (K → ℕ) → Declarations → List Value → List ℕ → (old new : NodeValue K) → (before after : Draft) → Going → Type 0
+ProposesPiece records gives faults service past cut old new before after going =
+    FromLead old (λ l. Ends records gives faults service past (propose_cut service old.seed old.nodes old.id cut l) old new before after going)

@@ -4,6 +4,9 @@ use Rattle.std.specs.declared.alloc.AllocError.{AllocError}
 use Rattle.rex_ballot.specs.declared.proposal.Proposal.{Proposal as Kept}
 use Rattle.rex_msg.specs.declared.message.Message.{Message}
 use Rattle.rex_msg.specs.declared.message.Content.{Content}
+use Rattle.rex_msg.specs.declared.message.Content.TheVariants as sent
+use Rattle.rex_ballot.specs.Proposals.{IsValue}
+use Rattle.rex_snapshot.specs.Reading.{state_in}
 use Rattle.rex_paxos.specs.Proposer.{ProposerValue}
 use Rattle.rex_syntax.specs.declared.service.Declarations.{Declarations}
 use Rattle.rex_report.specs.declared.effect.Effect.{Effect}
@@ -13,20 +16,22 @@ use Rattle.rex_safety.specs.Records.{known, base}
 use Rattle.rex_safety.specs.Node.{Failure}
 use Rattle.rex_safety.specs.Node.Failure.{After}
 use Rattle.rex_safety.specs.Lanes.{CallHere}
-use Rattle.rex_safety.specs.Values.{values_fit}
+use Rattle.rex_safety.specs.Values.{Value, values_fit}
 use Rattle.rex_node.specs.declared.going.Going.{Going}
 use Rattle.rex_node.specs.declared.going.Going.TheVariants.{On, Down}
 use Rattle.rex_node.specs.declared.refusal.Refusal.{Refusal}
 use Rattle.rex_node.specs.declared.refusal.Refusal.TheVariants as why
 use Rattle.rex_node.specs.declared.step.Draft.{Draft}
 use Rattle.rex_node.specs.declared.step.Step.{Step}
-use Rattle.rex_node.specs.Messages.{message_in}
-use Rattle.rex_node.specs.Parts.{NodeValue, IsKept, IsNode, Keeps, Falls, fallen, here_of, log_of}
+use Rattle.rex_log.specs.Messages.{message_in}
+use Rattle.rex_node.specs.Stated.{AreStated}
+use Rattle.rex_log.specs.Log.{log_of}
+use Rattle.rex_node.specs.Parts.{NodeValue, IsKept, IsResting, Keeps, Falls, fallen, here_of}
 use Rattle.rex_node.specs.Calls.{armed_with, FailsAfter}
 
 -- the call of the model that has come to this node, and has sent and reported what the draft has
-abbrev pub so_far : {K : Type 0} → (K → List (List ℕ)) → Declarations → NodeValue K → Draft → CallHere
-so_far records service x draft = record { node = here_of records service x; sends = map message_in draft.sends.items; effects = draft.effects.items }
+abbrev pub so_far : {K : Type 0} → (K → List (List ℕ)) → Declarations → List Value → NodeValue K → Draft → CallHere
+so_far records service past x draft = record { node = here_of records service past x; sends = map (message_in past) draft.sends.items; effects = draft.effects.items }
 
 -- these effects come after those before, and no message
 pub record Tells (before after : Draft) (effects : List Effect) : Type 0 where
@@ -42,6 +47,13 @@ pub record Sends (before after : Draft) (messages : List Message) : Type 0 where
 abbrev pub answering : ℕ → ℕ → Content → List Message
 answering from to content = record { from = from; to = to; content = content } ∷ []
 
+-- the state at the base is told, by one message
+pub record TellsBase {K : Type 0} (service : Declarations) (x : NodeValue K) (to : ℕ) (before after : Draft) : Type 0 where
+  pub snapshot : List ℕ
+  pub spelled : state_in service snapshot ≡ Ok x.start
+  pub short : IsValue snapshot
+  pub sends : Sends before after (answering x.id to (sent.Snapshot x.base snapshot))
+
 -- a failure as it was named one append earlier
 abbrev pub one_later : Option Failure → Option Failure
 one_later None = None
@@ -52,39 +64,40 @@ abbrev pub later : List (List ℕ) → Option Failure → Option Failure
 later [] failure = failure
 later (bytes ∷ written) failure = one_later (later written failure)
 
--- appends went well, one after the other; under whatever failure after them, the whole comes to what the rest makes of what has come of it
-pub record Leads {K : Type 0} (records : K → List (List ℕ)) (gives : K → List ℕ → Answer → K → Type 0) (faults : K → ℕ) (whole rest : CallHere → CallHere) (old new : K) (before after : CallHere) : Type 0 where
+-- appends went well, one after the other, each state in them being spelled; under whatever failure after them, the whole comes to what the rest makes of what has come of it
+pub record Leads {K : Type 0} (records : K → List (List ℕ)) (gives : K → List ℕ → Answer → K → Type 0) (faults : K → ℕ) (service : Declarations) (whole rest : CallHere → CallHere) (old new : K) (before after : CallHere) : Type 0 where
   pub written : List (List ℕ)
   pub grown : records new ≡ records old ++ written
   pub appends : AppendsInTurn gives old written (Ok tt) new
   pub counted : faults new ≡ faults old
+  pub stated : AreStated service written
   pub many : length after.node.log ≡ length written + length before.node.log
   pub comes : (failure : Option Failure) → whole (armed_with (later written failure) before) ≡ rest (armed_with failure after)
 
 -- an append failed: the node is down, the call has told so last, and sends nothing
-pub record Fell {K : Type 0} (records : K → List (List ℕ)) (gives : K → List ℕ → Answer → K → Type 0) (faults : K → ℕ) (whole : CallHere → CallHere) (id : ℕ) (old new : K) (before after : CallHere) : Type 0 where
-  pub fails : FailsAfter records gives faults whole old new before after
+pub record Fell {K : Type 0} (records : K → List (List ℕ)) (gives : K → List ℕ → Answer → K → Type 0) (faults : K → ℕ) (service : Declarations) (whole : CallHere → CallHere) (id : ℕ) (old new : K) (before after : CallHere) : Type 0 where
+  pub fails : FailsAfter records gives faults service whole old new before after
   pub front : List Effect
   pub told : after.effects ≡ front ++ effect.Down id ∷ []
   pub quiet : after.sends ≡ []
 
 -- what a part of a call comes to: the rest of the call goes on from here, or the whole has ended with the node down
-abbrev pub Comes : {K : Type 0} → (K → List (List ℕ)) → (K → List ℕ → Answer → K → Type 0) → (K → ℕ) → Declarations → (whole rest : CallHere → CallHere) → (old new : NodeValue K) → (before after : Draft) → Going → Type 0
-Comes records gives faults service whole rest old new before after On =
-    Leads records gives faults whole rest old.keeper new.keeper (so_far records service old before) (so_far records service new after) × IsKept records service new × (new.up ≡ true)
-Comes records gives faults service whole rest old new before after Down =
-    Fell records gives faults whole old.id old.keeper new.keeper (so_far records service old before) (so_far records service new after) × (new.up ≡ false)
+abbrev pub Comes : {K : Type 0} → (K → List (List ℕ)) → (K → List ℕ → Answer → K → Type 0) → (K → ℕ) → Declarations → List Value → (whole rest : CallHere → CallHere) → (old new : NodeValue K) → (before after : Draft) → Going → Type 0
+Comes records gives faults service past whole rest old new before after On =
+    Leads records gives faults service whole rest old.keeper new.keeper (so_far records service past old before) (so_far records service past new after) × IsKept records service past new × (new.up ≡ true)
+Comes records gives faults service past whole rest old new before after Down =
+    Fell records gives faults service whole old.id old.keeper new.keeper (so_far records service past old before) (so_far records service past new after) × (new.up ≡ false)
 
 -- the same of the last part: nothing is left of the call
-abbrev pub Ends : {K : Type 0} → (K → List (List ℕ)) → (K → List ℕ → Answer → K → Type 0) → (K → ℕ) → Declarations → (CallHere → CallHere) → (old new : NodeValue K) → (before after : Draft) → Going → Type 0
-Ends records gives faults service whole old new before after going = Comes records gives faults service whole (λ d. d) old new before after going × IsNode records service new
+abbrev pub Ends : {K : Type 0} → (K → List (List ℕ)) → (K → List ℕ → Answer → K → Type 0) → (K → ℕ) → Declarations → List Value → (CallHere → CallHere) → (old new : NodeValue K) → (before after : Draft) → Going → Type 0
+Ends records gives faults service past whole old new before after going = Comes records gives faults service past whole (λ d. d) old new before after going × IsResting records service past new
 
 -- memory was short: the keeper has its records and perhaps more, with the node's base among them, and where it has no more nothing else has changed
-pub record IsStuck {K : Type 0} (records : K → List (List ℕ)) (service : Declarations) (old new : NodeValue K) : Type 0 where
+pub record IsStuck {K : Type 0} (records : K → List (List ℕ)) (service : Declarations) (past : List Value) (old new : NodeValue K) : Type 0 where
   pub more : List (List ℕ)
   pub grown : records new.keeper ≡ records old.keeper ++ more
   pub same : more ≡ [] → new ≡ record old { keeper = new.keeper }
-  pub based : new.base ≡ base (log_of service (records new.keeper))
+  pub based : new.base ≡ base (log_of service past (records new.keeper))
 
 -- the record is kept, and the draft is as it was; or the append failed, the node is down, the draft tells so last and sends nothing
 abbrev pub Appends : {K : Type 0} → (K → List (List ℕ)) → (K → ℕ) → (K → List ℕ → Answer → K → Type 0) → (old new : NodeValue K) → (before after : Draft) → List ℕ → Going → Type 0

@@ -39,10 +39,10 @@ IsOwnCut service x value = IfSome x.acting (λ (a : ActingValue). IsCutAt servic
 -- ---- proposing
 
 -- the call proposes the value, with this told, and the rest of it begins with the proposal open
-abbrev pub Opens : {K : Type 0} → (K → List (List ℕ)) → (K → List ℕ → Answer → K → Type 0) → (K → ℕ) → Declarations → Effect → ℕ → Value → (old new : NodeValue K) → (before after : Draft) → Going → Type 0
-Opens records gives faults service told instance value old new before after going =
+abbrev pub Opens : {K : Type 0} → (K → List (List ℕ)) → (K → List ℕ → Answer → K → Type 0) → (K → ℕ) → Declarations → List Value → Effect → ℕ → Value → (old new : NodeValue K) → (before after : Draft) → Going → Type 0
+Opens records gives faults service past told instance value old new before after going =
     FromLead old (λ l. (k : CallHere → CallHere) →
-    Comes records gives faults service (λ d. propose old.nodes old.id told d l instance value k)
+    Comes records gives faults service past (λ d. propose old.nodes old.id told d l instance value k)
     (λ d. k (led (leading l (Some (proposal_of l.ballot instance value)) (old.id ∷ []) l.active) d))
     old new before after going)
 
@@ -66,10 +66,10 @@ HasOpened old new instance value Down = Unit {0}
 -- ---- knowing
 
 -- the call makes the value known that its node leads to
-abbrev pub Learns : {K : Type 0} → (K → List (List ℕ)) → (K → List ℕ → Answer → K → Type 0) → (K → ℕ) → Declarations → ℕ → Value → (old new : NodeValue K) → (before after : Draft) → Going → Type 0
-Learns records gives faults service instance value old new before after going =
+abbrev pub Learns : {K : Type 0} → (K → List (List ℕ)) → (K → List ℕ → Answer → K → Type 0) → (K → ℕ) → Declarations → List Value → ℕ → Value → (old new : NodeValue K) → (before after : Draft) → Going → Type 0
+Learns records gives faults service past instance value old new before after going =
     FromLead old (λ l. (k : CallHere → CallHere) →
-    Comes records gives faults service (λ d. decide old.nodes (service_of service old.seed) old.id d l instance value k) k old new before after going)
+    Comes records gives faults service past (λ d. decide old.nodes (service_of service old.seed) old.id d l instance value k) k old new before after going)
 
 -- what is executed once the events below the cut are known, and what is known of the clients then
 abbrev pub settling : Declarations → ActingValue → ActingValue
@@ -145,9 +145,9 @@ IsLonger records old new On = length (records old.keeper) < length (records new.
 IsLonger records old new Down = Unit {0}
 
 -- the call comes to one that has two turns less, after more records; or that was the last round
-abbrev pub GoesRound : {K : Type 0} → (K → List (List ℕ)) → (K → List ℕ → Answer → K → Type 0) → (K → ℕ) → Declarations → ℕ → (old new : NodeValue K) → (before after : Draft) → Round → Type 0
-GoesRound records gives faults service turns old new before after Again =
-    Comes records gives faults service (settle turns old.nodes (service_of service old.seed) old.id) (settle (turns - 2) old.nodes (service_of service old.seed) old.id) old new before after On
+abbrev pub GoesRound : {K : Type 0} → (K → List (List ℕ)) → (K → List ℕ → Answer → K → Type 0) → (K → ℕ) → Declarations → List Value → ℕ → (old new : NodeValue K) → (before after : Draft) → Round → Type 0
+GoesRound records gives faults service past turns old new before after Again =
+    Comes records gives faults service past (settle turns old.nodes (service_of service old.seed) old.id) (settle (turns - 2) old.nodes (service_of service old.seed) old.id) old new before after On
     × MayGoOn new (turns - 2) × IsFree new.proposer (is_some new.acting) × (3 ≤ turns) × (length (records old.keeper) < length (records new.keeper))
-GoesRound records gives faults service turns old new before after (Done going) =
-    Ends records gives faults service (settle turns old.nodes (service_of service old.seed) old.id) old new before after going
+GoesRound records gives faults service past turns old new before after (Done going) =
+    Ends records gives faults service past (settle turns old.nodes (service_of service old.seed) old.id) old new before after going

@@ -5,7 +5,8 @@ pub mod Cutting
 pub mod Electing
 pub mod Going
 pub mod Leading
-pub mod Messages
 pub mod Parts
 pub mod Restarting
+pub mod Stated
 pub mod Submitting
+pub mod Telling

@@ -1,5 +1,5 @@
 -- A node's parts, and the node of the cluster's model that they are.
-use Rattle.std.specs.Prelude.{◌≡◌, ℕ, ◌<◌, ◌≤◌, ◌||◌, not, Bool, true, false, List, [], ◌∷◌, ◌++◌, length, map, take, fold, is_some, Result, Ok, Err, Option, Some, None, option_map, is_ok, if◌then◌else◌}
+use Rattle.std.specs.Prelude.{◌≡◌, ℕ, ◌<◌, ◌≤◌, ◌||◌, not, Bool, true, false, ◌+◌, List, [], ◌∷◌, ◌++◌, length, map, take, is_some, Result, Ok, Err, Option, Some, None, option_map}
 use Rattle.std.specs.List.{All}
 use Rattle.rex_ballot.specs.Limits.{most_nodes}
 use Rattle.rand_pcg.specs.Lcg.{Lcg}
@@ -16,14 +16,9 @@ use Rattle.rex_record.specs.Value.{RecorderValue}
 use Rattle.rex_record.specs.Kept.{IsRecorder}
 use Rattle.rex_paxos.specs.Acceptor.{AcceptorValue}
 use Rattle.rex_paxos.specs.Proposer.{ProposerValue, CountsOnce, is_candidate}
-use Rattle.rex_durable.specs.declared.records.Rec.{Rec as KeptRec}
-use Rattle.rex_durable.specs.declared.records.Rec.TheVariants as kept
-use Rattle.rex_durable.specs.Reading.{record_in}
-use Rattle.rex_snapshot.specs.Allowed.{version_in}
-use Rattle.rex_snapshot.specs.Reading.{state_in}
 use Rattle.rex_scenario.specs.Fits.{RequestFits}
-use Rattle.rex_safety.specs.Records.{Rec, Proposal, proposal_of, promise, accepted, known, base, has_old_base}
-use Rattle.rex_safety.specs.Records.Rec.{Promised, Accepted, Known, Checkpoint}
+use Rattle.rex_safety.specs.Records.{Proposal, promise, accepted, offset, known, base, has_old_base}
+use Rattle.rex_log.specs.Log.{first, log_of, proposal_in}
 use Rattle.rex_safety.specs.Node.{Lead, Role, Work, no_work}
 use Rattle.rex_safety.specs.Node.Role.{Follower, Leads}
 use Rattle.rex_safety.specs.Calls.{replayed_left}
@@ -45,7 +40,7 @@ pub record ActingValue : Type 0 where
   pub proposed : List ℕ
   pub answers : List Entry
 
--- the node's number and how many there are; the seed; its keeper; whether it is up; its acceptor; the values that it knows; how many its last checkpoint is after, whether that is in the old version, and the state then; how many it has replayed, and the state then where that is another one and the node isn't active; its proposer where it has asked to lead; and what it executes where it is active
+-- the node's number and how many there are; the seed; its keeper; whether it is up; its acceptor; of how many instances it doesn't hold the values, and the known values after those; how many values its base is after, whether its last checkpoint is in the old version, and the state at the base; how many it has replayed, and the state then where that is another one and the node isn't active; its proposer where it has asked to lead; and what it executes where it is active
 pub record NodeValue (K : Type 0) : Type 0 where
   pub id : ℕ
   pub nodes : ℕ
@@ -53,6 +48,7 @@ pub record NodeValue (K : Type 0) : Type 0 where
   pub keeper : K
   pub up : Bool
   pub acceptor : AcceptorValue
+  pub offset : ℕ
   pub known : List Value
   pub base : ℕ
   pub old_base : Bool
@@ -62,42 +58,7 @@ pub record NodeValue (K : Type 0) : Type 0 where
   pub proposer : Option ProposerValue
   pub acting : Option ActingValue
 
--- ---- its records
-
--- the state that bytes spell, or the start where they spell none
-abbrev pub read_state : Declarations → Result StateValue ℕ → StateValue
-read_state service (Ok s) = s
-read_state service (Err at) = start_of service
-
--- what a record that was read says: a checkpoint, that its bytes spell a state in a version
-abbrev pub rec_of : Declarations → KeptRec → Rec Value StateValue
-rec_of service (kept.Promised b) = Promised b
-rec_of service (kept.Accepted b i v) = Accepted b i v
-rec_of service (kept.Known i v) = Known i v
-rec_of service (kept.Checkpoint k bytes) = Checkpoint (version_in bytes) k (read_state service (state_in service bytes))
-
--- a record says something, unless it is a checkpoint whose bytes spell no state
-abbrev pub says_something : Declarations → KeptRec → Bool
-says_something service (kept.Checkpoint k bytes) = is_ok (state_in service bytes)
-says_something service _ = true
-
--- the records with one more; bytes that spell none, or one that says nothing, change nothing
-abbrev pub log_with : Declarations → List (Rec Value StateValue) → Result KeptRec ℕ → List (Rec Value StateValue)
-log_with service log (Ok r) = if says_something service r then rec_of service r ∷ log else log
-log_with service log (Err at) = log
-
--- the records that lists of bytes spell, the newest first
-abbrev pub log_of : Declarations → List (List ℕ) → List (Rec Value StateValue)
-log_of service kept = fold (λ log bytes. log_with service log (record_in (length (known log)) bytes)) [] kept
-
--- each of the lists of bytes spells a record that says something
-abbrev pub AreRead : Declarations → List (List ℕ) → Type 0
-AreRead service kept = length (log_of service kept) ≡ length kept
-
 -- ---- its role and its work
-
-abbrev pub proposal_in : Kept → Proposal Value
-proposal_in p = proposal_of p.ballot p.instance p.value
 
 -- the open proposal is what the node itself accepted for the open instance
 abbrev pub open_of : AcceptorValue → Option ℕ → Option (Proposal Value)
@@ -125,10 +86,22 @@ work_of (Some a) = record { queue = a.recorder.queue; live = a.recorder.live; di
 
 -- ---- the node
 
--- the node that these parts are, where its keeper has these records; which append will fail is for its keeper to know
-abbrev pub here_of : {K : Type 0} → (K → List (List ℕ)) → Declarations → NodeValue K → Here
-here_of records service x = record {
-  log = log_of service (records x.keeper);
+-- all values that a node knows: before those that it holds stand the first ones of the past
+abbrev pub knows : {K : Type 0} → List Value → NodeValue K → List Value
+knows past x = first x.offset past ++ x.known
+
+-- how many they are
+abbrev pub count_of : {K : Type 0} → NodeValue K → ℕ
+count_of x = x.offset + length x.known
+
+-- the node as if it held all of them
+abbrev pub whole : {K : Type 0} → List Value → NodeValue K → NodeValue K
+whole past x = record x { known = knows past x }
+
+-- the node that these parts are, where its keeper has these records beside the past; which append will fail is for its keeper to know
+abbrev pub here_of : {K : Type 0} → (K → List (List ℕ)) → Declarations → List Value → NodeValue K → Here
+here_of records service past x = record {
+  log = log_of service past (records x.keeper);
   up = x.up;
   armed = None;
   role = role_of x.acceptor x.proposer (is_some x.acting);
@@ -205,10 +178,12 @@ abbrev pub IsProposer : ℕ → ℕ → AcceptorValue → Option ProposerValue �
 IsProposer nodes id a None = Unit {0}
 IsProposer nodes id a (Some p) = Proposes nodes id a p
 
--- the parts of a node that is up are what its records say, and its states those after the values that it has a checkpoint of and that it has replayed; where it is active these are all that it knows
+-- the parts of a node that is up, as if it held all values that it knows, are what its records say, those that it doesn't hold being among the ones up to its base, and its states those after the values up to its base and that it has replayed; where it is active these are all that it knows
 pub record IsUp {K : Type 0} (service : Declarations) (x : NodeValue K) (h : Here) : Type 0 where
   pub promised : x.acceptor.promised ≡ promise h.log
   pub accepted : map proposal_in x.acceptor.accepted ≡ accepted h.log
+  pub offset : x.offset ≡ offset h.log
+  pub low : x.offset ≤ x.base
   pub known : x.known ≡ known h.log
   pub base : x.base ≡ base h.log
   pub old_base : x.old_base ≡ has_old_base h.log
@@ -222,22 +197,22 @@ pub record IsUp {K : Type 0} (service : Declarations) (x : NodeValue K) (h : Her
   pub fits : values_fit service x.known ≡ true
   pub numbers : NodeFits h
 
--- what is kept of a node also within a call
-pub record IsKept {K : Type 0} (records : K → List (List ℕ)) (service : Declarations) (x : NodeValue K) : Type 0 where
+-- what is kept of a node also within a call, as if it held all values that it knows
+pub record IsKept {K : Type 0} (records : K → List (List ℕ)) (service : Declarations) (past : List Value) (x : NodeValue K) : Type 0 where
   pub id : (0 < x.id) × (x.id ≤ x.nodes)
   pub few : x.nodes ≤ most_nodes
-  pub up : x.up ≡ true → IsUp service x (here_of records service x)
+  pub up : x.up ≡ true → IsUp service x (here_of records service past x)
 
 -- a node that leads has gone on as far as it can: where a majority promised, it is active or has an open proposal
 abbrev pub HasGoneOn : Option ProposerValue → Bool → Type 0
 HasGoneOn None active = Unit {0}
 HasGoneOn (Some p) active = is_candidate p ≡ not (active || is_some p.open_instance)
 
--- what is kept of a node between calls
-pub record IsNode {K : Type 0} (records : K → List (List ℕ)) (service : Declarations) (x : NodeValue K) : Type 0 where
+-- what is kept of it between calls
+pub record IsResting {K : Type 0} (records : K → List (List ℕ)) (service : Declarations) (past : List Value) (x : NodeValue K) : Type 0 where
   pub id : (0 < x.id) × (x.id ≤ x.nodes)
   pub few : x.nodes ≤ most_nodes
-  pub up : x.up ≡ true → IsUp service x (here_of records service x)
+  pub up : x.up ≡ true → IsUp service x (here_of records service past x)
   pub rests : x.up ≡ true → HasGoneOn x.proposer (is_some x.acting)
 
 -- the same node of the same cluster
@@ -247,9 +222,16 @@ pub record IsSame {K : Type 0} (before after : NodeValue K) : Type 0 where
   pub seed : after.seed ≡ before.seed
 
 -- the same node of the same cluster, and kept
-pub record StaysNode {K : Type 0} (records : K → List (List ℕ)) (service : Declarations) (before after : NodeValue K) : Type 0 where
+pub record StaysResting {K : Type 0} (records : K → List (List ℕ)) (service : Declarations) (past : List Value) (before after : NodeValue K) : Type 0 where
   pub same : IsSame before after
-  pub kept : IsNode records service after
+  pub kept : IsResting records service past after
+
+-- so it is of a node that holds but some of the values that it knows, the first others being those of the past
+abbrev pub IsNode : {K : Type 0} → (K → List (List ℕ)) → Declarations → List Value → NodeValue K → Type 0
+IsNode records service past x = IsResting records service past (whole past x)
+
+abbrev pub StaysNode : {K : Type 0} → (K → List (List ℕ)) → Declarations → List Value → NodeValue K → NodeValue K → Type 0
+StaysNode records service past before after = StaysResting records service past (whole past before) (whole past after)
 
 -- ---- leaving a role
 

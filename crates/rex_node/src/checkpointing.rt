@@ -14,7 +14,7 @@ ghost use Rattle.rex_node.specs.declared.refusal.Refusal.TheVariants as why;
 ghost use Rattle.rex_node.specs.Calls.{Does, EndsDown, IsSpared, Leaves, Refuses, refusal_of_checkpoint};
 ghost use Rattle.rex_node.specs.Checkpointing.{IsCheckpoint, SavesOr, rebased, replayed_state};
 ghost use Rattle.rex_safety.specs.Records.{is_old};
-ghost use Rattle.rex_node.specs.Parts.{IsNode, StaysNode, here_of};
+ghost use Rattle.rex_node.specs.Parts.{IsNode, StaysNode, here_of, whole};
 
 use crate::node::Node;
 use crate::refusal::Refusal;
@@ -23,6 +23,7 @@ use crate::step::Step;
 use rex_durable::Rec;
 use rex_event::{Event, Kind};
 use rex_list::List;
+use rex_log::Past;
 use rex_report::Effect;
 use rex_snapshot::{encode, encode_old};
 use rex_state::state::State;
@@ -103,9 +104,9 @@ fn due(replayed: u32, base: u32, live: u32) -> Option<Refusal>
 
 impl<K: Keeper> Node<K> {
     // Why the node writes down nothing.
-    fn checkpoint_refusal(&self, svc: &Checked) -> Option<Refusal>
-        requires { IsNode K.records svc.now self.now }
-        ensures { result ≡ refusal_of_checkpoint (here_of K.records svc.now self.now) }
+    fn checkpoint_refusal<P: Past>(&self, svc: &Checked) -> Option<Refusal>
+        requires { IsNode K.records svc.now P.past self.now }
+        ensures { result ≡ refusal_of_checkpoint (here_of K.records svc.now P.past self.now) }
     {
         let _service = svc.declarations();
         if !self.up {
@@ -125,8 +126,8 @@ impl<K: Keeper> Node<K> {
     }
 
     // The last checkpoint is of what the node has replayed, which is this state, in a version.
-    fn rebase(&mut self, version: Version, state: State)
-        ensures { self.new ≡ rebased version self.old state }
+    fn rebase<P: Past>(&mut self, version: Version, state: State)
+        ensures { whole P.past self.new ≡ rebased version (whole P.past self.old) state }
     {
         self.base = self.replayed;
         self.old_base = is_old(version);
@@ -136,20 +137,20 @@ impl<K: Keeper> Node<K> {
 
     // Appends the record of the state that the node has replayed, in a version. Where the keeper fails the node is down, and its base is
     // that of the records that the keeper has then.
-    fn save(&mut self, version: Version, rec: &Rec, state: State) -> Result<(), KeepFault>
+    fn save<P: Past>(&mut self, version: Version, rec: &Rec, state: State) -> Result<(), KeepFault>
         requires count { K.faults self.old.keeper < 2 ^ 64 - 1 }
         requires spelling { HasSpelling rec.now }
-        ensures { SavesOr K.records K.faults K.append_gives version self.old self.new state (record_bytes rec.now) result }
+        ensures { SavesOr K.records K.faults K.append_gives version (whole P.past self.old) (whole P.past self.new) state (record_bytes rec.now) result }
     {
         let before = self.keeper.len();
         let written = rex_durable::append(self.alloc, &mut self.keeper, rec);
         match written {
-            Ok(()) => self.rebase(version, state),
+            Ok(()) => self.rebase::<P>(version, state),
             Err(KeepFault::Failed) => {
                 if self.keeper.len() > before {
                     self.base = self.replayed;
                 }
-                self.fall();
+                self.fall::<P>();
             }
             Err(KeepFault::OutOfMemory) => {}
         }
@@ -158,48 +159,52 @@ impl<K: Keeper> Node<K> {
 
     /// Writes down the state that the node has replayed: with it the node starts again, and goes back to it where it doesn't lead
     /// any more. No event may be live.
-    pub fn checkpoint(&mut self, svc: &Checked) -> Result<Step, Refusal>
-        requires node { IsNode K.records svc.now self.old }
+    pub fn checkpoint<P: Past>(&mut self, svc: &Checked) -> Result<Step, Refusal>
+        requires node { IsNode K.records svc.now P.past self.old }
         requires count { K.faults self.old.keeper < 2 ^ 64 - 1 }
-        ensures refused { Refuses (refusal_of_checkpoint (here_of K.records svc.now self.old)) result }
-        ensures told { IfOk result (Does K.records K.append_gives K.faults svc.now (calls.checkpoint Two (service_of svc.now self.old.seed) self.old.id) self.old self.new) }
+        ensures refused { Refuses (refusal_of_checkpoint (here_of K.records svc.now P.past self.old)) result }
+        ensures told { IfOk result (Does K.records K.append_gives K.faults svc.now P.past (calls.checkpoint Two (service_of svc.now self.old.seed) self.old.id) self.old self.new) }
         ensures down { IfOk result (EndsDown self.old.id (K.faults self.old.keeper) (K.faults self.new.keeper)) }
-        ensures left { Leaves result (here_of K.records svc.now self.old) (here_of K.records svc.now self.new) }
+        ensures left { Leaves result (here_of K.records svc.now P.past self.old) (here_of K.records svc.now P.past self.new) }
         ensures same { IsSpared result self.old self.new }
-        ensures kept { StaysNode K.records svc.now self.old self.new }
+        ensures kept { StaysNode K.records svc.now P.past self.old self.new }
     {
-        self.checkpoint_in(svc, Version::Two)
+        self.checkpoint_in::<P>(svc, Version::Two)
     }
 
     /// The same in the old version, for a service of at most 16 lanes and 256 variables.
-    pub fn checkpoint_old(&mut self, svc: &Checked) -> Result<Step, Refusal>
+    pub fn checkpoint_old<P: Past>(&mut self, svc: &Checked) -> Result<Step, Refusal>
         requires old { has_old_form svc.now ≡ true }
-        requires node { IsNode K.records svc.now self.old }
+        requires node { IsNode K.records svc.now P.past self.old }
         requires count { K.faults self.old.keeper < 2 ^ 64 - 1 }
-        ensures refused { Refuses (refusal_of_checkpoint (here_of K.records svc.now self.old)) result }
-        ensures told { IfOk result (Does K.records K.append_gives K.faults svc.now (calls.checkpoint One (service_of svc.now self.old.seed) self.old.id) self.old self.new) }
+        ensures refused { Refuses (refusal_of_checkpoint (here_of K.records svc.now P.past self.old)) result }
+        ensures told { IfOk result (Does K.records K.append_gives K.faults svc.now P.past (calls.checkpoint One (service_of svc.now self.old.seed) self.old.id) self.old self.new) }
         ensures down { IfOk result (EndsDown self.old.id (K.faults self.old.keeper) (K.faults self.new.keeper)) }
-        ensures left { Leaves result (here_of K.records svc.now self.old) (here_of K.records svc.now self.new) }
+        ensures left { Leaves result (here_of K.records svc.now P.past self.old) (here_of K.records svc.now P.past self.new) }
         ensures same { IsSpared result self.old self.new }
-        ensures kept { StaysNode K.records svc.now self.old self.new }
+        ensures kept { StaysNode K.records svc.now P.past self.old self.new }
     {
-        self.checkpoint_in(svc, Version::One)
+        self.checkpoint_in::<P>(svc, Version::One)
     }
 
     /// The same in a version that the service's states have.
-    pub fn checkpoint_in(&mut self, svc: &Checked, version: Version) -> Result<Step, Refusal>
+    pub fn checkpoint_in<P: Past>(
+        &mut self,
+        svc: &Checked,
+        version: Version,
+    ) -> Result<Step, Refusal>
         requires has { has_version svc.now version ≡ true }
-        requires node { IsNode K.records svc.now self.old }
+        requires node { IsNode K.records svc.now P.past self.old }
         requires count { K.faults self.old.keeper < 2 ^ 64 - 1 }
-        ensures refused { Refuses (refusal_of_checkpoint (here_of K.records svc.now self.old)) result }
-        ensures told { IfOk result (Does K.records K.append_gives K.faults svc.now (calls.checkpoint version (service_of svc.now self.old.seed) self.old.id) self.old self.new) }
+        ensures refused { Refuses (refusal_of_checkpoint (here_of K.records svc.now P.past self.old)) result }
+        ensures told { IfOk result (Does K.records K.append_gives K.faults svc.now P.past (calls.checkpoint version (service_of svc.now self.old.seed) self.old.id) self.old self.new) }
         ensures down { IfOk result (EndsDown self.old.id (K.faults self.old.keeper) (K.faults self.new.keeper)) }
-        ensures left { Leaves result (here_of K.records svc.now self.old) (here_of K.records svc.now self.new) }
+        ensures left { Leaves result (here_of K.records svc.now P.past self.old) (here_of K.records svc.now P.past self.new) }
         ensures same { IsSpared result self.old self.new }
-        ensures kept { StaysNode K.records svc.now self.old self.new }
+        ensures kept { StaysNode K.records svc.now P.past self.old self.new }
     {
         let _service = svc.declarations();
-        if let Some(refusal) = self.checkpoint_refusal(svc) {
+        if let Some(refusal) = self.checkpoint_refusal::<P>(svc) {
             return Err(refusal);
         }
         let node = self.id;
@@ -209,7 +214,7 @@ impl<K: Keeper> Node<K> {
         let saved = only(self.alloc, Effect::Checkpointed { node, deltas })?;
         let down = only(self.alloc, Effect::Down { node })?;
         let sends = List::new(self.alloc);
-        match self.save(version, &rec, state) {
+        match self.save::<P>(version, &rec, state) {
             Ok(()) => Ok(Step {
                 effects: saved,
                 sends,

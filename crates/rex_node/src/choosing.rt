@@ -5,11 +5,14 @@ ghost use Rattle.rex_ballot.specs.Ballot.{IsInstance};
 ghost use Rattle.rex_ballot.specs.Proposals.{IsValue};
 ghost use Rattle.rex_paxos.specs.Proposer.{ProposerValue};
 ghost use Rattle.rex_msg.specs.declared.message.Content.TheVariants as sent;
-ghost use Rattle.rex_node.specs.Messages.{message_in};
+ghost use Rattle.rex_log.specs.Messages.{message_in};
 ghost use Rattle.rex_report.specs.declared.effect.Effect.TheVariants as effect;
 ghost use Rattle.rex_safety.specs.Calls as calls;
 ghost use Rattle.rex_safety.specs.Calls.{followed};
-ghost use Rattle.rex_node.specs.Parts.{IsNode, IsSame, leaving, role_of};
+ghost use Rattle.rex_node.specs.Parts.{IsNode, IsSame, here_of, knows, leaving, role_of, whole};
+ghost use Rattle.rex_node.specs.Telling.{AreTold};
+ghost use Rattle.rex_safety.specs.Invariant.{Begins};
+ghost use Rattle.rex_safety.specs.Records as records;
 ghost use Rattle.rex_node.specs.Going.{Ends, IsStuck, RunsOn, Sends, Tells, answering, so_far};
 
 use crate::going::Going;
@@ -17,33 +20,35 @@ use crate::node::Node;
 use crate::step::Draft;
 use crate::values::copied;
 use rex_durable::Rec;
+use rex_log::Past;
 use rex_msg::{Content, Message};
 use rex_report::Effect;
 use rex_syntax::checked::Checked;
 use rex_traits::Keeper;
+use rex_transfer::Look;
 use std::alloc::AllocError;
 
 impl<K: Keeper> Node<K> {
     /// The value of an instance was chosen.
-    pub(crate) fn on_chosen(
+    pub(crate) fn on_chosen<P: Past>(
         &mut self,
         svc: &Checked,
         draft: &mut Draft,
         instance: u32,
         value: &[u8],
     ) -> Result<Going, AllocError>
-        requires node { IsNode K.records svc.now self.old }
+        requires node { IsNode K.records svc.now P.past self.old }
         requires up { self.old.up ≡ true }
         requires instance { IsInstance instance }
         requires value { IsValue value.now }
-        requires runs { RunsOn svc.now (calls.on_chosen self.old.id instance value.now) (so_far K.records svc.now self.old draft.old) }
+        requires runs { RunsOn svc.now (calls.on_chosen self.old.id instance value.now) (so_far K.records svc.now P.past self.old draft.old) }
         requires count { K.faults self.old.keeper < 2 ^ 64 - 1 }
-        ensures ends { IfOk result (Ends K.records K.append_gives K.faults svc.now (calls.on_chosen self.old.id instance value.now) self.old self.new draft.old draft.new) }
-        ensures stuck { OnErr result (IsStuck K.records svc.now self.old self.new) }
-        ensures same { IsSame self.old self.new }
+        ensures ends { IfOk result (Ends K.records K.append_gives K.faults svc.now P.past (calls.on_chosen self.old.id instance value.now) (whole P.past self.old) (whole P.past self.new) draft.old draft.new) }
+        ensures stuck { OnErr result (IsStuck K.records svc.now P.past (whole P.past self.old) (whole P.past self.new)) }
+        ensures same { IsSame (whole P.past self.old) (whole P.past self.new) }
     {
         let _service = svc.declarations();
-        let next = self.known.len() as u32 + 1;
+        let next = self.count::<P>() + 1;
         if instance != next {
             draft.tell(Effect::IgnoredInstance {
                 got: instance,
@@ -51,69 +56,74 @@ impl<K: Keeper> Node<K> {
             })?;
             return Ok(Going::On);
         }
-        self.take_chosen(svc, draft, instance, value)
+        self.take_chosen::<P>(svc, draft, instance, value)
     }
 
     // The value of the next instance is known.
-    fn take_chosen(
+    fn take_chosen<P: Past>(
         &mut self,
         svc: &Checked,
         draft: &mut Draft,
         instance: u32,
         value: &[u8],
     ) -> Result<Going, AllocError>
-        requires node { IsNode K.records svc.now self.old }
+        requires node { IsNode K.records svc.now P.past self.old }
         requires up { self.old.up ≡ true }
         requires instance { IsInstance instance }
-        requires next { instance ≡ suc (length self.old.known) }
+        requires next { instance ≡ suc (length (knows P.past self.old)) }
         requires value { IsValue value.now }
-        requires runs { RunsOn svc.now (calls.on_chosen self.old.id instance value.now) (so_far K.records svc.now self.old draft.old) }
+        requires runs { RunsOn svc.now (calls.on_chosen self.old.id instance value.now) (so_far K.records svc.now P.past self.old draft.old) }
         requires count { K.faults self.old.keeper < 2 ^ 64 - 1 }
-        ensures ends { IfOk result (Ends K.records K.append_gives K.faults svc.now (calls.on_chosen self.old.id instance value.now) self.old self.new draft.old draft.new) }
-        ensures stuck { OnErr result (IsStuck K.records svc.now self.old self.new) }
-        ensures same { IsSame self.old self.new }
+        ensures ends { IfOk result (Ends K.records K.append_gives K.faults svc.now P.past (calls.on_chosen self.old.id instance value.now) (whole P.past self.old) (whole P.past self.new) draft.old draft.new) }
+        ensures stuck { OnErr result (IsStuck K.records svc.now P.past (whole P.past self.old) (whole P.past self.new)) }
+        ensures same { IsSame (whole P.past self.old) (whole P.past self.new) }
     {
         let _service = svc.declarations();
         let rec = Rec::Known {
             instance,
             value: copied(self.alloc, value)?,
         };
-        match self.append(draft, &rec)? {
+        match self.append::<P>(draft, &rec)? {
             Going::Down => Ok(Going::Down),
             Going::On => {
-                self.chosen(draft, instance, value)?;
+                self.chosen::<P>(draft, instance, value)?;
                 Ok(Going::On)
             }
         }
     }
 
     // The known value is written down, and the node is a follower.
-    fn chosen(&mut self, draft: &mut Draft, instance: u32, value: &[u8]) -> Result<(), AllocError>
-        ensures chosen { OnOk result (self.new ≡ record (leaving self.old) { known = self.old.known ++ value.now ∷ [] }) }
+    fn chosen<P: Past>(
+        &mut self,
+        draft: &mut Draft,
+        instance: u32,
+        value: &[u8],
+    ) -> Result<(), AllocError>
+        requires room { length (knows P.past self.old) < 65535 }
+        ensures chosen { OnOk result (whole P.past self.new ≡ record (leaving (whole P.past self.old)) { known = knows P.past self.old ++ value.now ∷ [] }) }
         ensures told { OnOk result (Tells draft.old draft.new (effect.Known self.old.id instance ∷ followed self.old.id (role_of self.old.acceptor self.old.proposer (is_some self.old.acting)))) }
         ensures keeper { self.new.keeper ≡ self.old.keeper }
         ensures base { self.new.base ≡ self.old.base }
-        ensures same { IsSame self.old self.new }
+        ensures same { IsSame (whole P.past self.old) (whole P.past self.new) }
     {
         let node = self.id;
+        self.known.push(value)?;
         draft.tell(Effect::Known { node, instance })?;
-        self.leave(draft)?;
-        self.known.push(copied(self.alloc, value)?)?;
-        Ok(())
+        self.leave::<P>(draft)
     }
 
     /// A promise above the own ballot ends the node's role.
-    pub(crate) fn on_nack(
+    pub(crate) fn on_nack<P: Past>(
         &mut self,
         svc: &Checked,
         draft: &mut Draft,
         promised: u64,
     ) -> Result<Going, AllocError>
-        requires node { IsNode K.records svc.now self.old }
+        requires node { IsNode K.records svc.now P.past self.old }
         requires up { self.old.up ≡ true }
-        ensures ends { IfOk result (Ends K.records K.append_gives K.faults svc.now (λ d. calls.on_nack self.old.id promised d d.node.role) self.old self.new draft.old draft.new) }
-        ensures stuck { OnErr result (IsStuck K.records svc.now self.old self.new) }
-        ensures same { IsSame self.old self.new }
+        ensures ends { IfOk result (Ends K.records K.append_gives K.faults svc.now P.past (λ d. calls.on_nack self.old.id promised d d.node.role) (whole P.past self.old) (whole P.past self.new) draft.old draft.new) }
+        ensures stuck { OnErr result (IsStuck K.records svc.now P.past (whole P.past self.old) (whole P.past self.new)) }
+        ensures same { IsSame (whole P.past self.old) (whole P.past self.new) }
     {
         let _service = svc.declarations();
         match self.own_ballot() {
@@ -126,7 +136,7 @@ impl<K: Keeper> Node<K> {
             }
             Some(own) => {
                 if own < promised {
-                    self.leave(draft)?;
+                    self.leave::<P>(draft)?;
                     return Ok(Going::On);
                 }
                 draft.tell(Effect::IgnoredBallot { got: promised, own })?;
@@ -136,57 +146,74 @@ impl<K: Keeper> Node<K> {
     }
 
     /// A node asks for the values that were chosen from an instance on.
-    pub(crate) fn on_ask(
+    pub(crate) fn on_ask<P: Past>(
         &mut self,
         svc: &Checked,
         draft: &mut Draft,
         from: u8,
         first: u32,
     ) -> Result<Going, AllocError>
-        requires node { IsNode K.records svc.now self.old }
+        requires node { IsNode K.records svc.now P.past self.old }
         requires up { self.old.up ≡ true }
-        ensures ends { IfOk result (Ends K.records K.append_gives K.faults svc.now (calls.on_ask self.old.id from first) self.old self.new draft.old draft.new) }
-        ensures stuck { OnErr result (IsStuck K.records svc.now self.old self.new) }
-        ensures same { IsSame self.old self.new }
+        requires past { Begins (records.known (here_of K.records svc.now P.past self.old).log) P.past }
+        ensures ends { IfOk result (Ends K.records K.append_gives K.faults svc.now P.past (calls.on_ask self.old.id from first) (whole P.past self.old) (whole P.past self.new) draft.old draft.new) }
+        ensures stuck { OnErr result (IsStuck K.records svc.now P.past (whole P.past self.old) (whole P.past self.new)) }
+        ensures tells { draft.old.sends.items ≡ [] → OnOk result (AreTold svc.now P.past draft.new.sends.items) }
+        ensures same { IsSame (whole P.past self.old) (whole P.past self.new) }
     {
         let _service = svc.declarations();
-        if first as usize > self.known.len() {
+        if first <= self.known.offset() {
+            self.tell_base::<P>(svc, draft, from)?;
+            return Ok(Going::On);
+        }
+        if first > self.count::<P>() {
             draft.tell(Effect::Nothing)?;
             return Ok(Going::On);
         }
-        self.tell_chosen(draft, from, first)?;
+        self.tell_chosen::<P>(svc, draft, from, first)?;
         Ok(Going::On)
     }
 
     // Tells another node of the chosen values from an instance on, of at most 64.
-    fn tell_chosen(&self, draft: &mut Draft, to: u8, first: u32) -> Result<(), AllocError>
-        requires few { length self.now.known ≤ 65535 }
-        requires first { first ≤ length self.now.known }
+    fn tell_chosen<P: Past>(
+        &self,
+        svc: &Checked,
+        draft: &mut Draft,
+        to: u8,
+        first: u32,
+    ) -> Result<(), AllocError>
+        requires held { self.now.offset < first }
+        requires first { first ≤ length (knows P.past self.now) }
+        requires few { length (knows P.past self.now) ≤ 65535 }
         ensures effects { OnOk result (draft.new.effects.items ≡ draft.old.effects.items) }
-        ensures sends { OnOk result (map message_in draft.new.sends.items ≡ map message_in draft.old.sends.items ++ take 64 (calls.tell self.now.id to first 1 self.now.known)) }
+        ensures sends { OnOk result (map (message_in P.past) draft.new.sends.items ≡ map (message_in P.past) draft.old.sends.items ++ take 64 (calls.tell self.now.id to first 1 (knows P.past self.now))) }
+        ensures tells { draft.old.sends.items ≡ [] → OnOk result (AreTold svc.now P.past draft.new.sends.items) }
     {
-        let skipped = first.saturating_sub(1) as usize;
-        let end = self.known.len().min(skipped + 64);
+        let _service = svc.declarations();
+        let skipped = first.saturating_sub(1);
+        let end = self.count::<P>().min(skipped + 64);
         for place in skipped..end {
-            self.tell_one(draft, to, place)?;
+            self.tell_one::<P>(draft, to, place)?;
         }
         Ok(())
     }
 
-    // Tells another node of the value at this place.
-    fn tell_one(&self, draft: &mut Draft, to: u8, place: usize) -> Result<(), AllocError>
-        requires few { length self.now.known ≤ 65535 }
-        requires there { place < length self.now.known }
-        ensures { OnOk result (Sends draft.old draft.new (answering self.now.id to (sent.Chosen (place + 1) (slice_index_or self.now.known place [])))) }
+    // Tells another node of the value of the instance after so many.
+    fn tell_one<P: Past>(&self, draft: &mut Draft, to: u8, place: u32) -> Result<(), AllocError>
+        requires held { self.now.offset ≤ place }
+        requires there { place < length (knows P.past self.now) }
+        requires few { length (knows P.past self.now) ≤ 65535 }
+        ensures { OnOk result (Sends draft.old draft.new (answering self.now.id to (sent.Chosen (place + 1) (slice_index_or (knows P.past self.now) place [])))) }
     {
-        let value = copied(self.alloc, self.known[place].as_slice())?;
+        let instance = place + 1;
+        let Look::Value(value) = self.known.get(instance) else {
+            unreachable!()
+        };
+        let value = copied(self.alloc, value)?;
         draft.send(Message {
             from: self.id,
             to,
-            content: Content::Chosen {
-                instance: place as u32 + 1,
-                value,
-            },
+            content: Content::Chosen { instance, value },
         })
     }
 
@@ -212,19 +239,19 @@ impl<K: Keeper> Node<K> {
     }
 
     /// The node is a follower from here on, and tells so where it wasn't.
-    pub(crate) fn leave(&mut self, draft: &mut Draft) -> Result<(), AllocError>
+    pub(crate) fn leave<P: Past>(&mut self, draft: &mut Draft) -> Result<(), AllocError>
         ensures told { OnOk result (Tells draft.old draft.new (followed self.old.id (role_of self.old.acceptor self.old.proposer (is_some self.old.acting)))) }
-        ensures ok { OnOk result (self.new ≡ leaving self.old) }
-        ensures err { OnErr result (self.new ≡ self.old) }
+        ensures ok { OnOk result (whole P.past self.new ≡ leaving (whole P.past self.old)) }
+        ensures err { OnErr result (whole P.past self.new ≡ (whole P.past self.old)) }
     {
         self.tell_followed(draft)?;
-        self.follow();
+        self.follow::<P>();
         Ok(())
     }
 
     /// The node is a follower from here on.
-    pub(crate) fn follow(&mut self)
-        ensures { self.new ≡ leaving self.old }
+    pub(crate) fn follow<P: Past>(&mut self)
+        ensures { whole P.past self.new ≡ leaving (whole P.past self.old) }
     {
         if self.acting.is_some() {
             self.replayed = self.base;

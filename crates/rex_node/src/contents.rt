@@ -6,8 +6,12 @@ ghost use Rattle.rex_durable.specs.declared.records.Rec.{Rec};
 ghost use Rattle.rex_durable.specs.Kept.{Spell};
 ghost use Rattle.rex_snapshot.specs.Reading.{state_in};
 ghost use Rattle.rex_node.specs.Restarting as spec;
+ghost use Rattle.rex_node.specs.Stated.{is_state_kind};
 
+use crate::checkpointing::is_old;
 use rex_delta::DecodeError;
+use rex_durable::layout::{CHECKPOINT, HEAD, KNOWN, TRANSFERRED};
+use rex_snapshot::version_in;
 use rex_syntax::checked::Checked;
 use rex_traits::Keeper;
 use std::alloc::{AllocError, Global};
@@ -19,14 +23,6 @@ pub struct Place {
     pub at: usize,
 }
 
-/// The value or snapshot of a record stands behind its kind, of 1 byte, a number, of 4 bytes, and its length, of 4 bytes.
-const HEAD: usize = 9;
-
-/// The kinds of the records that hold a known value and a snapshot.
-const KNOWN: u8 = 3;
-
-const CHECKPOINT: u8 = 4;
-
 // The kind of a record.
 fn kind_of(bytes: &[u8]) -> u8
     ensures { result ≡ get_or bytes.now 0 0 }
@@ -37,14 +33,25 @@ fn kind_of(bytes: &[u8]) -> u8
     }
 }
 
-// The value or the snapshot of a record.
-fn held_in(bytes: &[u8]) -> &[u8]
+// What stands behind the length in a record: its value or its snapshot.
+fn content_of(bytes: &[u8]) -> &[u8]
     ensures { result.now ≡ drop 9 bytes.now }
 {
     if bytes.len() < HEAD {
         return &bytes[bytes.len()..];
     }
     &bytes[HEAD..]
+}
+
+// Whether a record of a known value is of an instance above the offset, whose value the node holds: the instance stands behind the
+// kind, in 4 bytes.
+fn is_held(bytes: &[u8], offset: u32) -> bool
+    ensures { result ≡ spec.is_held offset bytes.now }
+{
+    match bytes {
+        [_, a, b, c, d, ..] => u32::from_be_bytes([*a, *b, *c, *d]) > offset,
+        _ => false,
+    }
 }
 
 // Where a record is bad that holds this value.
@@ -72,31 +79,39 @@ fn bad_in_snapshot(
     }
 }
 
-// Where a record is bad, behind which a checkpoint comes or none.
+// Where a record of a node of this offset is bad, behind which one with a state comes or none.
 fn bad_in(
     alloc: Global,
     svc: &Checked,
     bytes: &[u8],
+    offset: u32,
     later: bool,
 ) -> Result<Option<usize>, AllocError>
-    ensures { IfOk result (λ bad. bad ≡ spec.bad_behind svc.now (get_or bytes.now 0 0) (drop 9 bytes.now) later) }
+    ensures { IfOk result (λ bad. bad ≡ spec.bad_behind svc.now (get_or bytes.now 0 0) (spec.is_held offset bytes.now) (drop 9 bytes.now) later) }
 {
-    let held = held_in(bytes);
+    let content = content_of(bytes);
     let kind = kind_of(bytes);
-    if kind == KNOWN {
-        return Ok(bad_in_value(held));
+    if kind == KNOWN && is_held(bytes, offset) {
+        return Ok(bad_in_value(content));
     }
-    if kind == CHECKPOINT && !later {
-        return bad_in_snapshot(alloc, svc, held);
+    if is_state(kind) && !later {
+        return bad_in_snapshot(alloc, svc, content);
     }
     Ok(None)
 }
 
-// Whether a checkpoint comes behind, or this record is one.
-fn comes(later: bool, bytes: &[u8]) -> bool
-    ensures { result ≡ (later || (get_or bytes.now 0 0 == 4)) }
+// Whether a record of this kind holds a state.
+fn is_state(kind: u8) -> bool
+    ensures { result ≡ is_state_kind kind }
 {
-    later || kind_of(bytes) == CHECKPOINT
+    kind == CHECKPOINT || kind == TRANSFERRED
+}
+
+// Whether a record with a state comes behind, or this record is one.
+fn comes(later: bool, bytes: &[u8]) -> bool
+    ensures { result ≡ (later || is_state_kind (get_or bytes.now 0 0)) }
+{
+    later || is_state(kind_of(bytes))
 }
 
 // This place in the record of the number, or else a later one.
@@ -109,14 +124,15 @@ fn place_or(number: usize, bad: Option<usize>, later: Option<Place>) -> Option<P
     }
 }
 
-/// The first bad place in what a keeper's records hold: known values have to spell deltas, and the last checkpoint's snapshot
-/// a state.
+/// The first bad place in what a keeper's records hold: known values above the offset have to spell deltas, and the last snapshot,
+/// of a checkpoint or of a state that was taken over, a state.
 pub(crate) fn first_bad<K: Keeper>(
     alloc: Global,
     svc: &Checked,
     keeper: &K,
+    offset: u32,
 ) -> Result<Option<Place>, AllocError>
-    ensures { IfOk result (λ bad. (rs : Items Rec) → Spell (K.records keeper.now) rs → bad ≡ spec.first_bad svc.now 1 rs) }
+    ensures { IfOk result (λ bad. (rs : Items Rec) → Spell (K.records keeper.now) rs → bad ≡ spec.first_bad svc.now offset 1 rs) }
 {
     let count = keeper.len();
     let mut found = None;
@@ -124,9 +140,30 @@ pub(crate) fn first_bad<K: Keeper>(
     for back in 0..count {
         let index = count - 1 - back;
         let bytes = keeper.get(index);
-        let bad = bad_in(alloc, svc, bytes, later)?;
+        let bad = bad_in(alloc, svc, bytes, offset, later)?;
         found = place_or(index + 1, bad, found);
         later = comes(later, bytes);
     }
     Ok(found)
+}
+
+// Whether the last checkpoint is in the old version, this record being the last one.
+fn old_with(before: bool, bytes: &[u8]) -> bool
+    ensures { result ≡ spec.old_behind before (get_or bytes.now 0 0) (drop 9 bytes.now) }
+{
+    if kind_of(bytes) == CHECKPOINT {
+        return is_old(version_in(content_of(bytes)));
+    }
+    before
+}
+
+/// Whether the last checkpoint that a keeper has, if it has one, is in the old version, whatever was dropped or taken over since.
+pub(crate) fn ends_old<K: Keeper>(keeper: &K) -> bool
+    ensures { (rs : Items Rec) → Spell (K.records keeper.now) rs → result ≡ spec.ends_old rs }
+{
+    let mut old = false;
+    for index in 0..keeper.len() {
+        old = old_with(old, keeper.get(index));
+    }
+    old
 }

@@ -10,7 +10,8 @@ ghost use Rattle.rex_paxos.specs.Proposer.{ProposerValue};
 ghost use Rattle.rex_safety.specs.Quorum.{IsNode as IsNodeOf};
 ghost use Rattle.rex_safety.specs.Calls as calls;
 ghost use Rattle.rex_safety.specs.Values.{service_of};
-ghost use Rattle.rex_node.specs.Parts.{IsNode, IsSame, proposal_in};
+ghost use Rattle.rex_log.specs.Log.{proposal_in};
+ghost use Rattle.rex_node.specs.Parts.{IsNode, IsSame, whole};
 ghost use Rattle.rex_node.specs.Electing.{acceptance_vote_on, accepting_from, counting, reports_of, told_of, uncounting, vote_on};
 ghost use Rattle.rex_node.specs.Going.{Ends, IsStuck, RunsOn, so_far};
 
@@ -19,6 +20,7 @@ use crate::node::Node;
 use crate::step::Draft;
 use crate::values::copied;
 use rex_ballot::{Proposal, Value};
+use rex_log::Past;
 use rex_paxos::{Vote, Why};
 use rex_replay::Replayer;
 use rex_report::Effect;
@@ -28,7 +30,7 @@ use std::alloc::AllocError;
 
 impl<K: Keeper> Node<K> {
     /// A promise of a ballot comes from a node, with what it accepted.
-    pub(crate) fn on_promise<R: Replayer>(
+    pub(crate) fn on_promise<P: Past, R: Replayer>(
         &mut self,
         svc: &Checked,
         replayer: &mut R,
@@ -37,20 +39,20 @@ impl<K: Keeper> Node<K> {
         ballot: u64,
         reported: &[Proposal],
     ) -> Result<Going, AllocError>
-        requires node { IsNode K.records svc.now self.old }
+        requires node { IsNode K.records svc.now P.past self.old }
         requires up { self.old.up ≡ true }
         requires ready { R.ready replayer.old }
         requires from { IsNodeOf self.old.nodes from }
         requires reported { All IsProposal reported.now }
-        requires runs { RunsOn svc.now (λ d. calls.on_promise self.old.nodes (service_of svc.now self.old.seed) self.old.id from ballot (map proposal_in reported.now) d d.node.role) (so_far K.records svc.now self.old draft.old) }
+        requires runs { RunsOn svc.now (λ d. calls.on_promise self.old.nodes (service_of svc.now self.old.seed) self.old.id from ballot (map proposal_in reported.now) d d.node.role) (so_far K.records svc.now P.past self.old draft.old) }
         requires count { K.faults self.old.keeper < 2 ^ 64 - 1 }
-        ensures ends { IfOk result (Ends K.records K.append_gives K.faults svc.now (λ d. calls.on_promise self.old.nodes (service_of svc.now self.old.seed) self.old.id from ballot (map proposal_in reported.now) d d.node.role) self.old self.new draft.old draft.new) }
-        ensures stuck { OnErr result (IsStuck K.records svc.now self.old self.new) }
-        ensures same { IsSame self.old self.new }
+        ensures ends { IfOk result (Ends K.records K.append_gives K.faults svc.now P.past (λ d. calls.on_promise self.old.nodes (service_of svc.now self.old.seed) self.old.id from ballot (map proposal_in reported.now) d d.node.role) (whole P.past self.old) (whole P.past self.new) draft.old draft.new) }
+        ensures stuck { OnErr result (IsStuck K.records svc.now P.past (whole P.past self.old) (whole P.past self.new)) }
+        ensures same { IsSame (whole P.past self.old) (whole P.past self.new) }
         ensures ready { R.ready replayer.new }
     {
         let _service = svc.declarations();
-        match self.count_promise(from, ballot, reported)? {
+        match self.count_promise::<P>(from, ballot, reported)? {
             Vote::Ignored { why } => {
                 draft.tell(told_of(why))?;
                 Ok(Going::On)
@@ -58,16 +60,16 @@ impl<K: Keeper> Node<K> {
             Vote::NotYet { have } => match draft.tell(Effect::Have { count: have }) {
                 Ok(()) => Ok(Going::On),
                 Err(short) => {
-                    self.take_back(reported.len());
+                    self.take_back::<P>(reported.len());
                     Err(short)
                 }
             },
             Vote::Quorum => {
                 let turns = self.turns();
-                match self.go_on(svc, replayer, draft, turns) {
+                match self.go_on::<P, R>(svc, replayer, draft, turns) {
                     Ok(going) => Ok(going),
                     Err(short) => {
-                        self.take_back(reported.len());
+                        self.take_back::<P>(reported.len());
                         Err(short)
                     }
                 }
@@ -76,7 +78,7 @@ impl<K: Keeper> Node<K> {
     }
 
     // Counts a promise, or says why it isn't counted. Where memory is short nothing changes.
-    fn count_promise(
+    fn count_promise<P: Past>(
         &mut self,
         from: u8,
         ballot: u64,
@@ -84,8 +86,8 @@ impl<K: Keeper> Node<K> {
     ) -> Result<Vote, AllocError>
         requires from { IfSome self.old.proposer (λ (p : ProposerValue). IsOneOf p.nodes from) }
         ensures vote { IfOk result (λ vote. vote ≡ vote_on self.old.proposer ballot from) }
-        ensures counted { OnOk result (self.new ≡ counting self.old ballot from reported.now) }
-        ensures err { OnErr result (self.new ≡ self.old) }
+        ensures counted { OnOk result (whole P.past self.new ≡ counting (whole P.past self.old) ballot from reported.now) }
+        ensures err { OnErr result (whole P.past self.new ≡ (whole P.past self.old)) }
     {
         match &mut self.proposer {
             None => Ok(Vote::Ignored {
@@ -99,8 +101,8 @@ impl<K: Keeper> Node<K> {
     }
 
     // Takes the promise back that was counted last, with so many reports. It takes no memory.
-    fn take_back(&mut self, reports: usize)
-        ensures { self.new ≡ uncounting self.old reports }
+    fn take_back<P: Past>(&mut self, reports: usize)
+        ensures { whole P.past self.new ≡ uncounting (whole P.past self.old) reports }
     {
         if let Some(proposer) = &mut self.proposer {
             proposer.take_back(reports);
@@ -118,7 +120,7 @@ impl<K: Keeper> Node<K> {
     }
 
     /// A node says that it accepted the proposal of a ballot for an instance.
-    pub(crate) fn on_accepted<R: Replayer>(
+    pub(crate) fn on_accepted<P: Past, R: Replayer>(
         &mut self,
         svc: &Checked,
         replayer: &mut R,
@@ -127,15 +129,15 @@ impl<K: Keeper> Node<K> {
         ballot: u64,
         instance: u32,
     ) -> Result<Going, AllocError>
-        requires node { IsNode K.records svc.now self.old }
+        requires node { IsNode K.records svc.now P.past self.old }
         requires up { self.old.up ≡ true }
         requires ready { R.ready replayer.old }
         requires from { IsNodeOf self.old.nodes from }
-        requires runs { RunsOn svc.now (λ d. calls.on_voted self.old.nodes (service_of svc.now self.old.seed) self.old.id from ballot instance d d.node.role) (so_far K.records svc.now self.old draft.old) }
+        requires runs { RunsOn svc.now (λ d. calls.on_voted self.old.nodes (service_of svc.now self.old.seed) self.old.id from ballot instance d d.node.role) (so_far K.records svc.now P.past self.old draft.old) }
         requires count { K.faults self.old.keeper < 2 ^ 64 - 1 }
-        ensures ends { IfOk result (Ends K.records K.append_gives K.faults svc.now (λ d. calls.on_voted self.old.nodes (service_of svc.now self.old.seed) self.old.id from ballot instance d d.node.role) self.old self.new draft.old draft.new) }
-        ensures stuck { OnErr result (IsStuck K.records svc.now self.old self.new) }
-        ensures same { IsSame self.old self.new }
+        ensures ends { IfOk result (Ends K.records K.append_gives K.faults svc.now P.past (λ d. calls.on_voted self.old.nodes (service_of svc.now self.old.seed) self.old.id from ballot instance d d.node.role) (whole P.past self.old) (whole P.past self.new) draft.old draft.new) }
+        ensures stuck { OnErr result (IsStuck K.records svc.now P.past (whole P.past self.old) (whole P.past self.new)) }
+        ensures same { IsSame (whole P.past self.old) (whole P.past self.new) }
         ensures ready { R.ready replayer.new }
     {
         match self.acceptance_vote(from, ballot, instance) {
@@ -145,10 +147,10 @@ impl<K: Keeper> Node<K> {
             }
             Vote::NotYet { have } => {
                 draft.tell(Effect::Have { count: have })?;
-                self.count_acceptance(from, ballot, instance);
+                self.count_acceptance::<P>(from, ballot, instance);
                 Ok(Going::On)
             }
-            Vote::Quorum => self.choose(svc, replayer, draft, from, ballot, instance),
+            Vote::Quorum => self.choose::<P, R>(svc, replayer, draft, from, ballot, instance),
         }
     }
 
@@ -168,9 +170,9 @@ impl<K: Keeper> Node<K> {
     }
 
     // Counts an acceptance. It takes no memory.
-    fn count_acceptance(&mut self, from: u8, ballot: u64, instance: u32)
+    fn count_acceptance<P: Past>(&mut self, from: u8, ballot: u64, instance: u32)
         requires from { IfSome self.old.proposer (λ (p : ProposerValue). IsOneOf p.nodes from) }
-        ensures { self.new ≡ accepting_from self.old ballot instance from }
+        ensures { whole P.past self.new ≡ accepting_from (whole P.past self.old) ballot instance from }
     {
         if let Some(proposer) = &mut self.proposer {
             proposer.on_accepted(ballot, instance, from);
@@ -188,7 +190,7 @@ impl<K: Keeper> Node<K> {
     }
 
     // A majority accepted the open proposal with this acceptance: its value is known, and the node goes on.
-    fn choose<R: Replayer>(
+    fn choose<P: Past, R: Replayer>(
         &mut self,
         svc: &Checked,
         replayer: &mut R,
@@ -197,16 +199,16 @@ impl<K: Keeper> Node<K> {
         ballot: u64,
         instance: u32,
     ) -> Result<Going, AllocError>
-        requires node { IsNode K.records svc.now self.old }
+        requires node { IsNode K.records svc.now P.past self.old }
         requires up { self.old.up ≡ true }
         requires ready { R.ready replayer.old }
         requires from { IsNodeOf self.old.nodes from }
         requires vote { acceptance_vote_on self.old.proposer ballot instance from ≡ vote.Quorum }
-        requires runs { RunsOn svc.now (λ d. calls.on_voted self.old.nodes (service_of svc.now self.old.seed) self.old.id from ballot instance d d.node.role) (so_far K.records svc.now self.old draft.old) }
+        requires runs { RunsOn svc.now (λ d. calls.on_voted self.old.nodes (service_of svc.now self.old.seed) self.old.id from ballot instance d d.node.role) (so_far K.records svc.now P.past self.old draft.old) }
         requires count { K.faults self.old.keeper < 2 ^ 64 - 1 }
-        ensures ends { IfOk result (Ends K.records K.append_gives K.faults svc.now (λ d. calls.on_voted self.old.nodes (service_of svc.now self.old.seed) self.old.id from ballot instance d d.node.role) self.old self.new draft.old draft.new) }
-        ensures stuck { OnErr result (IsStuck K.records svc.now self.old self.new) }
-        ensures same { IsSame self.old self.new }
+        ensures ends { IfOk result (Ends K.records K.append_gives K.faults svc.now P.past (λ d. calls.on_voted self.old.nodes (service_of svc.now self.old.seed) self.old.id from ballot instance d d.node.role) (whole P.past self.old) (whole P.past self.new) draft.old draft.new) }
+        ensures stuck { OnErr result (IsStuck K.records svc.now P.past (whole P.past self.old) (whole P.past self.new)) }
+        ensures same { IsSame (whole P.past self.old) (whole P.past self.new) }
         ensures ready { R.ready replayer.new }
     {
         let _service = svc.declarations();
@@ -214,9 +216,9 @@ impl<K: Keeper> Node<K> {
             unreachable!()
         };
         let turns = self.turns() - 1;
-        match self.learn(svc, draft, instance, value.as_slice())? {
+        match self.learn::<P>(svc, draft, instance, value.as_slice())? {
             Going::Down => Ok(Going::Down),
-            Going::On => self.go_on(svc, replayer, draft, turns),
+            Going::On => self.go_on::<P, R>(svc, replayer, draft, turns),
         }
     }
 }

@@ -11,7 +11,9 @@ ghost use Rattle.rex_cut.specs.Greatest.{greatest_cut};
 ghost use Rattle.rex_safety.specs.Lanes as lanes;
 ghost use Rattle.rex_record.specs.Kept.{IsRecorder};
 ghost use Rattle.rex_node.specs.Cutting.{CanMakePiece, CanPropose, HasPiece, IsIdle, MakesPieceOf, ProposesCut, ProposesPiece, cut_before, has_open, with_cut};
-ghost use Rattle.rex_node.specs.Parts.{ActingValue, here_of, open_of, proposal_in, role_of, IsNode, IsSame, StaysNode};
+ghost use Rattle.rex_log.specs.Log.{proposal_in};
+ghost use Rattle.rex_node.specs.Telling.{AreTold};
+ghost use Rattle.rex_node.specs.Parts.{ActingValue, here_of, open_of, role_of, IsNode, IsSame, StaysNode, knows, whole};
 ghost use Rattle.rex_node.specs.Calls.{AreLimits, CanBeCut, Does, EndsDown, IsSpared, Leaves, RefusesThen, counts_for, if_active, if_up, refusal_of_lead, refusal_of_none, refusal_of_open, refusal_of_cut};
 
 use crate::going::Going;
@@ -21,6 +23,7 @@ use crate::refusal::Refusal;
 use crate::step::{Draft, Step};
 use rex_ballot::{INSTANCES, Proposal};
 use rex_event::Cut;
+use rex_log::Past;
 use rex_paxos::{Acceptor, Proposer};
 use rex_report::Effect;
 use rex_syntax::checked::Checked;
@@ -30,8 +33,8 @@ use std::mem::replace;
 
 impl<K: Keeper> Node<K> {
     // Why the node doesn't cut, before it makes the cut.
-    fn cut_refusal(&self) -> Option<Refusal>
-        ensures why { result ≡ if_up self.now.up (if_active (role_of self.now.acceptor self.now.proposer (is_some self.now.acting)) (refusal_of_lead (role_of self.now.acceptor self.now.proposer (is_some self.now.acting)) (length self.now.known))) }
+    fn cut_refusal<P: Past>(&self) -> Option<Refusal>
+        ensures why { result ≡ if_up self.now.up (if_active (role_of self.now.acceptor self.now.proposer (is_some self.now.acting)) (refusal_of_lead (role_of self.now.acceptor self.now.proposer (is_some self.now.acting)) (length (knows P.past self.now)))) }
         ensures acts { result ≡ None → IsSome self.now.acting }
     {
         if let Some(refusal) = self.active_refusal() {
@@ -39,7 +42,7 @@ impl<K: Keeper> Node<K> {
         }
         match &self.proposer {
             None => None,
-            Some(proposer) => open_refusal(&self.acceptor, proposer, self.known.len()),
+            Some(proposer) => open_refusal(&self.acceptor, proposer, self.count::<P>() as usize),
         }
     }
 
@@ -58,22 +61,22 @@ impl<K: Keeper> Node<K> {
     }
 
     // The piece that the node can propose, or why there is none.
-    fn piece(&self, svc: &Checked, limits: Option<&[u32]>) -> Result<Piece, Refusal>
-        requires node { IsNode K.records svc.now self.now }
+    fn piece<P: Past>(&self, svc: &Checked, limits: Option<&[u32]>) -> Result<Piece, Refusal>
+        requires node { IsNode K.records svc.now P.past self.now }
         requires limits { AreLimits svc.now (option_copied limits) }
-        requires spelling { CanBeCut (here_of K.records svc.now self.now) (counts_for svc.now (here_of K.records svc.now self.now) (option_copied limits)) }
-        ensures refused { RefusesThen (refusal_of_cut (here_of K.records svc.now self.now) (length self.now.known)) (refusal_of_none (below (greatest_cut (counts_for svc.now (here_of K.records svc.now self.now) (option_copied limits.entry)) (here_of K.records svc.now self.now).work.live) (here_of K.records svc.now self.now).work.live)) result }
-        ensures can { IfOk result (CanPropose self.now (option_copied limits.entry)) }
+        requires spelling { CanBeCut (here_of K.records svc.now P.past self.now) (counts_for svc.now (here_of K.records svc.now P.past self.now) (option_copied limits)) }
+        ensures refused { RefusesThen (refusal_of_cut (here_of K.records svc.now P.past self.now) (length (knows P.past self.now))) (refusal_of_none (below (greatest_cut (counts_for svc.now (here_of K.records svc.now P.past self.now) (option_copied limits.entry)) (here_of K.records svc.now P.past self.now).work.live) (here_of K.records svc.now P.past self.now).work.live)) result }
+        ensures can { IfOk result (CanPropose (whole P.past self.now) (option_copied limits.entry)) }
     {
-        match self.cut_refusal() {
+        match self.cut_refusal::<P>() {
             Some(refusal) => Err(refusal),
             None => self.own_piece(svc, limits),
         }
     }
 
     // The cut that is proposed last is this one from here on; answers the one before.
-    fn replace_cut(&mut self, cut: Cut) -> Cut
-        ensures replaced { self.new ≡ with_cut self.old cut.counts }
+    fn replace_cut<P: Past>(&mut self, cut: Cut) -> Cut
+        ensures replaced { whole P.past self.new ≡ with_cut (whole P.past self.old) cut.counts }
         ensures before { result.counts ≡ cut_before self.old.acting cut.counts }
     {
         match &mut self.acting {
@@ -93,87 +96,88 @@ impl<K: Keeper> Node<K> {
     }
 
     // Proposes the value of so many events, a cut of what is executed. A node alone knows it at once.
-    fn propose_value(
+    fn propose_value<P: Past>(
         &mut self,
         svc: &Checked,
         draft: &mut Draft,
         events: u32,
         value: &[u8],
     ) -> Result<Going, AllocError>
-        requires node { IsNode K.records svc.now self.old }
+        requires node { IsNode K.records svc.now P.past self.old }
         requires up { self.old.up ≡ true }
         requires active { IsSome self.old.acting }
         requires idle { IsIdle self.old.acceptor self.old.proposer }
-        requires left { length self.old.known < 65535 }
+        requires left { length (knows P.past self.old) < 65535 }
         requires value { IsValue value.now }
-        requires cut { IsOwnCut svc.now self.old value.now }
-        requires fits { values_fit svc.now (self.old.known ++ value.now ∷ []) ≡ true }
+        requires cut { IsOwnCut svc.now (whole P.past self.old) value.now }
+        requires fits { values_fit svc.now (knows P.past self.old ++ value.now ∷ []) ≡ true }
         requires count { K.faults self.old.keeper < 2 ^ 64 - 1 }
-        ensures ends { IfOk result (ProposesCut K.records K.append_gives K.faults svc.now events value.now self.old self.new draft.old draft.new) }
-        ensures stuck { OnErr result (IsStuck K.records svc.now self.old self.new) }
-        ensures same { IsSame self.old self.new }
+        ensures ends { IfOk result (ProposesCut K.records K.append_gives K.faults svc.now P.past events value.now (whole P.past self.old) (whole P.past self.new) draft.old draft.new) }
+        ensures stuck { OnErr result (IsStuck K.records svc.now P.past (whole P.past self.old) (whole P.past self.new)) }
+        ensures same { IsSame (whole P.past self.old) (whole P.past self.new) }
     {
         let node = self.id;
-        let instance = self.known.len() as u32 + 1;
+        let instance = self.count::<P>() + 1;
         let told = Effect::Proposes {
             node,
             instance,
             events,
         };
-        match self.propose(svc, draft, told, instance, value)? {
+        match self.propose::<P>(svc, draft, told, instance, value)? {
             Going::Down => Ok(Going::Down),
             Going::On => {
                 if self.has_open() {
                     return Ok(Going::On);
                 }
-                self.learn(svc, draft, instance, value)
+                self.learn::<P>(svc, draft, instance, value)
             }
         }
     }
 
     // Proposes the piece.
-    fn propose_piece(
+    fn propose_piece<P: Past>(
         &mut self,
         svc: &Checked,
         draft: &mut Draft,
         piece: Piece,
     ) -> Result<Going, AllocError>
-        requires node { IsNode K.records svc.now self.old }
-        requires can { HasPiece svc.now self.old piece }
+        requires node { IsNode K.records svc.now P.past self.old }
+        requires can { HasPiece svc.now (whole P.past self.old) piece }
         requires count { K.faults self.old.keeper < 2 ^ 64 - 1 }
-        ensures ends { IfOk result (ProposesPiece K.records K.append_gives K.faults svc.now piece.cut.counts self.old self.new draft.old draft.new) }
-        ensures stuck { OnErr result (IsStuck K.records svc.now self.old self.new) }
-        ensures same { IsSame self.old self.new }
+        ensures ends { IfOk result (ProposesPiece K.records K.append_gives K.faults svc.now P.past piece.cut.counts (whole P.past self.old) (whole P.past self.new) draft.old draft.new) }
+        ensures stuck { OnErr result (IsStuck K.records svc.now P.past (whole P.past self.old) (whole P.past self.new)) }
+        ensures same { IsSame (whole P.past self.old) (whole P.past self.new) }
     {
         let _service = svc.declarations();
         let Piece { cut, events, value } = piece;
-        let before = self.replace_cut(cut);
-        let end = self.propose_value(svc, draft, events, value.as_slice());
+        let before = self.replace_cut::<P>(cut);
+        let end = self.propose_value::<P>(svc, draft, events, value.as_slice());
         if end.is_err() {
-            self.replace_cut(before);
+            self.replace_cut::<P>(before);
         }
         end
     }
 
     /// Proposes live events as the value of the next instance: all of them, or at most so many of each lane.
-    pub fn cut(&mut self, svc: &Checked, limits: Option<&[u32]>) -> Result<Step, Refusal>
-        requires node { IsNode K.records svc.now self.old }
+    pub fn cut<P: Past>(&mut self, svc: &Checked, limits: Option<&[u32]>) -> Result<Step, Refusal>
+        requires node { IsNode K.records svc.now P.past self.old }
         requires limits { AreLimits svc.now (option_copied limits) }
-        requires spelling { CanBeCut (here_of K.records svc.now self.old) (counts_for svc.now (here_of K.records svc.now self.old) (option_copied limits)) }
+        requires spelling { CanBeCut (here_of K.records svc.now P.past self.old) (counts_for svc.now (here_of K.records svc.now P.past self.old) (option_copied limits)) }
         requires count { K.faults self.old.keeper < 2 ^ 64 - 1 }
-        ensures refused { RefusesThen (refusal_of_cut (here_of K.records svc.now self.old) (length self.old.known)) (refusal_of_none (below (greatest_cut (counts_for svc.now (here_of K.records svc.now self.old) (option_copied limits.entry)) (here_of K.records svc.now self.old).work.live) (here_of K.records svc.now self.old).work.live)) result }
-        ensures told { IfOk result (Does K.records K.append_gives K.faults svc.now (lanes.cut svc.now self.old.seed self.old.nodes self.old.id (counts_for svc.now (here_of K.records svc.now self.old) (option_copied limits.entry))) self.old self.new) }
+        ensures refused { RefusesThen (refusal_of_cut (here_of K.records svc.now P.past self.old) (length (knows P.past self.old))) (refusal_of_none (below (greatest_cut (counts_for svc.now (here_of K.records svc.now P.past self.old) (option_copied limits.entry)) (here_of K.records svc.now P.past self.old).work.live) (here_of K.records svc.now P.past self.old).work.live)) result }
+        ensures told { IfOk result (Does K.records K.append_gives K.faults svc.now P.past (lanes.cut svc.now self.old.seed self.old.nodes self.old.id (counts_for svc.now (here_of K.records svc.now P.past self.old) (option_copied limits.entry))) self.old self.new) }
+        ensures tells { IfOk result (λ step. AreTold svc.now P.past step.sends) }
         ensures down { IfOk result (EndsDown self.old.id (K.faults self.old.keeper) (K.faults self.new.keeper)) }
-        ensures left { Leaves result (here_of K.records svc.now self.old) (here_of K.records svc.now self.new) }
+        ensures left { Leaves result (here_of K.records svc.now P.past self.old) (here_of K.records svc.now P.past self.new) }
         ensures same { IsSpared result self.old self.new }
-        ensures kept { StaysNode K.records svc.now self.old self.new }
+        ensures kept { StaysNode K.records svc.now P.past self.old self.new }
     {
         let _service = svc.declarations();
-        let piece = self.piece(svc, limits)?;
+        let piece = self.piece::<P>(svc, limits)?;
         let before = self.keeper.len();
         let mut draft = Draft::new(self.alloc);
-        let end = self.propose_piece(svc, &mut draft, piece);
-        self.finish(before, draft, end)
+        let end = self.propose_piece::<P>(svc, &mut draft, piece);
+        self.finish::<P>(before, draft, end)
     }
 }
 

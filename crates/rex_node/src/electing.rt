@@ -9,9 +9,10 @@ ghost use Rattle.rex_report.specs.declared.effect.Effect.TheVariants as effect;
 ghost use Rattle.rex_safety.specs.Calls as calls;
 ghost use Rattle.rex_safety.specs.Calls.{begin};
 ghost use Rattle.rex_safety.specs.Values.{service_of};
-ghost use Rattle.rex_node.specs.Parts.{here_of, IsNode, IsSame, StaysNode};
+ghost use Rattle.rex_node.specs.Telling.{AreTold};
+ghost use Rattle.rex_node.specs.Parts.{here_of, IsNode, IsSame, StaysNode, whole, knows};
 ghost use Rattle.rex_node.specs.Electing.{candidate_of, standing};
-ghost use Rattle.rex_node.specs.Messages.{content_in, message_in};
+ghost use Rattle.rex_log.specs.Messages.{content_in, message_in};
 ghost use Rattle.rex_node.specs.Going.{Ends, IsStuck, RunsOn, so_far};
 ghost use Rattle.rex_node.specs.Calls.{Does, EndsDown, IsSpared, Leaves, Refuses, refusal_of_elect};
 
@@ -21,6 +22,7 @@ use crate::refusal::Refusal;
 use crate::step::{Draft, Step};
 use rex_ballot::ballot_above;
 use rex_durable::Rec;
+use rex_log::Past;
 use rex_msg::Content;
 use rex_paxos::Proposer;
 use rex_replay::Replayer;
@@ -32,17 +34,22 @@ use std::alloc::AllocError;
 impl<K: Keeper> Node<K> {
     /// Asks to lead, with the least own ballot above the promise: it promises the ballot to itself, and asks the other nodes.
     /// Where its own promise is a majority, it goes on.
-    pub fn elect<R: Replayer>(&mut self, svc: &Checked, replayer: &mut R) -> Result<Step, Refusal>
-        requires node { IsNode K.records svc.now self.old }
+    pub fn elect<P: Past, R: Replayer>(
+        &mut self,
+        svc: &Checked,
+        replayer: &mut R,
+    ) -> Result<Step, Refusal>
+        requires node { IsNode K.records svc.now P.past self.old }
         requires ready { R.ready replayer.old }
-        requires runs { RunsOn svc.now (calls.elect self.old.nodes (service_of svc.now self.old.seed) self.old.id) (begin (here_of K.records svc.now self.old)) }
+        requires runs { RunsOn svc.now (calls.elect self.old.nodes (service_of svc.now self.old.seed) self.old.id) (begin (here_of K.records svc.now P.past self.old)) }
         requires count { K.faults self.old.keeper < 2 ^ 64 - 1 }
-        ensures refused { Refuses (refusal_of_elect self.old.id (here_of K.records svc.now self.old)) result }
-        ensures told { IfOk result (Does K.records K.append_gives K.faults svc.now (calls.elect self.old.nodes (service_of svc.now self.old.seed) self.old.id) self.old self.new) }
+        ensures refused { Refuses (refusal_of_elect self.old.id (here_of K.records svc.now P.past self.old)) result }
+        ensures told { IfOk result (Does K.records K.append_gives K.faults svc.now P.past (calls.elect self.old.nodes (service_of svc.now self.old.seed) self.old.id) self.old self.new) }
+        ensures tells { IfOk result (λ step. AreTold svc.now P.past step.sends) }
         ensures down { IfOk result (EndsDown self.old.id (K.faults self.old.keeper) (K.faults self.new.keeper)) }
-        ensures left { Leaves result (here_of K.records svc.now self.old) (here_of K.records svc.now self.new) }
+        ensures left { Leaves result (here_of K.records svc.now P.past self.old) (here_of K.records svc.now P.past self.new) }
         ensures same { IsSpared result self.old self.new }
-        ensures kept { StaysNode K.records svc.now self.old self.new }
+        ensures kept { StaysNode K.records svc.now P.past self.old self.new }
         ensures ready { R.ready replayer.new }
     {
         let _service = svc.declarations();
@@ -54,72 +61,72 @@ impl<K: Keeper> Node<K> {
         };
         let before = self.keeper.len();
         let mut draft = Draft::new(self.alloc);
-        let end = self.stand(svc, replayer, &mut draft, ballot);
-        self.finish(before, draft, end)
+        let end = self.stand::<P, R>(svc, replayer, &mut draft, ballot);
+        self.finish::<P>(before, draft, end)
     }
 
     // Stands with this ballot, the least own one above the promise.
-    fn stand<R: Replayer>(
+    fn stand<P: Past, R: Replayer>(
         &mut self,
         svc: &Checked,
         replayer: &mut R,
         draft: &mut Draft,
         ballot: u64,
     ) -> Result<Going, AllocError>
-        requires node { IsNode K.records svc.now self.old }
+        requires node { IsNode K.records svc.now P.past self.old }
         requires up { self.old.up ≡ true }
         requires ready { R.ready replayer.old }
         requires left { ballot_left self.old.id self.old.acceptor.promised ≡ Some ballot }
         requires least { IsLeastAbove self.old.id self.old.acceptor.promised ballot }
-        requires runs { RunsOn svc.now (calls.elect self.old.nodes (service_of svc.now self.old.seed) self.old.id) (so_far K.records svc.now self.old draft.old) }
+        requires runs { RunsOn svc.now (calls.elect self.old.nodes (service_of svc.now self.old.seed) self.old.id) (so_far K.records svc.now P.past self.old draft.old) }
         requires count { K.faults self.old.keeper < 2 ^ 64 - 1 }
-        ensures ends { IfOk result (Ends K.records K.append_gives K.faults svc.now (calls.elect self.old.nodes (service_of svc.now self.old.seed) self.old.id) self.old self.new draft.old draft.new) }
-        ensures stuck { OnErr result (IsStuck K.records svc.now self.old self.new) }
-        ensures same { IsSame self.old self.new }
+        ensures ends { IfOk result (Ends K.records K.append_gives K.faults svc.now P.past (calls.elect self.old.nodes (service_of svc.now self.old.seed) self.old.id) (whole P.past self.old) (whole P.past self.new) draft.old draft.new) }
+        ensures stuck { OnErr result (IsStuck K.records svc.now P.past (whole P.past self.old) (whole P.past self.new)) }
+        ensures same { IsSame (whole P.past self.old) (whole P.past self.new) }
         ensures ready { R.ready replayer.new }
     {
         let _service = svc.declarations();
         let rec = Rec::Promised { ballot };
-        match self.append(draft, &rec)? {
+        match self.append::<P>(draft, &rec)? {
             Going::Down => Ok(Going::Down),
             Going::On => {
-                let turns = self.candidate(draft, ballot)?;
-                self.go_on(svc, replayer, draft, turns)
+                let turns = self.candidate::<P>(draft, ballot)?;
+                self.go_on::<P, R>(svc, replayer, draft, turns)
             }
         }
     }
 
     // The promise is written down: the node asks to lead, and counts its own promise. So many turns are enough to go on.
-    fn candidate(&mut self, draft: &mut Draft, ballot: u64) -> Result<u64, AllocError>
+    fn candidate<P: Past>(&mut self, draft: &mut Draft, ballot: u64) -> Result<u64, AllocError>
         requires own { IsOwnBallot self.old.nodes ballot }
         requires id { IsOneOf self.old.nodes self.old.id }
-        requires known { length self.old.known ≤ 65535 }
-        ensures stands { OnOk result (self.new ≡ standing self.old ballot) }
-        ensures turns { IfOk result (λ turns. turns ≡ 2 * length (candidate_of self.old ballot).reported + 3) }
+        requires known { length (knows P.past self.old) ≤ 65535 }
+        ensures stands { OnOk result (whole P.past self.new ≡ standing (whole P.past self.old) ballot) }
+        ensures turns { IfOk result (λ turns. turns ≡ 2 * length (candidate_of (whole P.past self.old) ballot).reported + 3) }
         ensures effects { OnOk result (draft.new.effects.items ≡ draft.old.effects.items ++ effect.Candidate self.old.id ballot ∷ []) }
-        ensures sends { OnOk result (map message_in draft.new.sends.items ≡ map message_in draft.old.sends.items ++ calls.others self.old.nodes self.old.id (content_in (sent.Prepare ballot (length self.old.known + 1)))) }
+        ensures sends { OnOk result (map (message_in P.past) draft.new.sends.items ≡ map (message_in P.past) draft.old.sends.items ++ calls.others self.old.nodes self.old.id (content_in P.past (sent.Prepare ballot (length (knows P.past self.old) + 1)))) }
         ensures keeper { self.new.keeper ≡ self.old.keeper }
         ensures base { self.new.base ≡ self.old.base }
-        ensures same { IsSame self.old self.new }
+        ensures same { IsSame (whole P.past self.old) (whole P.past self.new) }
     {
         let node = self.id;
-        let first = self.known.len() as u32 + 1;
+        let first = self.count::<P>() + 1;
         draft.tell(Effect::Candidate { node, ballot })?;
-        self.send_others(draft, &Content::Prepare { ballot, first })?;
-        let proposer = self.own_proposer(ballot, first)?;
+        self.send_others::<P>(draft, &Content::Prepare { ballot, first })?;
+        let proposer = self.own_proposer::<P>(ballot, first)?;
         let turns = 2 * proposer.reports() as u64 + 3;
-        self.follow();
+        self.follow::<P>();
         self.acceptor.on_prepare(ballot);
         self.proposer = Some(proposer);
         Ok(turns)
     }
 
     // A proposer that has counted the own promise, with what was accepted from an instance on.
-    fn own_proposer(&self, ballot: u64, first: u32) -> Result<Proposer, AllocError>
+    fn own_proposer<P: Past>(&self, ballot: u64, first: u32) -> Result<Proposer, AllocError>
         requires own { IsOwnBallot self.now.nodes ballot }
         requires id { IsOneOf self.now.nodes self.now.id }
-        requires first { first ≡ length self.now.known + 1 }
-        ensures { IfOk result (λ p. p ≡ candidate_of self.now ballot) }
+        requires first { first ≡ length (knows P.past self.now) + 1 }
+        ensures { IfOk result (λ p. p ≡ candidate_of (whole P.past self.now) ballot) }
     {
         let mut proposer = Proposer::new(self.alloc, self.nodes, ballot);
         proposer.on_promise(ballot, self.id, self.acceptor.accepted_from(first))?;

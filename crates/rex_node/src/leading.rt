@@ -9,8 +9,8 @@ ghost use Rattle.rex_paxos.specs.Proposer.{ProposerValue, closed};
 ghost use Rattle.rex_paxos.specs.Reports.{best_for};
 ghost use Rattle.rex_safety.specs.Calls as calls;
 ghost use Rattle.rex_safety.specs.Values.{events_of, release_effect, replies_of, service_of, values_fit};
-ghost use Rattle.rex_node.specs.Parts.{IsKept, IsSame};
-ghost use Rattle.rex_node.specs.Messages.{content_in, message_in};
+ghost use Rattle.rex_node.specs.Parts.{IsKept, IsSame, knows, whole};
+ghost use Rattle.rex_log.specs.Messages.{content_in, message_in};
 ghost use Rattle.rex_node.specs.Going.{Ends, IsStuck, RunsOn, so_far, MayGoOn};
 ghost use Rattle.rex_msg.specs.declared.message.Content.TheVariants as sent;
 ghost use Rattle.rex_report.specs.declared.effect.Effect.TheVariants as effect;
@@ -29,6 +29,7 @@ use rex_durable::Rec;
 use rex_event::Cut;
 use rex_gate::Answers;
 use rex_list::List;
+use rex_log::Past;
 use rex_msg::{Content, Message};
 use rex_paxos::Proposer;
 use rex_record::Recorder;
@@ -47,8 +48,12 @@ fn events_in(value: &[u8]) -> u32
 
 impl<K: Keeper> Node<K> {
     /// Sends the same to each other node, in rising order.
-    pub(crate) fn send_others(&self, draft: &mut Draft, content: &Content) -> Result<(), AllocError>
-        ensures sends { OnOk result (map message_in draft.new.sends.items ≡ map message_in draft.old.sends.items ++ calls.others self.now.nodes self.now.id (content_in content.now)) }
+    pub(crate) fn send_others<P: Past>(
+        &self,
+        draft: &mut Draft,
+        content: &Content,
+    ) -> Result<(), AllocError>
+        ensures sends { OnOk result (map (message_in P.past) draft.new.sends.items ≡ map (message_in P.past) draft.old.sends.items ++ calls.others self.now.nodes self.now.id (content_in P.past content.now)) }
         ensures effects { OnOk result (draft.new.effects.items ≡ draft.old.effects.items) }
     {
         for before in 0..self.nodes {
@@ -63,7 +68,7 @@ impl<K: Keeper> Node<K> {
     }
 
     /// Proposes a value for the next instance: accepts it itself, tells this of it, and asks the others to accept it.
-    pub(crate) fn propose(
+    pub(crate) fn propose<P: Past>(
         &mut self,
         svc: &Checked,
         draft: &mut Draft,
@@ -71,19 +76,19 @@ impl<K: Keeper> Node<K> {
         instance: u32,
         value: &[u8],
     ) -> Result<Going, AllocError>
-        requires kept { IsKept K.records svc.now self.old }
+        requires kept { IsKept K.records svc.now P.past (whole P.past self.old) }
         requires up { self.old.up ≡ true }
         requires leads { IsSome self.old.proposer }
-        requires next { instance ≡ length self.old.known + 1 }
+        requires next { instance ≡ length (knows P.past self.old) + 1 }
         requires there { IsInstance instance }
         requires value { IsValue value.now }
-        requires cut { IsOwnCut svc.now self.old value.now }
+        requires cut { IsOwnCut svc.now (whole P.past self.old) value.now }
         requires count { K.faults self.old.keeper < 2 ^ 64 - 1 }
-        ensures opens { IfOk result (Opens K.records K.append_gives K.faults svc.now told instance value.now self.old self.new draft.old draft.new) }
-        ensures parts { IfOk result (HasOpened self.old self.new instance value.now) }
-        ensures longer { IfOk result (IsLonger K.records self.old self.new) }
-        ensures stuck { OnErr result (IsStuck K.records svc.now self.old self.new) }
-        ensures same { IsSame self.old self.new }
+        ensures opens { IfOk result (Opens K.records K.append_gives K.faults svc.now P.past told instance value.now (whole P.past self.old) (whole P.past self.new) draft.old draft.new) }
+        ensures parts { IfOk result (HasOpened (whole P.past self.old) (whole P.past self.new) instance value.now) }
+        ensures longer { IfOk result (IsLonger K.records (whole P.past self.old) (whole P.past self.new)) }
+        ensures stuck { OnErr result (IsStuck K.records svc.now P.past (whole P.past self.old) (whole P.past self.new)) }
+        ensures same { IsSame (whole P.past self.old) (whole P.past self.new) }
     {
         let ballot = self.own_ballot().unwrap_or(0);
         let rec = Rec::Accepted {
@@ -91,17 +96,17 @@ impl<K: Keeper> Node<K> {
             instance,
             value: copied(self.alloc, value)?,
         };
-        match self.append(draft, &rec)? {
+        match self.append::<P>(draft, &rec)? {
             Going::Down => Ok(Going::Down),
             Going::On => {
-                self.open(draft, told, instance, value)?;
+                self.open::<P>(draft, told, instance, value)?;
                 Ok(Going::On)
             }
         }
     }
 
     // The own acceptance of the value is written down.
-    fn open(
+    fn open<P: Past>(
         &mut self,
         draft: &mut Draft,
         told: Effect,
@@ -109,12 +114,12 @@ impl<K: Keeper> Node<K> {
         value: &[u8],
     ) -> Result<(), AllocError>
         requires leads { IsSome self.old.proposer }
-        ensures opened { OnOk result (self.new ≡ opened self.old instance value.now) }
+        ensures opened { OnOk result (whole P.past self.new ≡ opened (whole P.past self.old) instance value.now) }
         ensures effects { OnOk result (draft.new.effects.items ≡ draft.old.effects.items ++ told ∷ []) }
-        ensures sends { OnOk result (FromLead self.old (λ l. map message_in draft.new.sends.items ≡ map message_in draft.old.sends.items ++ calls.others self.old.nodes self.old.id (content_in (sent.Accept l.ballot instance value.now)))) }
+        ensures sends { OnOk result (FromLead (whole P.past self.old) (λ l. map (message_in P.past) draft.new.sends.items ≡ map (message_in P.past) draft.old.sends.items ++ calls.others self.old.nodes self.old.id (content_in P.past (sent.Accept l.ballot instance value.now)))) }
         ensures keeper { self.new.keeper ≡ self.old.keeper }
         ensures base { self.new.base ≡ self.old.base }
-        ensures same { IsSame self.old self.new }
+        ensures same { IsSame (whole P.past self.old) (whole P.past self.new) }
     {
         let Some(proposer) = &mut self.proposer else {
             unreachable!()
@@ -129,48 +134,48 @@ impl<K: Keeper> Node<K> {
             instance,
             value,
         };
-        self.send_others(draft, &content)
+        self.send_others::<P>(draft, &content)
     }
 
     /// A majority accepted the value of the next instance: it is known, and the others are told.
-    pub(crate) fn learn(
+    pub(crate) fn learn<P: Past>(
         &mut self,
         svc: &Checked,
         draft: &mut Draft,
         instance: u32,
         value: &[u8],
     ) -> Result<Going, AllocError>
-        requires kept { IsKept K.records svc.now self.old }
+        requires kept { IsKept K.records svc.now P.past (whole P.past self.old) }
         requires up { self.old.up ≡ true }
         requires leads { IsSome self.old.proposer }
-        requires next { instance ≡ length self.old.known + 1 }
+        requires next { instance ≡ length (knows P.past self.old) + 1 }
         requires there { IsInstance instance }
         requires value { IsValue value.now }
-        requires fits { values_fit svc.now (self.old.known ++ value.now ∷ []) ≡ true }
-        requires cut { IsOwnCut svc.now self.old value.now }
+        requires fits { values_fit svc.now (knows P.past self.old ++ value.now ∷ []) ≡ true }
+        requires cut { IsOwnCut svc.now (whole P.past self.old) value.now }
         requires count { K.faults self.old.keeper < 2 ^ 64 - 1 }
-        ensures learns { IfOk result (Learns K.records K.append_gives K.faults svc.now instance value.now self.old self.new draft.old draft.new) }
-        ensures parts { IfOk result (HasLearned svc.now self.old self.new instance value.now) }
-        ensures longer { IfOk result (IsLonger K.records self.old self.new) }
-        ensures stuck { OnErr result (IsStuck K.records svc.now self.old self.new) }
-        ensures same { IsSame self.old self.new }
+        ensures learns { IfOk result (Learns K.records K.append_gives K.faults svc.now P.past instance value.now (whole P.past self.old) (whole P.past self.new) draft.old draft.new) }
+        ensures parts { IfOk result (HasLearned svc.now (whole P.past self.old) (whole P.past self.new) instance value.now) }
+        ensures longer { IfOk result (IsLonger K.records (whole P.past self.old) (whole P.past self.new)) }
+        ensures stuck { OnErr result (IsStuck K.records svc.now P.past (whole P.past self.old) (whole P.past self.new)) }
+        ensures same { IsSame (whole P.past self.old) (whole P.past self.new) }
     {
         let _service = svc.declarations();
         let rec = Rec::Known {
             instance,
             value: copied(self.alloc, value)?,
         };
-        match self.append(draft, &rec)? {
+        match self.append::<P>(draft, &rec)? {
             Going::Down => Ok(Going::Down),
             Going::On => {
-                self.know(svc, draft, instance, value)?;
+                self.know::<P>(svc, draft, instance, value)?;
                 Ok(Going::On)
             }
         }
     }
 
     // The known value is written down.
-    fn know(
+    fn know<P: Past>(
         &mut self,
         svc: &Checked,
         draft: &mut Draft,
@@ -178,25 +183,26 @@ impl<K: Keeper> Node<K> {
         value: &[u8],
     ) -> Result<(), AllocError>
         requires recorder { IfSome self.old.acting (CanSettle svc.now value.now) }
-        ensures knows { OnOk result (self.new ≡ knowing svc.now self.old instance value.now) }
+        requires room { length (knows P.past self.old) < 65535 }
+        ensures knows { OnOk result (whole P.past self.new ≡ knowing svc.now (whole P.past self.old) instance value.now) }
         ensures effects { OnOk result (draft.new.effects.items ≡ draft.old.effects.items ++ effect.Known self.old.id instance ∷ releases_in self.old.acting) }
-        ensures sends { OnOk result (map message_in draft.new.sends.items ≡ map message_in draft.old.sends.items ++ calls.others self.old.nodes self.old.id (content_in (sent.Chosen instance value.now))) }
+        ensures sends { OnOk result (map (message_in P.past) draft.new.sends.items ≡ map (message_in P.past) draft.old.sends.items ++ calls.others self.old.nodes self.old.id (content_in P.past (sent.Chosen instance value.now))) }
         ensures keeper { self.new.keeper ≡ self.old.keeper }
         ensures base { self.new.base ≡ self.old.base }
-        ensures same { IsSame self.old self.new }
+        ensures same { IsSame (whole P.past self.old) (whole P.past self.new) }
     {
         let node = self.id;
-        self.known.push(copied(self.alloc, value)?)?;
+        self.known.push(value)?;
         draft.tell(Effect::Known { node, instance })?;
-        self.settle(svc, draft, instance, value)?;
-        self.close();
+        self.settle::<P>(svc, draft, instance, value)?;
+        self.close::<P>();
         let value = copied(self.alloc, value)?;
         let content = Content::Chosen { instance, value };
-        self.send_others(draft, &content)
+        self.send_others::<P>(draft, &content)
     }
 
     // An active node has the events of the value that became known no longer live, and releases their replies.
-    fn settle(
+    fn settle<P: Past>(
         &mut self,
         svc: &Checked,
         draft: &mut Draft,
@@ -204,12 +210,12 @@ impl<K: Keeper> Node<K> {
         value: &[u8],
     ) -> Result<(), AllocError>
         requires recorder { IfSome self.old.acting (CanSettle svc.now value.now) }
-        ensures settled { OnOk result (self.new ≡ record self.old { replayed = spec.replayed_to self.old.acting instance self.old.replayed; acting = option_map (spec.settling svc.now) self.old.acting }) }
+        ensures settled { OnOk result (whole P.past self.new ≡ record (whole P.past self.old) { replayed = spec.replayed_to self.old.acting instance self.old.replayed; acting = option_map (spec.settling svc.now) self.old.acting }) }
         ensures effects { OnOk result (draft.new.effects.items ≡ draft.old.effects.items ++ releases_in self.old.acting) }
         ensures sends { OnOk result (draft.new.sends.items ≡ draft.old.sends.items) }
         ensures keeper { self.new.keeper ≡ self.old.keeper }
         ensures base { self.new.base ≡ self.old.base }
-        ensures same { IsSame self.old self.new }
+        ensures same { IsSame (whole P.past self.old) (whole P.past self.new) }
     {
         if let Some(acting) = &mut self.acting {
             acting.settle(svc, self.alloc, draft, value)?;
@@ -219,8 +225,8 @@ impl<K: Keeper> Node<K> {
     }
 
     // No proposal is open.
-    fn close(&mut self)
-        ensures { self.new ≡ record self.old { proposer = option_map closed self.old.proposer } }
+    fn close<P: Past>(&mut self)
+        ensures { whole P.past self.new ≡ record (whole P.past self.old) { proposer = option_map closed self.old.proposer } }
     {
         if let Some(proposer) = &mut self.proposer {
             proposer.close();
@@ -228,7 +234,7 @@ impl<K: Keeper> Node<K> {
     }
 
     // Adopts the value that was reported for the next instance; alone the node knows it at once.
-    fn adopt(
+    fn adopt<P: Past>(
         &mut self,
         svc: &Checked,
         draft: &mut Draft,
@@ -236,17 +242,17 @@ impl<K: Keeper> Node<K> {
         instance: u32,
         value: &[u8],
     ) -> Result<Round, AllocError>
-        requires kept { IsKept K.records svc.now self.old }
+        requires kept { IsKept K.records svc.now P.past (whole P.past self.old) }
         requires up { self.old.up ≡ true }
         requires goes { goes_on self.old.proposer (is_some self.old.acting) ≡ true }
-        requires next { instance ≡ length self.old.known + 1 }
+        requires next { instance ≡ length (knows P.past self.old) + 1 }
         requires reported { spec.reported_value self.old.proposer instance ≡ Some value.now }
-        requires turns { MayGoOn self.old turns }
-        requires runs { RunsOn svc.now (calls.settle turns self.old.nodes (service_of svc.now self.old.seed) self.old.id) (so_far K.records svc.now self.old draft.old) }
+        requires turns { MayGoOn (whole P.past self.old) turns }
+        requires runs { RunsOn svc.now (calls.settle turns self.old.nodes (service_of svc.now self.old.seed) self.old.id) (so_far K.records svc.now P.past self.old draft.old) }
         requires count { K.faults self.old.keeper < 2 ^ 64 - 1 }
-        ensures goes { IfOk result (GoesRound K.records K.append_gives K.faults svc.now turns self.old self.new draft.old draft.new) }
-        ensures stuck { OnErr result (IsStuck K.records svc.now self.old self.new) }
-        ensures same { IsSame self.old self.new }
+        ensures goes { IfOk result (GoesRound K.records K.append_gives K.faults svc.now P.past turns (whole P.past self.old) (whole P.past self.new) draft.old draft.new) }
+        ensures stuck { OnErr result (IsStuck K.records svc.now P.past (whole P.past self.old) (whole P.past self.new)) }
+        ensures same { IsSame (whole P.past self.old) (whole P.past self.new) }
     {
         let _service = svc.declarations();
         let node = self.id;
@@ -256,13 +262,13 @@ impl<K: Keeper> Node<K> {
             instance,
             events,
         };
-        match self.propose(svc, draft, told, instance, value)? {
+        match self.propose::<P>(svc, draft, told, instance, value)? {
             Going::Down => Ok(Round::Done(Going::Down)),
             Going::On => {
                 if self.nodes > 1 {
                     return Ok(Round::Done(Going::On));
                 }
-                match self.learn(svc, draft, instance, value)? {
+                match self.learn::<P>(svc, draft, instance, value)? {
                     Going::Down => Ok(Round::Done(Going::Down)),
                     Going::On => Ok(Round::Again),
                 }
@@ -271,36 +277,36 @@ impl<K: Keeper> Node<K> {
     }
 
     // A round of going on, where so many turns of the model are left.
-    fn round<R: Replayer>(
+    fn round<P: Past, R: Replayer>(
         &mut self,
         svc: &Checked,
         replayer: &mut R,
         draft: &mut Draft,
         turns: u64,
     ) -> Result<Round, AllocError>
-        requires kept { IsKept K.records svc.now self.old }
+        requires kept { IsKept K.records svc.now P.past (whole P.past self.old) }
         requires up { self.old.up ≡ true }
         requires ready { R.ready replayer.old }
         requires free { IsFree self.old.proposer (is_some self.old.acting) }
-        requires turns { MayGoOn self.old turns }
-        requires runs { RunsOn svc.now (calls.settle turns self.old.nodes (service_of svc.now self.old.seed) self.old.id) (so_far K.records svc.now self.old draft.old) }
+        requires turns { MayGoOn (whole P.past self.old) turns }
+        requires runs { RunsOn svc.now (calls.settle turns self.old.nodes (service_of svc.now self.old.seed) self.old.id) (so_far K.records svc.now P.past self.old draft.old) }
         requires count { K.faults self.old.keeper < 2 ^ 64 - 1 }
-        ensures goes { IfOk result (GoesRound K.records K.append_gives K.faults svc.now turns self.old self.new draft.old draft.new) }
-        ensures stuck { OnErr result (IsStuck K.records svc.now self.old self.new) }
-        ensures same { IsSame self.old self.new }
+        ensures goes { IfOk result (GoesRound K.records K.append_gives K.faults svc.now P.past turns (whole P.past self.old) (whole P.past self.new) draft.old draft.new) }
+        ensures stuck { OnErr result (IsStuck K.records svc.now P.past (whole P.past self.old) (whole P.past self.new)) }
+        ensures same { IsSame (whole P.past self.old) (whole P.past self.new) }
         ensures ready { R.ready replayer.new }
     {
         let _service = svc.declarations();
         if !self.goes_on() {
             return Ok(Round::Done(Going::On));
         }
-        let instance = self.known.len() as u32 + 1;
+        let instance = self.count::<P>() + 1;
         match self.reported_for(instance)? {
             None => {
-                self.activate(svc, replayer, draft)?;
+                self.activate::<P, R>(svc, replayer, draft)?;
                 Ok(Round::Done(Going::On))
             }
-            Some(value) => self.adopt(svc, draft, turns, instance, value.as_slice()),
+            Some(value) => self.adopt::<P>(svc, draft, turns, instance, value.as_slice()),
         }
     }
 
@@ -308,28 +314,28 @@ impl<K: Keeper> Node<K> {
     /// that was reported for the next instance, or is active where none was; alone it knows at once what it adopts.
     ///
     /// So many turns of the model are enough.
-    pub(crate) fn go_on<R: Replayer>(
+    pub(crate) fn go_on<P: Past, R: Replayer>(
         &mut self,
         svc: &Checked,
         replayer: &mut R,
         draft: &mut Draft,
         turns: u64,
     ) -> Result<Going, AllocError>
-        requires kept { IsKept K.records svc.now self.old }
+        requires kept { IsKept K.records svc.now P.past (whole P.past self.old) }
         requires up { self.old.up ≡ true }
         requires ready { R.ready replayer.old }
         requires free { IsFree self.old.proposer (is_some self.old.acting) }
-        requires turns { MayGoOn self.old turns }
-        requires runs { RunsOn svc.now (calls.settle turns self.old.nodes (service_of svc.now self.old.seed) self.old.id) (so_far K.records svc.now self.old draft.old) }
+        requires turns { MayGoOn (whole P.past self.old) turns }
+        requires runs { RunsOn svc.now (calls.settle turns self.old.nodes (service_of svc.now self.old.seed) self.old.id) (so_far K.records svc.now P.past self.old draft.old) }
         requires count { K.faults self.old.keeper < 2 ^ 64 - 1 }
-        ensures ends { IfOk result (Ends K.records K.append_gives K.faults svc.now (calls.settle turns self.old.nodes (service_of svc.now self.old.seed) self.old.id) self.old self.new draft.old draft.new) }
-        ensures stuck { OnErr result (IsStuck K.records svc.now self.old self.new) }
-        ensures same { IsSame self.old self.new }
+        ensures ends { IfOk result (Ends K.records K.append_gives K.faults svc.now P.past (calls.settle turns self.old.nodes (service_of svc.now self.old.seed) self.old.id) (whole P.past self.old) (whole P.past self.new) draft.old draft.new) }
+        ensures stuck { OnErr result (IsStuck K.records svc.now P.past (whole P.past self.old) (whole P.past self.new)) }
+        ensures same { IsSame (whole P.past self.old) (whole P.past self.new) }
         ensures ready { R.ready replayer.new }
     {
         let mut left = turns;
         loop {
-            match self.round(svc, replayer, draft, left)? {
+            match self.round::<P, R>(svc, replayer, draft, left)? {
                 Round::Again => left -= 2,
                 Round::Done(going) => return Ok(going),
             }
@@ -357,27 +363,28 @@ impl<K: Keeper> Node<K> {
     }
 
     // The node is active from here on: it replays what it knows, and executes with a generator of its ballot.
-    fn activate<R: Replayer>(
+    fn activate<P: Past, R: Replayer>(
         &mut self,
         svc: &Checked,
         replayer: &mut R,
         draft: &mut Draft,
     ) -> Result<(), AllocError>
-        requires kept { IsKept K.records svc.now self.old }
+        requires kept { IsKept K.records svc.now P.past (whole P.past self.old) }
         requires up { self.old.up ≡ true }
         requires acting { self.old.acting ≡ None }
         requires ready { R.ready replayer.old }
-        ensures active { OnOk result (IsActive svc.now self.old self.new) }
-        ensures same { IsSame self.old self.new }
+        ensures active { OnOk result (IsActive svc.now (whole P.past self.old) (whole P.past self.new)) }
+        ensures same { IsSame (whole P.past self.old) (whole P.past self.new) }
         ensures effects { OnOk result (draft.new.effects.items ≡ draft.old.effects.items ++ effect.Active self.old.id (unwrap_or (option_map (λ (p : ProposerValue). p.ballot) self.old.proposer) 0) ∷ []) }
         ensures sends { OnOk result (draft.new.sends.items ≡ draft.old.sends.items) }
-        ensures err { OnErr result (self.new ≡ self.old) }
+        ensures err { OnErr result (whole P.past self.new ≡ (whole P.past self.old)) }
         ensures ready { R.ready replayer.new }
     {
         let _service = svc.declarations();
         let node = self.id;
+        let known = self.count::<P>();
         let ballot = self.own_ballot().unwrap_or(0);
-        let state = self.replayed_state(svc, replayer)?;
+        let state = self.replayed_state::<P, R>(svc, replayer)?;
         let answers = Answers::at(self.alloc, &state)?;
         let recorder = Recorder::new(self.alloc, state)?;
         draft.tell(Effect::Active { node, ballot })?;
@@ -390,7 +397,7 @@ impl<K: Keeper> Node<K> {
             proposed,
             answers,
         });
-        self.replayed = self.known.len() as u32;
+        self.replayed = known;
         self.ahead = None;
         Ok(())
     }

@@ -23,6 +23,7 @@ mod replaying;
 mod restart;
 mod step;
 mod telling;
+mod transferring;
 mod values;
 mod writing;
 

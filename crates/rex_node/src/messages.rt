@@ -1,23 +1,29 @@
 //! The messages of other nodes.
 
-ghost use Rattle.std.specs.Prelude.{◌≡◌, ◌<◌, ◌-◌, ◌^◌, true, None, IfOk, OnErr};
+ghost use Rattle.std.specs.Prelude.{◌≡◌, ◌<◌, ◌-◌, ◌^◌, [], length, true, None, IfOk, IfErr, OnOk, OnErr};
 ghost use Rattle.rex_msg.specs.Spelling.{HasSpelling};
 ghost use Rattle.rex_safety.specs.Calls as calls;
 ghost use Rattle.rex_safety.specs.Calls.{begin};
 ghost use Rattle.rex_safety.specs.Ranges.{MessageFits};
 ghost use Rattle.rex_safety.specs.Values.{service_of};
-ghost use Rattle.rex_node.specs.Parts.{here_of, IsNode, IsSame, StaysNode};
-ghost use Rattle.rex_node.specs.Messages.{content_in, message_in};
+ghost use Rattle.rex_safety.specs.Invariant.{Begins};
+ghost use Rattle.rex_safety.specs.Records as records;
+ghost use Rattle.rex_node.specs.Parts.{count_of, here_of, IsNode, IsSame, StaysNode, whole, knows};
+ghost use Rattle.rex_node.specs.Telling.{AreTold, IsRight, IsToldState, RefusesContent, refusal_of_content};
+ghost use Rattle.rex_log.specs.Messages.{content_in, message_in};
 ghost use Rattle.rex_node.specs.Going.{Ends, IsStuck, RunsOn, so_far};
-ghost use Rattle.rex_node.specs.Calls.{Does, EndsDown, IsSpared, Leaves, Refuses, if_up, refusal_up};
+ghost use Rattle.rex_node.specs.Calls.{Does, EndsDown, IsSpared, Leaves, Refuses, RefusesThen, if_up, refusal_up};
 
 use crate::going::Going;
 use crate::node::Node;
 use crate::refusal::Refusal;
 use crate::step::{Draft, Step};
+use crate::transferring::decoded;
 use rex_list::List;
+use rex_log::Past;
 use rex_msg::{Content, Message};
 use rex_replay::Replayer;
+use rex_state::state::State;
 use rex_syntax::checked::Checked;
 use rex_traits::Keeper;
 use std::alloc::AllocError;
@@ -31,93 +37,127 @@ impl<K: Keeper> Node<K> {
     }
 
     /// Does what a message of another node asks for.
-    pub fn on_message<R: Replayer>(
+    pub fn on_message<P: Past, R: Replayer>(
         &mut self,
         svc: &Checked,
         replayer: &mut R,
         message: &Message,
     ) -> Result<Step, Refusal>
-        requires node { IsNode K.records svc.now self.old }
+        requires node { IsNode K.records svc.now P.past self.old }
         requires ready { R.ready replayer.old }
-        requires message { MessageFits self.old.nodes (message_in message.now) }
+        requires message { MessageFits self.old.nodes (message_in P.past message.now) }
         requires spelling { HasSpelling message.now }
         requires here { message.now.to ≡ self.old.id }
-        requires runs { RunsOn svc.now (calls.receive self.old.nodes (service_of svc.now self.old.seed) self.old.id message.now.from (content_in message.now.content)) (begin (here_of K.records svc.now self.old)) }
+        requires past { Begins (records.known (here_of K.records svc.now P.past self.old).log) P.past }
+        requires right { IsRight svc.now P.past message.now.content }
+        requires runs { RunsOn svc.now (calls.receive self.old.nodes (service_of svc.now self.old.seed) self.old.id message.now.from (content_in P.past message.now.content)) (begin (here_of K.records svc.now P.past self.old)) }
         requires count { K.faults self.old.keeper < 2 ^ 64 - 1 }
-        ensures refused { Refuses (refusal_up (here_of K.records svc.now self.old)) result }
-        ensures told { IfOk result (Does K.records K.append_gives K.faults svc.now (calls.receive self.old.nodes (service_of svc.now self.old.seed) self.old.id message.now.from (content_in message.now.content)) self.old self.new) }
+        ensures refused { RefusesThen (refusal_up (here_of K.records svc.now P.past self.old)) (refusal_of_content svc.now (here_of K.records svc.now P.past self.old) message.now.content) result }
+        ensures told { IfOk result (Does K.records K.append_gives K.faults svc.now P.past (calls.receive self.old.nodes (service_of svc.now self.old.seed) self.old.id message.now.from (content_in P.past message.now.content)) self.old self.new) }
+        ensures tells { IfOk result (λ step. AreTold svc.now P.past step.sends) }
         ensures down { IfOk result (EndsDown self.old.id (K.faults self.old.keeper) (K.faults self.new.keeper)) }
-        ensures left { Leaves result (here_of K.records svc.now self.old) (here_of K.records svc.now self.new) }
+        ensures left { Leaves result (here_of K.records svc.now P.past self.old) (here_of K.records svc.now P.past self.new) }
         ensures same { IsSpared result self.old self.new }
-        ensures kept { StaysNode K.records svc.now self.old self.new }
+        ensures kept { StaysNode K.records svc.now P.past self.old self.new }
         ensures ready { R.ready replayer.new }
     {
         let _service = svc.declarations();
         if let Some(refusal) = self.up_refusal() {
             return Err(refusal);
         }
+        let told = self.told_state::<P>(svc, &message.content)?;
         let before = self.keeper.len();
         let mut draft = Draft::new(self.alloc);
-        let end = self.receive(svc, replayer, &mut draft, message);
-        self.finish(before, draft, end)
+        let end = self.receive::<P, R>(svc, replayer, &mut draft, message, told);
+        self.finish::<P>(before, draft, end)
     }
 
-    // What a node that is up does with a message.
-    fn receive<R: Replayer>(
+    // The state that a message tells, where it is one after more values than the node knows.
+    fn told_state<P: Past>(
+        &self,
+        svc: &Checked,
+        content: &Content,
+    ) -> Result<Option<State>, Refusal>
+        ensures told { IfOk result (IsToldState svc.now (length (knows P.past self.now)) content.now) }
+        ensures bad { IfErr result (RefusesContent svc.now (length (knows P.past self.now)) content.now) }
+    {
+        match content {
+            Content::Snapshot { deltas, snapshot } => {
+                if *deltas <= self.count::<P>() {
+                    return Ok(None);
+                }
+                let state = decoded(self.alloc, svc, snapshot.as_slice())?;
+                Ok(Some(state))
+            }
+            _ => Ok(None),
+        }
+    }
+
+    // What a node that is up does with a message, and with the state that it tells.
+    fn receive<P: Past, R: Replayer>(
         &mut self,
         svc: &Checked,
         replayer: &mut R,
         draft: &mut Draft,
         message: &Message,
+        told: Option<State>,
     ) -> Result<Going, AllocError>
-        requires node { IsNode K.records svc.now self.old }
+        requires node { IsNode K.records svc.now P.past self.old }
         requires up { self.old.up ≡ true }
         requires ready { R.ready replayer.old }
-        requires message { MessageFits self.old.nodes (message_in message.now) }
+        requires message { MessageFits self.old.nodes (message_in P.past message.now) }
         requires spelling { HasSpelling message.now }
-        requires runs { RunsOn svc.now (calls.receive self.old.nodes (service_of svc.now self.old.seed) self.old.id message.now.from (content_in message.now.content)) (so_far K.records svc.now self.old draft.old) }
+        requires past { Begins (records.known (here_of K.records svc.now P.past self.old).log) P.past }
+        requires right { IsRight svc.now P.past message.now.content }
+        requires told { IsToldState svc.now (length (knows P.past self.old)) message.now.content told }
+        requires runs { RunsOn svc.now (calls.receive self.old.nodes (service_of svc.now self.old.seed) self.old.id message.now.from (content_in P.past message.now.content)) (so_far K.records svc.now P.past self.old draft.old) }
         requires count { K.faults self.old.keeper < 2 ^ 64 - 1 }
-        ensures ends { IfOk result (Ends K.records K.append_gives K.faults svc.now (calls.receive self.old.nodes (service_of svc.now self.old.seed) self.old.id message.now.from (content_in message.now.content)) self.old self.new draft.old draft.new) }
-        ensures stuck { OnErr result (IsStuck K.records svc.now self.old self.new) }
-        ensures same { IsSame self.old self.new }
+        ensures ends { IfOk result (Ends K.records K.append_gives K.faults svc.now P.past (calls.receive self.old.nodes (service_of svc.now self.old.seed) self.old.id message.now.from (content_in P.past message.now.content)) (whole P.past self.old) (whole P.past self.new) draft.old draft.new) }
+        ensures stuck { OnErr result (IsStuck K.records svc.now P.past (whole P.past self.old) (whole P.past self.new)) }
+        ensures tells { draft.old.sends.items ≡ [] → OnOk result (AreTold svc.now P.past draft.new.sends.items) }
+        ensures same { IsSame (whole P.past self.old) (whole P.past self.new) }
         ensures ready { R.ready replayer.new }
     {
         let from = message.from;
         match &message.content {
             Content::Prepare { ballot, first } => {
-                self.on_prepare(svc, draft, from, *ballot, *first)
+                self.on_prepare::<P>(svc, draft, from, *ballot, *first)
             }
             Content::Promise { ballot, accepted } => {
-                self.on_promise(svc, replayer, draft, from, *ballot, accepted.as_slice())
+                self.on_promise::<P, R>(svc, replayer, draft, from, *ballot, accepted.as_slice())
             }
             Content::Accept {
                 ballot,
                 instance,
                 value,
-            } => self.on_accept(svc, draft, from, *ballot, *instance, value.as_slice()),
+            } => self.on_accept::<P>(svc, draft, from, *ballot, *instance, value.as_slice()),
             Content::Accepted { ballot, instance } => {
-                self.on_accepted(svc, replayer, draft, from, *ballot, *instance)
+                self.on_accepted::<P, R>(svc, replayer, draft, from, *ballot, *instance)
             }
             Content::Chosen { instance, value } => {
-                self.on_chosen(svc, draft, *instance, value.as_slice())
+                self.on_chosen::<P>(svc, draft, *instance, value.as_slice())
             }
-            Content::Nack { promised, .. } => self.on_nack(svc, draft, *promised),
-            Content::Ask { first } => self.on_ask(svc, draft, from, *first),
+            Content::Nack { promised, .. } => self.on_nack::<P>(svc, draft, *promised),
+            Content::Ask { first } => self.on_ask::<P>(svc, draft, from, *first),
+            Content::Snapshot { deltas, snapshot } => {
+                self.on_snapshot::<P>(svc, draft, *deltas, snapshot.as_slice(), told)
+            }
         }
     }
 
     /// Asks another node for what this one doesn't know.
-    pub fn ask(&mut self, svc: &Checked, to: u8) -> Result<Step, Refusal>
-        requires node { IsNode K.records svc.now self.old }
-        ensures refused { Refuses (refusal_up (here_of K.records svc.now self.old)) result }
-        ensures told { IfOk result (Does K.records K.append_gives K.faults svc.now (calls.ask self.old.id to) self.old self.new) }
+    pub fn ask<P: Past>(&mut self, svc: &Checked, to: u8) -> Result<Step, Refusal>
+        requires node { IsNode K.records svc.now P.past self.old }
+        ensures refused { Refuses (refusal_up (here_of K.records svc.now P.past self.old)) result }
+        ensures told { IfOk result (Does K.records K.append_gives K.faults svc.now P.past (calls.ask self.old.id to) self.old self.new) }
+        ensures tells { IfOk result (λ step. AreTold svc.now P.past step.sends) }
         ensures same { self.new ≡ self.old }
     {
         let _service = svc.declarations();
         if let Some(refusal) = self.up_refusal() {
             return Err(refusal);
         }
-        let first = self.known.len() as u32 + 1;
+        let first = self.count::<P>() + 1;
         let mut sends = List::new(self.alloc);
         sends.push(Message {
             from: self.id,

@@ -6,7 +6,7 @@ ghost use Rattle.rex_safety.specs.Calls as calls;
 ghost use Rattle.rex_safety.specs.Values.{service_of};
 ghost use Rattle.rex_node.specs.Calls.{Does, EndsDown, IsSpared, Leaves, Refuses, refusal_of_migrate};
 ghost use Rattle.rex_node.specs.Checkpointing.{MigratesOr};
-ghost use Rattle.rex_node.specs.Parts.{IsNode, StaysNode, here_of};
+ghost use Rattle.rex_node.specs.Parts.{IsNode, StaysNode, here_of, whole};
 
 use crate::checkpointing::{only, record_of};
 use crate::node::Node;
@@ -14,6 +14,7 @@ use crate::refusal::Refusal;
 use crate::step::Step;
 use rex_durable::Rec;
 use rex_list::List;
+use rex_log::Past;
 use rex_report::Effect;
 use rex_syntax::checked::Checked;
 use rex_traits::{KeepFault, Keeper};
@@ -21,9 +22,9 @@ use rex_version::Version;
 
 impl<K: Keeper> Node<K> {
     // Why the node writes down nothing.
-    fn migrate_refusal(&self, svc: &Checked) -> Option<Refusal>
-        requires { IsNode K.records svc.now self.now }
-        ensures { result ≡ refusal_of_migrate (here_of K.records svc.now self.now) }
+    fn migrate_refusal<P: Past>(&self, svc: &Checked) -> Option<Refusal>
+        requires { IsNode K.records svc.now P.past self.now }
+        ensures { result ≡ refusal_of_migrate (here_of K.records svc.now P.past self.now) }
     {
         let _service = svc.declarations();
         if !self.up {
@@ -36,12 +37,12 @@ impl<K: Keeper> Node<K> {
     }
 
     // Appends the record of the last checkpoint in the new version. Where the keeper fails the node is down.
-    fn save_again(&mut self, rec: &Rec) -> Result<(), KeepFault>
+    fn save_again<P: Past>(&mut self, rec: &Rec) -> Result<(), KeepFault>
         requires count { K.faults self.old.keeper < 2 ^ 64 - 1 }
         requires spelling { HasSpelling rec.now }
-        ensures { MigratesOr K.records K.faults K.append_gives self.old self.new (record_bytes rec.now) result }
+        ensures { MigratesOr K.records K.faults K.append_gives (whole P.past self.old) (whole P.past self.new) (record_bytes rec.now) result }
     {
-        let written = self.write(rec);
+        let written = self.write::<P>(rec);
         if let Ok(()) = written {
             self.old_base = false;
         }
@@ -50,18 +51,18 @@ impl<K: Keeper> Node<K> {
 
     /// Writes down the state at the last checkpoint again, in the new version, where the checkpoint is in the old one. A node
     /// that comes up does so first.
-    pub fn migrate(&mut self, svc: &Checked) -> Result<Step, Refusal>
-        requires node { IsNode K.records svc.now self.old }
+    pub fn migrate<P: Past>(&mut self, svc: &Checked) -> Result<Step, Refusal>
+        requires node { IsNode K.records svc.now P.past self.old }
         requires count { K.faults self.old.keeper < 2 ^ 64 - 1 }
-        ensures refused { Refuses (refusal_of_migrate (here_of K.records svc.now self.old)) result }
-        ensures told { IfOk result (Does K.records K.append_gives K.faults svc.now (calls.migrate (service_of svc.now self.old.seed) self.old.id) self.old self.new) }
+        ensures refused { Refuses (refusal_of_migrate (here_of K.records svc.now P.past self.old)) result }
+        ensures told { IfOk result (Does K.records K.append_gives K.faults svc.now P.past (calls.migrate (service_of svc.now self.old.seed) self.old.id) self.old self.new) }
         ensures down { IfOk result (EndsDown self.old.id (K.faults self.old.keeper) (K.faults self.new.keeper)) }
-        ensures left { Leaves result (here_of K.records svc.now self.old) (here_of K.records svc.now self.new) }
+        ensures left { Leaves result (here_of K.records svc.now P.past self.old) (here_of K.records svc.now P.past self.new) }
         ensures same { IsSpared result self.old self.new }
-        ensures kept { StaysNode K.records svc.now self.old self.new }
+        ensures kept { StaysNode K.records svc.now P.past self.old self.new }
     {
         let _service = svc.declarations();
-        if let Some(refusal) = self.migrate_refusal(svc) {
+        if let Some(refusal) = self.migrate_refusal::<P>(svc) {
             return Err(refusal);
         }
         let node = self.id;
@@ -70,7 +71,7 @@ impl<K: Keeper> Node<K> {
         let migrated = only(self.alloc, Effect::Migrated { node, deltas })?;
         let down = only(self.alloc, Effect::Down { node })?;
         let sends = List::new(self.alloc);
-        match self.save_again(&rec) {
+        match self.save_again::<P>(&rec) {
             Ok(()) => Ok(Step {
                 effects: migrated,
                 sends,

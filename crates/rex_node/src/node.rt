@@ -1,6 +1,6 @@
 //! A node, and what its clients and lanes get of it.
 
-ghost use Rattle.std.specs.Prelude.{◌≡◌, ◌<◌, ◌+◌, ◌^◌, ◌∷◌, [], false, Some, None, is_some, option_map, IsSome, IfOk, OnOk, OnErr};
+ghost use Rattle.std.specs.Prelude.{◌≡◌, ◌<◌, ◌≤◌, ◌+◌, ◌^◌, ◌∷◌, [], false, Some, None, is_some, length, option_map, IsSome, IfOk, OnOk, OnErr};
 ghost use Rattle.std.specs.Option.{option_copied};
 ghost use Rattle.rex_state.specs.Machine.{lane_of, run};
 ghost use Rattle.rex_state.specs.Counts.{AreCounted};
@@ -9,15 +9,17 @@ ghost use Rattle.rex_safety.specs.Node.{role_name, lead_name};
 ghost use Rattle.rex_safety.specs.Calls.{begin};
 ghost use Rattle.rex_safety.specs.Lanes.{effect_of, live_state, submit_request, turned};
 ghost use Rattle.rex_safety.specs.Takes as takes;
-ghost use Rattle.rex_node.specs.Parts.{here_of, role_of, open_of, proposal_in, IsNode, StaysNode};
+ghost use Rattle.rex_log.specs.Log.{proposal_in};
+ghost use Rattle.rex_node.specs.Parts.{here_of, role_of, open_of, IsNode, StaysNode, count_of, knows};
 ghost use Rattle.rex_node.specs.Blocks.{take_each};
 ghost use Rattle.rex_node.specs.Calls.{Refuses, LeadsTo, if_up, if_active, refusal_active, turn_at};
 
 use crate::acting::Acting;
 use crate::refusal::Refusal;
-use rex_ballot::{Proposal, Value};
+use rex_ballot::Proposal;
 use rex_event::Event;
 use rex_gate::Answer;
+use rex_log::Past;
 use rex_paxos::{Acceptor, Proposer};
 use rex_record::Turn;
 use rex_replay::Replayer;
@@ -26,6 +28,7 @@ use rex_state::state::State;
 use rex_syntax::checked::Checked;
 use rex_syntax::request::Request;
 use rex_traits::Keeper;
+use rex_transfer::Window;
 use std::alloc::Global;
 use std::marker::Model;
 
@@ -41,8 +44,8 @@ pub struct Node<K: Keeper> {
     pub(crate) keeper: K,
     pub(crate) up: bool,
     pub(crate) acceptor: Acceptor,
-    /// The bytes of the known values.
-    pub(crate) known: Vec<Value>,
+    /// The bytes of the known values that the node holds.
+    pub(crate) known: Window,
     /// How many values the last checkpoint is after, and the state then.
     pub(crate) base: u32,
     pub(crate) start: State,
@@ -69,7 +72,8 @@ impl<K: Keeper> Model for Node<K> {
       keeper = n.keeper;
       up = n.up;
       acceptor = n.acceptor;
-      known = n.known.items;
+      offset = n.known.offset;
+      known = n.known.values;
       base = n.base;
       old_base = n.old_base;
       start = n.start;
@@ -103,10 +107,18 @@ impl<K: Keeper> Node<K> {
     }
 
     /// How many values the node knows.
-    pub fn known(&self) -> &[Value]
-        ensures { result.now ≡ self.now.known }
+    pub fn known(&self) -> u32
+        ensures { result ≡ count_of self.now }
     {
-        &self.known
+        self.known.known()
+    }
+
+    // The same, of all that it knows beside a past.
+    pub(crate) fn count<P: Past>(&self) -> u32
+        ensures known { result ≡ length (knows P.past self.now) }
+        ensures few { result ≤ 65535 }
+    {
+        self.known.known()
     }
 
     /// Whether the last checkpoint is in the old version.
@@ -149,15 +161,15 @@ impl<K: Keeper> Node<K> {
     }
 
     /// Answers a client's request, and queues it where it is due.
-    pub fn submit(&mut self, svc: &Checked, request: &Request) -> Result<Answer, Refusal>
-        requires node { IsNode K.records svc.now self.old }
+    pub fn submit<P: Past>(&mut self, svc: &Checked, request: &Request) -> Result<Answer, Refusal>
+        requires node { IsNode K.records svc.now P.past self.old }
         requires request { RequestFits svc.now request.now }
-        ensures refused { Refuses (refusal_active (here_of K.records svc.now self.old)) result }
-        ensures told { IfOk result (λ answer. effect_of request.now answer ∷ [] ≡ (submit_request svc.now (Some request.now) (begin (here_of K.records svc.now self.old))).effects) }
-        ensures node { OnOk result (LeadsTo (submit_request svc.now (Some request.now)) (here_of K.records svc.now self.old) (here_of K.records svc.now self.new)) }
+        ensures refused { Refuses (refusal_active (here_of K.records svc.now P.past self.old)) result }
+        ensures told { IfOk result (λ answer. effect_of request.now answer ∷ [] ≡ (submit_request svc.now (Some request.now) (begin (here_of K.records svc.now P.past self.old))).effects) }
+        ensures node { OnOk result (LeadsTo (submit_request svc.now (Some request.now)) (here_of K.records svc.now P.past self.old) (here_of K.records svc.now P.past self.new)) }
         ensures same { OnErr result (self.new ≡ self.old) }
         ensures keeper { self.new.keeper ≡ self.old.keeper }
-        ensures kept { StaysNode K.records svc.now self.old self.new }
+        ensures kept { StaysNode K.records svc.now P.past self.old self.new }
     {
         let _service = svc.declarations();
         if let Some(refusal) = self.active_refusal() {
@@ -171,16 +183,16 @@ impl<K: Keeper> Node<K> {
     }
 
     /// A lane's turn, where the clock reads this: the next event of the lane, or why it makes none.
-    pub fn lane(&mut self, svc: &Checked, lane: u8, now: i64) -> Result<Turn, Refusal>
-        requires node { IsNode K.records svc.now self.old }
+    pub fn lane<P: Past>(&mut self, svc: &Checked, lane: u8, now: i64) -> Result<Turn, Refusal>
+        requires node { IsNode K.records svc.now P.past self.old }
         requires there { lane < svc.now.lanes }
-        requires count { (lane_of (live_state svc.now (here_of K.records svc.now self.old)) lane).done + 1 < 2 ^ 32 }
-        ensures refused { Refuses (refusal_active (here_of K.records svc.now self.old)) result }
-        ensures told { IfOk result (λ turn. turn ≡ turn_at svc.now (here_of K.records svc.now self.old) lane now) }
-        ensures node { IfOk result (λ turn. LeadsTo (turned svc.now lane turn) (here_of K.records svc.now self.old) (here_of K.records svc.now self.new)) }
+        requires count { (lane_of (live_state svc.now (here_of K.records svc.now P.past self.old)) lane).done + 1 < 2 ^ 32 }
+        ensures refused { Refuses (refusal_active (here_of K.records svc.now P.past self.old)) result }
+        ensures told { IfOk result (λ turn. turn ≡ turn_at svc.now (here_of K.records svc.now P.past self.old) lane now) }
+        ensures node { IfOk result (λ turn. LeadsTo (turned svc.now lane turn) (here_of K.records svc.now P.past self.old) (here_of K.records svc.now P.past self.new)) }
         ensures same { OnErr result (self.new ≡ self.old) }
         ensures keeper { self.new.keeper ≡ self.old.keeper }
-        ensures kept { StaysNode K.records svc.now self.old self.new }
+        ensures kept { StaysNode K.records svc.now P.past self.old self.new }
     {
         let _service = svc.declarations();
         if let Some(refusal) = self.active_refusal() {
@@ -195,15 +207,15 @@ impl<K: Keeper> Node<K> {
 
     /// Takes an event that was made elsewhere among the live ones, where it is the next one of its lane: `Done`, `Full` or
     /// `Unfit`.
-    pub fn take_event(&mut self, svc: &Checked, event: &Event) -> Result<Turn, Refusal>
-        requires node { IsNode K.records svc.now self.old }
-        requires count { (lane_of (live_state svc.now (here_of K.records svc.now self.old)) event.now.lane).done + 1 < 2 ^ 32 }
-        ensures refused { Refuses (refusal_active (here_of K.records svc.now self.old)) result }
-        ensures told { IfOk result (λ turn. turn ≡ takes.taken_in svc.now (here_of K.records svc.now self.old) event.now) }
-        ensures node { IfOk result (λ turn. LeadsTo (takes.taken turn) (here_of K.records svc.now self.old) (here_of K.records svc.now self.new)) }
+    pub fn take_event<P: Past>(&mut self, svc: &Checked, event: &Event) -> Result<Turn, Refusal>
+        requires node { IsNode K.records svc.now P.past self.old }
+        requires count { (lane_of (live_state svc.now (here_of K.records svc.now P.past self.old)) event.now.lane).done + 1 < 2 ^ 32 }
+        ensures refused { Refuses (refusal_active (here_of K.records svc.now P.past self.old)) result }
+        ensures told { IfOk result (λ turn. turn ≡ takes.taken_in svc.now (here_of K.records svc.now P.past self.old) event.now) }
+        ensures node { IfOk result (λ turn. LeadsTo (takes.taken turn) (here_of K.records svc.now P.past self.old) (here_of K.records svc.now P.past self.new)) }
         ensures same { OnErr result (self.new ≡ self.old) }
         ensures keeper { self.new.keeper ≡ self.old.keeper }
-        ensures kept { StaysNode K.records svc.now self.old self.new }
+        ensures kept { StaysNode K.records svc.now P.past self.old self.new }
     {
         let _service = svc.declarations();
         if let Some(refusal) = self.active_refusal() {
@@ -219,21 +231,21 @@ impl<K: Keeper> Node<K> {
     /// Takes events that were made elsewhere among the live ones, as if they were handed in one after the other, where they run
     /// from the live state. The state after them comes from the replayer: where all are taken, no line of the service runs
     /// beside those that it runs.
-    pub fn take_block<R: Replayer>(
+    pub fn take_block<P: Past, R: Replayer>(
         &mut self,
         svc: &Checked,
         replayer: &mut R,
         events: &[Event],
     ) -> Result<(), Refusal>
-        requires node { IsNode K.records svc.now self.old }
-        requires runs { IsSome (run svc.now (live_state svc.now (here_of K.records svc.now self.old)) events.now) }
+        requires node { IsNode K.records svc.now P.past self.old }
+        requires runs { IsSome (run svc.now (live_state svc.now (here_of K.records svc.now P.past self.old)) events.now) }
         requires counted { AreCounted events.now }
         requires ready { R.ready replayer.old }
-        ensures refused { Refuses (refusal_active (here_of K.records svc.now self.old)) result }
-        ensures node { OnOk result (LeadsTo (take_each svc.now events.now) (here_of K.records svc.now self.old) (here_of K.records svc.now self.new)) }
+        ensures refused { Refuses (refusal_active (here_of K.records svc.now P.past self.old)) result }
+        ensures node { OnOk result (LeadsTo (take_each svc.now events.now) (here_of K.records svc.now P.past self.old) (here_of K.records svc.now P.past self.new)) }
         ensures same { OnErr result (self.new ≡ self.old) }
         ensures keeper { self.new.keeper ≡ self.old.keeper }
-        ensures kept { StaysNode K.records svc.now self.old self.new }
+        ensures kept { StaysNode K.records svc.now P.past self.old self.new }
         ensures ready { R.ready replayer.new }
     {
         let _service = svc.declarations();

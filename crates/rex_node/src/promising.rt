@@ -1,6 +1,6 @@
 //! What a node promises and accepts.
 
-ghost use Rattle.std.specs.Prelude.{◌≡◌, ◌<◌, ◌-◌, ◌∷◌, ◌^◌, true, is_some, IfOk, OnOk, OnErr};
+ghost use Rattle.std.specs.Prelude.{◌≡◌, ◌<◌, ◌-◌, ◌∷◌, ◌^◌, [], true, is_some, IfOk, OnOk, OnErr};
 ghost use Rattle.rex_ballot.specs.Ballot.{IsBallot, IsInstance};
 ghost use Rattle.rex_ballot.specs.Proposals.{IsValue, from_instance};
 ghost use Rattle.rex_paxos.specs.Acceptor.{answer_to_accept, accepting, promising};
@@ -9,7 +9,10 @@ ghost use Rattle.rex_msg.specs.declared.message.Content.TheVariants as sent;
 ghost use Rattle.rex_report.specs.declared.effect.Effect.TheVariants as effect;
 ghost use Rattle.rex_safety.specs.Calls as calls;
 ghost use Rattle.rex_safety.specs.Calls.{followed};
-ghost use Rattle.rex_node.specs.Parts.{IsNode, IsSame, leaving, role_of};
+ghost use Rattle.rex_node.specs.Parts.{IsNode, IsSame, here_of, leaving, role_of, whole};
+ghost use Rattle.rex_node.specs.Telling.{AreTold};
+ghost use Rattle.rex_safety.specs.Invariant.{Begins};
+ghost use Rattle.rex_safety.specs.Records as records;
 ghost use Rattle.rex_node.specs.Going.{Ends, IsStuck, Sends, Tells, answering};
 
 use crate::going::Going;
@@ -18,6 +21,7 @@ use crate::step::Draft;
 use crate::values::copied;
 use rex_ballot::copy_all;
 use rex_durable::Rec;
+use rex_log::Past;
 use rex_msg::{Content, Message};
 use rex_paxos::Asked;
 use rex_report::Effect;
@@ -27,7 +31,7 @@ use std::alloc::AllocError;
 
 impl<K: Keeper> Node<K> {
     /// A node asks for a promise to its ballot, and for what was accepted from an instance on.
-    pub(crate) fn on_prepare(
+    pub(crate) fn on_prepare<P: Past>(
         &mut self,
         svc: &Checked,
         draft: &mut Draft,
@@ -35,13 +39,15 @@ impl<K: Keeper> Node<K> {
         ballot: u64,
         first: u32,
     ) -> Result<Going, AllocError>
-        requires node { IsNode K.records svc.now self.old }
+        requires node { IsNode K.records svc.now P.past self.old }
         requires up { self.old.up ≡ true }
         requires ballot { IsBallot ballot }
         requires count { K.faults self.old.keeper < 2 ^ 64 - 1 }
-        ensures ends { IfOk result (Ends K.records K.append_gives K.faults svc.now (calls.on_prepare self.old.id from ballot first) self.old self.new draft.old draft.new) }
-        ensures stuck { OnErr result (IsStuck K.records svc.now self.old self.new) }
-        ensures same { IsSame self.old self.new }
+        requires past { Begins (records.known (here_of K.records svc.now P.past self.old).log) P.past }
+        ensures ends { IfOk result (Ends K.records K.append_gives K.faults svc.now P.past (calls.on_prepare self.old.id from ballot first) (whole P.past self.old) (whole P.past self.new) draft.old draft.new) }
+        ensures stuck { OnErr result (IsStuck K.records svc.now P.past (whole P.past self.old) (whole P.past self.new)) }
+        ensures tells { draft.old.sends.items ≡ [] → OnOk result (AreTold svc.now P.past draft.new.sends.items) }
+        ensures same { IsSame (whole P.past self.old) (whole P.past self.new) }
     {
         let _service = svc.declarations();
         let promised = self.acceptor.promised();
@@ -49,15 +55,19 @@ impl<K: Keeper> Node<K> {
             self.refuse(draft, from, ballot)?;
             return Ok(Going::On);
         }
+        if first <= self.known.offset() {
+            self.tell_base::<P>(svc, draft, from)?;
+            return Ok(Going::On);
+        }
         if promised < ballot {
-            return self.raise(svc, draft, from, ballot, first);
+            return self.raise::<P>(svc, draft, from, ballot, first);
         }
         self.promise(draft, from, ballot, first)?;
         Ok(Going::On)
     }
 
     /// A node proposes a value for an instance.
-    pub(crate) fn on_accept(
+    pub(crate) fn on_accept<P: Past>(
         &mut self,
         svc: &Checked,
         draft: &mut Draft,
@@ -66,15 +76,17 @@ impl<K: Keeper> Node<K> {
         instance: u32,
         value: &[u8],
     ) -> Result<Going, AllocError>
-        requires node { IsNode K.records svc.now self.old }
+        requires node { IsNode K.records svc.now P.past self.old }
         requires up { self.old.up ≡ true }
         requires ballot { IsBallot ballot }
         requires instance { IsInstance instance }
         requires value { IsValue value.now }
         requires count { K.faults self.old.keeper < 2 ^ 64 - 1 }
-        ensures ends { IfOk result (Ends K.records K.append_gives K.faults svc.now (calls.on_accept self.old.id from ballot instance value.now) self.old self.new draft.old draft.new) }
-        ensures stuck { OnErr result (IsStuck K.records svc.now self.old self.new) }
-        ensures same { IsSame self.old self.new }
+        requires past { Begins (records.known (here_of K.records svc.now P.past self.old).log) P.past }
+        ensures ends { IfOk result (Ends K.records K.append_gives K.faults svc.now P.past (calls.on_accept self.old.id from ballot instance value.now) (whole P.past self.old) (whole P.past self.new) draft.old draft.new) }
+        ensures stuck { OnErr result (IsStuck K.records svc.now P.past (whole P.past self.old) (whole P.past self.new)) }
+        ensures tells { draft.old.sends.items ≡ [] → OnOk result (AreTold svc.now P.past draft.new.sends.items) }
+        ensures same { IsSame (whole P.past self.old) (whole P.past self.new) }
     {
         let _service = svc.declarations();
         match self.acceptor.on_accept(ballot, instance) {
@@ -83,8 +95,12 @@ impl<K: Keeper> Node<K> {
                 Ok(Going::On)
             }
             Asked::Accept { fresh } => {
+                if instance <= self.known.offset() {
+                    self.tell_base::<P>(svc, draft, from)?;
+                    return Ok(Going::On);
+                }
                 if fresh {
-                    return self.accept(svc, draft, from, ballot, instance, value);
+                    return self.accept::<P>(svc, draft, from, ballot, instance, value);
                 }
                 self.vote(draft, from, ballot, instance)?;
                 Ok(Going::On)
@@ -93,7 +109,7 @@ impl<K: Keeper> Node<K> {
     }
 
     // Raises the promise to a ballot, and promises it.
-    fn raise(
+    fn raise<P: Past>(
         &mut self,
         svc: &Checked,
         draft: &mut Draft,
@@ -101,21 +117,23 @@ impl<K: Keeper> Node<K> {
         ballot: u64,
         first: u32,
     ) -> Result<Going, AllocError>
-        requires node { IsNode K.records svc.now self.old }
+        requires node { IsNode K.records svc.now P.past self.old }
         requires up { self.old.up ≡ true }
         requires ballot { IsBallot ballot }
+        requires late { self.old.offset < first }
         requires above { self.old.acceptor.promised < ballot }
         requires count { K.faults self.old.keeper < 2 ^ 64 - 1 }
-        ensures ends { IfOk result (Ends K.records K.append_gives K.faults svc.now (calls.on_prepare self.old.id from ballot first) self.old self.new draft.old draft.new) }
-        ensures stuck { OnErr result (IsStuck K.records svc.now self.old self.new) }
-        ensures same { IsSame self.old self.new }
+        ensures ends { IfOk result (Ends K.records K.append_gives K.faults svc.now P.past (calls.on_prepare self.old.id from ballot first) (whole P.past self.old) (whole P.past self.new) draft.old draft.new) }
+        ensures stuck { OnErr result (IsStuck K.records svc.now P.past (whole P.past self.old) (whole P.past self.new)) }
+        ensures tells { draft.old.sends.items ≡ [] → OnOk result (AreTold svc.now P.past draft.new.sends.items) }
+        ensures same { IsSame (whole P.past self.old) (whole P.past self.new) }
     {
         let _service = svc.declarations();
         let rec = Rec::Promised { ballot };
-        match self.append(draft, &rec)? {
+        match self.append::<P>(draft, &rec)? {
             Going::Down => Ok(Going::Down),
             Going::On => {
-                self.raised(draft, ballot)?;
+                self.raised::<P>(draft, ballot)?;
                 self.promise(draft, from, ballot, first)?;
                 Ok(Going::On)
             }
@@ -123,7 +141,7 @@ impl<K: Keeper> Node<K> {
     }
 
     // Accepts a value for an instance.
-    fn accept(
+    fn accept<P: Past>(
         &mut self,
         svc: &Checked,
         draft: &mut Draft,
@@ -132,16 +150,18 @@ impl<K: Keeper> Node<K> {
         instance: u32,
         value: &[u8],
     ) -> Result<Going, AllocError>
-        requires node { IsNode K.records svc.now self.old }
+        requires node { IsNode K.records svc.now P.past self.old }
         requires up { self.old.up ≡ true }
         requires ballot { IsBallot ballot }
         requires instance { IsInstance instance }
         requires value { IsValue value.now }
+        requires late { self.old.offset < instance }
         requires fresh { answer_to_accept self.old.acceptor ballot instance ≡ asked.Accept true }
         requires count { K.faults self.old.keeper < 2 ^ 64 - 1 }
-        ensures ends { IfOk result (Ends K.records K.append_gives K.faults svc.now (calls.on_accept self.old.id from ballot instance value.now) self.old self.new draft.old draft.new) }
-        ensures stuck { OnErr result (IsStuck K.records svc.now self.old self.new) }
-        ensures same { IsSame self.old self.new }
+        ensures ends { IfOk result (Ends K.records K.append_gives K.faults svc.now P.past (calls.on_accept self.old.id from ballot instance value.now) (whole P.past self.old) (whole P.past self.new) draft.old draft.new) }
+        ensures stuck { OnErr result (IsStuck K.records svc.now P.past (whole P.past self.old) (whole P.past self.new)) }
+        ensures tells { draft.old.sends.items ≡ [] → OnOk result (AreTold svc.now P.past draft.new.sends.items) }
+        ensures same { IsSame (whole P.past self.old) (whole P.past self.new) }
     {
         let _service = svc.declarations();
         let rec = Rec::Accepted {
@@ -149,10 +169,10 @@ impl<K: Keeper> Node<K> {
             instance,
             value: copied(self.alloc, value)?,
         };
-        match self.append(draft, &rec)? {
+        match self.append::<P>(draft, &rec)? {
             Going::Down => Ok(Going::Down),
             Going::On => {
-                self.accepted(draft, ballot, instance, value)?;
+                self.accepted::<P>(draft, ballot, instance, value)?;
                 self.vote(draft, from, ballot, instance)?;
                 Ok(Going::On)
             }
@@ -160,33 +180,33 @@ impl<K: Keeper> Node<K> {
     }
 
     // The promise is written down, and the node is a follower.
-    fn raised(&mut self, draft: &mut Draft, ballot: u64) -> Result<(), AllocError>
-        ensures raised { OnOk result (self.new ≡ record (leaving self.old) { acceptor = promising self.old.acceptor ballot }) }
+    fn raised<P: Past>(&mut self, draft: &mut Draft, ballot: u64) -> Result<(), AllocError>
+        ensures raised { OnOk result (whole P.past self.new ≡ record (leaving (whole P.past self.old)) { acceptor = promising self.old.acceptor ballot }) }
         ensures told { OnOk result (Tells draft.old draft.new (effect.Promised self.old.id ballot ∷ followed self.old.id (role_of self.old.acceptor self.old.proposer (is_some self.old.acting)))) }
         ensures keeper { self.new.keeper ≡ self.old.keeper }
         ensures base { self.new.base ≡ self.old.base }
-        ensures same { IsSame self.old self.new }
+        ensures same { IsSame (whole P.past self.old) (whole P.past self.new) }
     {
         let node = self.id;
         draft.tell(Effect::Promised { node, ballot })?;
-        self.leave(draft)?;
+        self.leave::<P>(draft)?;
         self.acceptor.on_prepare(ballot);
         Ok(())
     }
 
     // The acceptance is written down, and the node is a follower.
-    fn accepted(
+    fn accepted<P: Past>(
         &mut self,
         draft: &mut Draft,
         ballot: u64,
         instance: u32,
         value: &[u8],
     ) -> Result<(), AllocError>
-        ensures accepted { OnOk result (self.new ≡ record (leaving self.old) { acceptor = accepting self.old.acceptor (record { instance = instance; ballot = ballot; value = value.now }) }) }
+        ensures accepted { OnOk result (whole P.past self.new ≡ record (leaving (whole P.past self.old)) { acceptor = accepting self.old.acceptor (record { instance = instance; ballot = ballot; value = value.now }) }) }
         ensures told { OnOk result (Tells draft.old draft.new (effect.Accepted self.old.id ballot instance ∷ followed self.old.id (role_of self.old.acceptor self.old.proposer (is_some self.old.acting)))) }
         ensures keeper { self.new.keeper ≡ self.old.keeper }
         ensures base { self.new.base ≡ self.old.base }
-        ensures same { IsSame self.old self.new }
+        ensures same { IsSame (whole P.past self.old) (whole P.past self.new) }
     {
         let node = self.id;
         draft.tell(Effect::Accepted {
@@ -194,7 +214,7 @@ impl<K: Keeper> Node<K> {
             ballot,
             instance,
         })?;
-        self.leave(draft)?;
+        self.leave::<P>(draft)?;
         self.acceptor.set_accepted(ballot, instance, value)
     }
 

@@ -10,7 +10,8 @@ ghost use Rattle.rex_safety.specs.Calls as calls;
 ghost use Rattle.rex_safety.specs.Lanes as lanes;
 ghost use Rattle.rex_safety.specs.Values.{service_of, trace_of};
 ghost use Rattle.rex_node.specs.Parts as parts;
-ghost use Rattle.rex_node.specs.Parts.{here_of, open_of, proposal_in, role_of, IsKept, IsNode, StaysNode};
+ghost use Rattle.rex_log.specs.Log.{proposal_in};
+ghost use Rattle.rex_node.specs.Parts.{here_of, open_of, role_of, IsKept, IsNode, StaysNode, knows, whole};
 ghost use Rattle.rex_node.specs.Calls.{AreLimits, CanBeCut, Does, EndsDown, Leaves, Refuses, RefusesThen, counts_for, if_active, if_up, refusal_of_lead, refusal_of_none, refusal_of_open, refusal_of_cut, refusal_of_checkpoint, refusal_of_replay};
 
 use crate::node::Node;
@@ -18,6 +19,7 @@ use crate::refusal::Refusal;
 use crate::step::Step;
 use crate::values::replay_values;
 use rex_list::List;
+use rex_log::Past;
 use rex_replay::Replayer;
 use rex_report::Effect;
 use rex_state::state::State;
@@ -27,19 +29,23 @@ use std::alloc::AllocError;
 
 impl<K: Keeper> Node<K> {
     /// Replays what the node knows and hasn't replayed yet.
-    pub fn replay<R: Replayer>(&mut self, svc: &Checked, replayer: &mut R) -> Result<Step, Refusal>
-        requires node { IsNode K.records svc.now self.old }
+    pub fn replay<P: Past, R: Replayer>(
+        &mut self,
+        svc: &Checked,
+        replayer: &mut R,
+    ) -> Result<Step, Refusal>
+        requires node { IsNode K.records svc.now P.past self.old }
         requires ready { R.ready replayer.old }
-        ensures refused { Refuses (refusal_of_replay (here_of K.records svc.now self.old)) result }
-        ensures told { IfOk result (Does K.records K.append_gives K.faults svc.now (calls.replay self.old.id) self.old self.new) }
+        ensures refused { Refuses (refusal_of_replay (here_of K.records svc.now P.past self.old)) result }
+        ensures told { IfOk result (Does K.records K.append_gives K.faults svc.now P.past (calls.replay self.old.id) self.old self.new) }
         ensures same { OnErr result (self.new ≡ self.old) }
-        ensures kept { StaysNode K.records svc.now self.old self.new }
+        ensures kept { StaysNode K.records svc.now P.past self.old self.new }
         ensures ready { R.ready replayer.new }
     {
         if !self.up {
             return Err(Refusal::Down);
         }
-        let known = self.known.len() as u32;
+        let known = self.count::<P>();
         if self.acting.is_some() || self.replayed == known {
             return Err(Refusal::UpToDate);
         }
@@ -49,7 +55,7 @@ impl<K: Keeper> Node<K> {
             node,
             deltas: known,
         })?;
-        let state = self.replayed_state(svc, replayer)?;
+        let state = self.replayed_state::<P, R>(svc, replayer)?;
         self.ahead = Some(state);
         self.replayed = known;
         Ok(Step {
@@ -59,21 +65,21 @@ impl<K: Keeper> Node<K> {
     }
 
     // The state after all that the node knows, from the one that it has replayed.
-    pub(crate) fn replayed_state<R: Replayer>(
+    pub(crate) fn replayed_state<P: Past, R: Replayer>(
         &self,
         svc: &Checked,
         replayer: &mut R,
     ) -> Result<State, AllocError>
-        requires node { IsKept K.records svc.now self.now }
+        requires node { IsKept K.records svc.now P.past (whole P.past self.now) }
         requires up { self.now.up ≡ true }
         requires acting { self.now.acting ≡ None }
         requires ready { R.ready replayer.old }
-        ensures runs { IfOk result (λ s. run svc.now (start_of svc.now) (trace_of self.now.known) ≡ Some s) }
+        ensures runs { IfOk result (λ s. run svc.now (start_of svc.now) (trace_of (knows P.past self.now)) ≡ Some s) }
         ensures ready { R.ready replayer.new }
     {
         let _service = svc.declarations();
         let from = ahead_of(&self.ahead, &self.start);
-        let rest = &self.known[self.replayed as usize..];
+        let rest = self.known.after(self.replayed);
         replay_values(self.alloc, svc, replayer, from, rest)
     }
 }

@@ -6,20 +6,23 @@ ghost use Rattle.rex_ballot.specs.Limits.{most_nodes};
 ghost use Rattle.rex_snapshot.specs.Reading.{state_in};
 ghost use Rattle.rex_safety.specs.Records.{known};
 ghost use Rattle.rex_safety.specs.Values.{spells, values_fit};
-ghost use Rattle.rex_node.specs.Parts.{AreRead, IsNode, log_of};
+ghost use Rattle.rex_log.specs.Log.{AreRead, log_of};
+ghost use Rattle.rex_node.specs.Parts.{IsNode};
+ghost use Rattle.rex_node.specs.Stated.{AreStated};
 ghost use Rattle.rex_node.specs.declared.restart.RestartFault.TheVariants.{OutOfMemory};
-ghost use Rattle.rex_node.specs.Restarting.{CameUp, HasRightBase, IsFound, IsRecalled, IsRestartFault, IsSaved, is_saved_old};
+ghost use Rattle.rex_node.specs.Restarting.{CameUp, HasForgotten, HasRightBase, IsFound, IsRecalled, IsRestartFault, IsSaved};
 
-use crate::checkpointing::is_old;
-use crate::contents::{Place, first_bad};
+use crate::contents::{Place, ends_old, first_bad};
 use crate::node::Node;
 use rex_ballot::Proposals;
 use rex_durable::{RecoverFault, Recovered, recover};
+use rex_log::Past;
 use rex_paxos::Acceptor;
-use rex_snapshot::{DecodeError, decode, version_in};
+use rex_snapshot::{DecodeError, decode};
 use rex_state::state::State;
 use rex_syntax::checked::Checked;
 use rex_traits::Keeper;
+use rex_transfer::Window;
 use std::alloc::{AllocError, Global};
 
 /// Why a node doesn't come up.
@@ -46,7 +49,7 @@ pub struct NotStarted<K> {
     pub fault: RestartFault,
 }
 
-// What a node's records say of it, and its state at its last checkpoint.
+// What a node's records say of it, and its state at its base.
 #[derive(Drop)]
 struct Recalled {
     recovered: Recovered,
@@ -56,11 +59,11 @@ struct Recalled {
 }
 
 impl<K: Keeper> Node<K> {
-    /// A node comes up with what its keeper has, and with nothing else: as a follower that has replayed what its last
-    /// checkpoint is after, whose snapshot alone of all is read. The nodes are numbered from 1. A record is bad whose bytes
-    /// spell none, or that holds a known value which spells no delta, or as the last checkpoint a snapshot which spells no
-    /// state of the service.
-    pub fn restart(
+    /// A node comes up with what its keeper has, and with nothing else: as a follower that has replayed the values up to its base,
+    /// that of its last checkpoint or of the state that it took over last, whose snapshot alone of all is read. The nodes are
+    /// numbered from 1. A record is bad whose bytes spell none, that holds a known value above the offset which spells no delta,
+    /// or that is the last one with a snapshot, which spells no state of the service.
+    pub fn restart<P: Past>(
         alloc: Global,
         id: u8,
         nodes: u8,
@@ -70,11 +73,11 @@ impl<K: Keeper> Node<K> {
     ) -> Result<Node<K>, NotStarted<K>>
         requires there { (0 < id) × (id ≤ nodes) }
         requires few { nodes ≤ most_nodes }
-        ensures up { IfOk result (CameUp K.records svc.now id nodes seed keeper) }
-        ensures kept { values_fit svc.now (known (log_of svc.now (K.records keeper))) ≡ true → HasRightBase svc.now (log_of svc.now (K.records keeper)) → IfOk result (IsNode K.records svc.now) }
+        ensures up { IfOk result (CameUp K.records svc.now P.past id nodes seed keeper) }
+        ensures kept { values_fit svc.now (known (log_of svc.now P.past (K.records keeper))) ≡ true → HasRightBase svc.now (log_of svc.now P.past (K.records keeper)) → HasForgotten P.past (log_of svc.now P.past (K.records keeper)) → IfOk result (IsNode K.records svc.now P.past) }
         ensures back { IfErr result (λ e. e.keeper ≡ keeper) }
         ensures fault { IfErr result (λ e. IsRestartFault svc.now (K.records keeper) e.fault) }
-        ensures read { AreRead svc.now (K.records keeper) → list_all (spells svc.now) (known (log_of svc.now (K.records keeper))) ≡ true → IfErr result (λ e. e.fault ≡ OutOfMemory) }
+        ensures read { AreRead svc.now P.past (K.records keeper) → AreStated svc.now (K.records keeper) → list_all (spells svc.now) (known (log_of svc.now P.past (K.records keeper))) ≡ true → IfErr result (λ e. e.fault ≡ OutOfMemory) }
     {
         match recall(alloc, svc, &keeper) {
             Err(fault) => Err(NotStarted { keeper, fault }),
@@ -95,7 +98,7 @@ impl<K: Keeper> Node<K> {
                     recovered.promised,
                     Proposals::from_list(recovered.accepted),
                 ),
-                known: recovered.known.into_vec(),
+                known: Window::from_list(recovered.offset, recovered.known),
                 base: recovered.base,
                 start,
                 old_base,
@@ -108,14 +111,14 @@ impl<K: Keeper> Node<K> {
     }
 }
 
-// What a keeper's records say of its node, with the state at its last checkpoint.
+// What a keeper's records say of its node, with the state at its base.
 fn recall<K: Keeper>(alloc: Global, svc: &Checked, keeper: &K) -> Result<Recalled, RestartFault>
     ensures recalled { IfOk result (λ r. IsRecalled svc.now (K.records keeper.now) r.recovered r.start r.old_base) }
     ensures fault { IfErr result (IsRestartFault svc.now (K.records keeper.now)) }
 {
     let recovered = read(alloc, svc, keeper)?;
     let start = saved_state(alloc, svc, &recovered)?;
-    let old_base = is_saved_old(&recovered);
+    let old_base = ends_old(keeper);
     Ok(Recalled {
         recovered,
         start,
@@ -129,7 +132,7 @@ fn read<K: Keeper>(alloc: Global, svc: &Checked, keeper: &K) -> Result<Recovered
     ensures fault { IfErr result (IsRestartFault svc.now (K.records keeper.now)) }
 {
     match recover(alloc, keeper) {
-        Ok(recovered) => match first_bad(alloc, svc, keeper)? {
+        Ok(recovered) => match first_bad(alloc, svc, keeper, recovered.offset)? {
             None => Ok(recovered),
             Some(Place { number, at }) => Err(RestartFault::BadRecord { number, at }),
         },
@@ -138,17 +141,7 @@ fn read<K: Keeper>(alloc: Global, svc: &Checked, keeper: &K) -> Result<Recovered
     }
 }
 
-// Whether the last checkpoint, if there is one, is in the old version.
-fn is_saved_old(recovered: &Recovered) -> bool
-    ensures { result ≡ is_saved_old recovered.now.snapshot }
-{
-    match &recovered.snapshot {
-        None => false,
-        Some(snapshot) => is_old(version_in(snapshot.as_slice())),
-    }
-}
-
-// The state at the last checkpoint; without one, the start.
+// The state at the base; without one, the start.
 fn saved_state(alloc: Global, svc: &Checked, recovered: &Recovered) -> Result<State, RestartFault>
     requires { (s : List ℕ) → recovered.now.snapshot ≡ Some s → IsOk (state_in svc.now s) }
     ensures saved { IfOk result (IsSaved svc.now recovered.now.snapshot) }

@@ -2,7 +2,7 @@
 
 ghost use Rattle.std.specs.Prelude.{◌≡◌, ◌<◌, ◌≤◌, ◌-◌, ◌^◌, length, IfOk, OnErr};
 ghost use Rattle.rex_durable.specs.Spelling.{HasSpelling, record_bytes};
-ghost use Rattle.rex_node.specs.Parts.{fallen, IsSame, Stands, Writes};
+ghost use Rattle.rex_node.specs.Parts.{fallen, IsSame, Stands, Writes, whole};
 ghost use Rattle.rex_node.specs.Going.{Appends, Finishes};
 
 use crate::going::Going;
@@ -10,35 +10,40 @@ use crate::node::Node;
 use crate::refusal::Refusal;
 use crate::step::{Draft, Step};
 use rex_durable::Rec;
+use rex_log::Past;
 use rex_report::Effect;
 use rex_traits::{KeepFault, Keeper};
 use std::alloc::AllocError;
 
 impl<K: Keeper> Node<K> {
     /// Appends a record. Where the keeper fails the node is down.
-    pub(crate) fn write(&mut self, rec: &Rec) -> Result<(), KeepFault>
+    pub(crate) fn write<P: Past>(&mut self, rec: &Rec) -> Result<(), KeepFault>
         requires count { K.faults self.old.keeper < 2 ^ 64 - 1 }
         requires spelling { HasSpelling rec.now }
-        ensures { Writes K.records K.faults K.append_gives self.old self.new (record_bytes rec.now) result }
+        ensures { Writes K.records K.faults K.append_gives (whole P.past self.old) (whole P.past self.new) (record_bytes rec.now) result }
     {
         let written = rex_durable::append(self.alloc, &mut self.keeper, rec);
         if let Err(KeepFault::Failed) = written {
-            self.fall();
+            self.fall::<P>();
         }
         written
     }
 
     /// Appends a record, and the call goes on; or the keeper fails, and the node is down with nothing sent.
-    pub(crate) fn append(&mut self, draft: &mut Draft, rec: &Rec) -> Result<Going, AllocError>
+    pub(crate) fn append<P: Past>(
+        &mut self,
+        draft: &mut Draft,
+        rec: &Rec,
+    ) -> Result<Going, AllocError>
         requires count { K.faults self.old.keeper < 2 ^ 64 - 1 }
         requires spelling { HasSpelling rec.now }
-        ensures appends { IfOk result (Appends K.records K.faults K.append_gives self.old self.new draft.old draft.new (record_bytes rec.now)) }
-        ensures stands { OnErr result (Stands K.records self.old self.new) }
-        ensures same { IsSame self.old self.new }
+        ensures appends { IfOk result (Appends K.records K.faults K.append_gives (whole P.past self.old) (whole P.past self.new) draft.old draft.new (record_bytes rec.now)) }
+        ensures stands { OnErr result (Stands K.records (whole P.past self.old) (whole P.past self.new)) }
+        ensures same { IsSame (whole P.past self.old) (whole P.past self.new) }
     {
         let node = self.id;
         draft.effects.push(Effect::Down { node })?;
-        match self.write(rec) {
+        match self.write::<P>(rec) {
             Ok(()) => {
                 draft.effects.pop();
                 Ok(Going::On)
@@ -52,8 +57,8 @@ impl<K: Keeper> Node<K> {
     }
 
     /// The node is down from here on.
-    pub(crate) fn fall(&mut self)
-        ensures { self.new ≡ fallen self.old }
+    pub(crate) fn fall<P: Past>(&mut self)
+        ensures { whole P.past self.new ≡ fallen (whole P.past self.old) }
     {
         self.up = false;
         self.replayed = self.base;
@@ -64,19 +69,19 @@ impl<K: Keeper> Node<K> {
 
     /// Ends a call that came to this, where the keeper had so many records before it: where memory was short after an append
     /// the node is down.
-    pub(crate) fn finish(
+    pub(crate) fn finish<P: Past>(
         &mut self,
         before: usize,
         draft: Draft,
         end: Result<Going, AllocError>,
     ) -> Result<Step, Refusal>
-        ensures { Finishes K.records before draft end self.old self.new result }
+        ensures { Finishes K.records before draft end (whole P.past self.old) (whole P.past self.new) result }
     {
         match end {
             Ok(_) => Ok(draft.done()),
             Err(_) => {
                 if self.keeper.len() > before {
-                    self.fall();
+                    self.fall::<P>();
                 }
                 Err(Refusal::OutOfMemory)
             }

@@ -2,35 +2,35 @@ use Rattle.std.proofs.Common.{ℕ, [], ◌∷◌, Err, sym, ap, subst, ◌∙◌
 use Rattle.rex_durable.specs.Spelling.{record_bytes}
 use Rattle.rex_report.specs.declared.effect.Effect.TheVariants as effect
 use Rattle.rex_node.specs.Checkpointing.{IsCheckpoint, SavesOr}
-use Rattle.rex_node.specs.Parts.{NodeValue}
+use Rattle.rex_node.specs.Parts.{NodeValue, whole}
 use Rattle.rex_node.proofs.Saved.{fell_does, replayed_limited, replayed_sound_now, saved_does, saved_stays, spelling}
 use Rattle.rex_node.proofs.node.Node.checkpoint_in.Goals as goal
 
 pub record_of-requires-clause-sound : goal.record_of-requires-clause-sound
 record_of-requires-clause-sound g c =
-    replayed_sound_now g.K.Keeper.records c.args.svc.now c.args.self.now c.requires.node (sym c.checkpoint_refusal.ensures ∙ c.in_default.is) c.in_ok-state.state
+    replayed_sound_now g.K.Keeper.records c.args.svc.now g.P.Past.past (whole g.P.Past.past c.args.self.now) c.requires.node (sym c.checkpoint_refusal.ensures ∙ c.in_default.is) c.in_ok-state.state
     (c.in_ok-state.ensures ∙ c.state_to_save.ensures) c.declarations-service.ensures.sound c.declarations-service.ensures.checked
 
 pub record_of-requires-clause-limited : goal.record_of-requires-clause-limited
 record_of-requires-clause-limited g c =
-    replayed_limited g.K.Keeper.records c.args.svc.now c.args.self.now c.requires.node (sym c.checkpoint_refusal.ensures ∙ c.in_default.is) c.in_ok-state.state
+    replayed_limited g.K.Keeper.records c.args.svc.now g.P.Past.past (whole g.P.Past.past c.args.self.now) c.requires.node (sym c.checkpoint_refusal.ensures ∙ c.in_default.is) c.in_ok-state.state
     (c.in_ok-state.ensures ∙ c.state_to_save.ensures) c.declarations-service.ensures.sound c.declarations-service.ensures.checked
 
 pub save-requires-clause-spelling : goal.save-requires-clause-spelling
 save-requires-clause-spelling g c =
-    spelling g.K.Keeper.records g.K.Keeper.append_gives g.K.Keeper.faults c.args.svc.now c.args.self.now c.requires.node (sym c.checkpoint_refusal.ensures ∙ c.in_default.is) c.args.version c.in_ok-state.state (c.in_ok-state.ensures ∙ c.state_to_save.ensures) c.in_ok-rec.rec (subst (λ (n : ℕ). IsCheckpoint c.args.svc.now c.args.version n c.in_ok-state.state c.in_ok-rec.rec) (ap (λ (x : NodeValue _). x.replayed) c.self.view_is) c.in_ok-rec.ensures)
+    spelling g.K.Keeper.records g.K.Keeper.append_gives g.K.Keeper.faults c.args.svc.now g.P.Past.past (whole g.P.Past.past c.args.self.now) c.requires.node (sym c.checkpoint_refusal.ensures ∙ c.in_default.is) c.args.version c.in_ok-state.state (c.in_ok-state.ensures ∙ c.state_to_save.ensures) c.in_ok-rec.rec (subst (λ (n : ℕ). IsCheckpoint c.args.svc.now c.args.version n c.in_ok-state.state c.in_ok-rec.rec) (ap (λ (x : NodeValue _). x.replayed) c.self.view_is) c.in_ok-rec.ensures)
 
 pub returns-in-Ok-clause-told : goal.returns-in-Ok-clause-told
 returns-in-Ok-clause-told g c =
-    saved_does g.K.Keeper.records g.K.Keeper.append_gives g.K.Keeper.faults c.args.svc.now c.args.self.now c.requires.node (sym c.checkpoint_refusal.ensures ∙ c.in_default.is) c.args.version c.in_ok-state.state (c.in_ok-state.ensures ∙ c.state_to_save.ensures) c.in_ok-rec.rec (subst (λ (n : ℕ). IsCheckpoint c.args.svc.now c.args.version n c.in_ok-state.state c.in_ok-rec.rec) (ap (λ (x : NodeValue _). x.replayed) c.self.view_is) c.in_ok-rec.ensures)
-    c.save.new.self (record { effects = c.in_ok-saved.saved; sends = c.new-sends.result }) c.new-sends.ensures (subst (SavesOr g.K.Keeper.records g.K.Keeper.faults g.K.Keeper.append_gives c.args.version c.args.self.now c.save.new.self c.in_ok-state.state (record_bytes c.in_ok-rec.rec)) c.in-Ok.is c.save.ensures) (c.in_ok-saved.ensures ∙ ap (λ (x : NodeValue _). effect.Checkpointed x.id x.replayed ∷ []) c.self.view_is)
+    saved_does g.K.Keeper.records g.K.Keeper.append_gives g.K.Keeper.faults c.args.svc.now g.P.Past.past (whole g.P.Past.past c.args.self.now) c.requires.node (sym c.checkpoint_refusal.ensures ∙ c.in_default.is) c.args.version c.in_ok-state.state (c.in_ok-state.ensures ∙ c.state_to_save.ensures) c.in_ok-rec.rec (subst (λ (n : ℕ). IsCheckpoint c.args.svc.now c.args.version n c.in_ok-state.state c.in_ok-rec.rec) (ap (λ (x : NodeValue _). x.replayed) c.self.view_is) c.in_ok-rec.ensures)
+    (whole g.P.Past.past c.save.new.self) (record { effects = c.in_ok-saved.saved; sends = c.new-sends.result }) c.new-sends.ensures (subst (SavesOr g.K.Keeper.records g.K.Keeper.faults g.K.Keeper.append_gives c.args.version (whole g.P.Past.past c.args.self.now) (whole g.P.Past.past c.save.new.self) c.in_ok-state.state (record_bytes c.in_ok-rec.rec)) c.in-Ok.is c.save.ensures) (c.in_ok-saved.ensures ∙ ap (λ (x : NodeValue _). effect.Checkpointed x.id x.replayed ∷ []) c.self.view_is)
 
 pub returns-in-Ok-clause-kept : goal.returns-in-Ok-clause-kept
 returns-in-Ok-clause-kept g c =
-    saved_stays g.K.Keeper.records g.K.Keeper.append_gives g.K.Keeper.faults c.args.svc.now c.args.self.now c.requires.node (sym c.checkpoint_refusal.ensures ∙ c.in_default.is) c.args.version c.in_ok-state.state (c.in_ok-state.ensures ∙ c.state_to_save.ensures) c.in_ok-rec.rec (subst (λ (n : ℕ). IsCheckpoint c.args.svc.now c.args.version n c.in_ok-state.state c.in_ok-rec.rec) (ap (λ (x : NodeValue _). x.replayed) c.self.view_is) c.in_ok-rec.ensures)
-    c.save.new.self (record { effects = c.in_ok-saved.saved; sends = c.new-sends.result }) c.new-sends.ensures (subst (SavesOr g.K.Keeper.records g.K.Keeper.faults g.K.Keeper.append_gives c.args.version c.args.self.now c.save.new.self c.in_ok-state.state (record_bytes c.in_ok-rec.rec)) c.in-Ok.is c.save.ensures) (c.in_ok-saved.ensures ∙ ap (λ (x : NodeValue _). effect.Checkpointed x.id x.replayed ∷ []) c.self.view_is)
+    saved_stays g.K.Keeper.records g.K.Keeper.append_gives g.K.Keeper.faults c.args.svc.now g.P.Past.past (whole g.P.Past.past c.args.self.now) c.requires.node (sym c.checkpoint_refusal.ensures ∙ c.in_default.is) c.args.version c.in_ok-state.state (c.in_ok-state.ensures ∙ c.state_to_save.ensures) c.in_ok-rec.rec (subst (λ (n : ℕ). IsCheckpoint c.args.svc.now c.args.version n c.in_ok-state.state c.in_ok-rec.rec) (ap (λ (x : NodeValue _). x.replayed) c.self.view_is) c.in_ok-rec.ensures)
+    (whole g.P.Past.past c.save.new.self) (record { effects = c.in_ok-saved.saved; sends = c.new-sends.result }) c.new-sends.ensures (subst (SavesOr g.K.Keeper.records g.K.Keeper.faults g.K.Keeper.append_gives c.args.version (whole g.P.Past.past c.args.self.now) (whole g.P.Past.past c.save.new.self) c.in_ok-state.state (record_bytes c.in_ok-rec.rec)) c.in-Ok.is c.save.ensures) (c.in_ok-saved.ensures ∙ ap (λ (x : NodeValue _). effect.Checkpointed x.id x.replayed ∷ []) c.self.view_is)
 
 pub returns-in-Err-Failed-clause-told : goal.returns-in-Err-Failed-clause-told
 returns-in-Err-Failed-clause-told g c =
-    fell_does g.K.Keeper.records g.K.Keeper.append_gives g.K.Keeper.faults c.args.svc.now c.args.self.now c.requires.node (sym c.checkpoint_refusal.ensures ∙ c.in_default.is) c.args.version c.in_ok-state.state (c.in_ok-state.ensures ∙ c.state_to_save.ensures) c.in_ok-rec.rec (subst (λ (n : ℕ). IsCheckpoint c.args.svc.now c.args.version n c.in_ok-state.state c.in_ok-rec.rec) (ap (λ (x : NodeValue _). x.replayed) c.self.view_is) c.in_ok-rec.ensures)
-    c.save.new.self (record { effects = c.in_ok-down.down; sends = c.new-sends.result }) c.new-sends.ensures (subst (SavesOr g.K.Keeper.records g.K.Keeper.faults g.K.Keeper.append_gives c.args.version c.args.self.now c.save.new.self c.in_ok-state.state (record_bytes c.in_ok-rec.rec)) (c.in-Err-Failed.is ∙ ap Err c.in-Err-Failed.field-0-is) c.save.ensures) (c.in_ok-down.ensures ∙ ap (λ (x : NodeValue _). effect.Down x.id ∷ []) c.self.view_is)
+    fell_does g.K.Keeper.records g.K.Keeper.append_gives g.K.Keeper.faults c.args.svc.now g.P.Past.past (whole g.P.Past.past c.args.self.now) c.requires.node (sym c.checkpoint_refusal.ensures ∙ c.in_default.is) c.args.version c.in_ok-state.state (c.in_ok-state.ensures ∙ c.state_to_save.ensures) c.in_ok-rec.rec (subst (λ (n : ℕ). IsCheckpoint c.args.svc.now c.args.version n c.in_ok-state.state c.in_ok-rec.rec) (ap (λ (x : NodeValue _). x.replayed) c.self.view_is) c.in_ok-rec.ensures)
+    (whole g.P.Past.past c.save.new.self) (record { effects = c.in_ok-down.down; sends = c.new-sends.result }) c.new-sends.ensures (subst (SavesOr g.K.Keeper.records g.K.Keeper.faults g.K.Keeper.append_gives c.args.version (whole g.P.Past.past c.args.self.now) (whole g.P.Past.past c.save.new.self) c.in_ok-state.state (record_bytes c.in_ok-rec.rec)) (c.in-Err-Failed.is ∙ ap Err c.in-Err-Failed.field-0-is) c.save.ensures) (c.in_ok-down.ensures ∙ ap (λ (x : NodeValue _). effect.Down x.id ∷ []) c.self.view_is)

@@ -1,36 +1,46 @@
 use Rattle.std.proofs.Common.{ap, sym, ◌∙◌, length}
-use Rattle.rex_safety.specs.Calls.{elect}
+use Rattle.rex_safety.specs.Calls.{begin, elect}
+use Rattle.rex_safety.proofs.TellNone.{elect_tells_none}
 use Rattle.rex_safety.specs.Values.{service_of}
-use Rattle.rex_node.specs.Parts.{NodeValue}
+use Rattle.rex_node.specs.Parts.{NodeValue, here_of, whole}
+use Rattle.rex_node.specs.Calls.{armed_with}
 use Rattle.rex_node.proofs.Candidates.{elect_quiet, elected}
 use Rattle.rex_node.proofs.Ending as ending
+use Rattle.rex_node.proofs.Told.{steps_tell}
 use Rattle.rex_node.proofs.node.Node.elect.Goals as goal
 
 pub returns-clause-told : goal.returns-clause-told
 returns-clause-told g c =
-    ending.told g.K.Keeper.records g.K.Keeper.append_gives g.K.Keeper.faults c.args.svc.now (elect c.args.self.now.nodes (service_of c.args.svc.now c.args.self.now.seed) c.args.self.now.id) c.args.self.now c.stand-end.new.self c.finish.new.self c.len-before.result c.new-draft.result c.stand-end.new.draft c.stand-end.result c.finish.result
-    (elected g.K.Keeper.records g.K.Keeper.append_gives g.K.Keeper.faults c.args.svc.now c.args.self.now c.stand-end.new.self c.finish.new.self c.len-before.result c.new-draft.result c.stand-end.new.draft c.stand-end.result c.finish.result
+    ending.told g.K.Keeper.records g.K.Keeper.append_gives g.K.Keeper.faults c.args.svc.now g.P.Past.past (elect c.args.self.now.nodes (service_of c.args.svc.now c.args.self.now.seed) c.args.self.now.id) (whole g.P.Past.past c.args.self.now) (whole g.P.Past.past c.stand-end.new.self) (whole g.P.Past.past c.finish.new.self) c.len-before.result c.new-draft.result c.stand-end.new.draft c.stand-end.result c.finish.result
+    (elected g.K.Keeper.records g.K.Keeper.append_gives g.K.Keeper.faults c.args.svc.now g.P.Past.past (whole g.P.Past.past c.args.self.now) (whole g.P.Past.past c.stand-end.new.self) (whole g.P.Past.past c.finish.new.self) c.len-before.result c.new-draft.result c.stand-end.new.draft c.stand-end.result c.finish.result
     c.requires.node (sym c.up_refusal.ensures ∙ c.in_default.is) (c.len-before.ensures ∙ ap (λ (n : NodeValue _). length (g.K.Keeper.records n.keeper)) c.self.view_is) c.new-draft.ensures.effects c.new-draft.ensures.sends
     c.stand-end.ensures.ends c.stand-end.ensures.stuck c.stand-end.ensures.same c.finish.ensures)
 
 pub returns-clause-down : goal.returns-clause-down
 returns-clause-down g c =
-    ending.down g.K.Keeper.records g.K.Keeper.append_gives g.K.Keeper.faults c.args.svc.now (elect c.args.self.now.nodes (service_of c.args.svc.now c.args.self.now.seed) c.args.self.now.id) c.args.self.now c.stand-end.new.self c.finish.new.self c.len-before.result c.new-draft.result c.stand-end.new.draft c.stand-end.result c.finish.result
-    (elected g.K.Keeper.records g.K.Keeper.append_gives g.K.Keeper.faults c.args.svc.now c.args.self.now c.stand-end.new.self c.finish.new.self c.len-before.result c.new-draft.result c.stand-end.new.draft c.stand-end.result c.finish.result
+    ending.down g.K.Keeper.records g.K.Keeper.append_gives g.K.Keeper.faults c.args.svc.now g.P.Past.past (elect c.args.self.now.nodes (service_of c.args.svc.now c.args.self.now.seed) c.args.self.now.id) (whole g.P.Past.past c.args.self.now) (whole g.P.Past.past c.stand-end.new.self) (whole g.P.Past.past c.finish.new.self) c.len-before.result c.new-draft.result c.stand-end.new.draft c.stand-end.result c.finish.result
+    (elected g.K.Keeper.records g.K.Keeper.append_gives g.K.Keeper.faults c.args.svc.now g.P.Past.past (whole g.P.Past.past c.args.self.now) (whole g.P.Past.past c.stand-end.new.self) (whole g.P.Past.past c.finish.new.self) c.len-before.result c.new-draft.result c.stand-end.new.draft c.stand-end.result c.finish.result
     c.requires.node (sym c.up_refusal.ensures ∙ c.in_default.is) (c.len-before.ensures ∙ ap (λ (n : NodeValue _). length (g.K.Keeper.records n.keeper)) c.self.view_is) c.new-draft.ensures.effects c.new-draft.ensures.sends
     c.stand-end.ensures.ends c.stand-end.ensures.stuck c.stand-end.ensures.same c.finish.ensures)
-    (elect_quiet g.K.Keeper.records g.K.Keeper.append_gives g.K.Keeper.faults c.args.svc.now c.args.self.now c.stand-end.new.self c.finish.new.self c.len-before.result c.new-draft.result c.stand-end.new.draft)
+    (elect_quiet g.K.Keeper.records g.K.Keeper.append_gives g.K.Keeper.faults c.args.svc.now g.P.Past.past (whole g.P.Past.past c.args.self.now) (whole g.P.Past.past c.stand-end.new.self) (whole g.P.Past.past c.finish.new.self) c.len-before.result c.new-draft.result c.stand-end.new.draft)
 
 pub returns-clause-left : goal.returns-clause-left
 returns-clause-left g c =
-    ending.left g.K.Keeper.records g.K.Keeper.append_gives g.K.Keeper.faults c.args.svc.now (elect c.args.self.now.nodes (service_of c.args.svc.now c.args.self.now.seed) c.args.self.now.id) c.args.self.now c.stand-end.new.self c.finish.new.self c.len-before.result c.new-draft.result c.stand-end.new.draft c.stand-end.result c.finish.result
-    (elected g.K.Keeper.records g.K.Keeper.append_gives g.K.Keeper.faults c.args.svc.now c.args.self.now c.stand-end.new.self c.finish.new.self c.len-before.result c.new-draft.result c.stand-end.new.draft c.stand-end.result c.finish.result
+    ending.left g.K.Keeper.records g.K.Keeper.append_gives g.K.Keeper.faults c.args.svc.now g.P.Past.past (elect c.args.self.now.nodes (service_of c.args.svc.now c.args.self.now.seed) c.args.self.now.id) (whole g.P.Past.past c.args.self.now) (whole g.P.Past.past c.stand-end.new.self) (whole g.P.Past.past c.finish.new.self) c.len-before.result c.new-draft.result c.stand-end.new.draft c.stand-end.result c.finish.result
+    (elected g.K.Keeper.records g.K.Keeper.append_gives g.K.Keeper.faults c.args.svc.now g.P.Past.past (whole g.P.Past.past c.args.self.now) (whole g.P.Past.past c.stand-end.new.self) (whole g.P.Past.past c.finish.new.self) c.len-before.result c.new-draft.result c.stand-end.new.draft c.stand-end.result c.finish.result
     c.requires.node (sym c.up_refusal.ensures ∙ c.in_default.is) (c.len-before.ensures ∙ ap (λ (n : NodeValue _). length (g.K.Keeper.records n.keeper)) c.self.view_is) c.new-draft.ensures.effects c.new-draft.ensures.sends
     c.stand-end.ensures.ends c.stand-end.ensures.stuck c.stand-end.ensures.same c.finish.ensures)
 
 pub returns-clause-kept : goal.returns-clause-kept
 returns-clause-kept g c =
-    ending.kept g.K.Keeper.records g.K.Keeper.append_gives g.K.Keeper.faults c.args.svc.now (elect c.args.self.now.nodes (service_of c.args.svc.now c.args.self.now.seed) c.args.self.now.id) c.args.self.now c.stand-end.new.self c.finish.new.self c.len-before.result c.new-draft.result c.stand-end.new.draft c.stand-end.result c.finish.result
-    (elected g.K.Keeper.records g.K.Keeper.append_gives g.K.Keeper.faults c.args.svc.now c.args.self.now c.stand-end.new.self c.finish.new.self c.len-before.result c.new-draft.result c.stand-end.new.draft c.stand-end.result c.finish.result
+    ending.kept g.K.Keeper.records g.K.Keeper.append_gives g.K.Keeper.faults c.args.svc.now g.P.Past.past (elect c.args.self.now.nodes (service_of c.args.svc.now c.args.self.now.seed) c.args.self.now.id) (whole g.P.Past.past c.args.self.now) (whole g.P.Past.past c.stand-end.new.self) (whole g.P.Past.past c.finish.new.self) c.len-before.result c.new-draft.result c.stand-end.new.draft c.stand-end.result c.finish.result
+    (elected g.K.Keeper.records g.K.Keeper.append_gives g.K.Keeper.faults c.args.svc.now g.P.Past.past (whole g.P.Past.past c.args.self.now) (whole g.P.Past.past c.stand-end.new.self) (whole g.P.Past.past c.finish.new.self) c.len-before.result c.new-draft.result c.stand-end.new.draft c.stand-end.result c.finish.result
     c.requires.node (sym c.up_refusal.ensures ∙ c.in_default.is) (c.len-before.ensures ∙ ap (λ (n : NodeValue _). length (g.K.Keeper.records n.keeper)) c.self.view_is) c.new-draft.ensures.effects c.new-draft.ensures.sends
     c.stand-end.ensures.ends c.stand-end.ensures.stuck c.stand-end.ensures.same c.finish.ensures)
+
+pub returns-clause-tells : goal.returns-clause-tells
+returns-clause-tells g c =
+    let n = c.args.self.now.nodes in
+    let sv = service_of c.args.svc.now c.args.self.now.seed in
+    steps_tell g.K.Keeper.records g.K.Keeper.append_gives g.K.Keeper.faults c.args.svc.now g.P.Past.past (elect n sv c.args.self.now.id) c.args.self.now c.finish.new.self c.finish.result
+    (λ f. elect_tells_none n sv c.args.self.now.id (armed_with f (begin (here_of g.K.Keeper.records c.args.svc.now g.P.Past.past c.args.self.now))) tt) (returns-clause-told g c)

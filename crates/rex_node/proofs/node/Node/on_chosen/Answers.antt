@@ -1,9 +1,9 @@
-use Rattle.std.proofs.Common.{◌+◌, length, ap, arith}
-use Rattle.rex_node.specs.Parts.{NodeValue}
+use Rattle.std.proofs.Common.{◌+◌, arith}
+use Rattle.rex_node.specs.Parts.{whole}
 use Rattle.rex_node.proofs.Following.{chosen_ignored}
 use Rattle.rex_node.proofs.node.Node.on_chosen.Goals as goal
 
 pub returns-then-instance-next-clause-ends : goal.returns-then-instance-next-clause-ends
 returns-then-instance-next-clause-ends g c =
-    chosen_ignored g.K.Keeper.records g.K.Keeper.append_gives g.K.Keeper.faults c.args.svc.now c.args.self.now c.requires.node c.requires.up c.args.draft.now c.tell.new.self c.args.instance (c.len.result + 1) c.args.value.now
-    (omega (arith, c.len.ensures, ap (λ (n : NodeValue _). length n.known) c.self.view_is)) c.if-instance-next.true c.in_ok-tell.ensures.effects c.in_ok-tell.ensures.sends
+    chosen_ignored g.K.Keeper.records g.K.Keeper.append_gives g.K.Keeper.faults c.args.svc.now g.P.Past.past (whole g.P.Past.past c.args.self.now) c.requires.node c.requires.up c.args.draft.now c.tell.new.self c.args.instance (c.count-next.result + 1) c.args.value.now
+    (omega (arith, c.count-next.ensures.known)) c.if-instance-next.true c.in_ok-tell.ensures.effects c.in_ok-tell.ensures.sends

@@ -3,8 +3,8 @@ use Rattle.rex_safety.specs.Calls.{receive}
 use Rattle.rex_safety.specs.Lanes.{CallHere}
 use Rattle.rex_safety.specs.Records.{known}
 use Rattle.rex_safety.specs.Values.{service_of, values_fit}
-use Rattle.rex_node.specs.Messages.{content_in}
-use Rattle.rex_node.specs.Parts.{NodeValue}
+use Rattle.rex_log.specs.Messages.{content_in}
+use Rattle.rex_node.specs.Parts.{NodeValue, whole}
 use Rattle.rex_node.proofs.Ending.{HasCome, begins, told, down, left, kept}
 use Rattle.rex_node.proofs.Executing.{up_of}
 use Rattle.rex_node.proofs.Quiet.{receive_well, replies_quiet}
@@ -13,10 +13,10 @@ use Rattle.rex_node.proofs.node.Node.on_message.Goals as goal
 
 -- the model's call
 abbrev call : (g : given.Over) → goal.After-finish g → CallHere → CallHere
-call g c = receive c.args.self.now.nodes (service_of c.args.svc.now c.args.self.now.seed) c.args.self.now.id c.args.message.now.from (content_in c.args.message.now.content)
+call g c = receive c.args.self.now.nodes (service_of c.args.svc.now c.args.self.now.seed) c.args.self.now.id c.args.message.now.from (content_in g.P.Past.past c.args.message.now.content)
 
 -- how the call came to its end
-come : (g : given.Over) (c : goal.After-finish g) → HasCome g.K.Keeper.records g.K.Keeper.append_gives g.K.Keeper.faults c.args.svc.now (call g c) c.args.self.now c.receive-end.new.self c.finish.new.self c.len-before.result c.new-draft.result c.receive-end.new.draft c.receive-end.result c.finish.result
+come : (g : given.Over) (c : goal.After-finish g) → HasCome g.K.Keeper.records g.K.Keeper.append_gives g.K.Keeper.faults c.args.svc.now g.P.Past.past (call g c) (whole g.P.Past.past c.args.self.now) (whole g.P.Past.past c.receive-end.new.self) (whole g.P.Past.past c.finish.new.self) c.len-before.result c.new-draft.result c.receive-end.new.draft c.receive-end.result c.finish.result
 come g c = record {
   node = c.requires.node;
   up = up_of c.args.self.now.up _ (sym c.up_refusal.ensures ∙ c.in_default.is);
@@ -31,20 +31,20 @@ come g c = record {
 
 pub receive-end-requires-clause-runs : goal.receive-end-requires-clause-runs
 receive-end-requires-clause-runs g c =
-    subst (λ (d : CallHere). values_fit c.args.svc.now (known (receive c.args.self.now.nodes (service_of c.args.svc.now c.args.self.now.seed) c.args.self.now.id c.args.message.now.from (content_in c.args.message.now.content) d).node.log) ≡ true)
-    (sym (begins g.K.Keeper.records c.args.svc.now c.args.self.now c.new-draft.result c.new-draft.ensures.effects c.new-draft.ensures.sends))
+    subst (λ (d : CallHere). values_fit c.args.svc.now (known (receive c.args.self.now.nodes (service_of c.args.svc.now c.args.self.now.seed) c.args.self.now.id c.args.message.now.from (content_in g.P.Past.past c.args.message.now.content) d).node.log) ≡ true)
+    (sym (begins g.K.Keeper.records c.args.svc.now g.P.Past.past (whole g.P.Past.past c.args.self.now) c.new-draft.result c.new-draft.ensures.effects c.new-draft.ensures.sends))
     c.requires.runs
 
 pub returns-clause-told : goal.returns-clause-told
-returns-clause-told g c = told g.K.Keeper.records g.K.Keeper.append_gives g.K.Keeper.faults c.args.svc.now (call g c) c.args.self.now c.receive-end.new.self c.finish.new.self c.len-before.result c.new-draft.result c.receive-end.new.draft c.receive-end.result c.finish.result (come g c)
+returns-clause-told g c = told g.K.Keeper.records g.K.Keeper.append_gives g.K.Keeper.faults c.args.svc.now g.P.Past.past (call g c) (whole g.P.Past.past c.args.self.now) (whole g.P.Past.past c.receive-end.new.self) (whole g.P.Past.past c.finish.new.self) c.len-before.result c.new-draft.result c.receive-end.new.draft c.receive-end.result c.finish.result (come g c)
 
 pub returns-clause-down : goal.returns-clause-down
 returns-clause-down g c =
-    down g.K.Keeper.records g.K.Keeper.append_gives g.K.Keeper.faults c.args.svc.now (call g c) c.args.self.now c.receive-end.new.self c.finish.new.self c.len-before.result c.new-draft.result c.receive-end.new.draft c.receive-end.result c.finish.result (come g c)
-    (receive_well c.args.self.now.nodes (service_of c.args.svc.now c.args.self.now.seed) c.args.self.now.id (replies_quiet c.args.svc.now c.args.self.now.seed) c.args.message.now.from (content_in c.args.message.now.content) _ (record { armed = refl; quiet = λ id h. h })).quiet
+    down g.K.Keeper.records g.K.Keeper.append_gives g.K.Keeper.faults c.args.svc.now g.P.Past.past (call g c) (whole g.P.Past.past c.args.self.now) (whole g.P.Past.past c.receive-end.new.self) (whole g.P.Past.past c.finish.new.self) c.len-before.result c.new-draft.result c.receive-end.new.draft c.receive-end.result c.finish.result (come g c)
+    (receive_well c.args.self.now.nodes (service_of c.args.svc.now c.args.self.now.seed) c.args.self.now.id (replies_quiet c.args.svc.now c.args.self.now.seed) c.args.message.now.from (content_in g.P.Past.past c.args.message.now.content) _ (record { armed = refl; quiet = λ id h. h })).quiet
 
 pub returns-clause-left : goal.returns-clause-left
-returns-clause-left g c = left g.K.Keeper.records g.K.Keeper.append_gives g.K.Keeper.faults c.args.svc.now (call g c) c.args.self.now c.receive-end.new.self c.finish.new.self c.len-before.result c.new-draft.result c.receive-end.new.draft c.receive-end.result c.finish.result (come g c)
+returns-clause-left g c = left g.K.Keeper.records g.K.Keeper.append_gives g.K.Keeper.faults c.args.svc.now g.P.Past.past (call g c) (whole g.P.Past.past c.args.self.now) (whole g.P.Past.past c.receive-end.new.self) (whole g.P.Past.past c.finish.new.self) c.len-before.result c.new-draft.result c.receive-end.new.draft c.receive-end.result c.finish.result (come g c)
 
 pub returns-clause-kept : goal.returns-clause-kept
-returns-clause-kept g c = kept g.K.Keeper.records g.K.Keeper.append_gives g.K.Keeper.faults c.args.svc.now (call g c) c.args.self.now c.receive-end.new.self c.finish.new.self c.len-before.result c.new-draft.result c.receive-end.new.draft c.receive-end.result c.finish.result (come g c)
+returns-clause-kept g c = kept g.K.Keeper.records g.K.Keeper.append_gives g.K.Keeper.faults c.args.svc.now g.P.Past.past (call g c) (whole g.P.Past.past c.args.self.now) (whole g.P.Past.past c.receive-end.new.self) (whole g.P.Past.past c.finish.new.self) c.len-before.result c.new-draft.result c.receive-end.new.draft c.receive-end.result c.finish.result (come g c)

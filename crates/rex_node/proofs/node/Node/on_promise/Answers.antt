@@ -1,56 +1,67 @@
-use Rattle.std.proofs.Common.{sym, ◌∙◌}
-use Rattle.rex_node.proofs.Counts.{counts_many, counts_to, promise_back, promise_ends, promise_free, promise_have, promise_ignored, promise_kept, promise_runs, promise_stuck, promise_turns}
+use Rattle.std.proofs.Common.{sym, subst, ◌∙◌}
+use Rattle.rex_node.proofs.Counts.{counts_many, counts_to, promise_back, promise_ends, promise_free, ignored_same, promise_have, promise_ignored, promise_kept, promise_runs, promise_stuck, promise_turns}
 use Rattle.rex_node.proofs.node.Node.on_promise.Goals as goal
+use Rattle.rex_node.specs.Going.{IsStuck}
+use Rattle.rex_node.specs.Parts.{whole}
+use Rattle.rex_node.proofs.Written.{on_err, stuck_same}
 
 pub returns-in_ok-tell-in-Ignored-clause-ends : goal.returns-in_ok-tell-in-Ignored-clause-ends
 returns-in_ok-tell-in-Ignored-clause-ends g c =
-    promise_ignored g.K.Keeper.records g.K.Keeper.append_gives g.K.Keeper.faults c.args.svc.now c.args.self.now c.requires.node c.requires.up c.args.from c.args.ballot c.requires.from c.args.reported.now c.requires.reported c.args.draft.now c.in-Ignored.why (sym c.in_ok-why.ensures.vote ∙ c.in-Ignored.is)
-    c.count_promise.new.self c.in_ok-why.ensures.counted c.told_of.result c.told_of.ensures c.tell.new.self c.in_ok-tell-in-Ignored.ensures.effects c.in_ok-tell-in-Ignored.ensures.sends
+    promise_ignored g.K.Keeper.records g.K.Keeper.append_gives g.K.Keeper.faults c.args.svc.now g.P.Past.past (whole g.P.Past.past c.args.self.now) c.requires.node c.requires.up c.args.from c.args.ballot c.requires.from c.args.reported.now c.requires.reported c.args.draft.now c.in-Ignored.why (sym c.in_ok-why.ensures.vote ∙ c.in-Ignored.is)
+    (whole g.P.Past.past c.count_promise.new.self) c.in_ok-why.ensures.counted c.told_of.result c.told_of.ensures c.tell.new.self c.in_ok-tell-in-Ignored.ensures.effects c.in_ok-tell-in-Ignored.ensures.sends
 
 pub returns-in-Ok-clause-ends : goal.returns-in-Ok-clause-ends
 returns-in-Ok-clause-ends g c =
     let n = counts_to c.args.self.now.proposer c.args.ballot c.args.from c.in-NotYet.have c.in_ok-why.field-0 c.in_ok-why.ensures.vote c.in-NotYet.is in
-    promise_have g.K.Keeper.records g.K.Keeper.append_gives g.K.Keeper.faults c.args.svc.now c.args.self.now c.requires.node c.requires.up c.args.from c.args.ballot c.requires.from c.args.reported.now c.requires.reported c.args.draft.now n.counts.proposer n.counts.is n.counts.new n.counts.majority
-    c.count_promise.new.self c.in_ok-why.ensures.counted c.in-NotYet.have n.have_is c.tell-in-NotYet.new.self c.in-Ok.ensures.effects c.in-Ok.ensures.sends
+    promise_have g.K.Keeper.records g.K.Keeper.append_gives g.K.Keeper.faults c.args.svc.now g.P.Past.past (whole g.P.Past.past c.args.self.now) c.requires.node c.requires.up c.args.from c.args.ballot c.requires.from c.args.reported.now c.requires.reported c.args.draft.now n.counts.proposer n.counts.is n.counts.new n.counts.majority
+    (whole g.P.Past.past c.count_promise.new.self) c.in_ok-why.ensures.counted c.in-NotYet.have n.have_is c.tell-in-NotYet.new.self c.in-Ok.ensures.effects c.in-Ok.ensures.sends
 
 pub returns-in-Err-clause-stuck : goal.returns-in-Err-clause-stuck
 returns-in-Err-clause-stuck g c =
     let n = counts_to c.args.self.now.proposer c.args.ballot c.args.from c.in-NotYet.have c.in_ok-why.field-0 c.in_ok-why.ensures.vote c.in-NotYet.is in
-    promise_back g.K.Keeper.records g.K.Keeper.append_gives g.K.Keeper.faults c.args.svc.now c.args.self.now c.requires.node c.requires.up c.args.from c.args.ballot c.requires.from c.args.reported.now c.requires.reported c.args.draft.now n.counts.proposer n.counts.is n.counts.new
-    c.count_promise.new.self c.take_back.new.self c.in_ok-why.ensures.counted c.take_back.ensures
+    promise_back g.K.Keeper.records g.K.Keeper.append_gives g.K.Keeper.faults c.args.svc.now g.P.Past.past (whole g.P.Past.past c.args.self.now) c.requires.node c.requires.up c.args.from c.args.ballot c.requires.from c.args.reported.now c.requires.reported c.args.draft.now n.counts.proposer n.counts.is n.counts.new
+    (whole g.P.Past.past c.count_promise.new.self) (whole g.P.Past.past c.take_back.new.self) c.in_ok-why.ensures.counted c.take_back.ensures
 
 pub go_on-requires-clause-kept : goal.go_on-requires-clause-kept
 go_on-requires-clause-kept g c =
     let n = counts_many c.args.self.now.proposer c.args.ballot c.args.from c.in_ok-why.field-0 c.in_ok-why.ensures.vote c.in-Quorum.is in
-    promise_kept g.K.Keeper.records g.K.Keeper.append_gives g.K.Keeper.faults c.args.svc.now c.args.self.now c.requires.node c.requires.up c.args.from c.args.ballot c.requires.from c.args.reported.now c.requires.reported c.args.draft.now n.proposer n.is n.new n.majority
-    c.count_promise.new.self c.in_ok-why.ensures.counted
+    promise_kept g.K.Keeper.records g.K.Keeper.append_gives g.K.Keeper.faults c.args.svc.now g.P.Past.past (whole g.P.Past.past c.args.self.now) c.requires.node c.requires.up c.args.from c.args.ballot c.requires.from c.args.reported.now c.requires.reported c.args.draft.now n.proposer n.is n.new n.majority
+    (whole g.P.Past.past c.count_promise.new.self) c.in_ok-why.ensures.counted
 
 pub go_on-requires-clause-free : goal.go_on-requires-clause-free
 go_on-requires-clause-free g c =
     let n = counts_many c.args.self.now.proposer c.args.ballot c.args.from c.in_ok-why.field-0 c.in_ok-why.ensures.vote c.in-Quorum.is in
-    promise_free g.K.Keeper.records g.K.Keeper.append_gives g.K.Keeper.faults c.args.svc.now c.args.self.now c.requires.node c.requires.up c.args.from c.args.ballot c.requires.from c.args.reported.now c.requires.reported c.args.draft.now n.proposer n.is n.new n.majority
-    c.count_promise.new.self c.in_ok-why.ensures.counted
+    promise_free g.K.Keeper.records g.K.Keeper.append_gives g.K.Keeper.faults c.args.svc.now g.P.Past.past (whole g.P.Past.past c.args.self.now) c.requires.node c.requires.up c.args.from c.args.ballot c.requires.from c.args.reported.now c.requires.reported c.args.draft.now n.proposer n.is n.new n.majority
+    (whole g.P.Past.past c.count_promise.new.self) c.in_ok-why.ensures.counted
 
 pub go_on-requires-clause-turns : goal.go_on-requires-clause-turns
 go_on-requires-clause-turns g c =
     let n = counts_many c.args.self.now.proposer c.args.ballot c.args.from c.in_ok-why.field-0 c.in_ok-why.ensures.vote c.in-Quorum.is in
-    promise_turns g.K.Keeper.records g.K.Keeper.append_gives g.K.Keeper.faults c.args.svc.now c.args.self.now c.requires.node c.requires.up c.args.from c.args.ballot c.requires.from c.args.reported.now c.requires.reported c.args.draft.now n.proposer n.is n.new n.majority
-    c.count_promise.new.self c.in_ok-why.ensures.counted c.turns-turns.result c.turns-turns.ensures
+    promise_turns g.K.Keeper.records g.K.Keeper.append_gives g.K.Keeper.faults c.args.svc.now g.P.Past.past (whole g.P.Past.past c.args.self.now) c.requires.node c.requires.up c.args.from c.args.ballot c.requires.from c.args.reported.now c.requires.reported c.args.draft.now n.proposer n.is n.new n.majority
+    (whole g.P.Past.past c.count_promise.new.self) c.in_ok-why.ensures.counted c.turns-turns.result c.turns-turns.ensures
 
 pub go_on-requires-clause-runs : goal.go_on-requires-clause-runs
 go_on-requires-clause-runs g c =
     let n = counts_many c.args.self.now.proposer c.args.ballot c.args.from c.in_ok-why.field-0 c.in_ok-why.ensures.vote c.in-Quorum.is in
-    promise_runs g.K.Keeper.records g.K.Keeper.append_gives g.K.Keeper.faults c.args.svc.now c.args.self.now c.requires.node c.requires.up c.args.from c.args.ballot c.requires.from c.args.reported.now c.requires.reported c.args.draft.now n.proposer n.is n.new n.majority
-    c.count_promise.new.self c.in_ok-why.ensures.counted c.turns-turns.result c.turns-turns.ensures c.requires.runs
+    promise_runs g.K.Keeper.records g.K.Keeper.append_gives g.K.Keeper.faults c.args.svc.now g.P.Past.past (whole g.P.Past.past c.args.self.now) c.requires.node c.requires.up c.args.from c.args.ballot c.requires.from c.args.reported.now c.requires.reported c.args.draft.now n.proposer n.is n.new n.majority
+    (whole g.P.Past.past c.count_promise.new.self) c.in_ok-why.ensures.counted c.turns-turns.result c.turns-turns.ensures c.requires.runs
 
 pub returns-in-Ok-go_on-clause-ends : goal.returns-in-Ok-go_on-clause-ends
 returns-in-Ok-go_on-clause-ends g c =
     let n = counts_many c.args.self.now.proposer c.args.ballot c.args.from c.in_ok-why.field-0 c.in_ok-why.ensures.vote c.in-Quorum.is in
-    promise_ends g.K.Keeper.records g.K.Keeper.append_gives g.K.Keeper.faults c.args.svc.now c.args.self.now c.requires.node c.requires.up c.args.from c.args.ballot c.requires.from c.args.reported.now c.requires.reported c.args.draft.now n.proposer n.is n.new n.majority
-    c.count_promise.new.self c.in_ok-why.ensures.counted c.turns-turns.result c.turns-turns.ensures c.go_on.new.self c.go_on.new.draft c.in-Ok-go_on.going c.in-Ok-go_on.ensures.ends
+    promise_ends g.K.Keeper.records g.K.Keeper.append_gives g.K.Keeper.faults c.args.svc.now g.P.Past.past (whole g.P.Past.past c.args.self.now) c.requires.node c.requires.up c.args.from c.args.ballot c.requires.from c.args.reported.now c.requires.reported c.args.draft.now n.proposer n.is n.new n.majority
+    (whole g.P.Past.past c.count_promise.new.self) c.in_ok-why.ensures.counted c.turns-turns.result c.turns-turns.ensures (whole g.P.Past.past c.go_on.new.self) c.go_on.new.draft c.in-Ok-go_on.going c.in-Ok-go_on.ensures.ends
 
 pub returns-in-Err-go_on-clause-stuck : goal.returns-in-Err-go_on-clause-stuck
 returns-in-Err-go_on-clause-stuck g c =
     let n = counts_many c.args.self.now.proposer c.args.ballot c.args.from c.in_ok-why.field-0 c.in_ok-why.ensures.vote c.in-Quorum.is in
-    promise_stuck g.K.Keeper.records g.K.Keeper.append_gives g.K.Keeper.faults c.args.svc.now c.args.self.now c.requires.node c.requires.up c.args.from c.args.ballot c.requires.from c.args.reported.now c.requires.reported c.args.draft.now n.proposer n.is n.new
-    c.count_promise.new.self c.go_on.new.self c.take_back-in-Err-go_on.new.self c.in_ok-why.ensures.counted c.in-Err-go_on.ensures.stuck c.take_back-in-Err-go_on.ensures
+    promise_stuck g.K.Keeper.records g.K.Keeper.append_gives g.K.Keeper.faults c.args.svc.now g.P.Past.past (whole g.P.Past.past c.args.self.now) c.requires.node c.requires.up c.args.from c.args.ballot c.requires.from c.args.reported.now c.requires.reported c.args.draft.now n.proposer n.is n.new
+    (whole g.P.Past.past c.count_promise.new.self) (whole g.P.Past.past c.go_on.new.self) (whole g.P.Past.past c.take_back-in-Err-go_on.new.self) c.in_ok-why.ensures.counted c.in-Err-go_on.ensures.stuck c.take_back-in-Err-go_on.ensures
+
+pub returns-in_err-tell-in-Ignored-clause-stuck : goal.returns-in_err-tell-in-Ignored-clause-stuck
+returns-in_err-tell-in-Ignored-clause-stuck g c =
+    on_err c.from_residual-in_err-tell-in-Ignored.result
+    (subst (IsStuck g.K.Keeper.records c.args.svc.now g.P.Past.past (whole g.P.Past.past c.args.self.now))
+    (sym (ignored_same g.K.Keeper.records g.K.Keeper.append_gives g.K.Keeper.faults c.args.svc.now g.P.Past.past (whole g.P.Past.past c.args.self.now) c.requires.node c.requires.up c.args.from c.args.ballot c.requires.from c.args.reported.now c.requires.reported c.args.draft.now c.in-Ignored.why (sym c.in_ok-why.ensures.vote ∙ c.in-Ignored.is)
+    (whole g.P.Past.past c.count_promise.new.self) c.in_ok-why.ensures.counted))
+    (stuck_same g.K.Keeper.records c.args.svc.now g.P.Past.past (whole g.P.Past.past c.args.self.now) (c.requires.node.up c.requires.up)))

@@ -1,28 +1,28 @@
 use Rattle.std.proofs.Common.{ap, sym, subst, ◌∙◌, IfOk}
 use Rattle.rex_node.specs.Cutting.{ProposesCut, ProposesPiece}
-use Rattle.rex_node.specs.Parts.{NodeValue}
+use Rattle.rex_node.specs.Parts.{NodeValue, knows, whole}
 use Rattle.rex_node.proofs.OwnPieces.{if_error, if_then, own_cut, own_fits, piece_ends}
 use Rattle.rex_node.proofs.node.Node.propose_piece.Goals as goal
 use Rattle.rex_node.proofs.node.Node.propose_piece.Goals.{then-is_err, else-is_err}
 
 pub propose_value-end-requires-clause-cut : goal.propose_value-end-requires-clause-cut
 propose_value-end-requires-clause-cut g c =
-    own_cut g.K.Keeper.records c.args.svc.now c.args.self.now c.requires.node c.args.piece c.requires.can c.declarations-service.ensures.sound c.replace_cut-before.new.self c.as_slice.result.now c.replace_cut-before.ensures.replaced c.as_slice.ensures
+    own_cut g.K.Keeper.records c.args.svc.now g.P.Past.past (whole g.P.Past.past c.args.self.now) c.requires.node c.args.piece c.requires.can c.declarations-service.ensures.sound (whole g.P.Past.past c.replace_cut-before.new.self) c.as_slice.result.now c.replace_cut-before.ensures.replaced c.as_slice.ensures
 
 pub propose_value-end-requires-clause-fits : goal.propose_value-end-requires-clause-fits
 propose_value-end-requires-clause-fits g c =
-    own_fits g.K.Keeper.records c.args.svc.now c.args.self.now c.requires.node c.args.piece c.requires.can c.declarations-service.ensures.sound c.replace_cut-before.new.self.known c.as_slice.result.now
+    own_fits g.K.Keeper.records c.args.svc.now g.P.Past.past (whole g.P.Past.past c.args.self.now) c.requires.node c.args.piece c.requires.can c.declarations-service.ensures.sound (knows g.P.Past.past c.replace_cut-before.new.self) c.as_slice.result.now
     (ap (λ (z : NodeValue _). z.known) c.replace_cut-before.ensures.replaced) c.as_slice.ensures
 
 pub returns-clause-ends : goal.returns-clause-ends
 returns-clause-ends g c =
-    let End = λ (y : NodeValue _). ProposesPiece g.K.Keeper.records g.K.Keeper.append_gives g.K.Keeper.faults c.args.svc.now c.args.piece.cut.counts c.args.self.now y c.args.draft.now c.propose_value-end.new.draft in
+    let End = λ (y : NodeValue _). ProposesPiece g.K.Keeper.records g.K.Keeper.append_gives g.K.Keeper.faults c.args.svc.now g.P.Past.past c.args.piece.cut.counts (whole g.P.Past.past c.args.self.now) y c.args.draft.now c.propose_value-end.new.draft in
     elim c.if-is_err.branch [
-      | then-is_err w ↦ if_error (End c.if-is_err.self) c.propose_value-end.result (sym c.is_err.ensures.value ∙ w.if-is_err.true)
+      | then-is_err w ↦ if_error (End (whole g.P.Past.past c.if-is_err.self)) c.propose_value-end.result (sym c.is_err.ensures.value ∙ w.if-is_err.true)
       | else-is_err w ↦
-          subst (λ (y : NodeValue _). IfOk c.propose_value-end.result (End y)) (sym w.self-is)
-          (if_then (ProposesCut g.K.Keeper.records g.K.Keeper.append_gives g.K.Keeper.faults c.args.svc.now c.args.piece.events c.as_slice.result.now c.replace_cut-before.new.self c.propose_value-end.new.self c.args.draft.now c.propose_value-end.new.draft)
-          (End c.propose_value-end.new.self) c.propose_value-end.result
-          (λ going h. piece_ends g.K.Keeper.records c.args.svc.now c.args.self.now c.requires.node c.args.piece c.requires.can g.K.Keeper.append_gives g.K.Keeper.faults c.propose_value-end.new.self c.args.draft.now c.propose_value-end.new.draft
-          c.replace_cut-before.new.self c.replace_cut-before.ensures.replaced c.as_slice.result.now c.as_slice.ensures going h) c.propose_value-end.ensures.ends)
+          subst (λ (y : NodeValue _). IfOk c.propose_value-end.result (End (whole g.P.Past.past y))) (sym w.self-is)
+          (if_then (ProposesCut g.K.Keeper.records g.K.Keeper.append_gives g.K.Keeper.faults c.args.svc.now g.P.Past.past c.args.piece.events c.as_slice.result.now (whole g.P.Past.past c.replace_cut-before.new.self) (whole g.P.Past.past c.propose_value-end.new.self) c.args.draft.now c.propose_value-end.new.draft)
+          (End (whole g.P.Past.past c.propose_value-end.new.self)) c.propose_value-end.result
+          (λ going h. piece_ends g.K.Keeper.records c.args.svc.now g.P.Past.past (whole g.P.Past.past c.args.self.now) c.requires.node c.args.piece c.requires.can g.K.Keeper.append_gives g.K.Keeper.faults (whole g.P.Past.past c.propose_value-end.new.self) c.args.draft.now c.propose_value-end.new.draft
+          (whole g.P.Past.past c.replace_cut-before.new.self) c.replace_cut-before.ensures.replaced c.as_slice.result.now c.as_slice.ensures going h) c.propose_value-end.ensures.ends)
     ]

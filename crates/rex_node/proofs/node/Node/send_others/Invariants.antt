@@ -2,7 +2,7 @@ use Rattle.std.proofs.Common.{◌≡◌, ◌++◌, map, List}
 use Rattle.rex_safety.specs.Node.{Message}
 use Rattle.rex_safety.specs.Calls.{others}
 use Rattle.rex_safety.specs.Values.{Value}
-use Rattle.rex_node.specs.Messages.{content_in, message_in}
+use Rattle.rex_log.specs.Messages.{content_in, message_in}
 use Rattle.rex_report.specs.declared.effect.Effect.{Effect}
 use Rattle.rex_node.proofs.node.Node.send_others.Given as goal
 
@@ -12,4 +12,4 @@ pub record Sent (sends had more : List (Message Value)) (effects told : List Eff
 
 -- the message went to the nodes up to this one
 abbrev pub invariant-loop-before : goal.invariant-loop-before
-invariant-loop-before g l = Sent (map message_in l.draft.sends.items) (map message_in l.initial.draft.sends.items) (others l.before l.self.id (content_in l.content)) l.draft.effects.items l.initial.draft.effects.items
+invariant-loop-before g l = Sent (map (message_in g.P.Past.past) l.draft.sends.items) (map (message_in g.P.Past.past) l.initial.draft.sends.items) (others l.before l.self.id (content_in g.P.Past.past l.content)) l.draft.effects.items l.initial.draft.effects.items

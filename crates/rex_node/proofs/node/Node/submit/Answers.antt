@@ -3,17 +3,18 @@ use Rattle.rex_gate.specs.declared.answer.Answer.{Answer}
 use Rattle.rex_safety.specs.Lanes.{effect_of}
 use Rattle.rex_node.proofs.Executing.{answer_of_node, submit_leads, submit_stays}
 use Rattle.rex_node.proofs.node.Node.submit.Goals as goal
+use Rattle.rex_node.specs.Parts.{NodeValue, whole}
 
 pub returns-clause-told : goal.returns-clause-told
 returns-clause-told g c =
     ap (λ (a : Answer). effect_of c.args.request.now a ∷ [])
     (c.in_ok-answer.ensures.answer
-    ∙ answer_of_node g.K.Keeper.records c.args.svc.now c.args.self.now _ c.in-Some-acting.acting c.self.view_is c.requires.node _ (sym c.active_refusal.ensures.why ∙ c.in_default.is) (sym c.in-Some-acting.is) c.args.request.now)
+    ∙ answer_of_node g.K.Keeper.records c.args.svc.now g.P.Past.past (whole g.P.Past.past c.args.self.now) _ c.in-Some-acting.acting (ap (λ (x : NodeValue _). whole g.P.Past.past x) c.self.view_is) c.requires.node _ (sym c.active_refusal.ensures.why ∙ c.in_default.is) (sym c.in-Some-acting.is) c.args.request.now)
 
 pub returns-clause-node : goal.returns-clause-node
 returns-clause-node g c =
-    submit_leads g.K.Keeper.records c.args.svc.now c.args.self.now _ c.in-Some-acting.acting c.self.view_is c.requires.node _ (sym c.active_refusal.ensures.why ∙ c.in_default.is) (sym c.in-Some-acting.is) c.args.request.now c.submit.new.self _ c.in_ok-answer.ensures.ok c.in_ok-answer.ensures.answer
+    submit_leads g.K.Keeper.records c.args.svc.now g.P.Past.past (whole g.P.Past.past c.args.self.now) _ c.in-Some-acting.acting (ap (λ (x : NodeValue _). whole g.P.Past.past x) c.self.view_is) c.requires.node _ (sym c.active_refusal.ensures.why ∙ c.in_default.is) (sym c.in-Some-acting.is) c.args.request.now c.submit.new.self _ c.in_ok-answer.ensures.ok c.in_ok-answer.ensures.answer
 
 pub returns-clause-kept : goal.returns-clause-kept
 returns-clause-kept g c =
-    submit_stays g.K.Keeper.records c.args.svc.now c.args.self.now _ c.in-Some-acting.acting c.self.view_is c.requires.node _ (sym c.active_refusal.ensures.why ∙ c.in_default.is) (sym c.in-Some-acting.is) c.args.request.now c.submit.new.self _ c.in_ok-answer.ensures.ok c.in_ok-answer.ensures.answer c.declarations-service.ensures.sound c.requires.request
+    submit_stays g.K.Keeper.records c.args.svc.now g.P.Past.past (whole g.P.Past.past c.args.self.now) _ c.in-Some-acting.acting (ap (λ (x : NodeValue _). whole g.P.Past.past x) c.self.view_is) c.requires.node _ (sym c.active_refusal.ensures.why ∙ c.in_default.is) (sym c.in-Some-acting.is) c.args.request.now c.submit.new.self _ c.in_ok-answer.ensures.ok c.in_ok-answer.ensures.answer c.declarations-service.ensures.sound c.requires.request

@@ -1,21 +1,22 @@
-use Rattle.std.proofs.Common.{sym, subst, ◌∙◌}
+use Rattle.std.proofs.Common.{ap, sym, subst, ◌∙◌}
 use Rattle.std.specs.Prelude.{IsSome}
 use Rattle.rex_state.specs.Value.{StateValue}
 use Rattle.rex_state.specs.Machine.{run}
 use Rattle.rex_node.proofs.Blocks.{block_leads, block_stays}
 use Rattle.rex_node.proofs.Executing.{live_state_of}
 use Rattle.rex_node.proofs.node.Node.take_block.Goals as goal
+use Rattle.rex_node.specs.Parts.{NodeValue, whole}
 
 pub take_block-requires-clause-runs : goal.take_block-requires-clause-runs
 take_block-requires-clause-runs g c =
     subst (λ (s : StateValue). IsSome (run c.args.svc.now s c.args.events.now))
-    (live_state_of g.K.Keeper.records c.args.svc.now c.args.self.now _ c.in-Some-acting.acting c.self.view_is c.requires.node _ (sym c.active_refusal.ensures.why ∙ c.in_default.is) (sym c.in-Some-acting.is))
+    (live_state_of g.K.Keeper.records c.args.svc.now g.P.Past.past (whole g.P.Past.past c.args.self.now) _ c.in-Some-acting.acting (ap (λ (x : NodeValue _). whole g.P.Past.past x) c.self.view_is) c.requires.node _ (sym c.active_refusal.ensures.why ∙ c.in_default.is) (sym c.in-Some-acting.is))
     c.requires.runs
 
 pub returns-clause-node : goal.returns-clause-node
 returns-clause-node g c =
-    block_leads g.K.Keeper.records c.args.svc.now c.args.self.now _ c.in-Some-acting.acting c.self.view_is c.requires.node _ (sym c.active_refusal.ensures.why ∙ c.in_default.is) (sym c.in-Some-acting.is) c.declarations-service.ensures.sound c.args.events.now c.take_block.new.self c.in_ok-take_block.ensures.ok
+    block_leads g.K.Keeper.records c.args.svc.now g.P.Past.past (whole g.P.Past.past c.args.self.now) _ c.in-Some-acting.acting (ap (λ (x : NodeValue _). whole g.P.Past.past x) c.self.view_is) c.requires.node _ (sym c.active_refusal.ensures.why ∙ c.in_default.is) (sym c.in-Some-acting.is) c.declarations-service.ensures.sound c.args.events.now c.take_block.new.self c.in_ok-take_block.ensures.ok
 
 pub returns-clause-kept : goal.returns-clause-kept
 returns-clause-kept g c =
-    block_stays g.K.Keeper.records c.args.svc.now c.args.self.now _ c.in-Some-acting.acting c.self.view_is c.requires.node _ (sym c.active_refusal.ensures.why ∙ c.in_default.is) (sym c.in-Some-acting.is) c.declarations-service.ensures.sound c.args.events.now c.take_block.new.self c.in_ok-take_block.ensures.ok
+    block_stays g.K.Keeper.records c.args.svc.now g.P.Past.past (whole g.P.Past.past c.args.self.now) _ c.in-Some-acting.acting (ap (λ (x : NodeValue _). whole g.P.Past.past x) c.self.view_is) c.requires.node _ (sym c.active_refusal.ensures.why ∙ c.in_default.is) (sym c.in-Some-acting.is) c.declarations-service.ensures.sound c.args.events.now c.take_block.new.self c.in_ok-take_block.ensures.ok

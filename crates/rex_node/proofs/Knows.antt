@@ -1,0 +1,40 @@
+-- What a node knows of values that it holds, and of those before them.
+use Rattle.std.proofs.Common.{◌≡◌, ℕ, ◌+◌, ◌-◌, ◌<◌, ◌≤◌, List, [], ◌++◌, length, get_or, drop, Some, refl, sym, ap, ◌∙◌, arith, append_assoc, length-append}
+use Rattle.std.proofs.Math.Seq.{drop-append-add}
+use Rattle.std.specs.Prelude.{slice_get}
+use Rattle.std.proofs.lemmas.List.{get_or-append_right}
+use Rattle.std.proofs.lemmas.Option.{get_or_from_slice_get}
+use Rattle.rex_safety.specs.Values.{Value}
+use Rattle.rex_log.specs.Log.{first}
+use Rattle.rex_log.proofs.Firsts.{first_length}
+use Rattle.rex_transfer.specs.declared.window.Look.{Look}
+use Rattle.rex_transfer.specs.declared.window.Look.TheVariants as look
+use Rattle.rex_transfer.specs.Window.{WindowValue, Looks, known_of}
+use Rattle.rex_node.specs.Parts.{NodeValue, count_of, knows}
+
+-- a node knows as many values as it counts
+pub many_known : {K : Type 0} (past : List Value) (x : NodeValue K) → length (knows past x) ≡ count_of x
+many_known past x = length-append (first x.offset past) x.known ∙ ap (λ (n : ℕ). n + length x.known) (first_length x.offset past)
+
+-- one that holds more knows more
+pub knows_more : {K : Type 0} (past : List Value) (x : NodeValue K) (more : List Value) → first x.offset past ++ (x.known ++ more) ≡ knows past x ++ more
+knows_more past x more = sym (append_assoc (first x.offset past) x.known more)
+
+-- past the offset it knows what it holds
+pub drop_known : {K : Type 0} (past : List Value) (x : NodeValue K) (n : ℕ) → x.offset ≤ n → drop n (knows past x) ≡ drop (n - x.offset) x.known
+drop_known past x n le =
+    let e : n ≡ length (first x.offset past) + (n - x.offset) = let l = first_length x.offset past in omega (arith, le, l) in
+    ap (λ (m : ℕ). drop m (knows past x)) e ∙ drop-append-add (first x.offset past) x.known (n - x.offset)
+
+-- the value of an instance past the offset is one that it holds
+pub value_at : {K : Type 0} (past : List Value) (x : NodeValue K) (place : ℕ) (value : Value) → x.offset ≤ place → slice_get x.known (place + 1 - x.offset - 1) ≡ Some value → get_or (knows past x) place [] ≡ value
+value_at past x place value le e =
+    get_or-append_right (first x.offset past) x.known x.offset place [] (first_length x.offset past) le
+    ∙ ap (λ (n : ℕ). get_or x.known n []) (let n : place - x.offset ≡ place + 1 - x.offset - 1 = omega arith in n)
+    ∙ get_or_from_slice_get x.known (place + 1 - x.offset - 1) value [] e
+
+-- a window has the value of each instance past its offset that it knows
+pub must_hold : (w : WindowValue) (instance : ℕ) (l : Look) → Looks w instance l → w.offset < instance → instance ≤ known_of w → ((v : _) → l ≡ look.Value v → ⊥) → ⊥
+must_hold w instance (look.Value v) h late there none = none v refl
+must_hold w instance (look.Gone offset) h late there none = let few = h.0 in omega arith
+must_hold w instance (look.Beyond known) h late there none = let more = h.0 in omega arith

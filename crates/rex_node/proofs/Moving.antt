@@ -1,0 +1,318 @@
+-- A node takes over the state after so many values, of which it knows fewer.
+use Rattle.std.proofs.Common.{◌≡◌, ℕ, suc, ◌+◌, ◌<◌, ◌≤◌, Bool, true, false, cond, leb, List, [], ◌∷◌, ◌++◌, length, Ok, Option, Some, None, refl, sym, ap, subst, ◌∙◌, arith, le_refl}
+use Rattle.std.specs.Prelude.{map, is_ok, is_some, nat_lt, Result, if◌then◌else◌}
+use Rattle.std.proofs.lemmas.Bool.{false≢true, leb-true, leb-false, le-leb, le-ltb, lt-ltb, lt-leb}
+use Rattle.std.proofs.lemmas.List.{append-nil, take_all}
+use Rattle.std.proofs.lemmas.List.Elements.{All-filter}
+use Rattle.rex_ballot.specs.Ballot.{IsInstance}
+use Rattle.rex_ballot.specs.declared.proposal.Proposal.{Proposal as Kept}
+use Rattle.rex_ballot.specs.Proposals.{IsValue, above}
+use Rattle.rex_paxos.specs.Acceptor.{AcceptorValue, forgetting}
+use Rattle.rex_paxos.specs.Proposer.{ProposerValue}
+use Rattle.rex_syntax.specs.declared.service.Declarations.{Declarations}
+use Rattle.rex_state.specs.Value.{StateValue}
+use Rattle.rex_state.specs.Start.{start_of}
+use Rattle.rex_state.specs.Machine.{run}
+use Rattle.rex_snapshot.specs.Reading.{state_in}
+use Rattle.rex_traits.specs.Chains.{Answer}
+use Rattle.rex_durable.specs.declared.records.Rec.{Rec as KeptRec}
+use Rattle.rex_durable.specs.declared.records.Rec.TheVariants as kept
+use Rattle.rex_durable.specs.Spelling.{HasSpelling, IsDue, record_bytes}
+use Rattle.rex_report.specs.declared.effect.Effect.{Effect}
+use Rattle.rex_report.specs.declared.effect.Effect.TheVariants as effect
+use Rattle.rex_safety.specs.Records.{Rec, Proposal, base, known, last_accepted, offset, from_on}
+use Rattle.rex_safety.specs.Records.Rec.{Transferred}
+use Rattle.rex_safety.specs.Node.{Failure, Message, Work, down_node, is_active, no_work}
+use Rattle.rex_safety.specs.Calls.{append, follow, followed, logged, on_snapshot, replayed_left, say, with_replayed, work_left}
+use Rattle.rex_safety.specs.Values.{Value, service_of, trace_of, values_fit}
+use Rattle.rex_safety.specs.Lanes.{CallHere}
+use Rattle.rex_safety.proofs.Replies.{state_is}
+use Rattle.rex_safety.proofs.Lists.{length_push}
+use Rattle.rex_log.specs.Log.{first, log_of, proposal_in, read_state, rec_of, standing_in}
+use Rattle.rex_log.specs.Messages.{message_in}
+use Rattle.rex_log.proofs.Accepting.{above_from}
+use Rattle.rex_log.proofs.Firsts.{first_length}
+use Rattle.rex_log.proofs.Pasts.{log_then}
+use Rattle.rex_node.specs.declared.going.Going.TheVariants.{On, Down}
+use Rattle.rex_node.specs.declared.step.Draft.{Draft}
+use Rattle.rex_node.specs.Stated.{is_stated}
+use Rattle.rex_node.specs.Telling.{LeadTo, fallen_moved}
+use Rattle.rex_node.specs.Parts.{NodeValue, IsResting, IsUp, ahead_left, failed_records, fallen, here_of, leaving, role_of, work_of}
+use Rattle.rex_node.specs.Calls.{armed_with}
+use Rattle.rex_node.specs.Going.{Appends, Fell, IsStuck, Leads, RunsOn, Tells, so_far}
+use Rattle.rex_node.proofs.Appended.{IsLogged, appended_here, appended_leads, appended_log, call_at, logged_of, up_of}
+use Rattle.rex_node.proofs.Following.{EndsWell, ends_same, far, within}
+use Rattle.rex_node.proofs.GoingLemmas.{fell_append, leads_same, leads_then}
+use Rattle.rex_node.proofs.Leaving.{no_work_left, role_active}
+
+-- ---- what was accepted
+
+-- from a later instance on, of those from an earlier one on
+from_on_both : (i j : ℕ) (ps : List (Proposal Value)) → i ≤ j → from_on j (from_on i ps) ≡ from_on j ps
+from_on_both i j [] le = refl
+from_on_both i j (p ∷ ps) le = go (leb i p.instance) refl (leb j p.instance) refl (from_on_both i j ps le)
+  where
+    go : (early : Bool) → leb i p.instance ≡ early → (late : Bool) → leb j p.instance ≡ late → from_on j (from_on i ps) ≡ from_on j ps
+        → from_on j (cond early (p ∷ from_on i ps) (from_on i ps)) ≡ cond late (p ∷ from_on j ps) (from_on j ps)
+    go true e true l ih = rw l (ap (λ (qs : List (Proposal Value)). p ∷ qs) ih)
+    go true e false l ih = rw l ih
+    go false e true l ih = absurd (let a = leb-false i p.instance e in let b = leb-true j p.instance l in omega arith)
+    go false e false l ih = ih
+
+-- above a later offset
+pub accepted_above : (k o : ℕ) (ps : List Kept) (qs : List (Proposal Value)) → o ≤ k → map proposal_in ps ≡ from_on (suc o) qs → map proposal_in (above k ps) ≡ from_on (suc k) qs
+accepted_above k o ps qs le h = above_from k ps ∙ ap (from_on (suc k)) h ∙ from_on_both (suc o) (suc k) qs (omega arith)
+
+-- a node that forgets acceptances follows as it would
+pub followed_same : (id : ℕ) (a b : AcceptorValue) (p : Option ProposerValue) (active : Bool) → followed id (role_of a p active) ≡ followed id (role_of b p active)
+followed_same id a b None active = refl
+followed_same id a b (Some p) active = refl
+
+-- ---- the record
+
+module _ {K : Type 0} (records : K → List (List ℕ)) (gives : K → List ℕ → Answer → K → Type 0) (faults : K → ℕ) (service : Declarations) (past : List Value) (x : NodeValue K) (node : IsResting records service past x) (up : x.up ≡ true) (before : Draft) (k : ℕ) (bytes : List ℕ) (s : StateValue)
+    (more : length x.known < k) (there : IsInstance k) (short : IsValue bytes) (spelled : state_in service bytes ≡ Ok s) (leads : LeadTo service past k s) (fits : values_fit service (first k past) ≡ true) (y : NodeValue K) (mid : Draft) where
+  u : IsUp service x (here_of records service past x)
+  u = node.up up
+
+  abbrev values : List Value
+  values = first k past
+
+  abbrev log : List (Rec Value StateValue)
+  log = log_of service past (records x.keeper)
+
+  abbrev r : KeptRec
+  r = kept.Transferred k bytes
+
+  abbrev said : Rec Value StateValue
+  said = Transferred (first k past) (read_state service (state_in service bytes))
+
+  long : length (first k past) ≡ k
+  long = first_length k past
+
+  spelling : HasSpelling r
+  spelling = record { in_range = (there, short) }
+
+  due : IsDue (standing_in (log_of service past (records x.keeper))) r
+  due = subst (λ (vs : List Value). length vs < k) u.known more
+
+  stated : is_stated service (record_bytes r) ≡ true
+  stated = ap (λ (q : Result StateValue ℕ). is_ok q) spelled
+
+  abbrev call : CallHere → CallHere
+  call = on_snapshot (service_of service x.seed) x.id (first k past)
+
+  abbrev rest : CallHere → CallHere
+  rest e = follow x.id (effect.Transferred x.id (length (first k past)) ∷ []) (with_replayed (length (first k past)) e)
+
+  call_is : (f : Option Failure) → call (armed_with f (so_far records service past x before)) ≡ append f x.id (rec_of service past r) (armed_with f (so_far records service past x before)) rest
+  call_is f =
+      ap (λ (t : Bool). cond t (say (effect.IgnoredInstance (length (first k past)) (suc (length (known log)))) d) (append f x.id (Transferred (first k past) ((service_of service x.seed).state (first k past))) d rest))
+      (lt-leb (length (first k past)) (length (known log)) (omega (arith, long, more, ap (λ (vs : List Value). length vs) u.known)))
+      ∙ ap (λ (t : StateValue). append f x.id (Transferred (first k past) t) d rest)
+      (state_is service (trace_of (first k past)) s leads ∙ sym (ap (λ (q : Result StateValue ℕ). read_state service q) spelled))
+    where
+      d : CallHere
+      d = armed_with f (so_far records service past x before)
+
+  -- ---- its append failed
+
+  module _ (h : Appends records faults gives x y before mid (record_bytes r) Down) (z : NodeValue K) (z_is : z ≡ fallen_moved (nat_lt (length (records x.keeper)) (length (records y.keeper))) y k) where
+    kept_is : (b : Bool) → records y.keeper ≡ failed_records b (records x.keeper) (record_bytes r) → nat_lt (length (records x.keeper)) (length (records y.keeper)) ≡ b
+    kept_is true e = lt-ltb (length (records x.keeper)) (length (records y.keeper)) (omega (arith, ap length e, length_push (records x.keeper) (record_bytes r)))
+    kept_is false e = le-ltb (length (records x.keeper)) (length (records y.keeper)) (omega (arith, ap length e))
+
+    abbrev fell_at : Bool → K → NodeValue K
+    fell_at b j = record (fallen x) { keeper = j; base = if b then k else x.base; replayed = if b then k else x.base }
+
+    z_at : z ≡ fell_at h.0.kept y.keeper
+    z_at = z_is ∙ ap (λ (b : Bool). fallen_moved b y k) (kept_is h.0.kept h.0.records) ∙ ap (λ (n : NodeValue K). fallen_moved h.0.kept n k) h.0.parts
+
+    z_keeper : z.keeper ≡ y.keeper
+    z_keeper = ap (λ (n : NodeValue K). n.keeper) z_at
+
+    log_in : (b : Bool) → records y.keeper ≡ failed_records b (records x.keeper) (record_bytes r) → log_of service past (records y.keeper) ≡ (if b then said ∷ log else log)
+    log_in true e = ap (log_of service past) e ∙ log_then service past (records x.keeper) r spelling due
+    log_in false e = ap (log_of service past) e
+
+    base_in : (b : Bool) → (if b then k else x.base) ≡ base (if b then said ∷ log else log)
+    base_in true = sym long
+    base_in false = u.base
+
+    down_at : so_far records service past z mid ≡ record { node = down_node (if h.0.kept then said ∷ log else log) None; sends = []; effects = before.effects.items ++ effect.Down x.id ∷ [] }
+    down_at =
+        ap (λ (n : NodeValue K). call_at (here_of records service past n) (map (message_in past) mid.sends.items) mid.effects.items) z_at
+        ∙ ap (λ (l : List (Rec Value StateValue)). call_at (record (here_of records service past (fell_at h.0.kept y.keeper)) { log = l }) (map (message_in past) mid.sends.items) mid.effects.items) (log_in h.0.kept h.0.records)
+        ∙ ap (λ (b : ℕ). call_at (record (here_of records service past (fell_at h.0.kept y.keeper)) { log = if h.0.kept then said ∷ log else log; replayed = b }) (map (message_in past) mid.sends.items) mid.effects.items) (base_in h.0.kept)
+        ∙ ap (λ (ms : List _). call_at (down_node (if h.0.kept then said ∷ log else log) None) (map (message_in past) ms) mid.effects.items) h.2
+        ∙ ap (call_at (down_node (if h.0.kept then said ∷ log else log) None) []) h.1
+
+    pub moved_down : (Fell records gives faults service call x.id x.keeper z.keeper (so_far records service past x before) (so_far records service past z mid) × (z.up ≡ false)) × IsResting records service past z
+    moved_down = (
+      (
+        subst (λ (j : K). Fell records gives faults service call x.id x.keeper j (so_far records service past x before) (so_far records service past z mid)) (sym z_keeper)
+            (fell_append records gives faults service call rest x.id (rec_of service past r) (so_far records service past x before) call_is x.keeper y.keeper (record_bytes r) stated h.0.kept h.0.answer h.0.records h.0.faults (so_far records service past z mid) down_at),
+        ap (λ (n : NodeValue K). n.up) z_at,
+      ),
+      subst (IsResting records service past) (sym z_at) (record { id = node.id; few = node.few; up = λ t. absurd (false≢true t); rests = λ t. absurd (false≢true t) }),
+    )
+
+  -- ---- or it went well
+
+  module _ (h : Appends records faults gives x y before mid (record_bytes r) On) where
+    -- memory is short then
+    pub moved_stuck : (z : NodeValue K) → z.keeper ≡ y.keeper → z.base ≡ k → IsStuck records service past x z
+    moved_stuck z keeper based = record {
+      more = record_bytes r ∷ [];
+      grown = ap records keeper ∙ h.0.records;
+      same = λ e. absurd (some e);
+      based = based ∙ sym long ∙ ap base (sym (ap (λ (j : K). log_of service past (records j)) keeper ∙ appended_log records gives faults service past x y before mid r spelling due stated h));
+    }
+      where
+        some : record_bytes r ∷ [] ≡ [] → ⊥
+        some e = cc
+
+    -- the node is a follower at the state
+    abbrev follower : K → NodeValue K
+    follower j = record x { keeper = j; acceptor = forgetting x.acceptor k; offset = k; known = first k past; base = k; start = s; replayed = k; ahead = None; proposer = None; acting = None }
+
+    module _ (z : NodeValue K) (z_is : z ≡ leaving (record y { offset = k; known = first k past ++ []; acceptor = forgetting y.acceptor k; base = k; start = s; replayed = k; ahead = None })) (after : Draft)
+        (told : Tells mid after (effect.Transferred y.id k ∷ followed y.id (role_of y.acceptor y.proposer (is_some y.acting)))) where
+      left_same : (t : Bool) → replayed_left t k k ≡ k
+      left_same true = refl
+      left_same false = refl
+
+      none_left : (t : Bool) → ahead_left t None ≡ None
+      none_left true = refl
+      none_left false = refl
+
+      followed_at : z ≡ follower y.keeper
+      followed_at =
+          z_is
+          ∙ ap (λ (n : NodeValue K). leaving (record n { offset = k; known = first k past ++ []; acceptor = forgetting n.acceptor k; base = k; start = s; replayed = k; ahead = None })) h.0.parts
+          ∙ ap (λ (vs : List Value). record (follower y.keeper) { known = vs; replayed = replayed_left (is_some x.acting) k k; ahead = ahead_left (is_some x.acting) None }) (append-nil (first k past))
+          ∙ ap (λ (m : ℕ). record (follower y.keeper) { replayed = m; ahead = ahead_left (is_some x.acting) None }) (left_same (is_some x.acting))
+          ∙ ap (λ (o : Option StateValue). record (follower y.keeper) { ahead = o }) (none_left (is_some x.acting))
+
+      log_is : log_of service past (records y.keeper) ≡ said ∷ log
+      log_is = appended_log records gives faults service past x y before mid r spelling due stated h
+
+      -- the model's call comes to the same
+      here_is : (ms : List (Message Value)) (es : List Effect) → call_at (here_of records service past (follower y.keeper)) ms (es ++ (effect.Transferred x.id k ∷ followed x.id (role_of x.acceptor x.proposer (is_some x.acting)))) ≡ rest (logged (rec_of service past r) None (call_at (here_of records service past x) ms es))
+      here_is ms es =
+          ap (λ (l : List (Rec Value StateValue)). at l no_work k (effect.Transferred x.id k)) log_is
+          ∙ ap (λ (w : Work). at (said ∷ log) w k (effect.Transferred x.id k)) (sym (no_work_left x.acting))
+          ∙ ap (λ (t : Bool). at (said ∷ log) (work_left t (work_of x.acting)) k (effect.Transferred x.id k)) (sym (role_active service x.known x.acceptor x.proposer x.acting u.acting))
+          ∙ ap (λ (m : ℕ). at (said ∷ log) (work_left active (work_of x.acting)) m (effect.Transferred x.id m)) (sym long)
+          ∙ ap (λ (m : ℕ). at (said ∷ log) (work_left active (work_of x.acting)) m (effect.Transferred x.id (length (first k past)))) (sym (left_long active))
+        where
+          active : Bool
+          active = is_active (here_of records service past x).role
+
+          left_long : (t : Bool) → replayed_left t (length (first k past)) (length (first k past)) ≡ length (first k past)
+          left_long true = refl
+          left_long false = refl
+
+          at : List (Rec Value StateValue) → Work → ℕ → Effect → CallHere
+          at l w m e = call_at (record (here_of records service past (follower y.keeper)) { log = l; work = w; replayed = m }) ms (es ++ (e ∷ followed x.id (role_of x.acceptor x.proposer (is_some x.acting))))
+
+      comes : so_far records service past z after ≡ rest (logged (rec_of service past r) None (so_far records service past x before))
+      comes =
+          far records service past z after (before.effects.items ++ (effect.Transferred x.id k ∷ followed x.id (role_of x.acceptor x.proposer (is_some x.acting)))) (map (message_in past) before.sends.items)
+          (told.effects_are ∙ ap (λ (es : List Effect). es ++ (effect.Transferred y.id k ∷ followed y.id (role_of y.acceptor y.proposer (is_some y.acting)))) h.1
+          ∙ ap (λ (n : NodeValue K). before.effects.items ++ (effect.Transferred n.id k ∷ followed n.id (role_of n.acceptor n.proposer (is_some n.acting)))) h.0.parts)
+          (ap (map (message_in past)) (told.sends_are ∙ h.2))
+          ∙ ap (λ (n : NodeValue K). call_at (here_of records service past n) (map (message_in past) before.sends.items) (before.effects.items ++ (effect.Transferred x.id k ∷ followed x.id (role_of x.acceptor x.proposer (is_some x.acting))))) followed_at
+          ∙ here_is (map (message_in past) before.sends.items) before.effects.items
+
+      -- it is kept
+      logged_here : IsLogged service (follower y.keeper) (said ∷ log)
+      logged_here =
+          let l = logged_of records service past x u in
+          record {
+            promised = l.promised;
+            accepted = accepted_above k (offset log) x.acceptor.accepted (last_accepted log) (omega (arith, l.offset_is, l.low, l.few, more)) l.accepted
+                ∙ ap (λ (n : ℕ). from_on (suc n) (last_accepted log)) (sym long);
+            offset_is = sym long;
+            low = le_refl k;
+            known = refl;
+            base = sym long;
+            old_base = l.old_base;
+            few = omega (arith, long);
+            start = ap (λ (vs : List Value). run service (start_of service) (trace_of vs)) (take_all k (first k past) (omega (arith, long))) ∙ leads;
+            short = All-filter _ (λ (q : Kept). IsValue q.value) x.acceptor.accepted l.short;
+            fits = fits;
+            numbers = record { ballots = l.numbers.ballots; instances = l.numbers.instances; few = omega (arith, long, there.last) };
+          }
+
+      follower_node : IsResting records service past (follower y.keeper)
+      follower_node = record {
+        id = node.id;
+        few = node.few;
+        up = λ t. up_of records service past (follower y.keeper) (subst (IsLogged service (follower y.keeper)) (sym log_is) logged_here)
+            (record {
+              based = le_refl k;
+              replayed = omega (arith, long);
+              ahead = λ _. logged_here.start;
+              caught_up = λ t. absurd (false≢true t);
+              proposer = tt;
+              acting = tt;
+              role = tt;
+            });
+        rests = λ t. tt;
+      }
+
+      pub moved_on : EndsWell records gives faults service past x z before after call
+      moved_on =
+          let resting : IsResting records service past z = subst (IsResting records service past) (sym followed_at) follower_node in (
+            (
+              leads_then records gives faults service call rest (λ d. d) x.keeper y.keeper z.keeper (so_far records service past x before) (so_far records service past y mid) (so_far records service past z after)
+                  (appended_leads records gives faults service past x y before mid r spelling due stated call rest call_is h) last,
+              within records service past z resting,
+              ap (λ (n : NodeValue K). n.up) followed_at ∙ up,
+            ),
+            resting,
+          )
+        where
+          keeper : z.keeper ≡ y.keeper
+          keeper = ap (λ (n : NodeValue K). n.keeper) followed_at
+
+          last : Leads records gives faults service rest (λ d. d) y.keeper z.keeper (so_far records service past y mid) (so_far records service past z after)
+          last =
+              subst (λ (j : K). Leads records gives faults service rest (λ d. d) y.keeper j (so_far records service past y mid) (so_far records service past z after)) (sym keeper)
+              (leads_same records gives faults service rest (λ d. d) y.keeper (so_far records service past y mid) (so_far records service past z after) (ap (λ (j : K). length (log_of service past (records j))) keeper)
+              (λ f. ap (λ (d : CallHere). rest (armed_with f d)) (appended_here records gives faults service past x y before mid r spelling due stated h) ∙ ap (armed_with f) (sym comes)))
+
+-- ---- a state that is told
+
+module _ {K : Type 0} (records : K → List (List ℕ)) (gives : K → List ℕ → Answer → K → Type 0) (faults : K → ℕ) (service : Declarations) (past : List Value) (x : NodeValue K) (node : IsResting records service past x) (up : x.up ≡ true) (before : Draft) (k : ℕ) where
+  -- the values before one that is taken over fit
+  pub told_fits : length x.known < k → RunsOn service (on_snapshot (service_of service x.seed) x.id (first k past)) (so_far records service past x before) → values_fit service (first k past) ≡ true
+  told_fits more runs = subst (λ (d : CallHere). values_fit service (known d.node.log) ≡ true) taken runs
+    where
+      rests : CallHere → CallHere
+      rests e = follow x.id (effect.Transferred x.id (length (first k past)) ∷ []) (with_replayed (length (first k past)) e)
+
+      taken : on_snapshot (service_of service x.seed) x.id (first k past) (so_far records service past x before) ≡ append None x.id (Transferred (first k past) ((service_of service x.seed).state (first k past))) (so_far records service past x before) rests
+      taken =
+          ap (λ (t : Bool). cond t (say (effect.IgnoredInstance (length (first k past)) (suc (length (known (here_of records service past x).log)))) (so_far records service past x before)) (append None x.id (Transferred (first k past) ((service_of service x.seed).state (first k past))) (so_far records service past x before) rests))
+          (lt-leb (length (first k past)) (length (known (here_of records service past x).log)) (omega (arith, first_length k past, more, ap (λ (vs : List Value). length vs) (node.up up).known)))
+
+  -- one after no more values than are known is ignored
+  pub snapshot_ignored : (after : Draft) (next : ℕ) → k ≤ length x.known → next ≡ length x.known + 1 → after.effects.items ≡ before.effects.items ++ effect.IgnoredInstance k next ∷ [] → after.sends.items ≡ before.sends.items
+      → EndsWell records gives faults service past x x before after (on_snapshot (service_of service x.seed) x.id (first k past))
+  snapshot_ignored after next few next_is effects sends =
+      ends_same records gives faults service past x x before after (on_snapshot (service_of service x.seed) x.id (first k past)) refl node up
+      (λ f. ap (λ (t : Bool). cond t (says f (length (first k past)) (suc (length (known (here_of records service past x).log)))) (takes f)) (le-leb (length (first k past)) (length (known (here_of records service past x).log)) (omega (arith, first_length k past, few, ap (λ (vs : List Value). length vs) (node.up up).known)))
+      ∙ ap (λ (n : ℕ). says f n (suc (length (known (here_of records service past x).log)))) (first_length k past)
+      ∙ ap (λ (n : ℕ). says f k n) (sym here)
+      ∙ ap (armed_with f) (sym (far records service past x after _ _ effects (ap (map (message_in past)) sends))))
+    where
+      says : Option Failure → ℕ → ℕ → CallHere
+      says f n m = say (effect.IgnoredInstance n m) (armed_with f (so_far records service past x before))
+
+      takes : Option Failure → CallHere
+      takes f = append f x.id (Transferred (first k past) ((service_of service x.seed).state (first k past))) (armed_with f (so_far records service past x before)) (λ e. follow x.id (effect.Transferred x.id (length (first k past)) ∷ []) (with_replayed (length (first k past)) e))
+
+      here : next ≡ suc (length (known (here_of records service past x).log))
+      here = let n : next ≡ suc (length x.known) = omega (arith, next_is) in n ∙ ap (λ (vs : List Value). suc (length vs)) (node.up up).known
