@@ -114,6 +114,7 @@ whole_of (Err why.Nothing) h = tt
 whole_of (Err (why.Live events)) h = tt
 whole_of (Err why.UpToDate) h = tt
 whole_of (Err why.Spent) h = tt
+whole_of (Err (why.BadSnapshot at)) h = tt
 
 -- where memory was not short the world is the one that the model's take leads to
 handed : {S : Type 0} → (service : Declarations) (before after : World S) (e : Event) (result : Result Turn Refusal) → IsWhole result → Refuses (refusal_active (node_at (world_of service before).nodes 1)) result

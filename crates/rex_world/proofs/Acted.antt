@@ -1,31 +1,38 @@
 -- What a call of a node comes to.
-use Rattle.std.proofs.Common.{◌≡◌, ◌^◌, ◌-◌, ◌<◌, ℕ, Bool, true, false, List, [], ◌∷◌, length, Result, Ok, Err, Option, Some, None, IfOk, OnErr, nat_lt, nat_le, ◌≤◌, refl, sym, ap, subst, ◌∙◌, arith, le_refl, if◌then◌else◌}
+use Rattle.std.proofs.Common.{◌≡◌, ◌^◌, ◌-◌, ◌<◌, ℕ, Bool, true, false, List, [], ◌∷◌, length, Result, Ok, Err, Option, Some, None, IfOk, OnErr, nat_lt, nat_le, ◌≤◌, refl, sym, ap, subst, ◌∙◌, arith, le_refl, append-nil, if◌then◌else◌}
 use Rattle.std.specs.Prelude.{◌==◌}
 use Rattle.rex_syntax.specs.declared.service.Declarations.{Declarations}
 use Rattle.rex_event.specs.declared.event.Event.{Event}
 use Rattle.rex_report.specs.declared.effect.Effect.TheVariants as effect
 use Rattle.rex_traits.specs.Keeping.{KeeperValue}
-use Rattle.rex_safety.specs.Records.{Rec, Proposal, base, promise, known}
+use Rattle.rex_safety.specs.Records.{Rec, Proposal, base, offset, promise, known}
 use Rattle.rex_safety.specs.Quorum.{ballot_above, round_of}
-use Rattle.rex_safety.specs.Node.{Content, Failure, Lead, Role, Service, is_active, role_name}
+use Rattle.rex_safety.specs.Node.{Failure, Lead, Role, Service, is_active, role_name}
 use Rattle.rex_safety.specs.Node.Role.{Follower, Leads}
 use Rattle.rex_version.specs.declared.version.Version.{Version}
-use Rattle.rex_safety.specs.Calls.{begin, say, checkpoint, elect, receive, replay}
+use Rattle.rex_safety.specs.Invariant.{Begins}
+use Rattle.rex_safety.specs.Calls.{begin, say, checkpoint, drop_known, elect, receive, replay}
 use Rattle.rex_safety.specs.Values.{Value, service_of, values_fit}
 use Rattle.rex_safety.specs.Lanes.{Here, CallHere, active_only, cut, cut_role, cut_lead, cut_live}
 use Rattle.rex_state.specs.Value.{StateValue}
 use Rattle.rex_node.specs.declared.refusal.Refusal.{Refusal}
 use Rattle.rex_node.specs.declared.refusal.Refusal.TheVariants as why
 use Rattle.rex_node.specs.declared.step.Step.{Step}
-use Rattle.rex_node.specs.Parts.{log_of, IsNode, NodeValue, StaysNode}
-use Rattle.rex_node.specs.Calls.{Does, IsSpared, Refuses, RefusesThen, if_active, if_up, refusal_of_checkpoint, refusal_of_cut, refusal_of_elect, refusal_of_lead, refusal_of_none, refusal_of_open, refusal_of_replay, refusal_up}
-use Rattle.rex_node.specs.Restarting.{CameUp, HasRightBase}
+use Rattle.rex_log.specs.Log.{log_of}
+use Rattle.rex_node.specs.Parts.{IsNode, NodeValue, StaysNode, knows}
+use Rattle.rex_node.specs.Calls.{Does, IsSpared, Refuses, RefusesThen, if_active, if_up, refusal_of_checkpoint, refusal_of_cut, refusal_of_drop, refusal_of_elect, refusal_of_lead, refusal_of_none, refusal_of_open, refusal_of_replay, refusal_up}
+use Rattle.rex_snapshot.specs.Reading.{state_in}
+use Rattle.rex_msg.specs.declared.message.Content.{Content as Says}
+use Rattle.rex_msg.specs.declared.message.Content.TheVariants as sent
+use Rattle.rex_log.specs.Messages.{content_in}
+use Rattle.rex_node.specs.Telling.{IsRight, IsTold, LeadTo, bad_state, refusal_of_content}
+use Rattle.rex_node.specs.Restarting.{CameUp, HasForgotten, HasRightBase}
 use Rattle.rex_world.specs.declared.seats.Seat.{Seat}
 use Rattle.rex_world.specs.declared.seats.Seat.TheVariants.{Running, Stopped, Empty}
 use Rattle.rex_world.specs.Seats.{HasKeeper, IsKeeping, IsRunner, IsSeat, StaysRunner, StaysSeat, faults_of, here_at, keeper_in, records_of, here_in}
 use Rattle.rex_world.specs.Calls.{Acts, IsDone, IsWhole, effect_of, Starts}
-use Rattle.rex_world.proofs.Failing.{follows, is_done, stays_keeping, stays_within}
-use Rattle.rex_world.proofs.Unseen.{Goes, checkpoint_either, cut_either, elect_either, receive_either, replay_either}
+use Rattle.rex_world.proofs.Failing.{follows, is_done, stays_grown, stays_keeping, stays_within}
+use Rattle.rex_world.proofs.Unseen.{Goes, checkpoint_either, cut_either, drop_either, elect_either, receive_either, replay_either}
 
 -- ---- refusals
 
@@ -39,8 +46,8 @@ Excused after number before (Some refusal) = after ≡ say (effect_of number ref
 abbrev err_of : Refusal → Result Step Refusal
 err_of refusal = Err refusal
 
-module _ (call : CallHere → CallHere) (number : ℕ) (before after : Here) where
-  refused : (refusal : Refusal) → before.up ≡ true → IsSpared (err_of refusal) before after → Excused (call (begin before)) number before (Some refusal) → Acts call number before after (Err refusal)
+module _ (past : List Value) (call : CallHere → CallHere) (number : ℕ) (before after : Here) where
+  refused : (refusal : Refusal) → before.up ≡ true → IsSpared (err_of refusal) before after → Excused (call (begin before)) number before (Some refusal) → Acts past call number before after (Err refusal)
   refused why.Down up left says = absurd says
   refused why.OutOfMemory up left says = tt
   refused (why.NotActive role) up left says = record { up = up; same = left; says = says }
@@ -50,8 +57,9 @@ module _ (call : CallHere → CallHere) (number : ℕ) (before after : Here) whe
   refused (why.Live many) up left says = record { up = up; same = left; says = says }
   refused why.UpToDate up left says = record { up = up; same = left; says = says }
   refused why.Spent up left says = record { up = up; same = left; says = says }
+  refused (why.BadSnapshot at) up left says = record { up = up; same = left; says = says }
 
-  refused_late : (refusal : Refusal) (late : Option Refusal) → before.up ≡ true → IsSpared (err_of refusal) before after → RefusesThen None late (err_of refusal) → Excused (call (begin before)) number before late → Acts call number before after (Err refusal)
+  refused_late : (refusal : Refusal) (late : Option Refusal) → before.up ≡ true → IsSpared (err_of refusal) before after → RefusesThen None late (err_of refusal) → Excused (call (begin before)) number before late → Acts past call number before after (Err refusal)
   refused_late why.OutOfMemory late up left is says = tt
   refused_late why.Down late up left is says = absurd (subst (Excused (call (begin before)) number before) is says)
   refused_late (why.NotActive role) late up left is says = refused (why.NotActive role) up left (subst (Excused (call (begin before)) number before) is says)
@@ -61,22 +69,23 @@ module _ (call : CallHere → CallHere) (number : ℕ) (before after : Here) whe
   refused_late (why.Live many) late up left is says = refused (why.Live many) up left (subst (Excused (call (begin before)) number before) is says)
   refused_late why.UpToDate late up left is says = refused why.UpToDate up left (subst (Excused (call (begin before)) number before) is says)
   refused_late why.Spent late up left is says = refused why.Spent up left (subst (Excused (call (begin before)) number before) is says)
+  refused_late (why.BadSnapshot at) late up left is says = refused (why.BadSnapshot at) up left (subst (Excused (call (begin before)) number before) is says)
 
-  was_down : (result : Result Step Refusal) → before.up ≡ false → result ≡ Err why.Down → IsSpared result before after → Acts call number before after result
+  was_down : (result : Result Step Refusal) → before.up ≡ false → result ≡ Err why.Down → IsSpared result before after → Acts past call number before after result
   was_down result down is left =
-      subst (Acts call number before after) (sym is) (record { down = down; same = subst (λ (r : Result Step Refusal). IsSpared r before after) is left })
+      subst (Acts past call number before after) (sym is) (record { down = down; same = subst (λ (r : Result Step Refusal). IsSpared r before after) is left })
 
-  acts_up : (due late : Option Refusal) (result : Result Step Refusal) → before.up ≡ true → RefusesThen due late result → IsSpared result before after → Excused (call (begin before)) number before due → (due ≡ None → Excused (call (begin before)) number before late) → IfOk result (IsDone call before after) → Acts call number before after result
+  acts_up : (due late : Option Refusal) (result : Result Step Refusal) → before.up ≡ true → RefusesThen due late result → IsSpared result before after → Excused (call (begin before)) number before due → (due ≡ None → Excused (call (begin before)) number before late) → IfOk result (IsDone past call before after) → Acts past call number before after result
   acts_up (Some refusal) late result up is left says later done =
-      subst (Acts call number before after) (sym is) (refused refusal up (subst (λ (r : Result Step Refusal). IsSpared r before after) is left) says)
+      subst (Acts past call number before after) (sym is) (refused refusal up (subst (λ (r : Result Step Refusal). IsSpared r before after) is left) says)
   acts_up None late (Ok step) up is left says later done = done
   acts_up None late (Err refusal) up is left says later done = refused_late refusal late up left is (later refl)
 
   -- a call comes to what it is due, or is done
-  pub acts_then : (due late : Option Refusal) (result : Result Step Refusal) → RefusesThen (if_up before.up due) late result → IsSpared result before after → Excused (call (begin before)) number before due → (due ≡ None → Excused (call (begin before)) number before late) → (before.up ≡ true → IfOk result (IsDone call before after)) → Acts call number before after result
+  pub acts_then : (due late : Option Refusal) (result : Result Step Refusal) → RefusesThen (if_up before.up due) late result → IsSpared result before after → Excused (call (begin before)) number before due → (due ≡ None → Excused (call (begin before)) number before late) → (before.up ≡ true → IfOk result (IsDone past call before after)) → Acts past call number before after result
   acts_then due late result is left says later done = by before.up refl is
     where
-      by : (up : Bool) → before.up ≡ up → RefusesThen (if_up up due) late result → Acts call number before after result
+      by : (up : Bool) → before.up ≡ up → RefusesThen (if_up up due) late result → Acts past call number before after result
       by true e h = acts_up due late result e h left says later (done e)
       by false e h = was_down result e h left
 
@@ -85,7 +94,7 @@ module _ (call : CallHere → CallHere) (number : ℕ) (before after : Here) whe
   due_first None (Ok step) is = refl
   due_first None (Err refusal) is = subst (λ (r : Refusal). RefusesThen None None (err_of r)) (sym is) tt
 
-  pub acts : (due : Option Refusal) (result : Result Step Refusal) → Refuses (if_up before.up due) result → IsSpared result before after → Excused (call (begin before)) number before due → (before.up ≡ true → IfOk result (IsDone call before after)) → Acts call number before after result
+  pub acts : (due : Option Refusal) (result : Result Step Refusal) → Refuses (if_up before.up due) result → IsSpared result before after → Excused (call (begin before)) number before due → (before.up ≡ true → IfOk result (IsDone past call before after)) → Acts past call number before after result
   acts due result is left says done = acts_then due None result (due_first (if_up before.up due) result is) left says (λ _. tt) done
 
 -- ---- elections
@@ -177,7 +186,17 @@ module _ (number : ℕ) (h : Here) where
       by false e true f = rw (e, f) refl
       by false e false f = tt
 
+  pub drop_excused : Excused (drop_known number (begin h)) number h (if base h.log == offset h.log then Some why.Nothing else None)
+  drop_excused = by (base h.log == offset h.log) refl
+    where
+      by : (b : Bool) → (base h.log == offset h.log) ≡ b → Excused (drop_known number (begin h)) number h (if b then Some why.Nothing else None)
+      by true e = rw e refl
+      by false e = tt
+
 -- ---- a node that is kept
+
+pub none_grown : (records : List (List ℕ)) → Begins records records
+none_grown records = ([], append-nil records)
 
 pub spared_if : {A B : Type 0} (result : Result A Refusal) (before after : B) → OnErr result (after ≡ before) → IsSpared result before after
 spared_if (Ok x) before after same = tt
@@ -190,21 +209,23 @@ spared_if (Err why.Nothing) before after same = same
 spared_if (Err (why.Live many)) before after same = same
 spared_if (Err why.UpToDate) before after same = same
 spared_if (Err why.Spent) before after same = same
+spared_if (Err (why.BadSnapshot at)) before after same = same
 
 -- so is the node of the model
-spared_here : (service : Declarations) (result : Result Step Refusal) (old new : NodeValue KeeperValue) → IsSpared result old new → IsSpared result (here_at service old) (here_at service new)
-spared_here service (Ok step) old new same = tt
-spared_here service (Err why.OutOfMemory) old new same = tt
-spared_here service (Err why.Down) old new same = ap (here_at service) same
-spared_here service (Err (why.NotActive role)) old new same = ap (here_at service) same
-spared_here service (Err (why.Open i)) old new same = ap (here_at service) same
-spared_here service (Err why.Ended) old new same = ap (here_at service) same
-spared_here service (Err why.Nothing) old new same = ap (here_at service) same
-spared_here service (Err (why.Live many)) old new same = ap (here_at service) same
-spared_here service (Err why.UpToDate) old new same = ap (here_at service) same
-spared_here service (Err why.Spent) old new same = ap (here_at service) same
+spared_here : (service : Declarations) (past : List Value) (result : Result Step Refusal) (old new : NodeValue KeeperValue) → IsSpared result old new → IsSpared result (here_at service past old) (here_at service past new)
+spared_here service past (Ok step) old new same = tt
+spared_here service past (Err why.OutOfMemory) old new same = tt
+spared_here service past (Err why.Down) old new same = ap (here_at service past) same
+spared_here service past (Err (why.NotActive role)) old new same = ap (here_at service past) same
+spared_here service past (Err (why.Open i)) old new same = ap (here_at service past) same
+spared_here service past (Err why.Ended) old new same = ap (here_at service past) same
+spared_here service past (Err why.Nothing) old new same = ap (here_at service past) same
+spared_here service past (Err (why.Live many)) old new same = ap (here_at service past) same
+spared_here service past (Err why.UpToDate) old new same = ap (here_at service past) same
+spared_here service past (Err why.Spent) old new same = ap (here_at service past) same
+spared_here service past (Err (why.BadSnapshot at)) old new same = ap (here_at service past) same
 
-module _ (service : Declarations) (seed nodes number : ℕ) (old : NodeValue KeeperValue) (runner : IsRunner service seed nodes number old) where
+module _ (service : Declarations) (past : List Value) (seed nodes number : ℕ) (old : NodeValue KeeperValue) (runner : IsRunner service past seed nodes number old) where
   -- the node's numbers are these
   pub named : (P : ℕ → ℕ → ℕ → Type 0) → P old.nodes old.seed old.id → P nodes seed number
   named P h = subst (λ (m : ℕ). P nodes seed m) runner.id (subst (λ (s : ℕ). P nodes s old.id) runner.seed_is (subst (λ (n : ℕ). P n old.seed old.id) runner.nodes_are h))
@@ -213,7 +234,7 @@ module _ (service : Declarations) (seed nodes number : ℕ) (old : NodeValue Kee
   unnamed P h = subst (λ (m : ℕ). P old.nodes old.seed m) (sym runner.id) (subst (λ (s : ℕ). P old.nodes s number) (sym runner.seed_is) (subst (λ (n : ℕ). P n seed number) (sym runner.nodes_are) h))
 
   module _ (new : NodeValue KeeperValue) where
-    pub stays_runner : StaysNode records_of service old new → IsKeeping service new.keeper → IsRunner service seed nodes number new
+    pub stays_runner : StaysNode records_of service past old new → IsKeeping service past new.keeper → IsRunner service past seed nodes number new
     stays_runner stays keeping = record {
       id = stays.same.id ∙ runner.id;
       nodes_are = stays.same.nodes ∙ runner.nodes_are;
@@ -222,21 +243,23 @@ module _ (service : Declarations) (seed nodes number : ℕ) (old : NodeValue Kee
       keeping = keeping;
     }
 
-    still : new ≡ old → StaysRunner service seed nodes number old new
-    still same = subst (λ (x : NodeValue KeeperValue). StaysRunner service seed nodes number old x) (sym same) (record { runner = runner; within = le_refl (faults_of old.keeper) })
+    still : new ≡ old → StaysRunner service past seed nodes number old new
+    still same = subst (λ (x : NodeValue KeeperValue). StaysRunner service past seed nodes number old x) (sym same) (record { runner = runner; within = le_refl (faults_of old.keeper); grown = none_grown old.keeper.records })
 
     -- where the keeper is as it was
-    pub stays_same : StaysNode records_of service old new → new.keeper ≡ old.keeper → StaysRunner service seed nodes number old new
+    pub stays_same : StaysNode records_of service past old new → new.keeper ≡ old.keeper → StaysRunner service past seed nodes number old new
     stays_same stays same = record {
-      runner = stays_runner stays (subst (IsKeeping service) (sym same) runner.keeping);
+      runner = stays_runner stays (subst (IsKeeping service past) (sym same) runner.keeping);
       within = subst (λ (k : KeeperValue). faults_of k ≤ faults_of old.keeper) (sym same) (le_refl (faults_of old.keeper));
+      grown = subst (λ (k : KeeperValue). Begins old.keeper.records k.records) (sym same) (none_grown old.keeper.records);
     }
 
     -- so it stays after a call, unless memory was short
-    pub stays_whole : (call : CallHere → CallHere) (result : Result Step Refusal) → ((f : Option Failure) → Goes f call) → StaysNode records_of service old new → IfOk result (Does records_of follows (λ k. k.faults) service call old new) → IsSpared result old new → IsWhole result → StaysRunner service seed nodes number old new
+    pub stays_whole : (call : CallHere → CallHere) (result : Result Step Refusal) → ((f : Option Failure) → Goes f call) → StaysNode records_of service past old new → IfOk result (Does records_of follows (λ k. k.faults) service past call old new) → IsSpared result old new → IsWhole result → StaysRunner service past seed nodes number old new
     stays_whole call (Ok step) goes stays does spared whole = record {
-      runner = stays_runner stays (stays_keeping service call goes old new step runner.keeping does);
-      within = stays_within service call goes old new step does;
+      runner = stays_runner stays (stays_keeping service past call goes old new step runner.keeping does);
+      within = stays_within service past call goes old new step does;
+      grown = stays_grown service past call goes old new step does;
     }
     stays_whole call (Err why.OutOfMemory) goes stays does spared whole = absurd whole
     stays_whole call (Err why.Down) goes stays does spared whole = still spared
@@ -247,102 +270,149 @@ module _ (service : Declarations) (seed nodes number : ℕ) (old : NodeValue Kee
     stays_whole call (Err (why.Live many)) goes stays does spared whole = still spared
     stays_whole call (Err why.UpToDate) goes stays does spared whole = still spared
     stays_whole call (Err why.Spent) goes stays does spared whole = still spared
+    stays_whole call (Err (why.BadSnapshot at)) goes stays does spared whole = still spared
 
-    pub done_if : (call : CallHere → CallHere) (result : Result Step Refusal) → ((f : Option Failure) → Goes f call) → IfOk result (Does records_of follows (λ k. k.faults) service call old new) → old.up ≡ true → IfOk result (IsDone call (here_at service old) (here_at service new))
-    done_if call (Ok step) goes does up = is_done service call goes old new step up does
+    pub done_if : (call : CallHere → CallHere) (result : Result Step Refusal) → ((f : Option Failure) → Goes f call) → IfOk result (Does records_of follows (λ k. k.faults) service past call old new) → old.up ≡ true → IfOk result (IsDone past call (here_at service past old) (here_at service past new))
+    done_if call (Ok step) goes does up = is_done service past call goes old new step up does
     done_if call (Err refusal) goes does up = tt
 
     -- what a call comes to that is the model's call of these numbers
-    pub node_acts_then : (call : (nodes seed number : ℕ) → CallHere → CallHere) → ((f : Option Failure) → Goes f (call old.nodes old.seed old.id)) → (due late : Option Refusal) (result : Result Step Refusal) → RefusesThen (if_up old.up due) late result → IsSpared result old new → Excused (call old.nodes old.seed old.id (begin (here_at service old))) old.id (here_at service old) due → (due ≡ None → Excused (call old.nodes old.seed old.id (begin (here_at service old))) old.id (here_at service old) late) → IfOk result (Does records_of follows (λ k. k.faults) service (call old.nodes old.seed old.id) old new) → Acts (call nodes seed number) number (here_at service old) (here_at service new) result
+    pub node_acts_then : (call : (nodes seed number : ℕ) → CallHere → CallHere) → ((f : Option Failure) → Goes f (call old.nodes old.seed old.id)) → (due late : Option Refusal) (result : Result Step Refusal) → RefusesThen (if_up old.up due) late result → IsSpared result old new → Excused (call old.nodes old.seed old.id (begin (here_at service past old))) old.id (here_at service past old) due → (due ≡ None → Excused (call old.nodes old.seed old.id (begin (here_at service past old))) old.id (here_at service past old) late) → IfOk result (Does records_of follows (λ k. k.faults) service past (call old.nodes old.seed old.id) old new) → Acts past (call nodes seed number) number (here_at service past old) (here_at service past new) result
     node_acts_then call goes due late result is left says later does =
-        named (λ n s m. Acts (call n s m) m (here_at service old) (here_at service new) result)
-        (acts_then (call old.nodes old.seed old.id) old.id (here_at service old) (here_at service new) due late result is (spared_here service result old new left) says later (done_if (call old.nodes old.seed old.id) result goes does))
+        named (λ n s m. Acts past (call n s m) m (here_at service past old) (here_at service past new) result)
+        (acts_then past (call old.nodes old.seed old.id) old.id (here_at service past old) (here_at service past new) due late result is (spared_here service past result old new left) says later (done_if (call old.nodes old.seed old.id) result goes does))
 
-    pub node_acts : (call : (nodes seed number : ℕ) → CallHere → CallHere) → ((f : Option Failure) → Goes f (call old.nodes old.seed old.id)) → (due : Option Refusal) (result : Result Step Refusal) → Refuses (if_up old.up due) result → IsSpared result old new → Excused (call old.nodes old.seed old.id (begin (here_at service old))) old.id (here_at service old) due → IfOk result (Does records_of follows (λ k. k.faults) service (call old.nodes old.seed old.id) old new) → Acts (call nodes seed number) number (here_at service old) (here_at service new) result
+    pub node_acts : (call : (nodes seed number : ℕ) → CallHere → CallHere) → ((f : Option Failure) → Goes f (call old.nodes old.seed old.id)) → (due : Option Refusal) (result : Result Step Refusal) → Refuses (if_up old.up due) result → IsSpared result old new → Excused (call old.nodes old.seed old.id (begin (here_at service past old))) old.id (here_at service past old) due → IfOk result (Does records_of follows (λ k. k.faults) service past (call old.nodes old.seed old.id) old new) → Acts past (call nodes seed number) number (here_at service past old) (here_at service past new) result
     node_acts call goes due result is left says does =
-        named (λ n s m. Acts (call n s m) m (here_at service old) (here_at service new) result)
-        (acts (call old.nodes old.seed old.id) old.id (here_at service old) (here_at service new) due result is (spared_here service result old new left) says (done_if (call old.nodes old.seed old.id) result goes does))
+        named (λ n s m. Acts past (call n s m) m (here_at service past old) (here_at service past new) result)
+        (acts past (call old.nodes old.seed old.id) old.id (here_at service past old) (here_at service past new) due result is (spared_here service past result old new left) says (done_if (call old.nodes old.seed old.id) result goes does))
 
 -- a node that stays, stays in its seat
-pub in_seat : {S : Type 0} → (service : Declarations) (seed nodes number : ℕ) (seat : Seat S) (old new : NodeValue KeeperValue) → seat ≡ Running old → StaysRunner service seed nodes number old new → StaysSeat service seed nodes number seat (Running new)
-in_seat service seed nodes number seat old new is stays = record { seat = stays.runner; within = subst (λ (s : Seat _). faults_of new.keeper ≤ faults_of (keeper_in s)) (sym is) stays.within }
+pub in_seat : {S : Type 0} → (service : Declarations) (past : List Value) (seed nodes number : ℕ) (seat : Seat S) (old new : NodeValue KeeperValue) → seat ≡ Running old → StaysRunner service past seed nodes number old new → StaysSeat service past seed nodes number seat (Running new)
+in_seat service past seed nodes number seat old new is stays = record {
+  seat = stays.runner;
+  within = subst (λ (s : Seat _). faults_of new.keeper ≤ faults_of (keeper_in s)) (sym is) stays.within;
+  grown = subst (λ (s : Seat _). Begins (records_of (keeper_in s)) new.keeper.records) (sym is) stays.grown;
+}
+
+-- ---- states that are told
+
+-- a state that is told rightly isn't refused
+never_bad : (service : Declarations) (past : List Value) (h : Here) (content : Says) → IsTold service past content → refusal_of_content service h content ≡ None
+never_bad service past h (sent.Prepare b i) told = refl
+never_bad service past h (sent.Promise b ps) told = refl
+never_bad service past h (sent.Accept b i v) told = refl
+never_bad service past h (sent.Accepted b i) told = refl
+never_bad service past h (sent.Chosen i v) told = refl
+never_bad service past h (sent.Nack b p) told = refl
+never_bad service past h (sent.Ask i) told = refl
+never_bad service past h (sent.Snapshot k bytes) told = by (nat_le k (length (known h.log)))
+  where
+    by : (b : Bool) → (if b then None else bad_state (state_in service bytes)) ≡ None
+    by true = refl
+    by false = ap bad_state told.spelled
+
+-- it is the one that the bytes spell
+same_state : (s t : StateValue) → ◌≡◌ {A = Result StateValue ℕ} (Ok s) (Ok t) → s ≡ t
+same_state s t e = cc
+
+pub is_right : (service : Declarations) (past : List Value) (content : Says) → IsTold service past content → IsRight service past content
+is_right service past (sent.Prepare b i) told = tt
+is_right service past (sent.Promise b ps) told = tt
+is_right service past (sent.Accept b i v) told = tt
+is_right service past (sent.Accepted b i) told = tt
+is_right service past (sent.Chosen i v) told = tt
+is_right service past (sent.Nack b p) told = tt
+is_right service past (sent.Ask i) told = tt
+is_right service past (sent.Snapshot k bytes) told = λ s e. subst (LeadTo service past k) (same_state told.state s (sym told.spelled ∙ e)) told.leads
 
 -- ---- calls of a seat
 
-module _ (service : Declarations) (seed nodes number : ℕ) (old new : NodeValue KeeperValue) (runner : IsRunner service seed nodes number old) (result : Result Step Refusal) where
-  pub elects : Refuses (refusal_of_elect old.id (here_at service old)) result → IfOk result (Does records_of follows (λ k. k.faults) service (elect old.nodes (service_of service old.seed) old.id) old new) → IsSpared result old new → Acts (elect nodes (service_of service seed) number) number (here_at service old) (here_at service new) result
+module _ (service : Declarations) (past : List Value) (seed nodes number : ℕ) (old new : NodeValue KeeperValue) (runner : IsRunner service past seed nodes number old) (result : Result Step Refusal) where
+  pub elects : Refuses (refusal_of_elect old.id (here_at service past old)) result → IfOk result (Does records_of follows (λ k. k.faults) service past (elect old.nodes (service_of service old.seed) old.id) old new) → IsSpared result old new → Acts past (elect nodes (service_of service seed) number) number (here_at service past old) (here_at service past new) result
   elects refuses does left =
-      node_acts service seed nodes number old runner new (λ n s m. elect n (service_of service s) m) (λ f. elect_either f old.nodes (service_of service old.seed) old.id)
-      (if nat_lt 4294967296 (round_of (ballot_above old.id (promise (here_at service old).log))) then Some why.Spent else None)
-      result refuses left (elect_excused old.id (here_at service old) old.nodes (service_of service old.seed)) does
+      node_acts service past seed nodes number old runner new (λ n s m. elect n (service_of service s) m) (λ f. elect_either f old.nodes (service_of service old.seed) old.id)
+      (if nat_lt 4294967296 (round_of (ballot_above old.id (promise (here_at service past old).log))) then Some why.Spent else None)
+      result refuses left (elect_excused old.id (here_at service past old) old.nodes (service_of service old.seed)) does
 
-  pub receives : (from : ℕ) (content : Content Value) → Refuses (refusal_up (here_at service old)) result → IfOk result (Does records_of follows (λ k. k.faults) service (receive old.nodes (service_of service old.seed) old.id from content) old new) → IsSpared result old new → Acts (receive nodes (service_of service seed) number from content) number (here_at service old) (here_at service new) result
-  receives from content refuses does left =
-      node_acts service seed nodes number old runner new (λ n s m. receive n (service_of service s) m from content) (λ f. receive_either f old.nodes (service_of service old.seed) old.id from content) None result refuses left tt does
+  pub receives : (from : ℕ) (content : Says) → IsTold service past content → RefusesThen (refusal_up (here_at service past old)) (refusal_of_content service (here_at service past old) content) result
+      → IfOk result (Does records_of follows (λ k. k.faults) service past (receive old.nodes (service_of service old.seed) old.id from (content_in past content)) old new) → IsSpared result old new
+      → Acts past (receive nodes (service_of service seed) number from (content_in past content)) number (here_at service past old) (here_at service past new) result
+  receives from content told refuses does left =
+      node_acts_then service past seed nodes number old runner new (λ n s m. receive n (service_of service s) m from (content_in past content)) (λ f. receive_either f old.nodes (service_of service old.seed) old.id from (content_in past content)) None None result
+      (subst (λ (late : Option Refusal). RefusesThen (refusal_up (here_at service past old)) late result) (never_bad service past (here_at service past old) content told) refuses)
+      left tt (λ _. tt) does
 
-  pub replays : Refuses (refusal_of_replay (here_at service old)) result → IfOk result (Does records_of follows (λ k. k.faults) service (replay old.id) old new) → IsSpared result old new → Acts (replay number) number (here_at service old) (here_at service new) result
+  pub replays : Refuses (refusal_of_replay (here_at service past old)) result → IfOk result (Does records_of follows (λ k. k.faults) service past (replay old.id) old new) → IsSpared result old new → Acts past (replay number) number (here_at service past old) (here_at service past new) result
   replays refuses does left =
-      node_acts service seed nodes number old runner new (λ n s m. replay m) (λ f. replay_either f old.id)
-      (if is_active (here_at service old).role then Some why.UpToDate else if (here_at service old).replayed == length (known (here_at service old).log) then Some why.UpToDate else None)
-      result refuses left (replay_excused old.id (here_at service old)) does
+      node_acts service past seed nodes number old runner new (λ n s m. replay m) (λ f. replay_either f old.id)
+      (if is_active (here_at service past old).role then Some why.UpToDate else if (here_at service past old).replayed == length (known (here_at service past old).log) then Some why.UpToDate else None)
+      result refuses left (replay_excused old.id (here_at service past old)) does
 
-  pub checkpoints : (version : Version) → Refuses (refusal_of_checkpoint (here_at service old)) result → IfOk result (Does records_of follows (λ k. k.faults) service (checkpoint version (service_of service old.seed) old.id) old new) → IsSpared result old new → Acts (checkpoint version (service_of service seed) number) number (here_at service old) (here_at service new) result
+  pub checkpoints : (version : Version) → Refuses (refusal_of_checkpoint (here_at service past old)) result → IfOk result (Does records_of follows (λ k. k.faults) service past (checkpoint version (service_of service old.seed) old.id) old new) → IsSpared result old new → Acts past (checkpoint version (service_of service seed) number) number (here_at service past old) (here_at service past new) result
   checkpoints version refuses does left =
-      node_acts service seed nodes number old runner new (λ n s m. checkpoint version (service_of service s) m) (λ f. checkpoint_either f version (service_of service old.seed) old.id)
-      (if (here_at service old).replayed == base (here_at service old).log then Some why.Nothing else if nat_lt 0 (length (here_at service old).work.live) then Some (why.Live (length (here_at service old).work.live)) else None)
-      result refuses left (checkpoint_excused old.id (here_at service old) version (service_of service old.seed)) does
+      node_acts service past seed nodes number old runner new (λ n s m. checkpoint version (service_of service s) m) (λ f. checkpoint_either f version (service_of service old.seed) old.id)
+      (if (here_at service past old).replayed == base (here_at service past old).log then Some why.Nothing else if nat_lt 0 (length (here_at service past old).work.live) then Some (why.Live (length (here_at service past old).work.live)) else None)
+      result refuses left (checkpoint_excused old.id (here_at service past old) version (service_of service old.seed)) does
+
+  pub drops : Refuses (refusal_of_drop (here_at service past old)) result → IfOk result (Does records_of follows (λ k. k.faults) service past (drop_known old.id) old new) → IsSpared result old new → Acts past (drop_known number) number (here_at service past old) (here_at service past new) result
+  drops refuses does left =
+      node_acts service past seed nodes number old runner new (λ n s m. drop_known m) (λ f. drop_either f old.id)
+      (if base (here_at service past old).log == offset (here_at service past old).log then Some why.Nothing else None)
+      result refuses left (drop_excused old.id (here_at service past old)) does
 
   -- of a cut, where the second refusal is what the model says of a leader without an open proposal, where an instance is left
-  pub cuts : (counts : List ℕ) (late : Option Refusal) → old.up ≡ true → RefusesThen (refusal_of_cut (here_at service old) (length old.known)) late result → ((l : Lead Value) → nat_le 65535 (length (known (here_at service old).log)) ≡ false → Excused (cut_lead service old.seed old.nodes old.id counts l None (begin (here_at service old))) old.id (here_at service old) late) → IfOk result (Does records_of follows (λ k. k.faults) service (cut service old.seed old.nodes old.id counts) old new) → IsSpared result old new → Acts (cut service seed nodes number counts) number (here_at service old) (here_at service new) result
+  pub cuts : (counts : List ℕ) (late : Option Refusal) → old.up ≡ true → RefusesThen (refusal_of_cut (here_at service past old) (length (knows past old))) late result → ((l : Lead Value) → nat_le 65535 (length (known (here_at service past old).log)) ≡ false → Excused (cut_lead service old.seed old.nodes old.id counts l None (begin (here_at service past old))) old.id (here_at service past old) late) → IfOk result (Does records_of follows (λ k. k.faults) service past (cut service old.seed old.nodes old.id counts) old new) → IsSpared result old new → Acts past (cut service seed nodes number counts) number (here_at service past old) (here_at service past new) result
   cuts counts late up refuses at_none does left =
-      let many : length old.known ≡ length (known (here_at service old).log) = ap length (runner.node.up up).known in
-      node_acts_then service seed nodes number old runner new (λ n s m. cut service s n m counts) (λ f. cut_either f service old.seed old.nodes old.id counts)
-      (if_active (here_at service old).role (refusal_of_lead (here_at service old).role (length (known (here_at service old).log))))
+      let many : length (knows past old) ≡ length (known (here_at service past old).log) = ap length (runner.node.up up).known in
+      node_acts_then service past seed nodes number old runner new (λ n s m. cut service s n m counts) (λ f. cut_either f service old.seed old.nodes old.id counts)
+      (if_active (here_at service past old).role (refusal_of_lead (here_at service past old).role (length (known (here_at service past old).log))))
       late result
-      (subst (λ (k : ℕ). RefusesThen (refusal_of_cut (here_at service old) k) late result) many refuses)
+      (subst (λ (k : ℕ). RefusesThen (refusal_of_cut (here_at service past old) k) late result) many refuses)
       left
-      (cut_excused service old.seed old.nodes old.id counts (here_at service old))
-      (cut_late service old.seed old.nodes old.id counts (here_at service old) late at_none)
+      (cut_excused service old.seed old.nodes old.id counts (here_at service past old))
+      (cut_late service old.seed old.nodes old.id counts (here_at service past old) late at_none)
       does
 
 -- ---- a node that came up
 
-keeping_in : {S : Type 0} → (service : Declarations) (seed nodes number : ℕ) (seat : Seat S) → IsSeat service seed nodes number seat → IsKeeping service (keeper_in seat)
-keeping_in service seed nodes number (Running node) runner = runner.keeping
-keeping_in service seed nodes number (Stopped keeper) keeping = keeping
-keeping_in service seed nodes number Empty none = absurd none
+pub keeping_in : {S : Type 0} → (service : Declarations) (past : List Value) (seed nodes number : ℕ) (seat : Seat S) → IsSeat service past seed nodes number seat → IsKeeping service past (keeper_in seat)
+keeping_in service past seed nodes number (Running node) runner = runner.keeping
+keeping_in service past seed nodes number (Stopped keeper) keeping = keeping
+keeping_in service past seed nodes number Empty none = absurd none
 
-pub has_keeper : {S : Type 0} → (service : Declarations) (seed nodes number : ℕ) (seat : Seat S) → IsSeat service seed nodes number seat → HasKeeper seat
-has_keeper service seed nodes number (Running node) runner = tt
-has_keeper service seed nodes number (Stopped keeper) keeping = tt
-has_keeper service seed nodes number Empty none = absurd none
+pub has_keeper : {S : Type 0} → (service : Declarations) (past : List Value) (seed nodes number : ℕ) (seat : Seat S) → IsSeat service past seed nodes number seat → HasKeeper seat
+has_keeper service past seed nodes number (Running node) runner = tt
+has_keeper service past seed nodes number (Stopped keeper) keeping = tt
+has_keeper service past seed nodes number Empty none = absurd none
 
 -- its failures can be counted
-pub has_room : {S : Type 0} → (service : Declarations) (seed nodes number : ℕ) (seat : Seat S) → IsSeat service seed nodes number seat → (keeper_in seat).faults < 2 ^ 64 - 1
-has_room service seed nodes number seat is = let k = (keeping_in service seed nodes number seat is).room in omega arith
+pub has_room : {S : Type 0} → (service : Declarations) (past : List Value) (seed nodes number : ℕ) (seat : Seat S) → IsSeat service past seed nodes number seat → (keeper_in seat).faults < 2 ^ 64 - 1
+has_room service past seed nodes number seat is = let k = (keeping_in service past seed nodes number seat is).room in omega arith
 
 -- a node that came up with a seat's keeper is kept in the seat
-pub comes_up : {S : Type 0} → (service : Declarations) (seed nodes number : ℕ) (seat : Seat S) (node : NodeValue KeeperValue) → IsSeat service seed nodes number seat → CameUp records_of service number nodes seed (keeper_in seat) node → IsNode records_of service node → StaysSeat service seed nodes number seat (Running node)
-comes_up service seed nodes number seat node is up kept = record {
+pub comes_up : {S : Type 0} → (service : Declarations) (past : List Value) (seed nodes number : ℕ) (seat : Seat S) (node : NodeValue KeeperValue) → IsSeat service past seed nodes number seat → CameUp records_of service past number nodes seed (keeper_in seat) node → IsNode records_of service past node → StaysSeat service past seed nodes number seat (Running node)
+comes_up service past seed nodes number seat node is up kept = record {
   seat = record {
     id = up.id_is;
     nodes_are = up.nodes_are;
     seed_is = up.seed_is;
     node = kept;
-    keeping = subst (IsKeeping service) (sym up.keeper_is) (keeping_in service seed nodes number seat is);
+    keeping = subst (IsKeeping service past) (sym up.keeper_is) (keeping_in service past seed nodes number seat is);
   };
   within = subst (λ (k : KeeperValue). faults_of k ≤ faults_of (keeper_in seat)) (sym up.keeper_is) (le_refl (faults_of (keeper_in seat)));
+  grown = subst (λ (k : KeeperValue). Begins (records_of (keeper_in seat)) k.records) (sym up.keeper_is) (none_grown (records_of (keeper_in seat)));
 }
 
 -- the records of a seat are its keeper's
-log_in : {S : Type 0} → (service : Declarations) (seat : Seat S) → (here_in service seat).log ≡ log_of service (records_of (keeper_in seat))
-log_in service (Running node) = refl
-log_in service (Stopped keeper) = refl
-log_in service Empty = refl
+pub log_in : {S : Type 0} → (service : Declarations) (past : List Value) (seat : Seat S) → (here_in service past seat).log ≡ log_of service past (records_of (keeper_in seat))
+log_in service past (Running node) = refl
+log_in service past (Stopped keeper) = refl
+log_in service past Empty = refl
 
 -- what holds where a node starts holds of its keeper
-pub starts_kept : {S : Type 0} → (service : Declarations) (seat : Seat S) (keeper : KeeperValue) (P : Type 0) → keeper ≡ keeper_in seat → Starts service (here_in service seat)
-    → (values_fit service (known (log_of service (records_of keeper))) ≡ true → HasRightBase service (log_of service (records_of keeper)) → P) → P
-starts_kept service seat keeper P e h go =
-    let logs : (here_in service seat).log ≡ log_of service (records_of keeper) = log_in service seat ∙ ap (λ (k : KeeperValue). log_of service (records_of k)) (sym e) in
-    go (subst (λ (log : List (Rec Value StateValue)). values_fit service (known log) ≡ true) logs h.fit) (subst (HasRightBase service) logs h.base)
+pub starts_kept : {S : Type 0} → (service : Declarations) (past : List Value) (seat : Seat S) (keeper : KeeperValue) (P : Type 0) → keeper ≡ keeper_in seat → Starts service past (here_in service past seat)
+    → (values_fit service (known (log_of service past (records_of keeper))) ≡ true → HasRightBase service (log_of service past (records_of keeper)) → HasForgotten past (log_of service past (records_of keeper)) → P) → P
+starts_kept service past seat keeper P e h go =
+    let logs : (here_in service past seat).log ≡ log_of service past (records_of keeper) = log_in service past seat ∙ ap (λ (k : KeeperValue). log_of service past (records_of k)) (sym e) in
+    go (subst (λ (log : List (Rec Value StateValue)). values_fit service (known log) ≡ true) logs h.fit) (subst (HasRightBase service) logs h.base) (subst (HasForgotten past) logs h.forgotten)

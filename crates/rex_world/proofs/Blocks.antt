@@ -19,15 +19,15 @@ use Rattle.rex_safety.specs.Calls.{begin}
 use Rattle.rex_safety.specs.Lanes.{Here}
 use Rattle.rex_safety.specs.World.{World as ModelWorld, node_at, put}
 use Rattle.rex_safety.specs.Takes.{BeginsInRange, after_doings, take, take_event}
+use Rattle.rex_safety.specs.Agreed.{agreed}
+use Rattle.rex_safety.specs.Values.{Value}
 use Rattle.rex_safety.specs.Kept.{IsKept}
 use Rattle.rex_safety.proofs.Nodes.{node_put, put_length}
 use Rattle.rex_safety.proofs.Takes.{take_kept}
 use Rattle.rex_node.specs.declared.refusal.Refusal.{Refusal}
-use Rattle.rex_node.specs.declared.refusal.Refusal.TheVariants as why
 use Rattle.rex_node.specs.Blocks.{take_each}
 use Rattle.rex_node.specs.Parts.{NodeValue, here_of}
-use Rattle.rex_node.specs.Calls as calls
-use Rattle.rex_node.specs.Calls.{LeadsTo, Refuses, refusal_active, if_active}
+use Rattle.rex_node.specs.Calls.{LeadsTo, Refuses, refusal_active}
 use Rattle.rex_world.specs.declared.seats.Seat.{Seat}
 use Rattle.rex_world.specs.declared.world.World.{World}
 use Rattle.rex_world.specs.Blocks.{IsHandedBlock, IsHandedBlockAt, takes_at}
@@ -35,7 +35,7 @@ use Rattle.rex_world.specs.Seats.{AreSeats, StaysSeat, armed_of, here_at, here_i
 use Rattle.rex_world.specs.World.{nodes_of, world_of}
 use Rattle.rex_world.specs.Kept.{IsRunning, IsSame}
 use Rattle.rex_world.proofs.Coming.{put_same}
-use Rattle.rex_world.proofs.Given.{take_is, none_refused}
+use Rattle.rex_world.proofs.Given.{take_agreed, take_is, none_refused}
 use Rattle.rex_world.proofs.Seated.{here_is, many_here, new_is, put_is, set_seats, set_within, within_is}
 
 -- ---- the node
@@ -46,40 +46,32 @@ armed_each : (service : Declarations) (es : List Event) (h : Here) (a : Option F
 armed_each service [] h a = refl
 armed_each service (e ∷ es) h a = armed_each service es (take_event service e (begin h)).node a
 
-module _ (service : Declarations) (x y : NodeValue KeeperValue) (es : List Event) (keeper : y.keeper ≡ x.keeper) where
-  leads : LeadsTo (take_each service es) (here_of records_of service x) (here_of records_of service y) → LeadsTo (take_each service es) (here_at service x) (here_at service y)
+module _ (service : Declarations) (past : List Value) (x y : NodeValue KeeperValue) (es : List Event) (keeper : y.keeper ≡ x.keeper) where
+  leads : LeadsTo (take_each service es) (here_of records_of service past x) (here_of records_of service past y) → LeadsTo (take_each service es) (here_at service past x) (here_at service past y)
   leads h =
       ap (λ (n : Here). let m : Here = record n { armed = armed_of y.keeper.armed } in m) h
-      ∙ ap (λ (k : KeeperValue). let m : Here = record (take_each service es (begin (here_of records_of service x))).node { armed = armed_of k.armed } in m) keeper
-      ∙ sym (armed_each service es (here_of records_of service x) (armed_of x.keeper.armed))
+      ∙ ap (λ (k : KeeperValue). let m : Here = record (take_each service es (begin (here_of records_of service past x))).node { armed = armed_of k.armed } in m) keeper
+      ∙ sym (armed_each service es (here_of records_of service past x) (armed_of x.keeper.armed))
 
-  pub block_handed : (outcome : Result (Unit {0}) Refusal) → Refuses (refusal_active (here_of records_of service x)) outcome
-      → OnOk outcome (LeadsTo (take_each service es) (here_of records_of service x) (here_of records_of service y)) → OnErr outcome (y ≡ x) → IsHandedBlock service es (here_at service x) (here_at service y) outcome
+  pub block_handed : (outcome : Result (Unit {0}) Refusal) → Refuses (refusal_active (here_of records_of service past x)) outcome
+      → OnOk outcome (LeadsTo (take_each service es) (here_of records_of service past x) (here_of records_of service past y)) → OnErr outcome (y ≡ x) → IsHandedBlock service es (here_at service past x) (here_at service past y) outcome
   block_handed (Ok t) refused takes same = record { refused = refused; takes = leads takes; same = tt }
-  block_handed (Err r) refused takes same = record { refused = refused; takes = tt; same = ap (here_at service) same }
-
--- a node that is down refuses it
-pub block_down : (service : Declarations) (es : List Event) (x : Here) → x.up ≡ false → IsHandedBlock service es x x (Err why.Down)
-block_down service es x down = record {
-  refused = subst (λ (u : Bool). Refuses {A = Unit {0}} (calls.if_up u (if_active x.role None)) (Err why.Down)) (sym down) refl;
-  takes = tt;
-  same = refl;
-}
+  block_handed (Err r) refused takes same = record { refused = refused; takes = tt; same = ap (here_at service past) same }
 
 -- ---- among the nodes
 
-module _ {S : Type 0} (service : Declarations) (seats : List (Seat S)) (number : ℕ) (here : IsNode (length seats) number) (d : Seat S) where
+module _ {S : Type 0} (service : Declarations) (past : List Value) (seats : List (Seat S)) (number : ℕ) (here : IsNode (length seats) number) (d : Seat S) where
   pub block_at : (seed : ℕ) (es : List Event) (seat : Seat S) (outcome : Result (Unit {0}) Refusal)
-      → IsHandedBlock service es (here_in service (slice_index_or seats (number - 1) d)) (here_in service seat) outcome → StaysSeat service seed (length seats) number (slice_index_or seats (number - 1) d) seat
-      → IsHandedBlockAt service seed number es seats (slice_set seats (number - 1) seat) outcome
+      → IsHandedBlock service es (here_in service past (slice_index_or seats (number - 1) d)) (here_in service past seat) outcome → StaysSeat service past seed (length seats) number (slice_index_or seats (number - 1) d) seat
+      → IsHandedBlockAt service past seed number es seats (slice_set seats (number - 1) seat) outcome
   block_at seed es seat outcome h kept = record {
-    handed = subst (λ (x : Here). IsHandedBlock service es x (node_at (heres service (slice_set seats (number - 1) seat)) number) outcome) (sym (here_is service seats number here d))
-        (subst (λ (y : Here). IsHandedBlock service es (here_in service (slice_index_or seats (number - 1) d)) y outcome) (sym (new_is service seats number here d seat)) h);
-    others = put_is service seats number here d seat ∙ ap (λ (y : Here). put (heres service seats) number y) (sym (new_is service seats number here d seat));
+    handed = subst (λ (x : Here). IsHandedBlock service es x (node_at (heres service past (slice_set seats (number - 1) seat)) number) outcome) (sym (here_is service past seats number here d))
+        (subst (λ (y : Here). IsHandedBlock service es (here_in service past (slice_index_or seats (number - 1) d)) y outcome) (sym (new_is service past seats number here d seat)) h);
+    others = put_is service past seats number here d seat ∙ ap (λ (y : Here). put (heres service past seats) number y) (sym (new_is service past seats number here d seat));
     many = length-set seats (number - 1) seat;
-    seats = λ most all. let l = within_is service seats number here d most all.within in let k = kept.within in record {
-      seats_are = set_seats service seats number here d seed (length seats) seat all.seats_are kept.seat;
-      within = set_within service seats number here d most seat all.within (omega (arith, l, k));
+    seats = λ most all. let l = within_is service past seats number here d most all.within in let k = kept.within in record {
+      seats_are = set_seats service past seats number here d seed (length seats) seat all.seats_are kept.seat;
+      within = set_within service past seats number here d most seat all.within (omega (arith, l, k));
     };
   }
 
@@ -121,46 +113,55 @@ block_kept service requests seed n m [] w few good checked there begins k = k
 block_kept service requests seed n m (e ∷ es) w few good checked there begins k =
     block_kept service requests seed n m es (take service w m e) few good checked there (All-tail BeginsInRange e es begins) (take_kept service good checked [] (All-nil (RequestFits service)) seed n few w k m there e (All-head BeginsInRange e es begins))
 
+takes_agreed : (service : Declarations) (requests : List Request) (seed n m : ℕ) (es : List Event) (w : ModelWorld) → agreed (after_doings service requests seed n w (takes_at m es)) ≡ agreed w
+takes_agreed service requests seed n m [] w = refl
+takes_agreed service requests seed n m (e ∷ es) w = takes_agreed service requests seed n m es (take service w m e) ∙ take_agreed service w m e
+
 ok_due : (due : Option Refusal) (t : Unit {0}) → Refuses due (Ok t) → due ≡ None
 ok_due None t h = refl
 ok_due (Some r) t h = absurd (cc)
 
 -- what a slice of the seats came to, the seats came to
-pub block_there : {S : Type 0} → (service : Declarations) (w : World S) (m : ℕ) (es : List Event) (xs ws : List (Seat S)) (outcome : Result (Unit {0}) Refusal) → xs ≡ w.seats.items → IsHandedBlockAt service w.seed m es xs ws outcome
-    → IsHandedBlockAt service w.seed m es w.seats.items (with_items w.seats ws).items outcome
+pub block_there : {S : Type 0} → (service : Declarations) (w : World S) (m : ℕ) (es : List Event) (xs ws : List (Seat S)) (outcome : Result (Unit {0}) Refusal) → xs ≡ w.seats.items → IsHandedBlockAt service w.agreed w.seed m es xs ws outcome
+    → IsHandedBlockAt service w.agreed w.seed m es w.seats.items (with_items w.seats ws).items outcome
 block_there service w m es xs ws outcome is a =
     let many : length ws ≡ nodes_of w = a.many ∙ ap length is in
-    subst (λ (ys : List (Seat _)). IsHandedBlockAt service w.seed m es w.seats.items ys outcome) (sym (with_items_is w.seats ws (many ∙ sym w.seats.ok.0)))
-    (subst (λ (ys : List (Seat _)). IsHandedBlockAt service w.seed m es ys ws outcome) is a)
+    subst (λ (ys : List (Seat _)). IsHandedBlockAt service w.agreed w.seed m es w.seats.items ys outcome) (sym (with_items_is w.seats ws (many ∙ sym w.seats.ok.0)))
+    (subst (λ (ys : List (Seat _)). IsHandedBlockAt service w.agreed w.seed m es ys ws outcome) is a)
 
 module _ {S : Type 0} (service : Declarations) (w : World S) (h : IsRunning service w) (m : ℕ) (there : IsNode (nodes_of w) m) (es : List Event) (seats : Vec (Seat S)) where
   abbrev later : Bool → World S
   later broken = record w { seats = seats; broken = broken }
 
-  pub block_world : (broken : Bool) (outcome : Result (Unit {0}) Refusal) → IsHandedBlockAt service w.seed m es w.seats.items seats.items outcome
+  pub block_world : (broken : Bool) (outcome : Result (Unit {0}) Refusal) → IsHandedBlockAt service w.agreed w.seed m es w.seats.items seats.items outcome
       → OnOk outcome (world_of service (later broken) ≡ after_doings service w.requests w.seed (nodes_of w) (world_of service w) (takes_at m es))
   block_world broken (Err r) a = tt
   block_world broken (Ok t) a =
-      let n = none_refused (node_at (heres service w.seats.items) m) (ok_due (refusal_active (node_at (heres service w.seats.items) m)) t a.handed.refused) in
-      ap (λ (xs : List Here). let v : ModelWorld = record (world_of service w) { nodes = xs } in v) (a.others ∙ ap (put (heres service w.seats.items) m) a.handed.takes)
-      ∙ takes_are service w.requests w.seed (nodes_of w) m es (world_of service w) (subst (λ (k : ℕ). IsNode k m) (sym (many_here service w.seats.items)) there) n.0 n.1
+      let n = none_refused (node_at (heres service w.agreed w.seats.items) m) (ok_due (refusal_active (node_at (heres service w.agreed w.seats.items) m)) t a.handed.refused) in
+      ap (λ (xs : List Here). let v : ModelWorld = record (world_of service w) { nodes = xs } in v) (a.others ∙ ap (put (heres service w.agreed w.seats.items) m) a.handed.takes)
+      ∙ takes_are service w.requests w.seed (nodes_of w) m es (world_of service w) (subst (λ (k : ℕ). IsNode k m) (sym (many_here service w.agreed w.seats.items)) there) n.0 n.1
 
-  pub block_unchanged : (broken : Bool) (outcome : Result (Unit {0}) Refusal) → IsHandedBlockAt service w.seed m es w.seats.items seats.items outcome → OnErr outcome (world_of service (later broken) ≡ world_of service w)
+  pub block_unchanged : (broken : Bool) (outcome : Result (Unit {0}) Refusal) → IsHandedBlockAt service w.agreed w.seed m es w.seats.items seats.items outcome → OnErr outcome (world_of service (later broken) ≡ world_of service w)
   block_unchanged broken (Ok t) a = tt
   block_unchanged broken (Err r) a =
       ap (λ (xs : List Here). let v : ModelWorld = record (world_of service w) { nodes = xs } in v)
-      (a.others ∙ ap (put (heres service w.seats.items) m) a.handed.same ∙ put_same (heres service w.seats.items) m)
+      (a.others ∙ ap (put (heres service w.agreed w.seats.items) m) a.handed.same ∙ put_same (heres service w.agreed w.seats.items) m)
 
-  pub block_same : (broken : Bool) (outcome : Result (Unit {0}) Refusal) → IsHandedBlockAt service w.seed m es w.seats.items seats.items outcome → IsSame w (later broken)
+  pub block_same : (broken : Bool) (outcome : Result (Unit {0}) Refusal) → IsHandedBlockAt service w.agreed w.seed m es w.seats.items seats.items outcome → IsSame w (later broken)
   block_same broken outcome a = record { nodes = a.many; requests = refl; seed = refl }
 
   module _ (begins : All BeginsInRange es) where
-    kept_later : (outcome : Result (Unit {0}) Refusal) → IsHandedBlockAt service w.seed m es w.seats.items seats.items outcome → IsKept service w.seed (nodes_of w) (world_of service (later w.broken))
+    kept_later : (outcome : Result (Unit {0}) Refusal) → IsHandedBlockAt service w.agreed w.seed m es w.seats.items seats.items outcome → IsKept service w.seed (nodes_of w) (world_of service (later w.broken))
     kept_later (Ok t) a =
         subst (IsKept service w.seed (nodes_of w)) (sym (block_world w.broken (Ok t) a)) (block_kept service w.requests w.seed (nodes_of w) m es (world_of service w) h.few h.service_is h.checked there begins h.kept)
     kept_later (Err r) a = subst (IsKept service w.seed (nodes_of w)) (sym (block_unchanged w.broken (Err r) a)) h.kept
 
-    pub block_running : (outcome : Result (Unit {0}) Refusal) → IsHandedBlockAt service w.seed m es w.seats.items seats.items outcome → IsRunning service (later w.broken)
+    -- what is agreed on stays
+    agreed_later : (outcome : Result (Unit {0}) Refusal) → IsHandedBlockAt service w.agreed w.seed m es w.seats.items seats.items outcome → w.agreed ≡ agreed (world_of service (later w.broken))
+    agreed_later (Ok t) a = h.agreed ∙ sym (takes_agreed service w.requests w.seed (nodes_of w) m es (world_of service w)) ∙ ap agreed (sym (block_world w.broken (Ok t) a))
+    agreed_later (Err r) a = h.agreed ∙ ap agreed (sym (block_unchanged w.broken (Err r) a))
+
+    pub block_running : (outcome : Result (Unit {0}) Refusal) → IsHandedBlockAt service w.agreed w.seed m es w.seats.items seats.items outcome → IsRunning service (later w.broken)
     block_running outcome a =
         let all = a.seats w.done (record { seats_are = h.seats; within = h.within }) in
         record {
@@ -168,10 +169,12 @@ module _ {S : Type 0} (service : Declarations) (w : World S) (h : IsRunning serv
           checked = h.checked;
           whole = h.whole;
           few = subst (λ (n : ℕ). n ≤ most_nodes) (sym a.many) h.few;
+          agreed = agreed_later outcome a;
           kept = subst (λ (n : ℕ). IsKept service w.seed n (world_of service (later w.broken))) (sym a.many) (kept_later outcome a);
-          seats = subst (λ (n : ℕ). AreSeats service w.seed n 1 seats.items) (sym a.many) all.seats_are;
+          seats = subst (λ (n : ℕ). AreSeats service w.agreed w.seed n 1 seats.items) (sym a.many) all.seats_are;
           within = all.within;
           spelled = h.spelled;
+          told = h.told;
           requests = h.requests;
           flushed = h.flushed;
           handed = h.handed;

@@ -8,6 +8,9 @@ use Rattle.std.proofs.lemmas.List.{append-nil, length-map, take-append-le}
 use Rattle.std.proofs.lemmas.List.Elements.{All-nil, All-cons, All-append, All-head, All-tail}
 use Rattle.rex_ballot.specs.Limits.{most_nodes}
 use Rattle.rex_syntax.specs.declared.service.Declarations.{Declarations}
+use Rattle.rex_syntax.specs.Service.{IsService}
+use Rattle.rex_syntax.specs.Check.{IsChecked}
+use Rattle.rex_scenario.specs.Fits.{RequestFits}
 use Rattle.rex_report.specs.declared.effect.Effect.{Effect}
 use Rattle.rex_report.specs.declared.effect.Effect.TheVariants.{IsDown, IsUp}
 use Rattle.rex_msg.specs.declared.message.Message.{Message as Said}
@@ -27,31 +30,46 @@ use Rattle.rex_safety.proofs.Migrated.{migrated_sends}
 use Rattle.rex_node.specs.declared.refusal.Refusal.{Refusal}
 use Rattle.rex_node.specs.declared.refusal.Refusal.TheVariants as why
 use Rattle.rex_node.specs.declared.step.Step.{Step}
-use Rattle.rex_node.specs.Messages.{message_in}
+use Rattle.rex_log.specs.Messages.{message_in}
+use Rattle.rex_node.specs.Telling.{AreTold, IsTold}
 use Rattle.rex_world.specs.declared.seats.Seat.{Seat}
 use Rattle.rex_world.specs.declared.told.Told.{Told}
 use Rattle.rex_world.specs.declared.world.World.{World}
-use Rattle.rex_world.specs.Seats.{AreKept, AreSeats, heres}
-use Rattle.rex_world.specs.World.{read_message, message_of, messages_of, IsSpelled, world_of, nodes_of}
+use Rattle.rex_world.specs.Seats.{AreKept, AreSeats, AreWithin, heres}
+use Rattle.rex_world.specs.World.{read_message, message_of, messages_of, IsSpelled, TellsIn, TellsRightly, world_of, nodes_of}
 use Rattle.rex_world.specs.Kept.{IsRunning, IsSame}
-use Rattle.rex_world.specs.Calls.{IsDone, IsRefused, WasDown, Acts, IsWhole, Did, TellsStep, TellsRefusal, Tells, IsTold, effect_of, ComesTo, StartsIf, IsStarted}
+use Rattle.rex_world.specs.Calls.{IsDone, IsRefused, WasDown, Acts, IsWhole, Did, TellsStep, TellsRefusal, Tells, HasTold, effect_of, StartsIf, IsStarted}
+use Rattle.rex_world.proofs.Sending.{sent_alike}
+use Rattle.rex_world.proofs.Silent.{none_told}
 
 -- ---- messages as bytes
 
-pub messages_both : (xs ys : List (List ℕ)) → messages_of (xs ++ ys) ≡ messages_of xs ++ messages_of ys
-messages_both [] ys = refl
-messages_both (x ∷ xs) ys = ap (λ (ms : List (Message Value)). message_of x ∷ ms) (messages_both xs ys)
+module _ (past : List Value) where
+  pub messages_both : (xs ys : List (List ℕ)) → messages_of past (xs ++ ys) ≡ messages_of past xs ++ messages_of past ys
+  messages_both [] ys = refl
+  messages_both (x ∷ xs) ys = ap (λ (ms : List (Message Value)). message_of past x ∷ ms) (messages_both xs ys)
 
-pub messages_many : (xs : List (List ℕ)) → length (messages_of xs) ≡ length xs
-messages_many [] = refl
-messages_many (x ∷ xs) = ap suc (messages_many xs)
+  pub messages_many : (xs : List (List ℕ)) → length (messages_of past xs) ≡ length xs
+  messages_many [] = refl
+  messages_many (x ∷ xs) = ap suc (messages_many xs)
 
--- what is spelled is read again
-read_again : (ms : List Said) → All HasSpelling ms → messages_of (map spelling_of ms) ≡ map message_in ms
-read_again [] h = refl
-read_again (m ∷ ms) h =
-    ap (λ (x : Message Value). x ∷ messages_of (map spelling_of ms)) (ap read_message (message_read m (All-head HasSpelling m ms h)))
-    ∙ ap (λ (xs : List (Message Value)). message_in m ∷ xs) (read_again ms (All-tail HasSpelling m ms h))
+  -- what is spelled is read again
+  read_again : (ms : List Said) → All HasSpelling ms → messages_of past (map spelling_of ms) ≡ map (message_in past) ms
+  read_again [] h = refl
+  read_again (m ∷ ms) h =
+      ap (λ (x : Message Value). x ∷ messages_of past (map spelling_of ms)) (ap (read_message past) (message_read m (All-head HasSpelling m ms h)))
+      ∙ ap (λ (xs : List (Message Value)). message_in past m ∷ xs) (read_again ms (All-tail HasSpelling m ms h))
+
+  -- and a state that it tells is right
+  pub one_told : (service : Declarations) (m : Said) → HasSpelling m → IsTold service past m.content → TellsRightly service past (spelling_of m)
+  one_told service m spelled told = record { tells = subst (TellsIn service past) (sym (message_read m spelled)) told }
+
+  all_told : (service : Declarations) (ms : List Said) → All HasSpelling ms → AreTold service past ms → All (TellsRightly service past) (map spelling_of ms)
+  all_told service [] spelled told = All-nil (TellsRightly service past)
+  all_told service (m ∷ ms) spelled told =
+      All-cons (TellsRightly service past) (spelling_of m) (map spelling_of ms)
+      (one_told service m (All-head HasSpelling m ms spelled) (All-head (λ (x : Said). IsTold service past x.content) m ms told))
+      (all_told service ms (All-tail HasSpelling m ms spelled) (All-tail (λ (x : Said). IsTold service past x.content) m ms told))
 
 all_spelled : (ms : List Said) → All HasSpelling ms → All IsSpelled (map spelling_of ms)
 all_spelled [] h = All-nil IsSpelled
@@ -87,6 +105,32 @@ said_only w m call e up says =
 down_only : (w : ModelWorld) (m : ℕ) (call : CallHere → CallHere) → (node_at w.nodes m).up ≡ false → at_node w m call ≡ only w (IsDown m)
 down_only w m call down = ap (λ (t : Bool). if_up t w m (call (begin (node_at w.nodes m)))) down
 
+-- ---- before what a node has come to know was agreed
+
+-- all that is kept of a running world, but that its agreed values are those of the model's world
+pub record IsUnsettled {S : Type 0} (service : Declarations) (w : World S) : Type 0 where
+  pub service_is : IsService service
+  pub checked : IsChecked service
+  pub whole : w.broken ≡ false
+  pub few : nodes_of w ≤ most_nodes
+  pub kept : IsKept service w.seed (nodes_of w) (world_of service w)
+  pub seats : AreSeats service w.agreed w.seed (nodes_of w) 1 w.seats.items
+  pub within : AreWithin w.done w.seats.items
+  pub spelled : All IsSpelled w.net
+  pub told : All (TellsRightly service w.agreed) w.net
+  pub requests : All (RequestFits service) w.requests
+  pub flushed : w.flushed ≤ length w.handed.items
+  pub handed : list_all (λ (b : Bool). b) (take w.flushed w.handed.items) ≡ true
+
+-- the world came to a row of the model, with the same values agreed as before
+pub record CameTo {S : Type 0} (service : Declarations) (before after : World S) (old new : Told) (r : Row) : Type 0 where
+  pub did : Did (world_of service before) (world_of service after) old new r
+  pub works : IsUnsettled service after
+  pub same : IsSame before after
+  pub done : after.done ≡ before.done
+  pub flushed : after.flushed ≡ before.flushed
+  pub stood : after.agreed ≡ before.agreed
+
 -- ---- a step that was told
 
 module _ {S : Type 0} (service : Declarations) (w w2 : World S) (seats : Vec (Seat S)) (told told2 : Told) where
@@ -98,43 +142,44 @@ module _ {S : Type 0} (service : Declarations) (w w2 : World S) (seats : Vec (Se
   sent_world = record w { seats = seats; net = w2.net; handed = w2.handed }
 
   module _ (step : Step) (tells : TellsStep seated w2 told told2 step) where
-    messages_after : messages_of w2.net ≡ messages_of w.net ++ map message_in step.sends
-    messages_after = ap messages_of tells.sends.net ∙ messages_both w.net (map spelling_of step.sends) ∙ ap (λ (ms : List (Message Value)). messages_of w.net ++ ms) (read_again step.sends tells.sends.spelled)
+    messages_after : messages_of w.agreed w2.net ≡ messages_of w.agreed w.net ++ map (message_in w.agreed) step.sends
+    messages_after = ap (messages_of w.agreed) tells.sends.net ∙ messages_both w.agreed w.net (map spelling_of step.sends) ∙ ap (λ (ms : List (Message Value)). messages_of w.agreed w.net ++ ms) (read_again w.agreed step.sends tells.sends.spelled)
 
     -- the world is the one of the model after the call
-    pub world_after : (m : ℕ) (d : CallHere) → heres service seats.items ≡ put (heres service w.seats.items) m d.node → map message_in step.sends ≡ d.sends
+    pub world_after : (m : ℕ) (d : CallHere) → heres service w.agreed seats.items ≡ put (heres service w.agreed w.seats.items) m d.node → map (message_in w.agreed) step.sends ≡ d.sends
         → world_of service w2 ≡ (after (world_of service w) m d).world
     world_after m d nodes sends =
         ap (world_of service) tells.rest
-        ∙ same_world w.done w.done (heres service seats.items) (put (heres service w.seats.items) m d.node) (messages_of w2.net) (messages_of w.net ++ d.sends) w2.handed.items (w.handed.items ++ replicate (length d.sends) false)
+        ∙ same_world w.done w.done (heres service w.agreed seats.items) (put (heres service w.agreed w.seats.items) m d.node) (messages_of w.agreed w2.net) (messages_of w.agreed w.net ++ d.sends) w2.handed.items (w.handed.items ++ replicate (length d.sends) false)
         refl nodes
-        (messages_after ∙ ap (λ (ms : List (Message Value)). messages_of w.net ++ ms) sends)
-        (tells.sends.handed ∙ ap (λ (k : ℕ). w.handed.items ++ replicate k false) (sym (length-map step.sends message_in) ∙ ap length sends))
+        (messages_after ∙ ap (λ (ms : List (Message Value)). messages_of w.agreed w.net ++ ms) sends)
+        (tells.sends.handed ∙ ap (λ (k : ℕ). w.handed.items ++ replicate k false) (sym (length-map step.sends (message_in w.agreed)) ∙ ap length sends))
 
-    pub did_after : (m : ℕ) (d : CallHere) → heres service seats.items ≡ put (heres service w.seats.items) m d.node → map message_in step.sends ≡ d.sends → step.effects ≡ d.effects
+    pub did_after : (m : ℕ) (d : CallHere) → heres service w.agreed seats.items ≡ put (heres service w.agreed w.seats.items) m d.node → map (message_in w.agreed) step.sends ≡ d.sends → step.effects ≡ d.effects
         → Did (world_of service w) (world_of service w2) told told2 (after (world_of service w) m d)
     did_after m d nodes sends effects = record {
       world = world_after m d nodes sends;
       effects = tells.effects ∙ ap (λ (es : List Effect). told.effects.items ++ es) effects;
-      sent = tells.sends.sent ∙ ap (λ (es : List Effect). told.sent.items ++ es)
-          (ap (λ (k : ℕ). sent_from (suc k) (map message_in step.sends)) (sym (messages_many w.net))
-          ∙ ap (λ (ms : List (Message Value)). sent_from (suc (length (messages_of w.net))) ms) (sends ∙ sym (drop-append_seam (messages_of w.net) d.sends)));
+      sent = tells.sends.sent ∙ ap (λ (es : List Effect). told.sent.items ++ es) (sent_alike w.agreed (suc (length w.net)) step.sends) ∙ ap (λ (es : List Effect). told.sent.items ++ es)
+          (ap (λ (k : ℕ). sent_from (suc k) (map (message_in w.agreed) step.sends)) (sym (messages_many w.agreed w.net))
+          ∙ ap (λ (ms : List (Message Value)). sent_from (suc (length (messages_of w.agreed w.net))) ms) (sends ∙ sym (drop-append_seam (messages_of w.agreed w.net) d.sends)));
     }
 
     front_after : w.flushed ≤ length w.handed.items → take w.flushed w2.handed.items ≡ take w.flushed w.handed.items
     front_after l = ap (take w.flushed) tells.sends.handed ∙ take-append-le w.flushed w.handed.items (replicate (length step.sends) false) l
 
-    pub running_after : IsRunning service w → length seats.items ≡ nodes_of w → AreKept service w.seed (nodes_of w) w.done seats.items → IsKept service w.seed (nodes_of w) (world_of service w2) → IsRunning service w2
-    running_after h many all kept =
-        subst (IsRunning service) (sym tells.rest)
+    pub running_after : IsRunning service w → length seats.items ≡ nodes_of w → AreKept service w.agreed w.seed (nodes_of w) w.done seats.items → AreTold service w.agreed step.sends → IsKept service w.seed (nodes_of w) (world_of service w2) → IsUnsettled service w2
+    running_after h many all told_right kept =
+        subst (IsUnsettled service) (sym tells.rest)
         (record {
           service_is = h.service_is;
           checked = h.checked;
           whole = h.whole;
           few = subst (λ (k : ℕ). k ≤ most_nodes) (sym many) h.few;
           kept = subst (λ (k : ℕ). IsKept service w.seed k (world_of service sent_world)) (sym many) (subst (λ (v : World S). IsKept service w.seed (nodes_of w) (world_of service v)) tells.rest kept);
-          seats = subst (λ (k : ℕ). AreSeats service w.seed k 1 seats.items) (sym many) all.seats_are;
+          seats = subst (λ (k : ℕ). AreSeats service w.agreed w.seed k 1 seats.items) (sym many) all.seats_are;
           within = all.within;
+          told = subst (All (TellsRightly service w.agreed)) (sym tells.sends.net) (All-append (TellsRightly service w.agreed) w.net (map spelling_of step.sends) h.told (all_told w.agreed service step.sends tells.sends.spelled told_right));
           spelled = subst (All IsSpelled) (sym tells.sends.net) (All-append IsSpelled w.net (map spelling_of step.sends) h.spelled (all_spelled step.sends tells.sends.spelled));
           requests = h.requests;
           flushed = omega (arith, ap length tells.sends.handed, length-append w.handed.items (replicate (length step.sends) false), h.flushed);
@@ -150,26 +195,29 @@ module _ {S : Type 0} (service : Declarations) (w w2 : World S) (seats : Vec (Se
     pub flushed_after : w2.flushed ≡ w.flushed
     flushed_after = ap (λ (v : World S). v.flushed) tells.rest
 
+    pub stood_after : w2.agreed ≡ w.agreed
+    stood_after = ap (λ (v : World S). v.agreed) tells.rest
+
   -- ---- a refusal that was told
 
-  module _ (same : w2 ≡ seated) (nodes : heres service seats.items ≡ heres service w.seats.items) where
+  module _ (same : w2 ≡ seated) (nodes : heres service w.agreed seats.items ≡ heres service w.agreed w.seats.items) where
     world_same : world_of service w2 ≡ world_of service w
     world_same =
         ap (world_of service) same
-        ∙ same_world w.done w.done (heres service seats.items) (heres service w.seats.items) (messages_of w.net) (messages_of w.net) w.handed.items w.handed.items refl nodes refl refl
+        ∙ same_world w.done w.done (heres service w.agreed seats.items) (heres service w.agreed w.seats.items) (messages_of w.agreed w.net) (messages_of w.agreed w.net) w.handed.items w.handed.items refl nodes refl refl
 
     did_only : (e : Effect) → told2.effects.items ≡ told.effects.items ++ e ∷ [] → told2.sent.items ≡ told.sent.items → Did (world_of service w) (world_of service w2) told told2 (only (world_of service w) e)
     did_only e effects sent = record {
       world = world_same;
       effects = effects;
-      sent = sent ∙ sym (append-nil told.sent.items) ∙ ap (λ (ms : List (Message Value)). told.sent.items ++ sent_from (suc (length (messages_of w.net))) ms) (sym (drop-length (messages_of w.net)));
+      sent = sent ∙ sym (append-nil told.sent.items) ∙ ap (λ (ms : List (Message Value)). told.sent.items ++ sent_from (suc (length (messages_of w.agreed w.net))) ms) (sym (drop-length (messages_of w.agreed w.net)));
     }
 
     comes_only : (e : Effect) → told2.effects.items ≡ told.effects.items ++ e ∷ [] → told2.sent.items ≡ told.sent.items → IsRunning service w → length seats.items ≡ nodes_of w
-        → AreKept service w.seed (nodes_of w) w.done seats.items → ComesTo service w w2 told told2 (only (world_of service w) e)
+        → AreKept service w.agreed w.seed (nodes_of w) w.done seats.items → CameTo service w w2 told told2 (only (world_of service w) e)
     comes_only e effects sent h many all = record {
       did = did_only e effects sent;
-      running = subst (IsRunning service) (sym same)
+      works = subst (IsUnsettled service) (sym same)
           (record {
             service_is = h.service_is;
             checked = h.checked;
@@ -177,8 +225,9 @@ module _ {S : Type 0} (service : Declarations) (w w2 : World S) (seats : Vec (Se
             few = subst (λ (k : ℕ). k ≤ most_nodes) (sym many) h.few;
             kept = subst (λ (k : ℕ). IsKept service w.seed k (world_of service seated)) (sym many)
                 (subst (IsKept service w.seed (nodes_of w)) (sym world_same ∙ ap (world_of service) same) h.kept);
-            seats = subst (λ (k : ℕ). AreSeats service w.seed k 1 seats.items) (sym many) all.seats_are;
+            seats = subst (λ (k : ℕ). AreSeats service w.agreed w.seed k 1 seats.items) (sym many) all.seats_are;
             within = all.within;
+            told = h.told;
             spelled = h.spelled;
             requests = h.requests;
             flushed = h.flushed;
@@ -187,70 +236,73 @@ module _ {S : Type 0} (service : Declarations) (w w2 : World S) (seats : Vec (Se
       same = record { nodes = ap nodes_of same ∙ many; requests = ap (λ (v : World S). v.requests) same; seed = ap (λ (v : World S). v.seed) same };
       done = ap (λ (v : World S). v.done) same;
       flushed = ap (λ (v : World S). v.flushed) same;
+      stood = ap (λ (v : World S). v.agreed) same;
     }
 
   -- ---- a call
 
   module _ (h : IsRunning service w) (m : ℕ) where
     abbrev here : Here
-    here = node_at (heres service w.seats.items) m
+    here = node_at (heres service w.agreed w.seats.items) m
 
     abbrev there : Here
-    there = node_at (heres service seats.items) m
+    there = node_at (heres service w.agreed seats.items) m
 
     -- the row of a step that was done
-    comes_after : (d : CallHere) (step : Step) → TellsStep seated w2 told told2 step → there ≡ d.node → map message_in step.sends ≡ d.sends → step.effects ≡ d.effects
-        → heres service seats.items ≡ put (heres service w.seats.items) m there → length seats.items ≡ nodes_of w → AreKept service w.seed (nodes_of w) w.done seats.items
-        → IsKept service w.seed (nodes_of w) (after (world_of service w) m d).world → ComesTo service w w2 told told2 (after (world_of service w) m d)
-    comes_after d step tells node sends effects others many all kept =
-        let nodes : heres service seats.items ≡ put (heres service w.seats.items) m d.node = others ∙ ap (put (heres service w.seats.items) m) node in
+    comes_after : (d : CallHere) (step : Step) → TellsStep seated w2 told told2 step → there ≡ d.node → map (message_in w.agreed) step.sends ≡ d.sends → step.effects ≡ d.effects
+        → heres service w.agreed seats.items ≡ put (heres service w.agreed w.seats.items) m there → length seats.items ≡ nodes_of w → AreKept service w.agreed w.seed (nodes_of w) w.done seats.items
+        → AreTold service w.agreed step.sends → IsKept service w.seed (nodes_of w) (after (world_of service w) m d).world → CameTo service w w2 told told2 (after (world_of service w) m d)
+    comes_after d step tells node sends effects others many all told_right kept =
+        let nodes : heres service w.agreed seats.items ≡ put (heres service w.agreed w.seats.items) m d.node = others ∙ ap (put (heres service w.agreed w.seats.items) m) node in
         record {
           did = did_after step tells m d nodes sends effects;
-          running = running_after step tells h many all (subst (IsKept service w.seed (nodes_of w)) (sym (world_after step tells m d nodes sends)) kept);
+          works = running_after step tells h many all told_right (subst (IsKept service w.seed (nodes_of w)) (sym (world_after step tells m d nodes sends)) kept);
           same = same_after step tells many;
           done = done_after step tells;
           flushed = flushed_after step tells;
+          stood = stood_after step tells;
         }
 
     -- a node that is as it was
-    nodes_same : heres service seats.items ≡ put (heres service w.seats.items) m there → there ≡ here → heres service seats.items ≡ heres service w.seats.items
-    nodes_same others same = others ∙ ap (put (heres service w.seats.items) m) same ∙ put_same (heres service w.seats.items) m
+    nodes_same : heres service w.agreed seats.items ≡ put (heres service w.agreed w.seats.items) m there → there ≡ here → heres service w.agreed seats.items ≡ heres service w.agreed w.seats.items
+    nodes_same others same = others ∙ ap (put (heres service w.agreed w.seats.items) m) same ∙ put_same (heres service w.agreed w.seats.items) m
 
     module _ (call : CallHere → CallHere) (kept : IsKept service w.seed (nodes_of w) (at_node (world_of service w) m call).world)
-        (others : heres service seats.items ≡ put (heres service w.seats.items) m there) (many : length seats.items ≡ nodes_of w) where
+        (others : heres service w.agreed seats.items ≡ put (heres service w.agreed w.seats.items) m there) (many : length seats.items ≡ nodes_of w) where
       abbrev Row-comes : Type 0
-      Row-comes = ComesTo service w w2 told told2 (at_node (world_of service w) m call)
+      Row-comes = CameTo service w w2 told told2 (at_node (world_of service w) m call)
 
-      comes_done : (step : Step) → IsDone call here there step → TellsStep seated w2 told told2 step → AreKept service w.seed (nodes_of w) w.done seats.items → Row-comes
-      comes_done step is tells all =
-          subst (λ (t : Bool). ComesTo service w w2 told told2 (if_up t (world_of service w) m (call (begin here)))) (sym is.up)
-          (comes_after (call (begin here)) step tells is.node is.sends is.effects others many all
+      comes_done : (step : Step) → IsDone w.agreed call here there step → TellsStep seated w2 told told2 step → AreKept service w.agreed w.seed (nodes_of w) w.done seats.items → AreTold service w.agreed step.sends → Row-comes
+      comes_done step is tells all told_right =
+          subst (λ (t : Bool). CameTo service w w2 told told2 (if_up t (world_of service w) m (call (begin here)))) (sym is.up)
+          (comes_after (call (begin here)) step tells is.node is.sends is.effects others many all told_right
           (subst (λ (t : Bool). IsKept service w.seed (nodes_of w) (if_up t (world_of service w) m (call (begin here))).world) is.up kept))
 
-      comes_refused : (refusal : Refusal) → IsRefused call m here there refusal → TellsRefusal m seated w2 told told2 refusal → AreKept service w.seed (nodes_of w) w.done seats.items → Row-comes
+      comes_refused : (refusal : Refusal) → IsRefused call m here there refusal → TellsRefusal m seated w2 told told2 refusal → AreKept service w.agreed w.seed (nodes_of w) w.done seats.items → Row-comes
       comes_refused refusal is tells all =
-          subst (ComesTo service w w2 told told2) (sym (said_only (world_of service w) m call (effect_of m refusal) is.up is.says))
+          subst (CameTo service w w2 told told2) (sym (said_only (world_of service w) m call (effect_of m refusal) is.up is.says))
           (comes_only tells.same (nodes_same others is.same) (effect_of m refusal) tells.effects tells.sent h many all)
 
-      comes_down : WasDown here there → TellsRefusal m seated w2 told told2 why.Down → AreKept service w.seed (nodes_of w) w.done seats.items → Row-comes
+      comes_down : WasDown here there → TellsRefusal m seated w2 told told2 why.Down → AreKept service w.agreed w.seed (nodes_of w) w.done seats.items → Row-comes
       comes_down is tells all =
-          subst (ComesTo service w w2 told told2) (sym (down_only (world_of service w) m call is.down))
+          subst (CameTo service w w2 told told2) (sym (down_only (world_of service w) m call is.down))
           (comes_only tells.same (nodes_same others is.same) (IsDown m) tells.effects tells.sent h many all)
 
-      pub comes : (outcome : Result Step Refusal) → Acts call m here there outcome → (IsWhole outcome → AreKept service w.seed (nodes_of w) w.done seats.items) → IsTold m seated w2 told told2 outcome → Row-comes
-      comes (Ok step) acts all t = comes_done step acts t.tells (all tt)
-      comes (Err why.OutOfMemory) acts all t = absurd t.tells
-      comes (Err why.Down) acts all t = comes_down acts t.tells (all tt)
-      comes (Err (why.NotActive role)) acts all t = comes_refused (why.NotActive role) acts t.tells (all tt)
-      comes (Err (why.Open i)) acts all t = comes_refused (why.Open i) acts t.tells (all tt)
-      comes (Err why.Ended) acts all t = comes_refused why.Ended acts t.tells (all tt)
-      comes (Err why.Nothing) acts all t = comes_refused why.Nothing acts t.tells (all tt)
-      comes (Err (why.Live events)) acts all t = comes_refused (why.Live events) acts t.tells (all tt)
-      comes (Err why.UpToDate) acts all t = comes_refused why.UpToDate acts t.tells (all tt)
-      comes (Err why.Spent) acts all t = comes_refused why.Spent acts t.tells (all tt)
+      pub comes : (outcome : Result Step Refusal) → Acts w.agreed call m here there outcome → IfOk outcome (λ (step : Step). AreTold service w.agreed step.sends) → (IsWhole outcome → AreKept service w.agreed w.seed (nodes_of w) w.done seats.items) → HasTold m seated w2 told told2 outcome → Row-comes
+      comes (Ok step) acts told_right all t = comes_done step acts t.tells (all tt) told_right
+      comes (Err why.OutOfMemory) acts told_right all t = absurd t.tells
+      comes (Err why.Down) acts told_right all t = comes_down acts t.tells (all tt)
+      comes (Err (why.NotActive role)) acts told_right all t = comes_refused (why.NotActive role) acts t.tells (all tt)
+      comes (Err (why.Open i)) acts told_right all t = comes_refused (why.Open i) acts t.tells (all tt)
+      comes (Err why.Ended) acts told_right all t = comes_refused why.Ended acts t.tells (all tt)
+      comes (Err why.Nothing) acts told_right all t = comes_refused why.Nothing acts t.tells (all tt)
+      comes (Err (why.Live events)) acts told_right all t = comes_refused (why.Live events) acts t.tells (all tt)
+      comes (Err why.UpToDate) acts told_right all t = comes_refused why.UpToDate acts t.tells (all tt)
+      comes (Err why.Spent) acts told_right all t = comes_refused why.Spent acts t.tells (all tt)
+      comes (Err (why.BadSnapshot at)) acts told_right all t = comes_refused (why.BadSnapshot at) acts t.tells (all tt)
 
     -- a node that was started, or was up
-    module _ (others : heres service seats.items ≡ put (heres service w.seats.items) m there) (many : length seats.items ≡ nodes_of w) (all : AreKept service w.seed (nodes_of w) w.done seats.items) where
+    module _ (others : heres service w.agreed seats.items ≡ put (heres service w.agreed w.seats.items) m there) (many : length seats.items ≡ nodes_of w) (all : AreKept service w.agreed w.seed (nodes_of w) w.done seats.items) where
       still : CallHere
       still = record { node = here; sends = []; effects = IsUp m ∷ [] }
 
@@ -258,20 +310,20 @@ module _ {S : Type 0} (service : Declarations) (w w2 : World S) (seats : Vec (Se
       unfolding still
       still_only =
           ap (λ (v : ModelWorld). let r : Row = record { world = v; effects = IsUp m ∷ [] } in r)
-          (same_world w.done w.done (put (heres service w.seats.items) m here) (heres service w.seats.items) (messages_of w.net ++ []) (messages_of w.net) (w.handed.items ++ []) w.handed.items refl
-          (put_same (heres service w.seats.items) m) (append-nil (messages_of w.net)) (append-nil w.handed.items))
+          (same_world w.done w.done (put (heres service w.agreed w.seats.items) m here) (heres service w.agreed w.seats.items) (messages_of w.agreed w.net ++ []) (messages_of w.agreed w.net) (w.handed.items ++ []) w.handed.items refl
+          (put_same (heres service w.agreed w.seats.items) m) (append-nil (messages_of w.agreed w.net)) (append-nil w.handed.items))
 
       started_step : (t : Bool) (step : Step) → StartsIf (service_of service w.seed) t m here there step → IsKept service w.seed (nodes_of w) (start_if (service_of service w.seed) t (world_of service w) m).world → TellsStep seated w2 told told2 step
-          → ComesTo service w w2 told told2 (start_if (service_of service w.seed) t (world_of service w) m)
+          → CameTo service w w2 told told2 (start_if (service_of service w.seed) t (world_of service w) m)
       unfolding still
       started_step true step is kept tells =
-          subst (ComesTo service w w2 told told2) still_only
-          (comes_after still step tells is.same (ap (map message_in) is.sends) is.effects others many all (subst (λ (r : Row). IsKept service w.seed (nodes_of w) r.world) (sym still_only) kept))
-      started_step false step is kept tells = comes_after (start (service_of service w.seed) m (begin here)) step tells is.node (ap (map message_in) is.sends ∙ sym (started_sends (service_of service w.seed) m here)) is.effects others many all kept
+          subst (CameTo service w w2 told told2) still_only
+          (comes_after still step tells is.same (ap (map (message_in w.agreed)) is.sends) is.effects others many all (none_told service w.agreed step.sends is.sends) (subst (λ (r : Row). IsKept service w.seed (nodes_of w) r.world) (sym still_only) kept))
+      started_step false step is kept tells = comes_after (start (service_of service w.seed) m (begin here)) step tells is.node (ap (map (message_in w.agreed)) is.sends ∙ sym (started_sends (service_of service w.seed) m here)) is.effects others many all (none_told service w.agreed step.sends is.sends) kept
 
-    pub comes_started : (outcome : Result Step Refusal) → IsStarted (service_of service w.seed) m here there outcome → heres service seats.items ≡ put (heres service w.seats.items) m there → length seats.items ≡ nodes_of w
-        → (IsWhole outcome → AreKept service w.seed (nodes_of w) w.done seats.items) → IsKept service w.seed (nodes_of w) (start_if (service_of service w.seed) here.up (world_of service w) m).world
-        → IsTold m seated w2 told told2 outcome → ComesTo service w w2 told told2 (start_if (service_of service w.seed) here.up (world_of service w) m)
+    pub comes_started : (outcome : Result Step Refusal) → IsStarted (service_of service w.seed) m here there outcome → heres service w.agreed seats.items ≡ put (heres service w.agreed w.seats.items) m there → length seats.items ≡ nodes_of w
+        → (IsWhole outcome → AreKept service w.agreed w.seed (nodes_of w) w.done seats.items) → IsKept service w.seed (nodes_of w) (start_if (service_of service w.seed) here.up (world_of service w) m).world
+        → HasTold m seated w2 told told2 outcome → CameTo service w w2 told told2 (start_if (service_of service w.seed) here.up (world_of service w) m)
     comes_started (Ok step) is others many all kept t = started_step others many (all tt) here.up step is kept t.tells
     comes_started (Err refusal) is others many all kept t = absurd (subst (λ (why : Refusal). Tells m seated w2 told told2 (Err why)) is t.tells)
 

@@ -18,10 +18,13 @@ use Rattle.rex_safety.specs.Node.{role_name, is_active}
 use Rattle.rex_safety.specs.Values.{Value, trace_of, state_after}
 use Rattle.rex_safety.specs.Lanes.{Here}
 use Rattle.rex_traits.specs.Keeping.{KeeperValue}
-use Rattle.rex_node.specs.Parts.{NodeValue, ActingValue, IsNode, IsActing, here_of, log_of, role_of, work_of, state_of, shown_of, shown_with}
+use Rattle.rex_log.specs.Log.{log_of}
+use Rattle.rex_node.specs.Parts.{NodeValue, ActingValue, IsNode, IsActing, knows, here_of, role_of, work_of, state_of, shown_of, shown_with}
 use Rattle.rex_world.specs.declared.seats.Seat.{Seat}
 use Rattle.rex_world.specs.declared.seats.Seat.TheVariants.{Running, Stopped, Empty}
 use Rattle.rex_world.specs.Seats.{IsSeat, AreSeats, heres, here_in, records_of}
+use Rattle.rex_node.specs.Parts.{count_of as known_count}
+use Rattle.rex_world.proofs.Knowing.{count_known}
 use Rattle.rex_world.proofs.Seated.{many_here, seat_is}
 use Rattle.std.proofs.lemmas.List.{append-nil}
 use Rattle.rex_world.specs.Report.{IsNumbered, count_of, end_of, ends_text, node_text, shown_state, up_end_of}
@@ -61,31 +64,31 @@ few_live service values a (Some p) (Some e) acts = acts.executes.recorder.few
 abbrev end_at : NodeValue KeeperValue → ℕ → ℕ → UpEnd
 end_at x promised many = record { node = x.id; role = role_name (role_of x.acceptor x.proposer (is_some x.acting)); promised = promised; known = many; count = count_of x }
 
-module _ (service : Declarations) (x : NodeValue KeeperValue) (node : IsNode records_of service x) where
+module _ (service : Declarations) (past : List Value) (x : NodeValue KeeperValue) (node : IsNode records_of service past x) where
   -- the state that its parts show is that of the model's node
-  pub shown_is : x.up ≡ true → shown_state service (here_of records_of service x) ≡ shown_of x
+  pub shown_is : x.up ≡ true → shown_state service (here_of records_of service past x) ≡ shown_of x
   shown_is e =
       let up = node.up e in
       ap (λ (vs : List Value). if is_active (role_of x.acceptor x.proposer (is_some x.acting)) then state_after service (trace_of vs ++ (work_of x.acting).live) else state_after service (trace_of (take x.replayed vs))) (sym up.known)
-      ∙ shown_at service x.known x.replayed x.acceptor x.proposer x.acting (state_of x) up.ahead up.acting
+      ∙ shown_at service (knows past x) x.replayed x.acceptor x.proposer x.acting (state_of x) up.ahead up.acting
 
-  pub end_is : x.up ≡ true → end_of x.id (here_of records_of service x) ≡ Up (up_end_of x)
+  pub end_is : x.up ≡ true → end_of x.id (here_of records_of service past x) ≡ Up (up_end_of x)
   end_is e =
       let up = node.up e in
-      ap (λ (u : Bool). if u then Up (end_at x (promise (log_of service x.keeper.records)) (length (known (log_of service x.keeper.records)))) else Down x.id) e
-      ∙ ap (λ (p : ℕ). Up (end_at x p (length (known (log_of service x.keeper.records))))) (sym up.promised)
-      ∙ ap (λ (vs : List Value). Up (end_at x x.acceptor.promised (length vs))) (sym up.known)
+      ap (λ (u : Bool). if u then Up (end_at x (promise (log_of service past x.keeper.records)) (length (known (log_of service past x.keeper.records)))) else Down x.id) e
+      ∙ ap (λ (p : ℕ). Up (end_at x p (length (known (log_of service past x.keeper.records))))) (sym up.promised)
+      ∙ ap (λ (n : ℕ). Up (end_at x x.acceptor.promised n)) (sym (count_known service past x node e))
 
-  pub is_few : x.up ≡ true → (length (work_of x.acting).live ≤ 4096) × (length x.known ≤ 65535)
+  pub is_few : x.up ≡ true → (length (work_of x.acting).live ≤ 4096) × (known_count x ≤ 65535)
   is_few e =
       let up = node.up e in
-      (few_live service x.known x.acceptor x.proposer x.acting up.acting, subst (λ (vs : List Value). length vs ≤ 65535) (sym up.known) up.numbers.log.few)
+      (few_live service (knows past x) x.acceptor x.proposer x.acting up.acting, subst (λ (n : ℕ). n ≤ 65535) (sym (count_known service past x node e)) up.numbers.log.few)
 
 -- ---- one line after the other
 
-pub heres_both : {S : Type 0} → (service : Declarations) (xs ys : List (Seat S)) → heres service (xs ++ ys) ≡ heres service xs ++ heres service ys
-heres_both service [] ys = refl
-heres_both service (x ∷ xs) ys = ap (λ (zs : List Here). here_in service x ∷ zs) (heres_both service xs ys)
+pub heres_both : {S : Type 0} → (service : Declarations) (past : List Value) (xs ys : List (Seat S)) → heres service past (xs ++ ys) ≡ heres service past xs ++ heres service past ys
+heres_both service past [] ys = refl
+heres_both service past (x ∷ xs) ys = ap (λ (zs : List Here). here_in service past x ∷ zs) (heres_both service past xs ys)
 
 -- the line of one more node
 ends_more : (service : Declarations) (number : ℕ) (xs : List Here) (y : Here) → ends_text service number (xs ++ y ∷ []) ≡ ends_text service number xs ++ node_text service (number + length xs) y
@@ -98,29 +101,29 @@ ends_more service number (x ∷ xs) y =
     ∙ sym (append_assoc (node_text service number x) (ends_text service (suc number) xs) (node_text service (number + suc (length xs)) y))
 
 -- the lines so far, and one more
-pub ends_next : {S : Type 0} → (service : Declarations) (seats : List (Seat S)) (i number : ℕ) (seat d : Seat S) (initial before after : List ℕ) → i < length seats → seat ≡ slice_index_or seats i d → number ≡ i + 1
-    → before ≡ initial ++ ends_text service 1 (heres service (take i seats)) → after ≡ before ++ node_text service number (here_in service seat)
-    → after ≡ initial ++ ends_text service 1 (heres service (take (i + 1) seats))
-ends_next service seats i number seat d initial before after l is e b h =
+pub ends_next : {S : Type 0} → (service : Declarations) (past : List Value) (seats : List (Seat S)) (i number : ℕ) (seat d : Seat S) (initial before after : List ℕ) → i < length seats → seat ≡ slice_index_or seats i d → number ≡ i + 1
+    → before ≡ initial ++ ends_text service 1 (heres service past (take i seats)) → after ≡ before ++ node_text service number (here_in service past seat)
+    → after ≡ initial ++ ends_text service 1 (heres service past (take (i + 1) seats))
+ends_next service past seats i number seat d initial before after l is e b h =
     let t : take (i + 1) seats ≡ take i seats ++ seat ∷ [] = ap (λ (k : ℕ). take k seats) (add-one i) ∙ take-suc seats i d l ∙ ap (λ (y : Seat _). take i seats ++ y ∷ []) (sym is) in
-    let n : 1 + length (heres service (take i seats)) ≡ number = omega (arith, many_here service (take i seats), length-take i seats, l, e) in
-    let m : ends_text service 1 (heres service (take (i + 1) seats)) ≡ ends_text service 1 (heres service (take i seats)) ++ node_text service number (here_in service seat) =
-    ap (λ (ss : List (Seat _)). ends_text service 1 (heres service ss)) t
-    ∙ ap (λ (xs : List Here). ends_text service 1 xs) (heres_both service (take i seats) (seat ∷ []))
-    ∙ ends_more service 1 (heres service (take i seats)) (here_in service seat)
-    ∙ ap (λ (k : ℕ). ends_text service 1 (heres service (take i seats)) ++ node_text service k (here_in service seat)) n in
-    h ∙ ap (λ (t : List ℕ). t ++ node_text service number (here_in service seat)) b
-    ∙ append_assoc initial (ends_text service 1 (heres service (take i seats))) (node_text service number (here_in service seat))
+    let n : 1 + length (heres service past (take i seats)) ≡ number = omega (arith, many_here service past (take i seats), length-take i seats, l, e) in
+    let m : ends_text service 1 (heres service past (take (i + 1) seats)) ≡ ends_text service 1 (heres service past (take i seats)) ++ node_text service number (here_in service past seat) =
+    ap (λ (ss : List (Seat _)). ends_text service 1 (heres service past ss)) t
+    ∙ ap (λ (xs : List Here). ends_text service 1 xs) (heres_both service past (take i seats) (seat ∷ []))
+    ∙ ends_more service 1 (heres service past (take i seats)) (here_in service past seat)
+    ∙ ap (λ (k : ℕ). ends_text service 1 (heres service past (take i seats)) ++ node_text service k (here_in service past seat)) n in
+    h ∙ ap (λ (t : List ℕ). t ++ node_text service number (here_in service past seat)) b
+    ∙ append_assoc initial (ends_text service 1 (heres service past (take i seats))) (node_text service number (here_in service past seat))
     ∙ ap (λ (t : List ℕ). initial ++ t) (sym m)
 
 -- a kept node has its number
-pub numbered : {S : Type 0} → (service : Declarations) (seed nodes number : ℕ) (seat : Seat S) → IsSeat service seed nodes number seat → IsNumbered service number seat
-numbered service seed nodes number (Running x) h = (h.id, h.node)
-numbered service seed nodes number (Stopped k) h = tt
-numbered service seed nodes number Empty none = tt
+pub numbered : {S : Type 0} → (service : Declarations) (past : List Value) (seed nodes number : ℕ) (seat : Seat S) → IsSeat service past seed nodes number seat → IsNumbered service past number seat
+numbered service past seed nodes number (Running x) h = (h.id, h.node)
+numbered service past seed nodes number (Stopped k) h = tt
+numbered service past seed nodes number Empty none = tt
 
-pub numbered_at : {S : Type 0} → (service : Declarations) (seed nodes : ℕ) (seats : List (Seat S)) (i number : ℕ) (seat d : Seat S) → AreSeats service seed nodes 1 seats → i < length seats → seat ≡ slice_index_or seats i d → number ≡ i + 1 → IsNumbered service number seat
-numbered_at service seed nodes seats i number seat d all l is e =
+pub numbered_at : {S : Type 0} → (service : Declarations) (past : List Value) (seed nodes : ℕ) (seats : List (Seat S)) (i number : ℕ) (seat d : Seat S) → AreSeats service past seed nodes 1 seats → i < length seats → seat ≡ slice_index_or seats i d → number ≡ i + 1 → IsNumbered service past number seat
+numbered_at service past seed nodes seats i number seat d all l is e =
     let n : number - 1 ≡ i = omega (arith, e) in
-    numbered service seed nodes number seat
-    (subst (λ (s : Seat _). IsSeat service seed nodes number s) (ap (λ (k : ℕ). slice_index_or seats k d) n ∙ sym is) (seat_is service seats number (omega (arith, e), omega (arith, l, e)) d seed nodes all))
+    numbered service past seed nodes number seat
+    (subst (λ (s : Seat _). IsSeat service past seed nodes number s) (ap (λ (k : ℕ). slice_index_or seats k d) n ∙ sym is) (seat_is service past seats number (omega (arith, e), omega (arith, l, e)) d seed nodes all))

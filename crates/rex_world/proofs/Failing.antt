@@ -1,6 +1,9 @@
 -- What a call of a node comes to, whether its keeper is armed or not; and the keeper's records are still read.
-use Rattle.std.proofs.Common.{◌≡◌, ◌≤◌, ◌+◌, ℕ, Bool, true, false, List, [], ◌∷◌, ◌++◌, length, Ok, Err, Option, Some, None, inl, inr, refl, sym, ap, ◌∙◌, subst, arith, append-nil, length-append}
+use Rattle.std.proofs.Common.{◌≡◌, ◌≤◌, ◌+◌, ℕ, Bool, true, false, List, [], ◌∷◌, ◌++◌, length, Ok, Err, Option, Some, None, inl, inr, refl, sym, ap, ◌∙◌, subst, arith, append-nil, append_assoc, length-append}
+use Rattle.std.specs.List.{list_all}
 use Rattle.std.specs.Prelude.{MatchResult, IsNone, IsSome}
+use Rattle.std.proofs.lemmas.Bool.{and_parts}
+use Rattle.std.proofs.lemmas.List.Folds.{list_all-append}
 use Rattle.rex_syntax.specs.declared.service.Declarations.{Declarations}
 use Rattle.rex_traits.specs.declared.keeper.KeepFault.{KeepFault}
 use Rattle.rex_traits.specs.Chains.{Answer, AppendsInTurn}
@@ -13,8 +16,11 @@ use Rattle.rex_safety.specs.Calls.{begin}
 use Rattle.rex_safety.specs.Lanes.{Here, CallHere}
 use Rattle.rex_node.specs.declared.step.Step.{Step}
 use Rattle.rex_node.specs.Parts.{NodeValue, failed_records, here_of}
-use Rattle.rex_node.specs.Calls.{Does, FailsAfter, GoesWell, call_of}
-use Rattle.rex_node.proofs.Reading.{does_read}
+use Rattle.rex_safety.specs.Values.{Value}
+use Rattle.rex_safety.specs.Invariant.{Begins}
+use Rattle.rex_log.specs.Log.{AreRead}
+use Rattle.rex_node.specs.Stated.{AreStated, is_stated}
+use Rattle.rex_node.specs.Calls.{Does, FailsAfter, GoesWell, call_of, failed_many}
 use Rattle.rex_world.specs.Seats.{IsKeeping, armed_of, failing, faults_of, here_at, records_of}
 use Rattle.rex_world.specs.Calls.{IsDone}
 use Rattle.rex_world.proofs.Unseen.{Goes, armed_as, unseen}
@@ -77,25 +83,25 @@ unarmed_then Lost old new bytes is = (ap (λ (k : KeeperValue). k.armed) is, ap 
 
 -- ---- a node's step is the model's call
 
-module _ (service : Declarations) (call : CallHere → CallHere) (goes : (f : Option Failure) → Goes f call) (old new : NodeValue KeeperValue) (step : Step) where
+module _ (service : Declarations) (past : List Value) (call : CallHere → CallHere) (goes : (f : Option Failure) → Goes f call) (old new : NodeValue KeeperValue) (step : Step) where
   abbrev before : Here
-  before = here_of records_of service old
+  before = here_of records_of service past old
 
   abbrev came : CallHere
-  came = call_of records_of service new step
+  came = call_of records_of service past new step
 
   abbrev Same : Type 0
-  Same = call (begin (here_at service old)) ≡ armed_as (armed_of new.keeper.armed) came
+  Same = call (begin (here_at service past old)) ≡ armed_as (armed_of new.keeper.armed) came
 
   -- this failure is that of the node's keeper
-  at_failure : (f : Option Failure) → f ≡ armed_of old.keeper.armed → call (armed_as f (begin before)) ≡ call (begin (here_at service old))
+  at_failure : (f : Option Failure) → f ≡ armed_of old.keeper.armed → call (armed_as f (begin before)) ≡ call (begin (here_at service past old))
   at_failure f e = ap (λ (g : Option Failure). call (armed_as g (begin before))) e
 
   -- and the keeper isn't armed then
   disarmed_then : new.keeper.armed ≡ None → came ≡ armed_as (armed_of new.keeper.armed) came
   disarmed_then e = ap (λ (a : Option Fate). armed_as (armed_of a) came) (sym e)
 
-  well : (armed : Option Fate) → old.keeper.armed ≡ armed → GoesWell records_of follows (λ k. k.faults) call old.keeper new.keeper (begin before) came → Same × (faults_of new.keeper ≤ faults_of old.keeper)
+  well : (armed : Option Fate) → old.keeper.armed ≡ armed → GoesWell records_of follows (λ k. k.faults) service call old.keeper new.keeper (begin before) came → Same × (faults_of new.keeper ≤ faults_of old.keeper)
   well None e h =
       let unarmed : new.keeper.armed ≡ None = stays old.keeper new.keeper h.written e h.appends in
       let a = ap failing unarmed in
@@ -113,7 +119,7 @@ module _ (service : Declarations) (call : CallHere → CallHere) (goes : (f : Op
         omega arith,
       )
 
-  fails : (armed : Option Fate) → old.keeper.armed ≡ armed → FailsAfter records_of follows (λ k. k.faults) call old.keeper new.keeper (begin before) came → Same × (faults_of new.keeper ≤ faults_of old.keeper)
+  fails : (armed : Option Fate) → old.keeper.armed ≡ armed → FailsAfter records_of follows (λ k. k.faults) service call old.keeper new.keeper (begin before) came → Same × (faults_of new.keeper ≤ faults_of old.keeper)
   fails None e h = absurd (armed_not h.between.armed (stays old.keeper h.between h.written e h.appends) h.fails.0)
   fails (Some fate) e h =
       let none = none_written fate old.keeper h.between h.written e h.appends in
@@ -130,22 +136,67 @@ module _ (service : Declarations) (call : CallHere → CallHere) (goes : (f : Op
         omega arith,
       )
 
-  comes : Does records_of follows (λ k. k.faults) service call old new step → Same × (faults_of new.keeper ≤ faults_of old.keeper)
+  comes : Does records_of follows (λ k. k.faults) service past call old new step → Same × (faults_of new.keeper ≤ faults_of old.keeper)
   comes (inl h) = well old.keeper.armed refl h
   comes (inr h) = fails old.keeper.armed refl h
 
-  pub is_done : old.up ≡ true → Does records_of follows (λ k. k.faults) service call old new step → IsDone call (here_at service old) (here_at service new) step
+  pub is_done : old.up ≡ true → Does records_of follows (λ k. k.faults) service past call old new step → IsDone past call (here_at service past old) (here_at service past new) step
   is_done up does =
       let same = (comes does).0 in
       record { up = up; node = ap (λ (d : CallHere). d.node) (sym same); sends = ap (λ (d : CallHere). d.sends) (sym same); effects = ap (λ (d : CallHere). d.effects) (sym same) }
 
   -- the keeper fails no more often than it was to
-  pub stays_within : Does records_of follows (λ k. k.faults) service call old new step → faults_of new.keeper ≤ faults_of old.keeper
+  pub stays_within : Does records_of follows (λ k. k.faults) service past call old new step → faults_of new.keeper ≤ faults_of old.keeper
   stays_within does = (comes does).1
 
-  -- and keeps its records
-  pub stays_keeping : IsKeeping service old.keeper → Does records_of follows (λ k. k.faults) service call old new step → IsKeeping service new.keeper
+  -- ---- the keeper's records
+
+  read_well : GoesWell records_of follows (λ k. k.faults) service call old.keeper new.keeper (begin before) came → AreRead service past old.keeper.records → AreRead service past new.keeper.records
+  read_well h read = omega (arith, h.many, read, ap length h.grown, length-append old.keeper.records h.written)
+
+  read_failed : FailsAfter records_of follows (λ k. k.faults) service call old.keeper new.keeper (begin before) came → AreRead service past old.keeper.records → AreRead service past new.keeper.records
+  read_failed h read = by h.kept h.many h.grown
+    where
+      by : (kept : Bool) → length came.node.log ≡ failed_many kept (length h.written) + length before.log → new.keeper.records ≡ failed_records kept (old.keeper.records ++ h.written) h.bytes → AreRead service past new.keeper.records
+      by true many grown =
+          omega (arith, many, read, ap length grown, length-append (old.keeper.records ++ h.written) (h.bytes ∷ []), length-append old.keeper.records h.written)
+      by false many grown = omega (arith, many, read, ap length grown, length-append old.keeper.records h.written)
+
+  reads : Does records_of follows (λ k. k.faults) service past call old new step → AreRead service past old.keeper.records → AreRead service past new.keeper.records
+  reads (inl h) read = read_well h read
+  reads (inr h) read = read_failed h read
+
+  -- each state in them is spelled
+  stated_both : (xs ys : List (List ℕ)) → AreStated service xs → AreStated service ys → AreStated service (xs ++ ys)
+  stated_both xs ys a b = list_all-append (is_stated service) xs ys ∙ rw (a, b) refl
+
+  stated_failed : FailsAfter records_of follows (λ k. k.faults) service call old.keeper new.keeper (begin before) came → AreStated service old.keeper.records → AreStated service new.keeper.records
+  stated_failed h stated = subst (AreStated service) (sym h.grown) (by h.kept)
+    where
+      parts : (list_all (is_stated service) h.written ≡ true) × (list_all (is_stated service) (h.bytes ∷ []) ≡ true)
+      parts = and_parts (list_all (is_stated service) h.written) (list_all (is_stated service) (h.bytes ∷ [])) (sym (list_all-append (is_stated service) h.written (h.bytes ∷ [])) ∙ h.stated)
+
+      by : (kept : Bool) → AreStated service (failed_records kept (old.keeper.records ++ h.written) h.bytes)
+      by true = stated_both (old.keeper.records ++ h.written) (h.bytes ∷ []) (stated_both old.keeper.records h.written stated parts.0) parts.1
+      by false = stated_both old.keeper.records h.written stated parts.0
+
+  states : Does records_of follows (λ k. k.faults) service past call old new step → AreStated service old.keeper.records → AreStated service new.keeper.records
+  states (inl h) stated = subst (AreStated service) (sym h.grown) (stated_both old.keeper.records h.written stated h.stated)
+  states (inr h) stated = stated_failed h stated
+
+  -- it keeps its records, and they are read
+  pub stays_keeping : IsKeeping service past old.keeper → Does records_of follows (λ k. k.faults) service past call old new step → IsKeeping service past new.keeper
   stays_keeping keeping does = record {
-    read = does_read records_of follows (λ k. k.faults) service call old new step does keeping.read;
+    read = reads does keeping.read;
+    stated = states does keeping.stated;
     room = let l = stays_within does in let r = keeping.room in omega arith;
   }
+
+  -- and they have only grown
+  pub stays_grown : Does records_of follows (λ k. k.faults) service past call old new step → Begins old.keeper.records new.keeper.records
+  stays_grown (inl h) = (h.written, sym h.grown)
+  stays_grown (inr h) = by h.kept h.grown
+    where
+      by : (kept : Bool) → new.keeper.records ≡ failed_records kept (old.keeper.records ++ h.written) h.bytes → Begins old.keeper.records new.keeper.records
+      by true grown = (h.written ++ h.bytes ∷ [], sym (append_assoc old.keeper.records h.written (h.bytes ∷ [])) ∙ sym grown)
+      by false grown = (h.written, sym grown)

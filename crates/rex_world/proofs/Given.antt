@@ -18,6 +18,7 @@ use Rattle.rex_safety.specs.Values.{Value}
 use Rattle.rex_safety.specs.Lanes.{Here, active_only}
 use Rattle.rex_safety.specs.World.{World as ModelWorld, after, if_up, node_at, put}
 use Rattle.rex_safety.specs.Takes.{BeginsInRange, take, take_event, taken, taken_in}
+use Rattle.rex_safety.specs.Agreed.{agreed}
 use Rattle.rex_safety.specs.Kept.{IsKept}
 use Rattle.rex_safety.specs.Doings.{TakesAreKept}
 use Rattle.rex_safety.proofs.Takes.{take_kept}
@@ -32,24 +33,25 @@ use Rattle.rex_world.specs.Seats.{AreSeats, StaysSeat, armed_of, here_at, here_i
 use Rattle.rex_world.specs.Places.{IsHanded, IsHandedAt}
 use Rattle.rex_world.specs.World.{nodes_of, world_of}
 use Rattle.rex_world.specs.Kept.{IsRunning, IsSame}
+use Rattle.rex_world.proofs.Agreeing.{same_longest}
 use Rattle.rex_world.proofs.Coming.{same_world, put_same}
 use Rattle.rex_world.proofs.Seated.{here_is, new_is, put_is, set_seats, set_within, within_is}
 
 -- ---- the node
 
-module _ (service : Declarations) (x y : NodeValue KeeperValue) (e : Event) (keeper : y.keeper ≡ x.keeper) where
+module _ (service : Declarations) (past : List Value) (x y : NodeValue KeeperValue) (e : Event) (keeper : y.keeper ≡ x.keeper) where
   armed_same : armed_of y.keeper.armed ≡ armed_of x.keeper.armed
   armed_same = ap (λ (k : KeeperValue). armed_of k.armed) keeper
 
-  leads : (t : Turn) → LeadsTo (taken t) (here_of records_of service x) (here_of records_of service y) → LeadsTo (taken t) (here_at service x) (here_at service y)
+  leads : (t : Turn) → LeadsTo (taken t) (here_of records_of service past x) (here_of records_of service past y) → LeadsTo (taken t) (here_at service past x) (here_at service past y)
   leads t h =
       ap (λ (n : Here). let m : Here = record n { armed = armed_of y.keeper.armed } in m) h
-      ∙ ap (λ (a : Option Failure). let m : Here = record (taken t (begin (here_of records_of service x))).node { armed = a } in m) armed_same
+      ∙ ap (λ (a : Option Failure). let m : Here = record (taken t (begin (here_of records_of service past x))).node { armed = a } in m) armed_same
 
-  pub handed : (outcome : Result Turn Refusal) → Refuses (refusal_active (here_of records_of service x)) outcome → IfOk outcome (λ (t : Turn). t ≡ taken_in service (here_of records_of service x) e)
-      → IfOk outcome (λ (t : Turn). LeadsTo (taken t) (here_of records_of service x) (here_of records_of service y)) → OnErr outcome (y ≡ x) → IsHanded service e (here_at service x) (here_at service y) outcome
+  pub handed : (outcome : Result Turn Refusal) → Refuses (refusal_active (here_of records_of service past x)) outcome → IfOk outcome (λ (t : Turn). t ≡ taken_in service (here_of records_of service past x) e)
+      → IfOk outcome (λ (t : Turn). LeadsTo (taken t) (here_of records_of service past x) (here_of records_of service past y)) → OnErr outcome (y ≡ x) → IsHanded service e (here_at service past x) (here_at service past y) outcome
   handed (Ok t) refused told takes same = record { refused = refused; told = told; takes = leads t takes; same = tt }
-  handed (Err r) refused told takes same = record { refused = refused; told = tt; takes = tt; same = ap (here_at service) same }
+  handed (Err r) refused told takes same = record { refused = refused; told = tt; takes = tt; same = ap (here_at service past) same }
 
 -- a node that is down refuses it
 pub down_handed : (service : Declarations) (e : Event) (x : Here) → x.up ≡ false → IsHanded service e x x (Err why.Down)
@@ -62,18 +64,18 @@ down_handed service e x down = record {
 
 -- ---- among the nodes
 
-module _ {S : Type 0} (service : Declarations) (seats : List (Seat S)) (number : ℕ) (here : IsNode (length seats) number) (d : Seat S) where
+module _ {S : Type 0} (service : Declarations) (past : List Value) (seats : List (Seat S)) (number : ℕ) (here : IsNode (length seats) number) (d : Seat S) where
   pub handed_at : (seed : ℕ) (e : Event) (seat : Seat S) (outcome : Result Turn Refusal)
-      → IsHanded service e (here_in service (slice_index_or seats (number - 1) d)) (here_in service seat) outcome → StaysSeat service seed (length seats) number (slice_index_or seats (number - 1) d) seat
-      → IsHandedAt service seed number e seats (slice_set seats (number - 1) seat) outcome
+      → IsHanded service e (here_in service past (slice_index_or seats (number - 1) d)) (here_in service past seat) outcome → StaysSeat service past seed (length seats) number (slice_index_or seats (number - 1) d) seat
+      → IsHandedAt service past seed number e seats (slice_set seats (number - 1) seat) outcome
   handed_at seed e seat outcome h kept = record {
-    handed = subst (λ (x : Here). IsHanded service e x (node_at (heres service (slice_set seats (number - 1) seat)) number) outcome) (sym (here_is service seats number here d))
-        (subst (λ (y : Here). IsHanded service e (here_in service (slice_index_or seats (number - 1) d)) y outcome) (sym (new_is service seats number here d seat)) h);
-    others = put_is service seats number here d seat ∙ ap (λ (y : Here). put (heres service seats) number y) (sym (new_is service seats number here d seat));
+    handed = subst (λ (x : Here). IsHanded service e x (node_at (heres service past (slice_set seats (number - 1) seat)) number) outcome) (sym (here_is service past seats number here d))
+        (subst (λ (y : Here). IsHanded service e (here_in service past (slice_index_or seats (number - 1) d)) y outcome) (sym (new_is service past seats number here d seat)) h);
+    others = put_is service past seats number here d seat ∙ ap (λ (y : Here). put (heres service past seats) number y) (sym (new_is service past seats number here d seat));
     many = length-set seats (number - 1) seat;
-    seats = λ most all. let l = within_is service seats number here d most all.within in let k = kept.within in record {
-      seats_are = set_seats service seats number here d seed (length seats) seat all.seats_are kept.seat;
-      within = set_within service seats number here d most seat all.within (omega (arith, l, k));
+    seats = λ most all. let l = within_is service past seats number here d most all.within in let k = kept.within in record {
+      seats_are = set_seats service past seats number here d seed (length seats) seat all.seats_are kept.seat;
+      within = set_within service past seats number here d most seat all.within (omega (arith, l, k));
     };
   }
 
@@ -109,41 +111,61 @@ module _ (service : Declarations) (w : ModelWorld) (m : ℕ) (e : Event) where
       ∙ sym (ap (λ (t : Bool). (after w m (active_only t (begin (node_at w.nodes m)) (take_event service e (begin (node_at w.nodes m))))).world) active)
       ∙ sym (ap (λ (t : Bool). (if_up t w m (active_only (is_active (node_at w.nodes m).role) (begin (node_at w.nodes m)) (take_event service e (begin (node_at w.nodes m))))).world) up)
 
+-- nothing that a node knows changes when it is handed an event
+pub take_agreed : (service : Declarations) (w : ModelWorld) (m : ℕ) (e : Event) → agreed (take service w m e) ≡ agreed w
+take_agreed service w m e = by_up (node_at w.nodes m).up
+  where
+    x : Here
+    x = node_at w.nodes m
+
+    same_log : (t : Bool) → (active_only t (begin x) (take_event service e (begin x))).node.log ≡ x.log
+    same_log true = refl
+    same_log false = refl
+
+    by_up : (up : Bool) → agreed (if_up up w m (active_only (is_active (node_at w.nodes m).role) (begin (node_at w.nodes m)) (take_event service e (begin (node_at w.nodes m))))).world ≡ agreed w
+    by_up true = same_longest w.nodes m _ (same_log (is_active (node_at w.nodes m).role))
+    by_up false = refl
+
 -- what a slice of the seats came to, the seats came to
-pub handed_there : {S : Type 0} → (service : Declarations) (w : World S) (m : ℕ) (e : Event) (xs ws : List (Seat S)) (outcome : Result Turn Refusal) → xs ≡ w.seats.items → IsHandedAt service w.seed m e xs ws outcome
-    → IsHandedAt service w.seed m e w.seats.items (with_items w.seats ws).items outcome
+pub handed_there : {S : Type 0} → (service : Declarations) (w : World S) (m : ℕ) (e : Event) (xs ws : List (Seat S)) (outcome : Result Turn Refusal) → xs ≡ w.seats.items → IsHandedAt service w.agreed w.seed m e xs ws outcome
+    → IsHandedAt service w.agreed w.seed m e w.seats.items (with_items w.seats ws).items outcome
 handed_there service w m e xs ws outcome is a =
     let many : length ws ≡ nodes_of w = a.many ∙ ap length is in
-    subst (λ (ys : List (Seat _)). IsHandedAt service w.seed m e w.seats.items ys outcome) (sym (with_items_is w.seats ws (many ∙ sym w.seats.ok.0)))
-    (subst (λ (ys : List (Seat _)). IsHandedAt service w.seed m e ys ws outcome) is a)
+    subst (λ (ys : List (Seat _)). IsHandedAt service w.agreed w.seed m e w.seats.items ys outcome) (sym (with_items_is w.seats ws (many ∙ sym w.seats.ok.0)))
+    (subst (λ (ys : List (Seat _)). IsHandedAt service w.agreed w.seed m e ys ws outcome) is a)
 
 module _ {S : Type 0} (service : Declarations) (w : World S) (h : IsRunning service w) (m : ℕ) (there : IsNode (nodes_of w) m) (e : Event) (seats : Vec (Seat S)) where
   abbrev later : Bool → World S
   later broken = record w { seats = seats; broken = broken }
 
-  pub given_world : (broken : Bool) (outcome : Result Turn Refusal) → IsHandedAt service w.seed m e w.seats.items seats.items outcome → OnOk outcome (world_of service (later broken) ≡ take service (world_of service w) m e)
+  pub given_world : (broken : Bool) (outcome : Result Turn Refusal) → IsHandedAt service w.agreed w.seed m e w.seats.items seats.items outcome → OnOk outcome (world_of service (later broken) ≡ take service (world_of service w) m e)
   given_world broken (Err r) a = tt
   given_world broken (Ok t) a =
-      let n = none_refused (node_at (heres service w.seats.items) m) (ok_none (refusal_active (node_at (heres service w.seats.items) m)) t a.handed.refused) in
+      let n = none_refused (node_at (heres service w.agreed w.seats.items) m) (ok_none (refusal_active (node_at (heres service w.agreed w.seats.items) m)) t a.handed.refused) in
       ap (λ (xs : List Here). let v : ModelWorld = record (world_of service w) { nodes = xs } in v)
-      (a.others ∙ ap (put (heres service w.seats.items) m) (a.handed.takes ∙ ap (λ (u : Turn). (taken u (begin (node_at (heres service w.seats.items) m))).node) a.handed.told))
+      (a.others ∙ ap (put (heres service w.agreed w.seats.items) m) (a.handed.takes ∙ ap (λ (u : Turn). (taken u (begin (node_at (heres service w.agreed w.seats.items) m))).node) a.handed.told))
       ∙ take_is service (world_of service w) m e n.0 n.1
 
-  pub given_unchanged : (broken : Bool) (outcome : Result Turn Refusal) → IsHandedAt service w.seed m e w.seats.items seats.items outcome → OnErr outcome (world_of service (later broken) ≡ world_of service w)
+  pub given_unchanged : (broken : Bool) (outcome : Result Turn Refusal) → IsHandedAt service w.agreed w.seed m e w.seats.items seats.items outcome → OnErr outcome (world_of service (later broken) ≡ world_of service w)
   given_unchanged broken (Ok t) a = tt
   given_unchanged broken (Err r) a =
       ap (λ (xs : List Here). let v : ModelWorld = record (world_of service w) { nodes = xs } in v)
-      (a.others ∙ ap (put (heres service w.seats.items) m) a.handed.same ∙ put_same (heres service w.seats.items) m)
+      (a.others ∙ ap (put (heres service w.agreed w.seats.items) m) a.handed.same ∙ put_same (heres service w.agreed w.seats.items) m)
 
-  pub given_same : (broken : Bool) (outcome : Result Turn Refusal) → IsHandedAt service w.seed m e w.seats.items seats.items outcome → IsSame w (later broken)
+  pub given_same : (broken : Bool) (outcome : Result Turn Refusal) → IsHandedAt service w.agreed w.seed m e w.seats.items seats.items outcome → IsSame w (later broken)
   given_same broken outcome a = record { nodes = a.many; requests = refl; seed = refl }
 
   module _ (begins : BeginsInRange e) where
-    kept_later : (outcome : Result Turn Refusal) → IsHandedAt service w.seed m e w.seats.items seats.items outcome → IsKept service w.seed (nodes_of w) (world_of service (later w.broken))
+    kept_later : (outcome : Result Turn Refusal) → IsHandedAt service w.agreed w.seed m e w.seats.items seats.items outcome → IsKept service w.seed (nodes_of w) (world_of service (later w.broken))
     kept_later (Ok t) a = subst (IsKept service w.seed (nodes_of w)) (sym (given_world w.broken (Ok t) a)) (takes_kept service w.seed (nodes_of w) (world_of service w) m e h.few h.service_is h.checked there begins h.kept)
     kept_later (Err r) a = subst (IsKept service w.seed (nodes_of w)) (sym (given_unchanged w.broken (Err r) a)) h.kept
 
-    pub given_running : (outcome : Result Turn Refusal) → IsHandedAt service w.seed m e w.seats.items seats.items outcome → IsRunning service (later w.broken)
+    -- what is agreed on stays
+    agreed_later : (outcome : Result Turn Refusal) → IsHandedAt service w.agreed w.seed m e w.seats.items seats.items outcome → w.agreed ≡ agreed (world_of service (later w.broken))
+    agreed_later (Ok t) a = h.agreed ∙ sym (take_agreed service (world_of service w) m e) ∙ ap agreed (sym (given_world w.broken (Ok t) a))
+    agreed_later (Err r) a = h.agreed ∙ ap agreed (sym (given_unchanged w.broken (Err r) a))
+
+    pub given_running : (outcome : Result Turn Refusal) → IsHandedAt service w.agreed w.seed m e w.seats.items seats.items outcome → IsRunning service (later w.broken)
     given_running outcome a =
         let all = a.seats w.done (record { seats_are = h.seats; within = h.within }) in
         record {
@@ -151,10 +173,12 @@ module _ {S : Type 0} (service : Declarations) (w : World S) (h : IsRunning serv
           checked = h.checked;
           whole = h.whole;
           few = subst (λ (n : ℕ). n ≤ most_nodes) (sym a.many) h.few;
+          agreed = agreed_later outcome a;
           kept = subst (λ (n : ℕ). IsKept service w.seed n (world_of service (later w.broken))) (sym a.many) (kept_later outcome a);
-          seats = subst (λ (n : ℕ). AreSeats service w.seed n 1 seats.items) (sym a.many) all.seats_are;
+          seats = subst (λ (n : ℕ). AreSeats service w.agreed w.seed n 1 seats.items) (sym a.many) all.seats_are;
           within = all.within;
           spelled = h.spelled;
+          told = h.told;
           requests = h.requests;
           flushed = h.flushed;
           handed = h.handed;

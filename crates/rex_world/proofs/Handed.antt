@@ -1,11 +1,12 @@
 -- What handing over a message does to a world.
 use Rattle.std.proofs.Common.{◌≡◌, ℕ, zero, suc, ◌-◌, ◌<◌, ◌≤◌, Bool, true, Option, Some, None, List, [], ◌∷◌, ◌++◌, length, take, drop, refl, sym, ◌∙◌, ap, subst, arith, append_assoc, length-set}
 use Rattle.std.specs.Prelude.{◌&&◌, slice_get, slice_set}
-use Rattle.std.specs.List.{list_all}
+use Rattle.std.specs.List.{All, list_all}
+use Rattle.std.proofs.lemmas.List.Elements.{All-get_or}
 use Rattle.std.proofs.Math.Seq.{drop-length}
 use Rattle.std.proofs.lemmas.List.{append-nil}
 use Rattle.std.proofs.lemmas.Bool.{and_parts}
-use Rattle.std.proofs.lemmas.Option.{slice_get_within}
+use Rattle.std.proofs.lemmas.Option.{slice_get_within, get_or_from_slice_get}
 use Rattle.rex_syntax.specs.declared.service.Declarations.{Declarations}
 use Rattle.rex_report.specs.declared.effect.Effect.{Effect}
 use Rattle.rex_report.specs.declared.effect.Effect.TheVariants.{Delivered, NoMessage}
@@ -20,45 +21,56 @@ use Rattle.rex_safety.specs.Values.{Value, service_of}
 use Rattle.rex_safety.specs.World.{World as ModelWorld, Row, node_at, logs, at_node, only, first_told, deliver_found, sent_from, message_at, with_handed}
 use Rattle.rex_safety.specs.Kept.{roles, IsKept}
 use Rattle.rex_safety.specs.Calls.{begin, receive}
-use Rattle.rex_safety.specs.Invariant.{IsIn}
+use Rattle.rex_safety.specs.Invariant.{Begins, IsIn}
+use Rattle.rex_safety.specs.Records.{known}
 use Rattle.rex_safety.specs.Ranges.{MessageFits}
 use Rattle.rex_safety.proofs.Calls.{receive_good}
 use Rattle.rex_safety.proofs.Worlds.{nth_in}
 use Rattle.rex_node.specs.Going.{RunsOn}
-use Rattle.rex_node.specs.Messages.{message_in, content_in}
+use Rattle.rex_log.specs.Messages.{message_in, content_in}
+use Rattle.rex_node.specs.Telling.{IsTold}
 use Rattle.rex_world.specs.declared.seats.Seat.{Seat}
 use Rattle.rex_world.specs.declared.told.Told.{Told}
 use Rattle.rex_world.specs.declared.world.World.{World}
 use Rattle.rex_world.specs.Seats.{disarmed, heres}
-use Rattle.rex_world.specs.World.{read_message, message_of, messages_of, world_of, nodes_of}
+use Rattle.rex_world.specs.World.{TellsIn, TellsRightly, read_message, message_of, messages_of, world_of, nodes_of}
 use Rattle.rex_world.specs.Kept.{IsRunning}
 use Rattle.rex_world.specs.Calls.{ComesTo, Comes, step_in}
 use Rattle.rex_world.specs.Finding.{IsSent, IsMarked}
 use Rattle.rex_world.proofs.Coming.{messages_many}
-use Rattle.rex_world.proofs.Stepping.{runs_after, kept_next}
+use Rattle.rex_world.proofs.Stepping.{front_known_in, runs_after, kept_next}
 
 -- ---- messages by their numbers
 
-said_at : (bytes : List (List ℕ)) (k : ℕ) (b : List ℕ) → slice_get bytes k ≡ Some b → slice_get (messages_of bytes) k ≡ Some (message_of b)
-said_at [] k b e = absurd (cc)
-said_at (x ∷ xs) zero b e = let s : x ≡ b = cc in ap (λ (y : List ℕ). let o : Option (Message Value) = Some (message_of y) in o) s
-said_at (x ∷ xs) (suc k) b e = said_at xs k b e
+module _ (past : List Value) where
+  said_at : (bytes : List (List ℕ)) (k : ℕ) (b : List ℕ) → slice_get bytes k ≡ Some b → slice_get (messages_of past bytes) k ≡ Some (message_of past b)
+  said_at [] k b e = absurd (cc)
+  said_at (x ∷ xs) zero b e = let s : x ≡ b = cc in ap (λ (y : List ℕ). let o : Option (Message Value) = Some (message_of past y) in o) s
+  said_at (x ∷ xs) (suc k) b e = said_at xs k b e
 
-none_at : (bytes : List (List ℕ)) (k : ℕ) → slice_get bytes k ≡ None → slice_get (messages_of bytes) k ≡ None
-none_at [] k e = refl
-none_at (x ∷ xs) zero e = absurd (cc)
-none_at (x ∷ xs) (suc k) e = none_at xs k e
+  none_at : (bytes : List (List ℕ)) (k : ℕ) → slice_get bytes k ≡ None → slice_get (messages_of past bytes) k ≡ None
+  none_at [] k e = refl
+  none_at (x ∷ xs) zero e = absurd (cc)
+  none_at (x ∷ xs) (suc k) e = none_at xs k e
 
--- the message that was sent under a number is the model's
-pub sent_at : (bytes : List (List ℕ)) (number : ℕ) (m : Said) → IsSent bytes number m → message_at (messages_of bytes) number ≡ Some (message_in m)
-sent_at bytes zero m h = let e = h.is in absurd (cc)
-sent_at bytes (suc k) m h =
-    said_at bytes k (spelling_of m) h.is
-    ∙ ap (λ (x : Message Value). let o : Option (Message Value) = Some x in o) (ap read_message (message_read m h.spelling))
+  -- the message that was sent under a number is the model's
+  pub sent_at : (bytes : List (List ℕ)) (number : ℕ) (m : Said) → IsSent bytes number m → message_at (messages_of past bytes) number ≡ Some (message_in past m)
+  sent_at bytes zero m h = let e = h.is in absurd (cc)
+  sent_at bytes (suc k) m h =
+      said_at bytes k (spelling_of m) h.is
+      ∙ ap (λ (x : Message Value). let o : Option (Message Value) = Some x in o) (ap (read_message past) (message_read m h.spelling))
 
-pub missed_at : (bytes : List (List ℕ)) (number : ℕ) → net.message_at bytes number ≡ None → message_at (messages_of bytes) number ≡ None
-missed_at bytes zero e = refl
-missed_at bytes (suc k) e = none_at bytes k e
+  pub missed_at : (bytes : List (List ℕ)) (number : ℕ) → net.message_at bytes number ≡ None → message_at (messages_of past bytes) number ≡ None
+  missed_at bytes zero e = refl
+  missed_at bytes (suc k) e = none_at bytes k e
+
+-- a state that it tells is right
+pub sent_told : (service : Declarations) (past : List Value) (bytes : List (List ℕ)) (number : ℕ) (m : Said) → All (TellsRightly service past) bytes → IsSent bytes number m → IsTold service past m.content
+sent_told service past bytes zero m h sent = let e = sent.is in absurd (cc)
+sent_told service past bytes (suc k) m h sent =
+    let at : TellsRightly service past (spelling_of m) =
+    subst (TellsRightly service past) (get_or_from_slice_get bytes k (spelling_of m) [] sent.is) (All-get_or (TellsRightly service past) bytes k [] (slice_get_within bytes k (spelling_of m) sent.is) h) in
+    subst (TellsIn service past) (message_read m sent.spelling) at.tells
 
 pub sent_within : (bytes : List (List ℕ)) (number : ℕ) (m : Said) → IsSent bytes number m → (0 < number) × (number ≤ length bytes)
 sent_within bytes zero m h = let e = h.is in absurd (cc)
@@ -98,6 +110,8 @@ module _ {S : Type 0} (service : Declarations) (w w1 : World S) (number : ℕ) (
         };
         seats = h.seats;
         within = h.within;
+        agreed = h.agreed;
+        told = h.told;
         spelled = h.spelled;
         requests = h.requests;
         flushed = omega (arith, ap length marked.handed, length-set w.handed.items (number - 1) true, h.flushed);
@@ -107,54 +121,63 @@ module _ {S : Type 0} (service : Declarations) (w w1 : World S) (number : ℕ) (
 -- ---- a message that is handed over
 
 module _ {S : Type 0} (service : Declarations) (w : World S) (h : IsRunning service w) (number : ℕ) (m : Said) (sent : IsSent w.net number m) where
-  is_there : IsIn (message_in m) (messages_of w.net)
-  is_there = go number (sent_at w.net number m sent)
+  is_there : IsIn (message_in w.agreed m) (messages_of w.agreed w.net)
+  is_there = go number (sent_at w.agreed w.net number m sent)
     where
-      go : (k : ℕ) → message_at (messages_of w.net) k ≡ Some (message_in m) → IsIn (message_in m) (messages_of w.net)
+      go : (k : ℕ) → message_at (messages_of w.agreed w.net) k ≡ Some (message_in w.agreed m) → IsIn (message_in w.agreed m) (messages_of w.agreed w.net)
       go zero e = absurd (cc)
-      go (suc k) e = nth_in k (messages_of w.net) (message_in m) e
+      go (suc k) e = nth_in k (messages_of w.agreed w.net) (message_in w.agreed m) e
 
-  fits : MessageFits (nodes_of w) (message_in m)
-  fits = h.kept.numbers.messages (message_in m) is_there
+  fits : MessageFits (nodes_of w) (message_in w.agreed m)
+  fits = h.kept.numbers.messages (message_in w.agreed m) is_there
+
+  pub hand_node : IsNode (nodes_of w) m.to
+  hand_node = fits.to
+
+  pub hand_told : IsTold service w.agreed m.content
+  hand_told = sent_told service w.agreed w.net number m h.told sent
 
   module _ (xs : List (Seat S)) (e : xs ≡ w.seats.items) where
     pub hand_there : IsNode (length xs) m.to
     hand_there = subst (λ (ys : List (Seat S)). IsNode (length ys) m.to) (sym e) fits.to
 
-    pub hand_fits : MessageFits (length xs) (message_in m)
-    hand_fits = subst (λ (ys : List (Seat S)). MessageFits (length ys) (message_in m)) (sym e) fits
+    pub hand_front : Begins (known (node_at (heres service w.agreed xs) m.to).log) w.agreed
+    hand_front = front_known_in service w h xs e m.to fits.to
 
-    pub hand_runs : RunsOn service (receive (length xs) (service_of service w.seed) m.to m.from (content_in m.content)) (begin (disarmed (node_at (heres service xs) m.to)))
+    pub hand_fits : MessageFits (length xs) (message_in w.agreed m)
+    hand_fits = subst (λ (ys : List (Seat S)). MessageFits (length ys) (message_in w.agreed m)) (sym e) fits
+
+    pub hand_runs : RunsOn service (receive (length xs) (service_of service w.seed) m.to m.from (content_in w.agreed m.content)) (begin (disarmed (node_at (heres service w.agreed xs) m.to)))
     hand_runs =
-        subst (λ (ys : List (Seat S)). RunsOn service (receive (length ys) (service_of service w.seed) m.to m.from (content_in m.content)) (begin (disarmed (node_at (heres service ys) m.to)))) (sym e)
-        (runs_after service w h m.to fits.to (receive (nodes_of w) (service_of service w.seed) m.to m.from (content_in m.content))
-        (λ d good. receive_good (nodes_of w) (service_of service w.seed) (logs (world_of service w)) (roles (world_of service w)) (messages_of w.net) m.to fits.to m.from (content_in m.content) d good (good.old (message_in m) is_there)))
+        subst (λ (ys : List (Seat S)). RunsOn service (receive (length ys) (service_of service w.seed) m.to m.from (content_in w.agreed m.content)) (begin (disarmed (node_at (heres service w.agreed ys) m.to)))) (sym e)
+        (runs_after service w h m.to fits.to (receive (nodes_of w) (service_of service w.seed) m.to m.from (content_in w.agreed m.content))
+        (λ d good. receive_good (nodes_of w) (service_of service w.seed) (logs (world_of service w)) (roles (world_of service w)) (messages_of w.agreed w.net) m.to fits.to m.from (content_in w.agreed m.content) d good (good.old (message_in w.agreed m) is_there)))
 
   -- the row of the node's call, without the message's own effect
   abbrev hand_row : World S → Row
-  hand_row v = at_node (world_of service v) m.to (receive (nodes_of v) (service_of service v.seed) m.to m.from (content_in m.content))
+  hand_row v = at_node (world_of service v) m.to (receive (nodes_of v) (service_of service v.seed) m.to m.from (content_in v.agreed m.content))
 
   delivered : Effect
-  delivered = Delivered number (kind_of (content_in m.content)) m.from m.to
+  delivered = Delivered number (kind_of (content_in w.agreed m.content)) m.from m.to
 
   module _ (w1 : World S) (marked : IsMarked number w w1) where
-    marked_row : hand_row w1 ≡ at_node (with_handed (world_of service w) number) m.to (receive (nodes_of w) (service_of service w.seed) m.to m.from (content_in m.content))
+    marked_row : hand_row w1 ≡ at_node (with_handed (world_of service w) number) m.to (receive (nodes_of w) (service_of service w.seed) m.to m.from (content_in w.agreed m.content))
     marked_row =
         ap hand_row marked.rest
-        ∙ ap (λ (hs : List Bool). at_node (record (world_of service w) { handed = hs }) m.to (receive (nodes_of w) (service_of service w.seed) m.to m.from (content_in m.content))) marked.handed
+        ∙ ap (λ (hs : List Bool). at_node (record (world_of service w) { handed = hs }) m.to (receive (nodes_of w) (service_of service w.seed) m.to m.from (content_in w.agreed m.content))) marked.handed
 
     line_row : step_in service w (line.Deliver number) ≡ first_told delivered (hand_row w1)
     unfolding delivered
     line_row =
-        ap (deliver_found service w.seed (nodes_of w) (world_of service w) number) (sent_at w.net number m sent)
-        ∙ ap (first_told (Delivered number (kind_of (content_in m.content)) m.from m.to)) (sym marked_row)
+        ap (deliver_found service w.seed (nodes_of w) (world_of service w) number) (sent_at w.agreed w.net number m sent)
+        ∙ ap (first_told (Delivered number (kind_of (content_in w.agreed m.content)) m.from m.to)) (sym marked_row)
 
     pub hand_kept : IsKept service w1.seed (nodes_of w1) (hand_row w1).world
     hand_kept =
         let k : IsKept service w.seed (nodes_of w) (hand_row w1).world = subst (λ (r : Row). IsKept service w.seed (nodes_of w) r.world) line_row (kept_next service w h (line.Deliver number) (sent_within w.net number m sent).0) in
         subst (λ (v : World S). IsKept service v.seed (nodes_of v) (hand_row w1).world) (sym marked.rest) k
 
-    pub hand_came : (w2 : World S) (told told1 told2 : Told) → told1.effects.items ≡ told.effects.items ++ Delivered number (kind_of (content_in m.content)) m.from m.to ∷ [] → told1.sent.items ≡ told.sent.items
+    pub hand_came : (w2 : World S) (told told1 told2 : Told) → told1.effects.items ≡ told.effects.items ++ Delivered number (kind_of (content_in w.agreed m.content)) m.from m.to ∷ [] → told1.sent.items ≡ told.sent.items
         → ComesTo service w1 w2 told1 told2 (hand_row w1) → Comes service w w2 told told2 (line.Deliver number)
     unfolding delivered
     hand_came w2 told told1 told2 effects sent-same c =
@@ -163,8 +186,8 @@ module _ {S : Type 0} (service : Declarations) (w : World S) (h : IsRunning serv
           did = record {
             world = c.did.world;
             effects = c.did.effects ∙ ap (λ (es : List Effect). es ++ (hand_row w1).effects) effects ∙ append_assoc told.effects.items (delivered ∷ []) (hand_row w1).effects;
-            sent = c.did.sent ∙ ap (λ (es : List Effect). es ++ sent_from (suc (length (messages_of w1.net))) (drop (length (messages_of w1.net)) (hand_row w1).world.messages)) sent-same
-                ∙ ap (λ (v : World S). told.sent.items ++ sent_from (suc (length (messages_of v.net))) (drop (length (messages_of v.net)) (hand_row w1).world.messages)) marked.rest;
+            sent = c.did.sent ∙ ap (λ (es : List Effect). es ++ sent_from (suc (length (messages_of w1.agreed w1.net))) (drop (length (messages_of w1.agreed w1.net)) (hand_row w1).world.messages)) sent-same
+                ∙ ap (λ (v : World S). told.sent.items ++ sent_from (suc (length (messages_of v.agreed v.net))) (drop (length (messages_of v.agreed v.net)) (hand_row w1).world.messages)) marked.rest;
           };
           running = c.running;
           same = record {
@@ -180,13 +203,13 @@ module _ {S : Type 0} (service : Declarations) (w : World S) (h : IsRunning serv
 pub missed : {S : Type 0} → (service : Declarations) (w : World S) (told told2 : Told) (number : ℕ) → IsRunning service w → net.message_at w.net number ≡ None → told2.effects.items ≡ told.effects.items ++ NoMessage number ∷ []
     → told2.sent.items ≡ told.sent.items → Comes service w w told told2 (line.Deliver number)
 missed service w told told2 number h none effects sent =
-    let row : step_in service w (line.Deliver number) ≡ only (world_of service w) (NoMessage number) = ap (deliver_found service w.seed (nodes_of w) (world_of service w) number) (missed_at w.net number none) in
+    let row : step_in service w (line.Deliver number) ≡ only (world_of service w) (NoMessage number) = ap (deliver_found service w.seed (nodes_of w) (world_of service w) number) (missed_at w.agreed w.net number none) in
     subst (ComesTo service w w told told2) (sym row)
     (record {
       did = record {
         world = refl;
         effects = effects;
-        sent = sent ∙ sym (append-nil told.sent.items) ∙ ap (λ (ms : List (Message Value)). told.sent.items ++ sent_from (suc (length (messages_of w.net))) ms) (sym (drop-length (messages_of w.net)));
+        sent = sent ∙ sym (append-nil told.sent.items) ∙ ap (λ (ms : List (Message Value)). told.sent.items ++ sent_from (suc (length (messages_of w.agreed w.net))) ms) (sym (drop-length (messages_of w.agreed w.net)));
       };
       running = h;
       same = record { nodes = refl; requests = refl; seed = refl };
@@ -200,4 +223,4 @@ sent_on number w w1 m marked sent = subst (λ (v : World _). IsSent v.net number
 
 -- it is known of each message whether it was handed over
 pub sent_handed : {S : Type 0} → (service : Declarations) (w : World S) → IsRunning service w → (number : ℕ) → number ≤ length w.net → number ≤ length w.handed.items
-sent_handed service w h number l = omega (arith, h.kept.handed, messages_many w.net, l)
+sent_handed service w h number l = omega (arith, h.kept.handed, messages_many w.agreed w.net, l)

@@ -20,6 +20,8 @@ use Rattle.rex_safety.proofs.Steps.{reached_ok}
 use Rattle.rex_safety.proofs.Caused.{agreed_cuts, agreed_least}
 use Rattle.rex_safety.proofs.Requests.{agreed_once}
 use Rattle.rex_safety.proofs.Moments.{replies_stand_later}
+use Rattle.rex_safety.proofs.Showing.{replies_agreed}
+use Rattle.rex_safety.proofs.Raising.{rounds_left}
 use Rattle.rex_event.specs.Cuts.{AreNumbered, IsConsistent}
 use Rattle.rex_event.specs.Causes.{AreRight}
 use Rattle.rex_state.specs.Counts.{counts_of}
@@ -79,4 +81,6 @@ headline service requests seed n lines few good checked fit = record {
   once = λ front rest is. agreed_once service requests seed n front few good checked;
   stands = λ front rest is i j release lead ei ej ballot client sequence value released m later leads after.
       replies_stand_later service good checked requests fit seed n few front i j release lead ei ej ballot client sequence value released m later leads after;
+  released = λ front rest is client sequence value h. replies_agreed service good checked requests fit seed n few front client sequence value h;
+  rounds = λ short. rounds_left service requests seed n few lines short;
 }

@@ -1,3 +1,10 @@
+pub mod Settling
+pub mod Growing
+pub mod Beside
+pub mod Silent
+pub mod Learning
+pub mod Agreeing
+pub mod Knowing
 pub mod Blocks
 pub mod Acted
 pub mod Starting
@@ -6,7 +13,6 @@ pub mod Given
 pub mod Headlines
 pub mod Ranges
 pub mod Runs
-pub mod Longest
 pub mod Traces
 pub mod Releasing
 pub mod Summing

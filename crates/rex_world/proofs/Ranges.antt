@@ -1,7 +1,7 @@
 -- Messages of a kept world have spellings.
-use Rattle.std.proofs.Common.{◌≡◌, ℕ, ◌+◌, ◌≤◌, List, [], ◌∷◌, ◌++◌, length, map, inl, inr, refl, sym, arith}
+use Rattle.std.proofs.Common.{◌≡◌, ℕ, ◌+◌, ◌≤◌, List, [], ◌∷◌, ◌++◌, length, map, inl, inr, refl, sym, subst, arith}
 use Rattle.std.specs.List.{All}
-use Rattle.std.proofs.lemmas.List.Elements.{All-nil, All-cons}
+use Rattle.std.proofs.lemmas.List.Elements.{All-nil, All-cons, All-head, All-tail}
 use Rattle.rex_ballot.specs.Limits.{most_nodes}
 use Rattle.rex_ballot.specs.declared.proposal.Proposal.{Proposal as Kept}
 use Rattle.rex_ballot.specs.Ballot as ballot
@@ -20,8 +20,10 @@ use Rattle.rex_safety.specs.Ranges.{IsBallot, IsInstance, IsFirst, AreRising, Pr
 use Rattle.rex_safety.specs.Values.{Value, greatest_value}
 use Rattle.rex_safety.specs.World.{World}
 use Rattle.rex_safety.specs.Laws.{NumbersFit, ValuesAreShort}
-use Rattle.rex_node.specs.Parts.{proposal_in}
-use Rattle.rex_node.specs.Messages.{content_in, message_in}
+use Rattle.rex_log.specs.Log.{first, proposal_in}
+use Rattle.rex_log.proofs.Firsts.{first_length}
+use Rattle.rex_log.specs.Messages.{content_in, message_in}
+use Rattle.rex_node.specs.Telling.{AreTold, IsTold}
 
 -- ---- ranges
 
@@ -63,21 +65,22 @@ pub record HasShort (c : Content Value) : Type 0 where
   pub asked : (b i : ℕ) (v : Value) → c ≡ Accept b i v → length v ≤ greatest_value
   pub told : (i : ℕ) (v : Value) → c ≡ Chosen i v → length v ≤ greatest_value
 
-content_fits : (c : Says) → ContentFits (content_in c) → HasShort (content_in c) → message.ContentFits c
-content_fits (says.Prepare b first) h s = (ballot_fits b h.0, first_fits first h.1)
-content_fits (says.Promise b ps) h s = (ballot_fits b h.0, record { each = proposals_fit ps h.2 (λ p i. s.promised b (map proposal_in ps) p refl i); rising = rising_fit 0 0 ps (omega arith) h.1 })
-content_fits (says.Accept b i v) h s = (ballot_fits b h.0, instance_fits i h.1, record { few = s.asked b i v refl })
-content_fits (says.Accepted b i) h s = (ballot_fits b h.0, instance_fits i h.1)
-content_fits (says.Chosen i v) h s = (instance_fits i h, record { few = s.told i v refl })
-content_fits (says.Nack b p) h s = (ballot_fits b h.0, h.1)
-content_fits (says.Ask first) h s = first_fits first h
+content_fits : (service : Declarations) (past : List Value) (c : Says) → IsTold service past c → ContentFits (content_in past c) → HasShort (content_in past c) → message.ContentFits c
+content_fits service past (says.Prepare b first) told h s = (ballot_fits b h.0, first_fits first h.1)
+content_fits service past (says.Promise b ps) told h s = (ballot_fits b h.0, record { each = proposals_fit ps h.2 (λ p i. s.promised b (map proposal_in ps) p refl i); rising = rising_fit 0 0 ps (omega arith) h.1 })
+content_fits service past (says.Accept b i v) told h s = (ballot_fits b h.0, instance_fits i h.1, record { few = s.asked b i v refl })
+content_fits service past (says.Accepted b i) told h s = (ballot_fits b h.0, instance_fits i h.1)
+content_fits service past (says.Chosen i v) told h s = (instance_fits i h, record { few = s.told i v refl })
+content_fits service past (says.Nack b p) told h s = (ballot_fits b h.0, h.1)
+content_fits service past (says.Ask first) told h s = first_fits first h
+content_fits service past (says.Snapshot k bytes) told h s = (instance_fits k (subst IsInstance (first_length k past) h), told.short)
 
-pub message_fits : (n : ℕ) (m : Said) → n ≤ most_nodes → MessageFits n (message_in m) → HasShort (content_in m.content) → message.IsMessage m
-message_fits n m few fits short = record {
+pub message_fits : (service : Declarations) (past : List Value) (n : ℕ) (m : Said) → n ≤ most_nodes → IsTold service past m.content → MessageFits n (message_in past m) → HasShort (content_in past m.content) → message.IsMessage m
+message_fits service past n m few told fits short = record {
   from = node_fits n m.from few fits.from;
   to = node_fits n m.to few fits.to;
   another = λ e. fits.apart (sym e);
-  content = content_fits m.content fits.content short;
+  content = content_fits service past m.content told fits.content short;
 }
 
 -- ---- the messages of a world
@@ -90,11 +93,12 @@ module _ (service : Declarations) (n : ℕ) (few : n ≤ most_nodes) (w : World)
     told = λ k v e. short.told x k v i e;
   }
 
-  pub all_fit : (ms : List Said) → ((x : Message Value) → IsIn x (map message_in ms) → IsIn x w.messages) → All message.IsMessage ms
-  all_fit [] inside = All-nil message.IsMessage
-  all_fit (m ∷ ms) inside =
-      All-cons message.IsMessage m ms (message_fits n m few (numbers.messages (message_in m) (inside (message_in m) (inl refl))) (short_of (message_in m) (inside (message_in m) (inl refl))))
-      (all_fit ms (λ x i. inside x (inr i)))
+  pub all_fit : (past : List Value) (ms : List Said) → AreTold service past ms → ((x : Message Value) → IsIn x (map (message_in past) ms) → IsIn x w.messages) → All message.IsMessage ms
+  all_fit past [] told inside = All-nil message.IsMessage
+  all_fit past (m ∷ ms) told inside =
+      All-cons message.IsMessage m ms
+      (message_fits service past n m few (All-head (λ (x : Said). IsTold service past x.content) m ms told) (numbers.messages (message_in past m) (inside (message_in past m) (inl refl))) (short_of (message_in past m) (inside (message_in past m) (inl refl))))
+      (all_fit past ms (All-tail (λ (x : Said). IsTold service past x.content) m ms told) (λ x i. inside x (inr i)))
 
 -- it is behind other messages
 pub is_behind : {A : Type 0} (xs ys : List A) (x : A) → IsIn x ys → IsIn x (xs ++ ys)

@@ -1,16 +1,20 @@
 -- The node at a place of a world.
 use Rattle.std.proofs.Common.{◌≡◌, ℕ, zero, suc, ◌+◌, ◌-◌, ◌<◌, ◌≤◌, ◌≢◌, List, [], ◌∷◌, length, get_or, refl, sym, ◌∙◌, ap, subst, arith, length-set}
-use Rattle.std.specs.Prelude.{Result, slice_index_or, slice_set}
+use Rattle.std.specs.Prelude.{IfOk, Result, slice_index_or, slice_set}
 use Rattle.std.proofs.lemmas.Bool.{ne_eqb}
+use Rattle.std.proofs.lemmas.List.{get_or-set_same}
 use Rattle.rex_syntax.specs.declared.service.Declarations.{Declarations}
 use Rattle.rex_scenario.specs.Fits.{IsNode}
+use Rattle.rex_safety.specs.Invariant.{Begins}
 use Rattle.rex_safety.specs.Lanes.{Here, CallHere}
-use Rattle.rex_safety.specs.Values.{service_of}
+use Rattle.rex_safety.specs.Values.{Value, service_of}
 use Rattle.rex_safety.specs.World.{node_at, put}
 use Rattle.rex_node.specs.declared.refusal.Refusal.{Refusal}
 use Rattle.rex_node.specs.declared.step.Step.{Step}
+use Rattle.rex_node.specs.Telling.{AreTold}
 use Rattle.rex_world.specs.declared.seats.Seat.{Seat}
-use Rattle.rex_world.specs.Seats.{IsSeat, AreSeats, AreWithin, StaysSeat, faults_of, here_in, heres, keeper_in}
+use Rattle.rex_world.specs.declared.seats.Seat.TheVariants.{Empty}
+use Rattle.rex_world.specs.Seats.{IsSeat, AreSeats, AreWithin, StaysSeat, faults_of, here_in, heres, keeper_in, records_at, records_of}
 use Rattle.rex_world.specs.Calls.{Acts, IsWhole, IsStarted}
 use Rattle.rex_world.specs.Places.{IsChangedAt, ActsAt, StartsAt}
 
@@ -24,40 +28,46 @@ later_at x xs i = let e : suc (suc i) - 1 ≡ suc i = omega arith in rw (ne_eqb 
 later_put : (x : Here) (xs : List Here) (i : ℕ) (y : Here) → put (x ∷ xs) (suc (suc i)) y ≡ x ∷ put xs (suc i) y
 later_put x xs i y = let e : suc (suc i) - 1 ≡ suc i = omega arith in rw (ne_eqb (suc (suc i)) 1 (past_one i), e) refl
 
-module _ (service : Declarations) where
-  pub many_here : {S : Type 0} → (seats : List (Seat S)) → length (heres service seats) ≡ length seats
+-- a seat that is there, whatever else there could be
+pub same_there : {S : Type 0} → (seats : List (Seat S)) (i : ℕ) (d e : Seat S) → i < length seats → get_or seats i d ≡ get_or seats i e
+same_there [] i d e l = absurd (omega arith)
+same_there (s ∷ ss) zero d e l = refl
+same_there (s ∷ ss) (suc i) d e l = same_there ss i d e (omega arith)
+
+module _ (service : Declarations) (past : List Value) where
+  pub many_here : {S : Type 0} → (seats : List (Seat S)) → length (heres service past seats) ≡ length seats
   many_here [] = refl
   many_here (s ∷ ss) = ap suc (many_here ss)
 
-  pub here_index : {S : Type 0} → (seats : List (Seat S)) (i : ℕ) (d : Seat S) → i < length seats → node_at (heres service seats) (suc i) ≡ here_in service (get_or seats i d)
+  pub here_index : {S : Type 0} → (seats : List (Seat S)) (i : ℕ) (d : Seat S) → i < length seats → node_at (heres service past seats) (suc i) ≡ here_in service past (get_or seats i d)
   here_index [] i d l = absurd (omega arith)
   here_index (s ∷ ss) zero d l = refl
-  here_index (s ∷ ss) (suc i) d l = later_at (here_in service s) (heres service ss) i ∙ here_index ss i d (omega arith)
+  here_index (s ∷ ss) (suc i) d l = later_at (here_in service past s) (heres service past ss) i ∙ here_index ss i d (omega arith)
 
-  put_index : {S : Type 0} → (seats : List (Seat S)) (i : ℕ) (seat : Seat S) → i < length seats → heres service (slice_set seats i seat) ≡ put (heres service seats) (suc i) (here_in service seat)
+  put_index : {S : Type 0} → (seats : List (Seat S)) (i : ℕ) (seat : Seat S) → i < length seats → heres service past (slice_set seats i seat) ≡ put (heres service past seats) (suc i) (here_in service past seat)
   put_index [] i seat l = absurd (omega arith)
   put_index (s ∷ ss) zero seat l = refl
-  put_index (s ∷ ss) (suc i) seat l = ap (λ (xs : List Here). here_in service s ∷ xs) (put_index ss i seat (omega arith)) ∙ sym (later_put (here_in service s) (heres service ss) i (here_in service seat))
+  put_index (s ∷ ss) (suc i) seat l = ap (λ (xs : List Here). here_in service past s ∷ xs) (put_index ss i seat (omega arith)) ∙ sym (later_put (here_in service past s) (heres service past ss) i (here_in service past seat))
 
-  new_index : {S : Type 0} → (seats : List (Seat S)) (i : ℕ) (seat : Seat S) → i < length seats → node_at (heres service (slice_set seats i seat)) (suc i) ≡ here_in service seat
+  new_index : {S : Type 0} → (seats : List (Seat S)) (i : ℕ) (seat : Seat S) → i < length seats → node_at (heres service past (slice_set seats i seat)) (suc i) ≡ here_in service past seat
   new_index [] i seat l = absurd (omega arith)
   new_index (s ∷ ss) zero seat l = refl
-  new_index (s ∷ ss) (suc i) seat l = later_at (here_in service s) (heres service (slice_set ss i seat)) i ∙ new_index ss i seat (omega arith)
+  new_index (s ∷ ss) (suc i) seat l = later_at (here_in service past s) (heres service past (slice_set ss i seat)) i ∙ new_index ss i seat (omega arith)
 
   module _ (seed nodes : ℕ) where
-    seat_from : {S : Type 0} → (k : ℕ) (seats : List (Seat S)) (i : ℕ) (d : Seat S) → AreSeats service seed nodes k seats → i < length seats → IsSeat service seed nodes (k + i) (get_or seats i d)
+    seat_from : {S : Type 0} → (k : ℕ) (seats : List (Seat S)) (i : ℕ) (d : Seat S) → AreSeats service past seed nodes k seats → i < length seats → IsSeat service past seed nodes (k + i) (get_or seats i d)
     seat_from k [] i d all l = absurd (omega arith)
-    seat_from k (s ∷ ss) zero d all l = let e : k + 0 ≡ k = omega arith in subst (λ (m : ℕ). IsSeat service seed nodes m s) (sym e) all.0
+    seat_from k (s ∷ ss) zero d all l = let e : k + 0 ≡ k = omega arith in subst (λ (m : ℕ). IsSeat service past seed nodes m s) (sym e) all.0
     seat_from k (s ∷ ss) (suc i) d all l =
         let e : suc k + i ≡ k + suc i = omega arith in
-        subst (λ (m : ℕ). IsSeat service seed nodes m (get_or ss i d)) e (seat_from (suc k) ss i d all.1 (omega arith))
+        subst (λ (m : ℕ). IsSeat service past seed nodes m (get_or ss i d)) e (seat_from (suc k) ss i d all.1 (omega arith))
 
-    seats_from : {S : Type 0} → (k : ℕ) (seats : List (Seat S)) (i : ℕ) (seat : Seat S) → AreSeats service seed nodes k seats → IsSeat service seed nodes (k + i) seat → AreSeats service seed nodes k (slice_set seats i seat)
+    seats_from : {S : Type 0} → (k : ℕ) (seats : List (Seat S)) (i : ℕ) (seat : Seat S) → AreSeats service past seed nodes k seats → IsSeat service past seed nodes (k + i) seat → AreSeats service past seed nodes k (slice_set seats i seat)
     seats_from k [] i seat all one = tt
-    seats_from k (s ∷ ss) zero seat all one = let e : k + 0 ≡ k = omega arith in (subst (λ (m : ℕ). IsSeat service seed nodes m seat) e one, all.1)
+    seats_from k (s ∷ ss) zero seat all one = let e : k + 0 ≡ k = omega arith in (subst (λ (m : ℕ). IsSeat service past seed nodes m seat) e one, all.1)
     seats_from k (s ∷ ss) (suc i) seat all one =
         let e : k + suc i ≡ suc k + i = omega arith in
-        (all.0, seats_from (suc k) ss i seat all.1 (subst (λ (m : ℕ). IsSeat service seed nodes m seat) e one))
+        (all.0, seats_from (suc k) ss i seat all.1 (subst (λ (m : ℕ). IsSeat service past seed nodes m seat) e one))
 
   -- ---- how often keepers fail
 
@@ -82,13 +92,13 @@ module _ (service : Declarations) where
     inside : number - 1 < length seats
     inside = omega (arith, here.0, here.1)
 
-    pub here_is : node_at (heres service seats) number ≡ here_in service (slice_index_or seats (number - 1) d)
-    here_is = subst (λ (m : ℕ). node_at (heres service seats) m ≡ here_in service (slice_index_or seats (number - 1) d)) (sym is_next) (here_index seats (number - 1) d inside)
+    pub here_is : node_at (heres service past seats) number ≡ here_in service past (slice_index_or seats (number - 1) d)
+    here_is = subst (λ (m : ℕ). node_at (heres service past seats) m ≡ here_in service past (slice_index_or seats (number - 1) d)) (sym is_next) (here_index seats (number - 1) d inside)
 
-    pub seat_is : (seed nodes : ℕ) → AreSeats service seed nodes 1 seats → IsSeat service seed nodes number (slice_index_or seats (number - 1) d)
+    pub seat_is : (seed nodes : ℕ) → AreSeats service past seed nodes 1 seats → IsSeat service past seed nodes number (slice_index_or seats (number - 1) d)
     seat_is seed nodes all =
         let e : 1 + (number - 1) ≡ number = omega (arith, here.0) in
-        subst (λ (m : ℕ). IsSeat service seed nodes m (slice_index_or seats (number - 1) d)) e (seat_from seed nodes 1 seats (number - 1) d all inside)
+        subst (λ (m : ℕ). IsSeat service past seed nodes m (slice_index_or seats (number - 1) d)) e (seat_from seed nodes 1 seats (number - 1) d all inside)
 
     pub within_is : (most : ℕ) → AreWithin most seats → faults_of (keeper_in (slice_index_or seats (number - 1) d)) ≤ most
     within_is most all = within_at most seats (number - 1) d all inside
@@ -96,22 +106,33 @@ module _ (service : Declarations) where
     pub set_within : (most : ℕ) (seat : Seat S) → AreWithin most seats → faults_of (keeper_in seat) ≤ most → AreWithin most (slice_set seats (number - 1) seat)
     set_within most seat all one = within_from most seats (number - 1) seat all one
 
-    pub new_is : (seat : Seat S) → node_at (heres service (slice_set seats (number - 1) seat)) number ≡ here_in service seat
-    new_is seat = subst (λ (m : ℕ). node_at (heres service (slice_set seats (number - 1) seat)) m ≡ here_in service seat) (sym is_next) (new_index seats (number - 1) seat inside)
+    pub new_is : (seat : Seat S) → node_at (heres service past (slice_set seats (number - 1) seat)) number ≡ here_in service past seat
+    new_is seat = subst (λ (m : ℕ). node_at (heres service past (slice_set seats (number - 1) seat)) m ≡ here_in service past seat) (sym is_next) (new_index seats (number - 1) seat inside)
 
-    pub put_is : (seat : Seat S) → heres service (slice_set seats (number - 1) seat) ≡ put (heres service seats) number (here_in service seat)
-    put_is seat = subst (λ (m : ℕ). heres service (slice_set seats (number - 1) seat) ≡ put (heres service seats) m (here_in service seat)) (sym is_next) (put_index seats (number - 1) seat inside)
+    pub put_is : (seat : Seat S) → heres service past (slice_set seats (number - 1) seat) ≡ put (heres service past seats) number (here_in service past seat)
+    put_is seat = subst (λ (m : ℕ). heres service past (slice_set seats (number - 1) seat) ≡ put (heres service past seats) m (here_in service past seat)) (sym is_next) (put_index seats (number - 1) seat inside)
 
-    pub set_seats : (seed nodes : ℕ) (seat : Seat S) → AreSeats service seed nodes 1 seats → IsSeat service seed nodes number seat → AreSeats service seed nodes 1 (slice_set seats (number - 1) seat)
+    pub set_seats : (seed nodes : ℕ) (seat : Seat S) → AreSeats service past seed nodes 1 seats → IsSeat service past seed nodes number seat → AreSeats service past seed nodes 1 (slice_set seats (number - 1) seat)
     set_seats seed nodes seat all one =
         let e : number ≡ 1 + (number - 1) = omega (arith, here.0) in
-        seats_from seed nodes 1 seats (number - 1) seat all (subst (λ (m : ℕ). IsSeat service seed nodes m seat) e one)
+        seats_from seed nodes 1 seats (number - 1) seat all (subst (λ (m : ℕ). IsSeat service past seed nodes m seat) e one)
+
+    -- its records are those of its seat
+    records_was : records_at seats number ≡ records_of (keeper_in (slice_index_or seats (number - 1) d))
+    records_was = ap (λ (s : Seat S). records_of (keeper_in s)) (same_there seats (number - 1) Empty d inside)
+
+    records_is : (seat : Seat S) → records_at (slice_set seats (number - 1) seat) number ≡ records_of (keeper_in seat)
+    records_is seat = ap (λ (s : Seat S). records_of (keeper_in s)) (get_or-set_same seats (number - 1) seat Empty inside)
+
+    grown_at : (seat : Seat S) → Begins (records_of (keeper_in (slice_index_or seats (number - 1) d))) (records_of (keeper_in seat)) → Begins (records_at seats number) (records_at (slice_set seats (number - 1) seat) number)
+    grown_at seat h = subst (λ (rs : List (List ℕ)). Begins rs (records_at (slice_set seats (number - 1) seat) number)) (sym records_was) (subst (Begins (records_of (keeper_in (slice_index_or seats (number - 1) d)))) (sym (records_is seat)) h)
 
     -- only this node is another one
-    changed_at : (seed : ℕ) (seat : Seat S) (outcome : Result Step Refusal) → (IsWhole outcome → StaysSeat service seed (length seats) number (slice_index_or seats (number - 1) d) seat)
-        → IsChangedAt service seed number seats (slice_set seats (number - 1) seat) outcome
+    changed_at : (seed : ℕ) (seat : Seat S) (outcome : Result Step Refusal) → (IsWhole outcome → StaysSeat service past seed (length seats) number (slice_index_or seats (number - 1) d) seat)
+        → IsChangedAt service past seed number seats (slice_set seats (number - 1) seat) outcome
     changed_at seed seat outcome kept = record {
-      others = put_is seat ∙ ap (λ (y : Here). put (heres service seats) number y) (sym (new_is seat));
+      grown = λ whole. grown_at seat (kept whole).grown;
+      others = put_is seat ∙ ap (λ (y : Here). put (heres service past seats) number y) (sym (new_is seat));
       many = length-set seats (number - 1) seat;
       seats = λ whole most all. let l = within_is most all.within in let k = (kept whole).within in record {
         seats_are = set_seats seed (length seats) seat all.seats_are (kept whole).seat;
@@ -121,19 +142,20 @@ module _ (service : Declarations) where
 
     -- what a seat's call did, the world's node did
     pub acts_at : (seed : ℕ) (call : CallHere → CallHere) (seat : Seat S) (outcome : Result Step Refusal)
-        → Acts call number (here_in service (slice_index_or seats (number - 1) d)) (here_in service seat) outcome → (IsWhole outcome → StaysSeat service seed (length seats) number (slice_index_or seats (number - 1) d) seat)
-        → ActsAt service seed call number seats (slice_set seats (number - 1) seat) outcome
-    acts_at seed call seat outcome acts kept = record {
-      acts = subst (λ (x : Here). Acts call number x (node_at (heres service (slice_set seats (number - 1) seat)) number) outcome) (sym here_is)
-          (subst (λ (y : Here). Acts call number (here_in service (slice_index_or seats (number - 1) d)) y outcome) (sym (new_is seat)) acts);
+        → Acts past call number (here_in service past (slice_index_or seats (number - 1) d)) (here_in service past seat) outcome → (IsWhole outcome → StaysSeat service past seed (length seats) number (slice_index_or seats (number - 1) d) seat)
+        → IfOk outcome (λ (step : Step). AreTold service past step.sends) → ActsAt service past seed call number seats (slice_set seats (number - 1) seat) outcome
+    acts_at seed call seat outcome acts kept tells = record {
+      tells = tells;
+      acts = subst (λ (x : Here). Acts past call number x (node_at (heres service past (slice_set seats (number - 1) seat)) number) outcome) (sym here_is)
+          (subst (λ (y : Here). Acts past call number (here_in service past (slice_index_or seats (number - 1) d)) y outcome) (sym (new_is seat)) acts);
       changed = changed_at seed seat outcome kept;
     }
 
     pub starts_at : (seed : ℕ) (seat : Seat S) (outcome : Result Step Refusal)
-        → IsStarted (service_of service seed) number (here_in service (slice_index_or seats (number - 1) d)) (here_in service seat) outcome → (IsWhole outcome → StaysSeat service seed (length seats) number (slice_index_or seats (number - 1) d) seat)
-        → StartsAt service seed number seats (slice_set seats (number - 1) seat) outcome
+        → IsStarted (service_of service seed) number (here_in service past (slice_index_or seats (number - 1) d)) (here_in service past seat) outcome → (IsWhole outcome → StaysSeat service past seed (length seats) number (slice_index_or seats (number - 1) d) seat)
+        → StartsAt service past seed number seats (slice_set seats (number - 1) seat) outcome
     starts_at seed seat outcome starts kept = record {
-      starts = subst (λ (x : Here). IsStarted (service_of service seed) number x (node_at (heres service (slice_set seats (number - 1) seat)) number) outcome) (sym here_is)
-          (subst (λ (y : Here). IsStarted (service_of service seed) number (here_in service (slice_index_or seats (number - 1) d)) y outcome) (sym (new_is seat)) starts);
+      starts = subst (λ (x : Here). IsStarted (service_of service seed) number x (node_at (heres service past (slice_set seats (number - 1) seat)) number) outcome) (sym here_is)
+          (subst (λ (y : Here). IsStarted (service_of service seed) number (here_in service past (slice_index_or seats (number - 1) d)) y outcome) (sym (new_is seat)) starts);
       changed = changed_at seed seat outcome kept;
     }

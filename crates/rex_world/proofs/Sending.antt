@@ -1,5 +1,5 @@
 -- Messages that are sent one after the other.
-use Rattle.std.proofs.Common.{◌≡◌, ℕ, suc, ◌+◌, ◌<◌, Bool, false, List, [], ◌∷◌, ◌++◌, length, map, take, sym, ◌∙◌, ap, subst, arith, append_assoc, length-append, add-zero, add-one}
+use Rattle.std.proofs.Common.{◌≡◌, ℕ, suc, refl, ◌+◌, ◌<◌, Bool, false, List, [], ◌∷◌, ◌++◌, length, map, take, sym, ◌∙◌, ap, subst, arith, append_assoc, length-append, add-zero, add-one}
 use Rattle.std.specs.Prelude.{replicate, slice_index_or}
 use Rattle.std.proofs.Math.Seq.{take-suc}
 use Rattle.std.proofs.lemmas.List.{append-nil, map-append, length-map, replicate-append-replicate}
@@ -11,8 +11,31 @@ use Rattle.rex_msg.specs.Spelling.{HasSpelling, spelling_of}
 use Rattle.rex_safety.specs.Node.{Message, kind_of}
 use Rattle.rex_safety.specs.Values.{Value}
 use Rattle.rex_safety.specs.World.{sent_from}
-use Rattle.rex_node.specs.Messages.{message_in}
+use Rattle.rex_msg.specs.declared.message.Content.{Content as Says}
+use Rattle.rex_msg.specs.declared.message.Content.TheVariants as says
+use Rattle.rex_report.specs.declared.effect.MessageKind.{MessageKind}
+use Rattle.rex_log.specs.Messages.{content_in, message_in}
 use Rattle.rex_world.specs.Calls.{Sends}
+
+-- what is told of messages is the same beside every past
+same_kind : (past : List Value) (c : Says) → kind_of (content_in past c) ≡ kind_of (content_in [] c)
+same_kind past (says.Prepare b i) = refl
+same_kind past (says.Promise b ps) = refl
+same_kind past (says.Accept b i v) = refl
+same_kind past (says.Accepted b i) = refl
+same_kind past (says.Chosen i v) = refl
+same_kind past (says.Nack b p) = refl
+same_kind past (says.Ask i) = refl
+same_kind past (says.Snapshot k bytes) = refl
+
+pub sent_alike : (past : List Value) (number : ℕ) (ms : List Said) → sent_from number (map (message_in []) ms) ≡ sent_from number (map (message_in past) ms)
+sent_alike past number [] = refl
+sent_alike past number (m ∷ ms) =
+    ap (λ (es : List Effect). Sent number (kind_of (content_in [] m.content)) m.from m.to ∷ es) (sent_alike past (suc number) ms)
+    ∙ ap (λ (k : MessageKind). Sent number k m.from m.to ∷ sent_from (suc number) (map (message_in past) ms)) (sym (same_kind past m.content))
+
+pub kind_alike : (past : List Value) (c : Says) → kind_of (content_in [] c) ≡ kind_of (content_in past c)
+kind_alike past c = sym (same_kind past c)
 
 -- what was sent after other messages is told under the numbers after theirs
 pub sent_both : (number : ℕ) (xs ys : List (Message Value)) → sent_from number (xs ++ ys) ≡ sent_from number xs ++ sent_from (number + length xs) ys
@@ -31,13 +54,13 @@ sends_more xs ys net net1 net2 handed handed1 handed2 sent sent1 sent2 a b = rec
   net = b.net ∙ ap (λ (ns : List (List ℕ)). ns ++ map spelling_of ys) a.net ∙ append_assoc net (map spelling_of xs) (map spelling_of ys) ∙ ap (λ (ns : List (List ℕ)). net ++ ns) (sym (map-append spelling_of xs ys));
   handed = b.handed ∙ ap (λ (hs : List Bool). hs ++ replicate (length ys) false) a.handed ∙ append_assoc handed (replicate (length xs) false) (replicate (length ys) false)
       ∙ ap (λ (hs : List Bool). handed ++ hs) (replicate-append-replicate (length xs) (length ys) false ∙ ap (λ (k : ℕ). replicate k false) (sym (length-append xs ys)));
-  sent = b.sent ∙ ap (λ (es : List Effect). es ++ sent_from (suc (length net1)) (map message_in ys)) a.sent ∙ append_assoc sent (sent_from (suc (length net)) (map message_in xs)) (sent_from (suc (length net1)) (map message_in ys))
+  sent = b.sent ∙ ap (λ (es : List Effect). es ++ sent_from (suc (length net1)) (map (message_in []) ys)) a.sent ∙ append_assoc sent (sent_from (suc (length net)) (map (message_in []) xs)) (sent_from (suc (length net1)) (map (message_in []) ys))
       ∙ ap (λ (es : List Effect). sent ++ es)
-      (ap (λ (k : ℕ). sent_from (suc (length net)) (map message_in xs) ++ sent_from k (map message_in ys)) next ∙ sym (sent_both (suc (length net)) (map message_in xs) (map message_in ys)) ∙ ap (λ (ms : List (Message Value)). sent_from (suc (length net)) ms) (sym (map-append message_in xs ys)));
+      (ap (λ (k : ℕ). sent_from (suc (length net)) (map (message_in []) xs) ++ sent_from k (map (message_in []) ys)) next ∙ sym (sent_both (suc (length net)) (map (message_in []) xs) (map (message_in []) ys)) ∙ ap (λ (ms : List (Message Value)). sent_from (suc (length net)) ms) (sym (map-append (message_in []) xs ys)));
 }
   where
-    next : suc (length net1) ≡ suc (length net) + length (map message_in xs)
-    next = omega (arith, ap length a.net, length-append net (map spelling_of xs), length-map xs spelling_of, length-map xs message_in)
+    next : suc (length net1) ≡ suc (length net) + length (map (message_in []) xs)
+    next = omega (arith, ap length a.net, length-append net (map spelling_of xs), length-map xs spelling_of, length-map xs (message_in []))
 
 -- the messages so far, and one more
 pub sends_next : (xs : List Said) (i : ℕ) (x d : Said) (net net1 net2 : List (List ℕ)) (handed handed1 handed2 : List Bool) (sent sent1 sent2 : List Effect) → i < length xs → x ≡ slice_index_or xs i d

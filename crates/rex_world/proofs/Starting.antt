@@ -1,5 +1,5 @@
 -- A node that was started does as the model's.
-use Rattle.std.proofs.Common.{◌≡◌, ℕ, zero, suc, Bool, true, false, cond, List, [], ◌∷◌, ◌++◌, length, Option, Some, None, Result, Ok, Err, IfOk, refl, sym, ap, ◌∙◌, subst, arith, le_refl}
+use Rattle.std.proofs.Common.{◌≡◌, ℕ, zero, suc, Bool, true, false, cond, List, [], ◌∷◌, ◌++◌, length, Option, Some, None, Result, Ok, Err, IfOk, refl, sym, ap, ◌∙◌, subst, append_assoc, arith, le_refl}
 use Rattle.std.specs.Prelude.{map, take}
 use Rattle.rex_syntax.specs.declared.service.Declarations.{Declarations}
 use Rattle.rex_state.specs.Value.{StateValue}
@@ -24,15 +24,17 @@ use Rattle.rex_node.specs.declared.refusal.Refusal.{Refusal}
 use Rattle.rex_node.specs.declared.refusal.Refusal.TheVariants as why
 use Rattle.rex_node.specs.declared.step.Step.{Step}
 use Rattle.rex_node.specs.Calls.{Does, Refuses, refusal_of_migrate}
-use Rattle.rex_node.specs.Messages.{message_in}
+use Rattle.rex_log.specs.Messages.{message_in}
 use Rattle.rex_node.specs.Restarting.{CameUp}
-use Rattle.rex_node.specs.Parts.{NodeValue, StaysNode, here_of, log_of}
+use Rattle.rex_log.specs.Log.{log_of}
+use Rattle.rex_node.specs.Parts.{NodeValue, StaysNode, count_of, here_of}
 use Rattle.rex_world.specs.declared.seats.Seat.{Seat}
 use Rattle.rex_world.specs.declared.seats.Seat.TheVariants.{Running, Stopped, Empty}
 use Rattle.rex_world.specs.Calls.{CameBack, HasStarted, IsDone, IsWhole, StartsIf}
 use Rattle.rex_world.specs.Seats.{IsRunner, StaysRunner, StaysSeat, armed_of, faults_of, here_at, here_in, is_up_in, keeper_in, records_of}
-use Rattle.rex_world.proofs.Acted.{done_if, stays_whole}
+use Rattle.rex_world.proofs.Acted.{done_if, none_grown, stays_whole}
 use Rattle.rex_world.proofs.Failing.{follows}
+use Rattle.rex_world.proofs.Knowing.{count_known}
 use Rattle.rex_world.proofs.Unseen.{migrate_either}
 
 abbrev err_of : Refusal → Result Step Refusal
@@ -70,120 +72,136 @@ has_started sv number before mid after step e back =
       effects = b.effects ∙ sym (ap (λ (d : CallHere). d.effects) same);
     }
 
-nothing_sent : (sends : List Sent) → map message_in sends ≡ [] → sends ≡ []
-nothing_sent [] e = refl
-nothing_sent (m ∷ ms) e = absurd cc
+pub nothing_sent : (past : List Value) (sends : List Sent) → map (message_in past) sends ≡ [] → sends ≡ []
+nothing_sent past [] e = refl
+nothing_sent past (m ∷ ms) e = absurd cc
 
-module _ (service : Declarations) (seed nodes number : ℕ) (old : NodeValue KeeperValue) (runner : IsRunner service seed nodes number old) (up : old.up ≡ true) where
+module _ (service : Declarations) (past : List Value) (seed nodes number : ℕ) (old : NodeValue KeeperValue) (runner : IsRunner service past seed nodes number old) (up : old.up ≡ true) where
   abbrev h : Here
-  h = here_at service old
+  h = here_at service past old
 
   abbrev started : Effect
-  started = effect.Started old.id old.acceptor.promised (length old.known) old.replayed
+  started = effect.Started number (promise h.log) (length (known h.log)) h.replayed
 
-  started_is : started ≡ effect.Started number (promise (here_at service old).log) (length (known (here_at service old).log)) (here_at service old).replayed
+  -- what its parts say is what its records say
+  started_is : effect.Started old.id old.acceptor.promised (count_of old) old.replayed ≡ started
   started_is =
       let u = runner.node.up up in
-      ap (λ (n : ℕ). effect.Started n old.acceptor.promised (length old.known) old.replayed) runner.id
-      ∙ ap (λ (n : ℕ). effect.Started number n (length old.known) old.replayed) u.promised
-      ∙ ap (λ (vs : List Value). effect.Started number (promise (here_at service old).log) (length vs) old.replayed) u.known
+      ap (λ (n : ℕ). effect.Started n old.acceptor.promised (count_of old) old.replayed) runner.id
+      ∙ ap (λ (n : ℕ). effect.Started number n (count_of old) old.replayed) u.promised
+      ∙ ap (λ (n : ℕ). effect.Started number (promise h.log) n old.replayed) (count_known service past old runner.node up)
+
+  pub told_started : (result : Result Step Refusal) (id promised many replayed : ℕ) → id ≡ old.id → promised ≡ old.acceptor.promised → many ≡ count_of old → replayed ≡ old.replayed
+      → IfOk result (λ (step : Step). step.effects ≡ effect.Started id promised many replayed ∷ []) → IfOk result (λ (step : Step). step.effects ≡ started ∷ [])
+  told_started (Err refusal) id promised many replayed a b d e told = tt
+  told_started (Ok step) id promised many replayed a b d e told =
+      told
+      ∙ ap (λ (n : ℕ). effect.Started n promised many replayed ∷ []) a
+      ∙ ap (λ (n : ℕ). effect.Started old.id n many replayed ∷ []) b
+      ∙ ap (λ (n : ℕ). effect.Started old.id old.acceptor.promised n replayed ∷ []) d
+      ∙ ap (λ (n : ℕ). effect.Started old.id old.acceptor.promised (count_of old) n ∷ []) e
+      ∙ ap (λ (x : Effect). x ∷ []) started_is
 
   -- its last checkpoint is in the new version, or there is none
-  pub comes_new : (step : Step) → old.old_base ≡ false → step.effects ≡ started ∷ [] → step.sends ≡ [] → CameBack (service_of service seed) number (here_at service old) (here_at service old) step
+  pub comes_new : (step : Step) → old.old_base ≡ false → step.effects ≡ started ∷ [] → step.sends ≡ [] → CameBack (service_of service seed) number (here_at service past old) (here_at service past old) step
   comes_new step none effects sends =
-      let new : has_old_base (here_at service old).log ≡ false = sym (runner.node.up up).old_base ∙ none in
+      let new : has_old_base (here_at service past old).log ≡ false = sym (runner.node.up up).old_base ∙ none in
       record {
         node = rw new refl;
         sends = sends;
-        effects = effects ∙ ap (λ (e : Effect). e ∷ []) started_is ∙ rw new refl;
+        effects = effects ∙ rw new refl;
       }
 
   -- or it is migrated
-  pub comes_migrated : (new : NodeValue KeeperValue) (first migrated step : Step) → IsDone (migrate (service_of service old.seed) old.id) (here_at service old) (here_at service new) migrated
-      → first.effects ≡ started ∷ [] → step.effects ≡ first.effects ++ migrated.effects → step.sends ≡ migrated.sends → CameBack (service_of service seed) number (here_at service old) (here_at service new) step
+  pub comes_migrated : (new : NodeValue KeeperValue) (first migrated step : Step) → IsDone past (migrate (service_of service old.seed) old.id) (here_at service past old) (here_at service past new) migrated
+      → first.effects ≡ started ∷ [] → step.effects ≡ first.effects ++ migrated.effects → step.sends ≡ migrated.sends → CameBack (service_of service seed) number (here_at service past old) (here_at service past new) step
   comes_migrated new first migrated step done first_is effects sends =
-      let n = here_at service new in
+      let n = here_at service past new in
       let sv = service_of service seed in
-      let mine : IsDone (migrate sv number) h n migrated =
-      subst (λ (m : ℕ). IsDone (migrate (service_of service seed) m) h n migrated) runner.id
-      (subst (λ (s : ℕ). IsDone (migrate (service_of service s) old.id) h n migrated) runner.seed_is done) in
+      let mine : IsDone past (migrate sv number) h n migrated =
+      subst (λ (m : ℕ). IsDone past (migrate (service_of service seed) m) h n migrated) runner.id
+      (subst (λ (s : ℕ). IsDone past (migrate (service_of service s) old.id) h n migrated) runner.seed_is done) in
       let none : (migrate sv number (begin h)).sends ≡ [] = migrated_sends (has_old_base h.log) number (begin h) (base h.log) (Checkpoint Two (base h.log) (sv.state (take (base h.log) (known h.log)))) refl in
       record {
         node = mine.node;
-        sends = sends ∙ nothing_sent migrated.sends (mine.sends ∙ none);
+        sends = sends ∙ nothing_sent past migrated.sends (mine.sends ∙ none);
         effects =
-            effects ∙ ap (λ (es : List Effect). es ++ migrated.effects) (first_is ∙ ap (λ (e : Effect). e ∷ []) started_is)
+            effects ∙ ap (λ (es : List Effect). es ++ migrated.effects) first_is
             ∙ ap (λ (es : List Effect). effect.Started number (promise h.log) (length (known h.log)) h.replayed ∷ es) mine.effects;
       }
 
   -- then nothing is in the way of the call
-  migrate_due : old.old_base ≡ true → refusal_of_migrate (here_of records_of service old) ≡ None
+  migrate_due : old.old_base ≡ true → refusal_of_migrate (here_of records_of service past old) ≡ None
   migrate_due old_one =
-      let o : has_old_base (here_of records_of service old).log ≡ true = sym (runner.node.up up).old_base ∙ old_one in
+      let o : has_old_base (here_of records_of service past old).log ≡ true = sym (runner.node.up up).old_base ∙ old_one in
       rw (up, o) refl
 
-  pub migrate_memory : old.old_base ≡ true → (refusal : Refusal) → Refuses (refusal_of_migrate (here_of records_of service old)) (err_of refusal) → refusal ≡ why.OutOfMemory
+  pub migrate_memory : old.old_base ≡ true → (refusal : Refusal) → Refuses (refusal_of_migrate (here_of records_of service past old)) (err_of refusal) → refusal ≡ why.OutOfMemory
   migrate_memory old_one refusal is = subst (λ (due : Option Refusal). Refuses due (err_of refusal)) (migrate_due old_one) is
 
-  migrates : (new : NodeValue KeeperValue) (migrated : Step) → Does records_of follows (λ k. k.faults) service (migrate (service_of service old.seed) old.id) old new migrated → IsDone (migrate (service_of service old.seed) old.id) (here_at service old) (here_at service new) migrated
+  migrates : (new : NodeValue KeeperValue) (migrated : Step) → Does records_of follows (λ k. k.faults) service past (migrate (service_of service old.seed) old.id) old new migrated → IsDone past (migrate (service_of service old.seed) old.id) (here_at service past old) (here_at service past new) migrated
   migrates new migrated does =
-      done_if service seed nodes number old runner new (migrate (service_of service old.seed) old.id) (Ok migrated) (λ f. migrate_either f (service_of service old.seed) old.id) does up
+      done_if service past seed nodes number old runner new (migrate (service_of service old.seed) old.id) (Ok migrated) (λ f. migrate_either f (service_of service old.seed) old.id) does up
 
-  pub migrate_stays : (new : NodeValue KeeperValue) (migrated : Step) → StaysNode records_of service old new → Does records_of follows (λ k. k.faults) service (migrate (service_of service old.seed) old.id) old new migrated → StaysRunner service seed nodes number old new
+  pub migrate_stays : (new : NodeValue KeeperValue) (migrated : Step) → StaysNode records_of service past old new → Does records_of follows (λ k. k.faults) service past (migrate (service_of service old.seed) old.id) old new migrated → StaysRunner service past seed nodes number old new
   migrate_stays new migrated stays does =
-      stays_whole service seed nodes number old runner new (migrate (service_of service old.seed) old.id) (Ok migrated) (λ f. migrate_either f (service_of service old.seed) old.id) stays does tt tt
+      stays_whole service past seed nodes number old runner new (migrate (service_of service old.seed) old.id) (Ok migrated) (λ f. migrate_either f (service_of service old.seed) old.id) stays does tt tt
 
   -- what both steps did
-  pub joined_back : (new : NodeValue KeeperValue) (first migrated : Step) (result : Result Step Refusal) → Does records_of follows (λ k. k.faults) service (migrate (service_of service old.seed) old.id) old new migrated
+  pub joined_back : (new : NodeValue KeeperValue) (first migrated : Step) (result : Result Step Refusal) → Does records_of follows (λ k. k.faults) service past (migrate (service_of service old.seed) old.id) old new migrated
       → first.effects ≡ started ∷ [] → IfOk result (λ (step : Step). step.effects ≡ first.effects ++ migrated.effects) → IfOk result (λ (step : Step). step.sends ≡ migrated.sends)
-      → IfOk result (CameBack (service_of service seed) number (here_at service old) (here_at service new))
+      → IfOk result (CameBack (service_of service seed) number (here_at service past old) (here_at service past new))
   joined_back new first migrated (Ok step) does first_is effects sends = comes_migrated new first migrated step (migrates new migrated does) first_is effects sends
   joined_back new first migrated (Err refusal) does first_is effects sends = tt
 
-  pub still_there : StaysRunner service seed nodes number old old
-  still_there = record { runner = runner; within = le_refl (faults_of old.keeper) }
+  pub still_there : StaysRunner service past seed nodes number old old
+  still_there = record { runner = runner; within = le_refl (faults_of old.keeper); grown = none_grown old.keeper.records }
 
 -- ---- a node that came up in a seat
 
-up_in : {S : Type 0} → (service : Declarations) (seat : Seat S) → (here_in service seat).up ≡ is_up_in seat
-up_in service (Running node) = refl
-up_in service (Stopped keeper) = refl
-up_in service Empty = refl
+up_in : {S : Type 0} → (service : Declarations) (past : List Value) (seat : Seat S) → (here_in service past seat).up ≡ is_up_in seat
+up_in service past (Running node) = refl
+up_in service past (Stopped keeper) = refl
+up_in service past Empty = refl
 
-armed_in_seat : {S : Type 0} → (service : Declarations) (seat : Seat S) → (here_in service seat).armed ≡ armed_of (keeper_in seat).armed
-armed_in_seat service (Running node) = refl
-armed_in_seat service (Stopped keeper) = refl
-armed_in_seat service Empty = refl
+armed_in_seat : {S : Type 0} → (service : Declarations) (past : List Value) (seat : Seat S) → (here_in service past seat).armed ≡ armed_of (keeper_in seat).armed
+armed_in_seat service past (Running node) = refl
+armed_in_seat service past (Stopped keeper) = refl
+armed_in_seat service past Empty = refl
 
-log_in_seat : {S : Type 0} → (service : Declarations) (seat : Seat S) → (here_in service seat).log ≡ log_of service (records_of (keeper_in seat))
-log_in_seat service (Running node) = refl
-log_in_seat service (Stopped keeper) = refl
-log_in_seat service Empty = refl
+log_in_seat : {S : Type 0} → (service : Declarations) (past : List Value) (seat : Seat S) → (here_in service past seat).log ≡ log_of service past (records_of (keeper_in seat))
+log_in_seat service past (Running node) = refl
+log_in_seat service past (Stopped keeper) = refl
+log_in_seat service past Empty = refl
 
 -- a node with these records, whose keeper is armed so, and that is up
 abbrev restarted : List (Rec Value StateValue) → Option Failure → Here
 restarted log armed = record (down_node log armed) { up = true }
 
-module _ {S : Type 0} (service : Declarations) (seed nodes number : ℕ) (seat : Seat S) (node : NodeValue KeeperValue) (up : CameUp records_of service number nodes seed (keeper_in seat) node) where
+module _ {S : Type 0} (service : Declarations) (past : List Value) (seed nodes number : ℕ) (seat : Seat S) (node : NodeValue KeeperValue) (up : CameUp records_of service past number nodes seed (keeper_in seat) node) where
   pub comes_up_up : node.up ≡ true
   comes_up_up = ap (λ (h : Here). h.up) up.node
 
-  restarts_as : here_at service node ≡ (restart number (begin (here_in service seat))).node
+  restarts_as : here_at service past node ≡ (restart number (begin (here_in service past seat))).node
   restarts_as =
       ap (λ (h : Here). record h { armed = armed_of node.keeper.armed }) up.node
-      ∙ ap (λ (k : KeeperValue). restarted (log_of service (records_of (keeper_in seat))) (armed_of k.armed)) up.keeper_is
-      ∙ ap (λ (log : List (Rec Value StateValue)). restarted log (armed_of (keeper_in seat).armed)) (sym (log_in_seat service seat))
-      ∙ ap (λ (a : Option Failure). restarted (here_in service seat).log a) (sym (armed_in_seat service seat))
+      ∙ ap (λ (k : KeeperValue). restarted (log_of service past (records_of (keeper_in seat))) (armed_of k.armed)) up.keeper_is
+      ∙ ap (λ (log : List (Rec Value StateValue)). restarted log (armed_of (keeper_in seat).armed)) (sym (log_in_seat service past seat))
+      ∙ ap (λ (a : Option Failure). restarted (here_in service past seat).log a) (sym (armed_in_seat service past seat))
 
-  pub starts_in : (new : NodeValue KeeperValue) (step : Step) → is_up_in seat ≡ false → CameBack (service_of service seed) number (here_at service node) (here_at service new) step
-      → StartsIf (service_of service seed) (here_in service seat).up number (here_in service seat) (here_at service new) step
+  pub starts_in : (new : NodeValue KeeperValue) (step : Step) → is_up_in seat ≡ false → CameBack (service_of service seed) number (here_at service past node) (here_at service past new) step
+      → StartsIf (service_of service seed) (here_in service past seat).up number (here_in service past seat) (here_at service past new) step
   starts_in new step down back =
-      subst (λ (t : Bool). StartsIf (service_of service seed) t number (here_in service seat) (here_at service new) step) (sym (up_in service seat ∙ down))
-      (has_started (service_of service seed) number (here_in service seat) (here_at service node) (here_at service new) step restarts_as back)
+      subst (λ (t : Bool). StartsIf (service_of service seed) t number (here_in service past seat) (here_at service past new) step) (sym (up_in service past seat ∙ down))
+      (has_started (service_of service seed) number (here_in service past seat) (here_at service past node) (here_at service past new) step restarts_as back)
 
 -- where a node stays that came up in a seat, the seat stays
-pub stays_on : {S : Type 0} → (service : Declarations) (seed nodes number : ℕ) (seat : Seat S) (node new : NodeValue KeeperValue) → StaysSeat service seed nodes number seat (Running node) → StaysRunner service seed nodes number node new → StaysSeat service seed nodes number seat (Running new)
-stays_on service seed nodes number seat node new first second = record { seat = second.runner; within = omega (arith, first.within, second.within) }
+pub stays_on : {S : Type 0} → (service : Declarations) (past : List Value) (seed nodes number : ℕ) (seat : Seat S) (node new : NodeValue KeeperValue) → StaysSeat service past seed nodes number seat (Running node) → StaysRunner service past seed nodes number node new → StaysSeat service past seed nodes number seat (Running new)
+stays_on service past seed nodes number seat node new first second = record {
+  seat = second.runner;
+  within = omega (arith, first.within, second.within);
+  grown = (first.grown.0 ++ second.grown.0, sym (append_assoc (records_of (keeper_in seat)) first.grown.0 second.grown.0) ∙ ap (λ (rs : List (List ℕ)). rs ++ second.grown.0) first.grown.1 ∙ second.grown.1);
+}
 
 -- a line's version is one that the service's states have
 pub form_version : (service : Declarations) (node : ℕ) (version : Version) → FormFits (has_old_form service) (line.Checkpoint node version) → has_version service version ≡ true

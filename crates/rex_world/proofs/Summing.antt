@@ -1,18 +1,16 @@
 -- The agreed trace runs, and its state has the variables of the summary.
-use Rattle.std.proofs.Common.{◌≡◌, ℕ, ℤ, zero, suc, ◌<◌, Bool, true, false, List, [], ◌∷◌, length, Option, refl, sym, ap, subst, ◌∙◌, arith}
-use Rattle.std.specs.Prelude.{nat_lt, Some, IsSome, unwrap_or, if◌then◌else◌}
+use Rattle.std.proofs.Common.{◌≡◌, ℕ, ℤ, suc, true, List, [], ◌∷◌, length, Option, refl, sym, ap, subst, ◌∙◌}
+use Rattle.std.specs.Prelude.{Some, IsSome, unwrap_or}
 use Rattle.rex_syntax.specs.declared.service.Declarations.{Declarations}
 use Rattle.rex_state.specs.Value.{StateValue}
 use Rattle.rex_state.specs.Start.{start_of}
 use Rattle.rex_state.specs.Machine.{run}
 use Rattle.rex_report.specs.declared.effect.Effect.{Effect}
 use Rattle.rex_scenario.specs.declared.scenario.Scenario.{Scenario}
-use Rattle.rex_safety.specs.Records.{known}
 use Rattle.rex_safety.specs.Values.{Value, trace_of, state_after, values_fit}
-use Rattle.rex_safety.specs.Lanes.{Here}
-use Rattle.rex_safety.specs.Agreed.{agreed, longest}
+use Rattle.rex_safety.specs.Agreed.{agreed}
 use Rattle.rex_safety.specs.Quorum.{IsNode}
-use Rattle.rex_safety.specs.World.{World as ModelWorld, node_at, beginning, after_lines}
+use Rattle.rex_safety.specs.World.{World as ModelWorld, beginning, after_lines}
 use Rattle.rex_safety.specs.Keeping.{KeptValuesFit}
 use Rattle.rex_world.specs.declared.summary.Summary.{Summary}
 use Rattle.rex_world.specs.declared.world.World.{World}
@@ -20,20 +18,7 @@ use Rattle.rex_world.specs.Kept.{IsRunning}
 use Rattle.rex_world.specs.Summaries.{releases_from, last_world, summary_of}
 use Rattle.rex_world.specs.World.{messages_of, nodes_of, world_of}
 use Rattle.rex_world.proofs.Headlines.{fit_run}
-use Rattle.rex_world.proofs.Seated.{later_at}
-
--- what holds of no values and of what each node knows, holds of the longest list
-holds_of_longest : (P : List Value → Type 0) (xs : List Here) → P [] → ((m : ℕ) → IsNode (length xs) m → P (known (node_at xs m).log)) → P (longest xs)
-holds_of_longest P [] none each = none
-holds_of_longest P (x ∷ xs) none each = either (nat_lt (length (known x.log)) (length (longest xs))) (each 1 (omega arith, omega arith)) (holds_of_longest P xs none later)
-  where
-    later : (m : ℕ) → IsNode (length xs) m → P (known (node_at xs m).log)
-    later zero there = absurd (let l : 0 < 0 = there.0 in omega (arith, l))
-    later (suc i) there = subst (λ (y : Here). P (known y.log)) (later_at x xs i) (each (suc (suc i)) (omega arith, omega (arith, there.1)))
-
-    either : (t : Bool) → P (known x.log) → P (longest xs) → P (if t then longest xs else known x.log)
-    either true a b = b
-    either false a b = a
+use Rattle.rex_world.proofs.Agreeing.{holds_of_longest}
 
 -- the agreed values of a running world fit
 agreed_fit : {S : Type 0} → KeptValuesFit → (service : Declarations) (w : World S) → IsRunning service w → values_fit service (agreed (world_of service w)) ≡ true
@@ -52,9 +37,9 @@ agreed_runs law service w values start h is at =
     (ap (λ (s : StateValue). run service s (trace_of values)) at ∙ ap (λ (vs : List Value). run service (start_of service) (trace_of vs)) is ∙ r.1)
 
 -- as many messages as the network has bytes of
-as_many : (net : List (List ℕ)) → length (messages_of net) ≡ length net
-as_many [] = refl
-as_many (bytes ∷ rest) = ap suc (as_many rest)
+as_many : (past : List Value) (net : List (List ℕ)) → length (messages_of past net) ≡ length net
+as_many past [] = refl
+as_many past (bytes ∷ rest) = ap suc (as_many past rest)
 
 -- the numbers of a run are those of its last world
 pub summary_is : {S : Type 0} → (service : Declarations) (s : Scenario) (first last : World S) (values : List Value) (releases : List Effect) (start state : StateValue) (lines messages known_ones released : ℕ) (variables : List ℤ)
@@ -64,7 +49,7 @@ pub summary_is : {S : Type 0} → (service : Declarations) (s : Scenario) (first
     → ◌≡◌ {A = Summary} (record { lines = lines; messages = messages; known = known_ones; released = released; variables = variables }) (summary_of service s)
 summary_is service s first last values releases start state lines messages known_ones released variables first_is last_is releases_are values_are start_is ran lines_is messages_is known_is released_is variables_are =
     same lines_is
-    (messages_is ∙ sym (as_many last.net) ∙ ap (λ (w : ModelWorld). length w.messages) ended)
+    (messages_is ∙ sym (as_many last.agreed last.net) ∙ ap (λ (w : ModelWorld). length w.messages) ended)
     (known_is ∙ ap length agreed_is)
     (released_is ∙ ap length (releases_are ∙ ap (λ (w : ModelWorld). releases_from service s w s.schedule) first_is))
     (variables_are ∙ ap (λ (x : StateValue). x.variables) (sym after) ∙ ap (λ (vs : List Value). (state_after service (trace_of vs)).variables) agreed_is)

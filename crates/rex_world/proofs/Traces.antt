@@ -7,7 +7,7 @@ use Rattle.rex_report.specs.Trace.{delta_text}
 use Rattle.rex_scenario.specs.declared.scenario.ScheduleLine.{ScheduleLine}
 use Rattle.rex_safety.specs.Values.{Value, delta_of}
 use Rattle.rex_scenario.specs.declared.scenario.Scenario.{Scenario}
-use Rattle.rex_safety.specs.World.{after_lines}
+use Rattle.rex_safety.specs.World.{World as ModelWorld, after_lines}
 use Rattle.rex_world.specs.declared.world.World.{World}
 use Rattle.rex_world.specs.Kept.{IsOf}
 use Rattle.rex_world.specs.World.{nodes_of, world_of}
@@ -40,3 +40,10 @@ follow_next service s w line rest left of l =
     (subst (λ (seed : ℕ). after_lines service s.requests seed (nodes_of w) (world_of service w) left ≡ after_lines service s.requests seed (nodes_of w) (next_of service w line) rest) of.seed
     (subst (λ (requests : List Request). after_lines service requests w.seed (nodes_of w) (world_of service w) left ≡ after_lines service requests w.seed (nodes_of w) (next_of service w line) rest) of.requests
     (ap (after_lines service w.requests w.seed (nodes_of w) (world_of service w)) l)))
+
+-- so they lead on from the first world
+pub leads_next : {S : Type 0} → (service : Declarations) (s : Scenario) (first w after : World S) (line : ScheduleLine) (rest left : List ScheduleLine) → IsOf s w → left ≡ line ∷ rest → world_of service after ≡ next_of service w line
+    → after_lines service s.requests s.seed s.nodes (world_of service w) left ≡ after_lines service s.requests s.seed s.nodes (world_of service first) s.schedule
+    → after_lines service s.requests s.seed s.nodes (world_of service after) rest ≡ after_lines service s.requests s.seed s.nodes (world_of service first) s.schedule
+leads_next service s first w after line rest left of l e h =
+    ap (λ (x : ModelWorld). after_lines service s.requests s.seed s.nodes x rest) e ∙ sym (follow_next service s w line rest left of l) ∙ h

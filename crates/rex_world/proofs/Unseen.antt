@@ -7,17 +7,17 @@ use Rattle.rex_cut.specs.Greatest.{greatest_cut}
 use Rattle.rex_report.specs.declared.effect.Effect.{Effect}
 use Rattle.rex_report.specs.declared.effect.Effect.TheVariants as effect
 use Rattle.rex_syntax.specs.declared.service.Declarations.{Declarations}
-use Rattle.rex_safety.specs.Records.{Rec, Proposal, promise, accepted, known, base, has_old_base}
+use Rattle.rex_safety.specs.Records.{Rec, Proposal, promise, accepted, offset, known, base, has_old_base}
 use Rattle.rex_version.specs.declared.version.Version.{Version}
 use Rattle.rex_version.specs.declared.version.Version.TheVariants.{Two}
-use Rattle.rex_safety.specs.Records.Rec.{Promised, Accepted, Known, Checkpoint}
+use Rattle.rex_safety.specs.Records.Rec.{Promised, Accepted, Known, Checkpoint, Dropped, Transferred}
 use Rattle.rex_safety.specs.Quorum.{round_of, ballot_above, is_in, is_majority}
 use Rattle.rex_safety.specs.Node.{Service, Content, Lead, Role, Failure, Node, is_active}
-use Rattle.rex_safety.specs.Node.Content.{Prepare, Promise, Accept, Accepted as Voted, Chosen as Chose, Nack, Ask}
+use Rattle.rex_safety.specs.Node.Content.{Prepare, Promise, Accept, Accepted as Voted, Chosen as Chose, Nack, Ask, Snapshot}
 use Rattle.rex_safety.specs.Node.Role.{Follower, Leads}
 use Rattle.rex_safety.specs.Values.{Value, service_of}
 use Rattle.rex_safety.specs.Lanes.{CallHere, is_faithful, active_only, cut_live, cut_lead, cut_role, cut, value_at}
-use Rattle.rex_safety.specs.Calls.{Call, begin, append, led, logged, propose, decide, best, choose, lead, turn, settle, enough, own_reports, stand, elect, on_prepare, heard, on_own_promise, on_promise, has_last, on_accept, voted, on_own_vote, on_voted, on_chosen, on_nack, receive, replay, checkpoint, migrate}
+use Rattle.rex_safety.specs.Calls.{Call, begin, append, led, logged, propose, decide, best, choose, lead, turn, settle, enough, own_reports, stand, elect, on_prepare, heard, on_own_promise, on_promise, has_last, on_accept, voted, on_own_vote, on_voted, on_chosen, on_nack, on_snapshot, receive, replay, checkpoint, drop_known, migrate}
 
 -- the call where this append of its node will fail
 abbrev pub armed_as : {V S : Type 0} → Option Failure → Call V S → Call V S
@@ -99,7 +99,8 @@ module _ {V S : Type 0} (failure : Option Failure) where
     prepare_either : (from b first : ℕ) → Goes (on_prepare me from b first)
     prepare_either from b first d e =
         if_either (nat_lt b (promise d.node.log)) (quiet refl refl)
-        (if_either (nat_lt (promise d.node.log) b) (added d.node.armed me (Promised b) d _ _ e (le_refl _)) (quiet refl refl))
+        (if_either (nat_le first (offset d.node.log)) (quiet refl refl)
+        (if_either (nat_lt (promise d.node.log) b) (added d.node.armed me (Promised b) d _ _ e (le_refl _)) (quiet refl refl)))
 
     promise_either : (from b : ℕ) (ps : List (Proposal V)) (d : Call V S) (r : Role V) → d.node.armed ≡ None → Either d (on_promise n sv me from b ps d r) (on_promise n sv me from b ps (armed_as failure d) r)
     promise_either from b ps d Follower e = quiet refl refl
@@ -115,7 +116,8 @@ module _ {V S : Type 0} (failure : Option Failure) where
     accept_either : (from b i : ℕ) (v : V) → Goes (on_accept me from b i v)
     accept_either from b i v d e =
         if_either (nat_lt b (promise d.node.log)) (quiet refl refl)
-        (if_either (has_last b i (accepted d.node.log)) (quiet refl refl) (added d.node.armed me (Accepted b i v) d _ _ e (le_refl _)))
+        (if_either (nat_le i (offset d.node.log)) (quiet refl refl)
+        (if_either (has_last b i (accepted d.node.log)) (quiet refl refl) (added d.node.armed me (Accepted b i v) d _ _ e (le_refl _))))
 
     voted_either : (from b i : ℕ) (d : Call V S) (r : Role V) → d.node.armed ≡ None → Either d (on_voted n sv me from b i d r) (on_voted n sv me from b i (armed_as failure d) r)
     voted_either from b i d Follower e = quiet refl refl
@@ -136,6 +138,10 @@ module _ {V S : Type 0} (failure : Option Failure) where
     nack_either p d Follower = quiet refl refl
     nack_either p d (Leads l) = if_either (nat_lt l.ballot p) (quiet refl refl) (quiet refl refl)
 
+    snapshot_either : (values : List V) → Goes (on_snapshot sv me values)
+    snapshot_either values d e =
+        if_either (nat_le (length values) (length (known d.node.log))) (quiet refl refl) (added d.node.armed me (Transferred values (sv.state values)) d _ _ e (le_refl _))
+
     pub receive_either : (from : ℕ) (m : Content V) → Goes (receive n sv me from m)
     receive_either from (Prepare b first) d e = prepare_either from b first d e
     receive_either from (Promise b ps) d e = promise_either from b ps d d.node.role e
@@ -143,12 +149,17 @@ module _ {V S : Type 0} (failure : Option Failure) where
     receive_either from (Voted b i) d e = voted_either from b i d d.node.role e
     receive_either from (Chose i v) d e = chosen_either i v d e
     receive_either from (Nack b p) d e = nack_either p d d.node.role
-    receive_either from (Ask first) d e = if_either (nat_lt (length (known d.node.log)) first) (quiet refl refl) (quiet refl refl)
+    receive_either from (Ask first) d e =
+        if_either (nat_le first (offset d.node.log)) (quiet refl refl) (if_either (nat_lt (length (known d.node.log)) first) (quiet refl refl) (quiet refl refl))
+    receive_either from (Snapshot values) d e = snapshot_either values d e
 
   pub checkpoint_either : (version : Version) (sv : Service V S) (me : ℕ) → Goes (checkpoint version sv me)
   checkpoint_either version sv me d e =
       if_either (d.node.replayed == base d.node.log) (quiet refl refl)
       (if_either (nat_lt 0 (length d.node.work.live)) (quiet refl refl) (added d.node.armed me (Checkpoint version _ _) d _ _ e (le_refl _)))
+
+  pub drop_either : (me : ℕ) → Goes (drop_known me)
+  drop_either me d e = if_either (base d.node.log == offset d.node.log) (quiet refl refl) (added d.node.armed me (Dropped (base d.node.log)) d _ _ e (le_refl _))
 
   pub migrate_either : (sv : Service V S) (me : ℕ) → Goes (migrate sv me)
   migrate_either sv me d e = if_either (has_old_base d.node.log) (added d.node.armed me (Checkpoint Two _ _) d _ _ e (le_refl _)) (quiet refl refl)

@@ -24,7 +24,7 @@ use Rattle.rex_safety.specs.Keeping.{AreCounts}
 use Rattle.rex_safety.proofs.Few.{counts_are_few}
 use Rattle.rex_safety.proofs.Nexts.{next_fits}
 use Rattle.rex_safety.proofs.Spelled.{kept_room, kept_cut}
-use Rattle.rex_node.specs.Parts.{ActingValue, IsActing, role_of, work_of}
+use Rattle.rex_node.specs.Parts.{ActingValue, IsActing, knows, role_of, work_of}
 use Rattle.rex_node.specs.Calls.{AreLimits, CanBeCut, counts_for}
 use Rattle.rex_world.specs.declared.seats.Seat.{Seat}
 use Rattle.rex_world.specs.declared.seats.Seat.TheVariants.{Running, Stopped, Empty}
@@ -44,10 +44,10 @@ parts_work service values a p None h = inr refl
 parts_work service values a None (Some x) h = absurd h
 parts_work service values a (Some p) (Some x) h = inl (_, refl, refl)
 
-seat_works : {S : Type 0} → (service : Declarations) (seed nodes number : ℕ) (seat : Seat S) → IsSeat service seed nodes number seat → (here_in service seat).up ≡ true → Works (here_in service seat).role (here_in service seat).work
-seat_works service seed nodes number (Running node) h up = parts_work service node.known node.acceptor node.proposer node.acting ((h.node.up up).acting)
-seat_works service seed nodes number (Stopped keeper) h up = absurd (cc)
-seat_works service seed nodes number Empty h up = absurd h
+seat_works : {S : Type 0} → (service : Declarations) (past : List Value) (seed nodes number : ℕ) (seat : Seat S) → IsSeat service past seed nodes number seat → (here_in service past seat).up ≡ true → Works (here_in service past seat).role (here_in service past seat).work
+seat_works service past seed nodes number (Running node) h up = parts_work service (knows past node) node.acceptor node.proposer node.acting ((h.node.up up).acting)
+seat_works service past seed nodes number (Stopped keeper) h up = absurd (cc)
+seat_works service past seed nodes number Empty h up = absurd h
 
 -- a seat of a world that has some
 spare : {S : Type 0} → (xs : List (Seat S)) → 0 < length xs → Seat S
@@ -56,14 +56,14 @@ spare (x ∷ xs) l = x
 
 module _ {S : Type 0} (service : Declarations) (w : World S) (h : IsRunning service w) (m : ℕ) (there : IsNode (nodes_of w) m) where
   abbrev here : Here
-  here = node_at (heres service w.seats.items) m
+  here = node_at (heres service w.agreed w.seats.items) m
 
   works : here.up ≡ true → Works here.role here.work
   works up =
       let d = spare w.seats.items (omega (arith, there.0, there.1)) in
-      let e : here ≡ here_in service (slice_index_or w.seats.items (m - 1) d) = here_is service w.seats.items m there d in
+      let e : here ≡ here_in service w.agreed (slice_index_or w.seats.items (m - 1) d) = here_is service w.agreed w.seats.items m there d in
       subst (λ (x : Here). Works x.role x.work) (sym e)
-      (seat_works service w.seed (nodes_of w) m (slice_index_or w.seats.items (m - 1) d) (seat_is service w.seats.items m there d w.seed (nodes_of w) h.seats) (subst (λ (x : Here). x.up ≡ true) e up))
+      (seat_works service w.agreed w.seed (nodes_of w) m (slice_index_or w.seats.items (m - 1) d) (seat_is service w.agreed w.seats.items m there d w.seed (nodes_of w) h.seats) (subst (λ (x : Here). x.up ≡ true) e up))
 
   pub fit : values_fit service (known here.log) ≡ true
   fit = (next_fits service w.seed (nodes_of w) (world_of service w) h.kept.world).known m there

@@ -2,6 +2,7 @@
 use Rattle.std.specs.Prelude.{◌≡◌, ℕ, List, [], ◌∷◌, length, Result, OnOk, OnErr}
 use Rattle.rex_syntax.specs.declared.service.Declarations.{Declarations}
 use Rattle.rex_event.specs.declared.event.Event.{Event}
+use Rattle.rex_safety.specs.Values.{Value}
 use Rattle.rex_safety.specs.Lanes.{Here}
 use Rattle.rex_safety.specs.Takes.{Doing}
 use Rattle.rex_safety.specs.Takes.Doing.{Takes}
@@ -24,8 +25,8 @@ pub record IsHandedBlock (service : Declarations) (es : List Event) (before afte
   pub same : OnErr outcome (after ≡ before)
 
 -- only the node of this number is handed it
-pub record IsHandedBlockAt {S : Type 0} (service : Declarations) (seed number : ℕ) (es : List Event) (before after : List (Seat S)) (outcome : Result (Unit {0}) Refusal) : Type 0 where
-  pub handed : IsHandedBlock service es (node_at (heres service before) number) (node_at (heres service after) number) outcome
-  pub others : heres service after ≡ put (heres service before) number (node_at (heres service after) number)
+pub record IsHandedBlockAt {S : Type 0} (service : Declarations) (past : List Value) (seed number : ℕ) (es : List Event) (before after : List (Seat S)) (outcome : Result (Unit {0}) Refusal) : Type 0 where
+  pub handed : IsHandedBlock service es (node_at (heres service past before) number) (node_at (heres service past after) number) outcome
+  pub others : heres service past after ≡ put (heres service past before) number (node_at (heres service past after) number)
   pub many : length after ≡ length before
-  pub seats : (most : ℕ) → AreKept service seed (length before) most before → AreKept service seed (length before) most after
+  pub seats : (most : ℕ) → AreKept service past seed (length before) most before → AreKept service past seed (length before) most after

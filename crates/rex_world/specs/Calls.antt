@@ -19,14 +19,16 @@ use Rattle.rex_msg.specs.Spelling.{HasSpelling, spelling_of}
 use Rattle.rex_node.specs.declared.refusal.Refusal.{Refusal}
 use Rattle.rex_node.specs.declared.refusal.Refusal.TheVariants as why
 use Rattle.rex_node.specs.declared.step.Step.{Step}
-use Rattle.rex_node.specs.Messages.{message_in}
-use Rattle.rex_node.specs.Restarting.{HasRightBase}
+use Rattle.rex_log.specs.Messages.{message_in}
+use Rattle.rex_node.specs.Restarting.{HasForgotten, HasRightBase}
 use Rattle.rex_world.specs.declared.told.Told.{Told}
 use Rattle.rex_world.specs.declared.world.World.{World}
+use Rattle.rex_world.specs.Agreed.{learned}
+use Rattle.rex_world.specs.Seats.{records_at}
 use Rattle.rex_world.specs.World.{nodes_of, world_of}
 use Rattle.rex_world.specs.Kept.{IsRunning, IsSame}
 
--- what is reported of a refusal; want of memory ends the run
+-- what is reported of a refusal; a state that is told is never a bad one, and want of memory ends the run
 abbrev pub effect_of : ℕ → Refusal → Effect
 effect_of node why.Down = effect.IsDown node
 effect_of node (why.NotActive role) = effect.NotActive role
@@ -36,13 +38,14 @@ effect_of node why.Nothing = effect.Nothing
 effect_of node (why.Live events) = effect.Live events
 effect_of node why.UpToDate = effect.UpToDate node
 effect_of node why.Spent = effect.Spent node
+effect_of node (why.BadSnapshot at) = effect.Nothing
 effect_of node why.OutOfMemory = effect.Nothing
 
 -- a node that is up did this call of the model, with its messages and its effects
-pub record IsDone (call : CallHere → CallHere) (before after : Here) (step : Step) : Type 0 where
+pub record IsDone (past : List Value) (call : CallHere → CallHere) (before after : Here) (step : Step) : Type 0 where
   pub up : before.up ≡ true
   pub node : after ≡ (call (begin before)).node
-  pub sends : map message_in step.sends ≡ (call (begin before)).sends
+  pub sends : map (message_in past) step.sends ≡ (call (begin before)).sends
   pub effects : step.effects ≡ (call (begin before)).effects
 
 -- it refused: it is as it was, and the model's call says so too
@@ -57,11 +60,11 @@ pub record WasDown (before after : Here) : Type 0 where
   pub same : after ≡ before
 
 -- what a call of a node came to
-abbrev pub Acts : (CallHere → CallHere) → ℕ → Here → Here → Result Step Refusal → Type 0
-Acts call number before after (Ok step) = IsDone call before after step
-Acts call number before after (Err why.OutOfMemory) = Unit {0}
-Acts call number before after (Err why.Down) = WasDown before after
-Acts call number before after (Err refusal) = IsRefused call number before after refusal
+abbrev pub Acts : List Value → (CallHere → CallHere) → ℕ → Here → Here → Result Step Refusal → Type 0
+Acts past call number before after (Ok step) = IsDone past call before after step
+Acts past call number before after (Err why.OutOfMemory) = Unit {0}
+Acts past call number before after (Err why.Down) = WasDown before after
+Acts past call number before after (Err refusal) = IsRefused call number before after refusal
 
 -- the step of a call that reports one effect of what it gave, and sends nothing
 pub record IsTelling (e : Effect) (step : Step) : Type 0 where
@@ -73,10 +76,11 @@ TellsOf f (Ok x) (Ok step) = IsTelling (f x) step
 TellsOf f (Ok x) (Err refusal) = refusal ≡ why.OutOfMemory
 TellsOf f (Err refusal) result = result ≡ Err refusal
 
--- what the node knows are deltas that run from the start, and its last checkpoint is of the state to which they run up to it
-pub record Starts (service : Declarations) (x : Here) : Type 0 where
+-- what the node knows are deltas that run from the start, of which it doesn't hold the first values of the past, and its last checkpoint is of the state to which they run up to it
+pub record Starts (service : Declarations) (past : List Value) (x : Here) : Type 0 where
   pub fit : values_fit service (known x.log) ≡ true
   pub base : HasRightBase service x.log
+  pub forgotten : HasForgotten past x.log
 
 -- only a node that is down starts: the step is that of the model's call, or it says that the node is up
 pub record IsUpAgain (number : ℕ) (before after : Here) (step : Step) : Type 0 where
@@ -115,12 +119,12 @@ pub record Did (before after : ModelWorld) (old new : Told) (r : Row) : Type 0 w
   pub effects : new.effects.items ≡ old.effects.items ++ r.effects
   pub sent : new.sent.items ≡ old.sent.items ++ sent_from (suc (length before.messages)) (drop (length before.messages) r.world.messages)
 
--- these messages were sent, under the next numbers: they have spellings, their bytes are kept, no line handed them over, and it is told of each
+-- these messages were sent, under the next numbers: they have spellings, their bytes are kept, no line handed them over, and it is told of each, which is the same beside every past
 pub record Sends (sends : List Sent) (before after : List (List ℕ)) (old_handed new_handed : List Bool) (old_sent new_sent : List Effect) : Type 0 where
   pub spelled : All HasSpelling sends
   pub net : after ≡ before ++ map spelling_of sends
   pub handed : new_handed ≡ old_handed ++ replicate (length sends) false
-  pub sent : new_sent ≡ old_sent ++ sent_from (suc (length before)) (map message_in sends)
+  pub sent : new_sent ≡ old_sent ++ sent_from (suc (length before)) (map (message_in []) sends)
 
 -- a node's step was told, and its messages were sent; nothing else of the world changed
 pub record TellsStep {S : Type 0} (before after : World S) (old new : Told) (step : Step) : Type 0 where
@@ -141,8 +145,13 @@ Tells number before after old new (Err why.OutOfMemory) = ⊥
 Tells number before after old new (Err refusal) = TellsRefusal number before after old new refusal
 
 -- the same, so that its parts can be read off
-pub record IsTold {S : Type 0} (number : ℕ) (before after : World S) (old new : Told) (outcome : Result Step Refusal) : Type 0 where
+pub record HasTold {S : Type 0} (number : ℕ) (before after : World S) (old new : Told) (outcome : Result Step Refusal) : Type 0 where
   pub tells : Tells number before after old new outcome
+
+-- so it was, and then what the node's records after so many say that it knows was agreed
+pub record IsSettled {S : Type 0} (number count : ℕ) (before after : World S) (old new : Told) (outcome : Result Step Refusal) : Type 0 where
+  pub told : HasTold number before (record after { agreed = before.agreed }) old new outcome
+  pub agreed : after.agreed ≡ learned before.agreed (drop count (records_at before.seats.items number))
 
 -- so it did, with the world running before and after, over the same nodes, requests and seed, and with the same counts of lines and of flushed messages
 pub record ComesTo {S : Type 0} (service : Declarations) (before after : World S) (old new : Told) (r : Row) : Type 0 where

@@ -7,21 +7,24 @@ use Rattle.rex_syntax.specs.Service.{IsService}
 use Rattle.rex_syntax.specs.Check.{IsChecked}
 use Rattle.rex_scenario.specs.Fits.{RequestFits}
 use Rattle.rex_scenario.specs.declared.scenario.Scenario.{Scenario}
+use Rattle.rex_safety.specs.Agreed.{agreed}
 use Rattle.rex_safety.specs.Kept.{IsKept}
 use Rattle.rex_world.specs.declared.world.World.{World}
 use Rattle.rex_world.specs.Seats.{AreSeats, AreWithin}
-use Rattle.rex_world.specs.World.{IsSpelled, nodes_of, world_of}
+use Rattle.rex_world.specs.World.{IsSpelled, TellsRightly, nodes_of, world_of}
 
--- the service is a checked one; memory was never short; the world of the model is one that lines lead to; each node is kept, and its keeper has failed, and will, in no more appends than lines were done; each message is spelled; requests fit; and each message below the flushed ones was handed over
+-- the service is a checked one; memory was never short; the world of the model is one that lines lead to, and its agreed values are those that are kept here; each node is kept, and its keeper has failed, and will, in no more appends than lines were done; each message is spelled, and a state that it tells is right; requests fit; and each message below the flushed ones was handed over
 pub record IsRunning {S : Type 0} (service : Declarations) (w : World S) : Type 0 where
   pub service_is : IsService service
   pub checked : IsChecked service
   pub whole : w.broken ≡ false
   pub few : nodes_of w ≤ most_nodes
   pub kept : IsKept service w.seed (nodes_of w) (world_of service w)
-  pub seats : AreSeats service w.seed (nodes_of w) 1 w.seats.items
+  pub agreed : w.agreed ≡ agreed (world_of service w)
+  pub seats : AreSeats service w.agreed w.seed (nodes_of w) 1 w.seats.items
   pub within : AreWithin w.done w.seats.items
   pub spelled : All IsSpelled w.net
+  pub told : All (TellsRightly service w.agreed) w.net
   pub requests : All (RequestFits service) w.requests
   pub flushed : w.flushed ≤ length w.handed.items
   pub handed : list_all (λ (b : Bool). b) (take w.flushed w.handed.items) ≡ true

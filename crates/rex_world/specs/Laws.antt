@@ -1,5 +1,5 @@
 -- What holds of every run of a scenario.
-use Rattle.std.specs.Prelude.{◌≡◌, ◌⊎◌, ℕ, ℤ, ◌≤◌, List, ◌++◌, Some, slice_get, map, take}
+use Rattle.std.specs.Prelude.{◌≡◌, ◌⊎◌, ℕ, ℤ, ◌≤◌, List, ◌++◌, length, Some, slice_get, map, take}
 use Rattle.std.specs.List.{All}
 use Rattle.rex_ballot.specs.Limits.{most_nodes}
 use Rattle.rex_syntax.specs.declared.request.Request.{Request}
@@ -16,21 +16,23 @@ use Rattle.rex_scenario.specs.Fits.{RequestFits}
 use Rattle.rex_reduce.specs.Reduced.{AreLeast}
 use Rattle.rex_order.specs.Laws.{CutRunsAlike, AllowExtensions}
 use Rattle.rex_order.specs.Edges.{HasEdge}
+use Rattle.rex_report.specs.declared.effect.Effect.TheVariants.{Released}
 use Rattle.rex_safety.specs.Quorum.{IsNode}
+use Rattle.rex_safety.specs.Rounds.{greatest_round, NoneIsSpent}
 use Rattle.rex_safety.specs.Values.{Value, delta_of, trace_of}
 use Rattle.rex_safety.specs.Invariant.{IsIn, Begins}
-use Rattle.rex_safety.specs.World.{node_at, beginning}
+use Rattle.rex_safety.specs.World.{node_at, beginning, effects_of}
 use Rattle.rex_safety.specs.Agreed.{world_after, known_at, agreed, trace_at}
 use Rattle.rex_safety.specs.Lanes.{node_trace}
 use Rattle.rex_safety.specs.Once.{IsOnce}
-use Rattle.rex_safety.specs.Releases.{Moment, moments, IsReleased, IsLeader, IsLater}
+use Rattle.rex_safety.specs.Releases.{Moment, moments, IsAmong, IsReleased, IsLeader, IsLater}
 use Rattle.rex_safety.specs.Stands.{Stands}
 
 -- a front of the schedule is the world after it
 abbrev pub AtFronts : List ScheduleLine → (List ScheduleLine → Type 0) → Type 0
 AtFronts lines P = (front rest : List ScheduleLine) → lines ≡ front ++ rest → P front
 
--- of a run of these lines with n nodes: what two nodes know, the same or different ones, each at its moment, is one list a front of the other; each front of the agreed trace runs from the start on one thread; the events below each of its consistent cuts run too, in every order that keeps what has to come first, to one state, and the others lead on from there to the state of the whole; these orders are just those that the edges of the agreed deltas allow; the causes of each of these are the least that are right; each request begins at most once and is replied to at most once in the agreed trace; and each reply that was released stands in the trace of every later leader
+-- of a run of these lines with n nodes: what two nodes know, the same or different ones, each at its moment, is one list a front of the other; each front of the agreed trace runs from the start on one thread; the events below each of its consistent cuts run too, in every order that keeps what has to come first, to one state, and the others lead on from there to the state of the whole; these orders are just those that the edges of the agreed deltas allow; the causes of each of these are the least that are right; each request begins at most once and is replied to at most once in the agreed trace; each reply that was released stands in the trace of every later leader, and in the agreed trace from then on; and no election of so many lines or fewer as there are rounds lacks one
 pub record Headline (service : Declarations) (requests : List Request) (seed n : ℕ) (lines : List ScheduleLine) : Type 0 where
   pub prefix : (earlier later rest : List ScheduleLine) → lines ≡ (earlier ++ later) ++ rest → (a b : ℕ) → IsNode n a → IsNode n b
       → Begins (known_at (world_after service requests seed n earlier) a) (known_at (world_after service requests seed n (earlier ++ later)) b)
@@ -48,6 +50,9 @@ pub record Headline (service : Declarations) (requests : List Request) (seed n :
       → (ballot client sequence : ℕ) (value : ℤ) → IsReleased release ballot client sequence value
       → (m later : ℕ) → IsLeader lead.world m later → IsLater i ballot j later
       → Stands (node_trace (node_at lead.world.nodes m)) client sequence value)
+  pub released : AtFronts lines (λ front. (client sequence : ℕ) (value : ℤ) → IsAmong (Released client sequence value) (effects_of service requests seed n (beginning n) front)
+      → Stands (trace_of (agreed (world_after service requests seed n front))) client sequence value)
+  pub rounds : length lines ≤ greatest_round → NoneIsSpent (effects_of service requests seed n (beginning n) lines)
 
 -- it holds for every checked service, whatever the schedule, for at most nine nodes
 abbrev pub HeadlineHolds : Type 0

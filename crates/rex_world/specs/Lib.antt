@@ -1,3 +1,4 @@
+pub mod Agreed
 pub mod Blocks
 pub mod Seats
 pub mod World
@@ -6,6 +7,7 @@ pub mod Calls
 pub mod Places
 pub mod Finding
 pub mod Report
+pub mod Runs
 pub mod Tracing
 pub mod Summaries
 pub mod Laws

@@ -6,30 +6,34 @@ use Rattle.rex_record.specs.declared.turns.Turn.{Turn}
 use Rattle.rex_traits.specs.declared.mem_keeper.Fate.{Fate}
 use Rattle.rex_safety.specs.Lanes.{Here, CallHere}
 use Rattle.rex_safety.specs.Takes.{taken, taken_in}
-use Rattle.rex_safety.specs.Values.{service_of}
+use Rattle.rex_safety.specs.Invariant.{Begins}
+use Rattle.rex_safety.specs.Values.{Value, service_of}
 use Rattle.rex_safety.specs.World.{node_at, put}
 use Rattle.rex_node.specs.declared.refusal.Refusal.{Refusal}
 use Rattle.rex_node.specs.declared.step.Step.{Step}
+use Rattle.rex_node.specs.Telling.{AreTold}
 use Rattle.rex_node.specs.Calls.{LeadsTo, Refuses, refusal_active}
 use Rattle.rex_world.specs.declared.seats.Seat.{Seat}
-use Rattle.rex_world.specs.Seats.{AreKept, armed_in, heres}
+use Rattle.rex_world.specs.Seats.{AreKept, armed_in, heres, records_at}
 use Rattle.rex_world.specs.Calls.{Acts, IsWhole, IsStarted}
 
--- only the node of this number is another one, and where memory wasn't short each node is kept, and no keeper fails more often
-pub record IsChangedAt {S : Type 0} (service : Declarations) (seed number : ℕ) (before after : List (Seat S)) (outcome : Result Step Refusal) : Type 0 where
-  pub others : heres service after ≡ put (heres service before) number (node_at (heres service after) number)
+-- only the node of this number is another one, and where memory wasn't short its records have only grown, each node is kept, and no keeper fails more often
+pub record IsChangedAt {S : Type 0} (service : Declarations) (past : List Value) (seed number : ℕ) (before after : List (Seat S)) (outcome : Result Step Refusal) : Type 0 where
+  pub others : heres service past after ≡ put (heres service past before) number (node_at (heres service past after) number)
   pub many : length after ≡ length before
-  pub seats : IsWhole outcome → (most : ℕ) → AreKept service seed (length before) most before → AreKept service seed (length before) most after
+  pub grown : IsWhole outcome → Begins (records_at before number) (records_at after number)
+  pub seats : IsWhole outcome → (most : ℕ) → AreKept service past seed (length before) most before → AreKept service past seed (length before) most after
 
--- the node of this number did this call of the model, or refused it
-pub record ActsAt {S : Type 0} (service : Declarations) (seed : ℕ) (call : CallHere → CallHere) (number : ℕ) (before after : List (Seat S)) (outcome : Result Step Refusal) : Type 0 where
-  pub acts : Acts call number (node_at (heres service before) number) (node_at (heres service after) number) outcome
-  pub changed : IsChangedAt service seed number before after outcome
+-- the node of this number did this call of the model, or refused it; a state that it tells is right
+pub record ActsAt {S : Type 0} (service : Declarations) (past : List Value) (seed : ℕ) (call : CallHere → CallHere) (number : ℕ) (before after : List (Seat S)) (outcome : Result Step Refusal) : Type 0 where
+  pub acts : Acts past call number (node_at (heres service past before) number) (node_at (heres service past after) number) outcome
+  pub tells : IfOk outcome (λ (step : Step). AreTold service past step.sends)
+  pub changed : IsChangedAt service past seed number before after outcome
 
 -- the node of this number was started, or was up
-pub record StartsAt {S : Type 0} (service : Declarations) (seed number : ℕ) (before after : List (Seat S)) (outcome : Result Step Refusal) : Type 0 where
-  pub starts : IsStarted (service_of service seed) number (node_at (heres service before) number) (node_at (heres service after) number) outcome
-  pub changed : IsChangedAt service seed number before after outcome
+pub record StartsAt {S : Type 0} (service : Declarations) (past : List Value) (seed number : ℕ) (before after : List (Seat S)) (outcome : Result Step Refusal) : Type 0 where
+  pub starts : IsStarted (service_of service seed) number (node_at (heres service past before) number) (node_at (heres service past after) number) outcome
+  pub changed : IsChangedAt service past seed number before after outcome
 
 -- only the keeper of the node of this number is armed
 pub record IsArmedAt {S : Type 0} (fate : Fate) (number : ℕ) (before after : List (Seat S)) : Type 0 where
@@ -47,8 +51,8 @@ pub record IsHanded (service : Declarations) (e : Event) (before after : Here) (
   pub same : OnErr outcome (after ≡ before)
 
 -- only the node of this number is handed it
-pub record IsHandedAt {S : Type 0} (service : Declarations) (seed number : ℕ) (e : Event) (before after : List (Seat S)) (outcome : Result Turn Refusal) : Type 0 where
-  pub handed : IsHanded service e (node_at (heres service before) number) (node_at (heres service after) number) outcome
-  pub others : heres service after ≡ put (heres service before) number (node_at (heres service after) number)
+pub record IsHandedAt {S : Type 0} (service : Declarations) (past : List Value) (seed number : ℕ) (e : Event) (before after : List (Seat S)) (outcome : Result Turn Refusal) : Type 0 where
+  pub handed : IsHanded service e (node_at (heres service past before) number) (node_at (heres service past after) number) outcome
+  pub others : heres service past after ≡ put (heres service past before) number (node_at (heres service past after) number)
   pub many : length after ≡ length before
-  pub seats : (most : ℕ) → AreKept service seed (length before) most before → AreKept service seed (length before) most after
+  pub seats : (most : ℕ) → AreKept service past seed (length before) most before → AreKept service past seed (length before) most after

@@ -12,10 +12,11 @@ use Rattle.rex_scenario.specs.declared.scenario.Scenario.{Scenario}
 use Rattle.rex_scenario.specs.declared.scenario.ScheduleLine.{ScheduleLine}
 use Rattle.rex_safety.specs.Records.{promise, known}
 use Rattle.rex_safety.specs.Node.{role_name, is_active}
-use Rattle.rex_safety.specs.Values.{trace_of, state_after}
+use Rattle.rex_safety.specs.Values.{Value, trace_of, state_after}
 use Rattle.rex_state.specs.Value.{StateValue}
 use Rattle.rex_safety.specs.Lanes.{Here, live_state}
 use Rattle.rex_safety.specs.World.{World, beginning, row}
+use Rattle.rex_node.specs.Parts as parts
 use Rattle.rex_node.specs.Parts.{NodeValue, IsNode, role_of, work_of}
 use Rattle.rex_world.specs.declared.seats.Seat.{Seat}
 use Rattle.rex_world.specs.declared.seats.Seat.TheVariants.{Running, Stopped, Empty}
@@ -58,15 +59,15 @@ up_end_of x = record {
   node = x.id;
   role = role_name (role_of x.acceptor x.proposer (is_some x.acting));
   promised = x.acceptor.promised;
-  known = length x.known;
+  known = parts.count_of x;
   count = count_of x;
 }
 
 -- a node that was started has this number, and is kept
-abbrev pub IsNumbered : {S : Type 0} → Declarations → ℕ → Seat S → Type 0
-IsNumbered service number (Running node) = (node.id ≡ number) × IsNode records_of service node
-IsNumbered service number (Stopped keeper) = Unit {0}
-IsNumbered service number Empty = Unit {0}
+abbrev pub IsNumbered : {S : Type 0} → Declarations → List Value → ℕ → Seat S → Type 0
+IsNumbered service past number (Running node) = (node.id ≡ number) × IsNode records_of service past node
+IsNumbered service past number (Stopped keeper) = Unit {0}
+IsNumbered service past number Empty = Unit {0}
 
 -- the lines of the nodes from this number on
 abbrev pub ends_text : Declarations → ℕ → List Here → List ℕ

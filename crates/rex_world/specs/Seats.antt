@@ -1,5 +1,5 @@
 -- The nodes of a world, running or stopped, as the cluster's model has them.
-use Rattle.std.specs.Prelude.{◌≡◌, ◌<◌, ◌≤◌, ◌+◌, ◌-◌, ◌^◌, ℕ, suc, Bool, true, false, List, [], ◌∷◌, Option, Some, None}
+use Rattle.std.specs.Prelude.{◌≡◌, ◌<◌, ◌≤◌, ◌+◌, ◌-◌, ◌^◌, ℕ, suc, Bool, true, false, List, [], ◌∷◌, Option, Some, None, slice_index_or}
 use Rattle.rex_syntax.specs.declared.service.Declarations.{Declarations}
 use Rattle.rex_traits.specs.Keeping.{KeeperValue, armed_to, unused_keeper}
 use Rattle.rex_traits.specs.Stores.{StoreValue, fresh_store}
@@ -7,8 +7,12 @@ use Rattle.rex_traits.specs.declared.mem_keeper.Fate.{Fate}
 use Rattle.rex_traits.specs.declared.mem_keeper.Fate.TheVariants.{Kept, Lost}
 use Rattle.rex_safety.specs.Node.{Failure, down_node}
 use Rattle.rex_safety.specs.Node.Failure.{After}
+use Rattle.rex_safety.specs.Invariant.{Begins}
 use Rattle.rex_safety.specs.Lanes.{Here}
-use Rattle.rex_node.specs.Parts.{AreRead, NodeValue, IsNode, here_of, log_of}
+use Rattle.rex_safety.specs.Values.{Value}
+use Rattle.rex_log.specs.Log.{AreRead, log_of}
+use Rattle.rex_node.specs.Parts.{NodeValue, IsNode, here_of}
+use Rattle.rex_node.specs.Stated.{AreStated}
 use Rattle.rex_world.specs.declared.seats.Seat.{Seat}
 use Rattle.rex_world.specs.declared.seats.Seat.TheVariants.{Running, Stopped, Empty}
 
@@ -23,14 +27,14 @@ armed_of (Some Kept) = Some (After 0 true)
 armed_of (Some Lost) = Some (After 0 false)
 
 -- a node is what its parts are, over a keeper that may be armed
-abbrev pub here_at : Declarations → NodeValue KeeperValue → Here
-here_at service x = record (here_of records_of service x) { armed = armed_of x.keeper.armed }
+abbrev pub here_at : Declarations → List Value → NodeValue KeeperValue → Here
+here_at service past x = record (here_of records_of service past x) { armed = armed_of x.keeper.armed }
 
 -- a node that runs is what its parts are; of one that was stopped its keeper has the records; an empty seat has none
-abbrev pub here_in : {S : Type 0} → Declarations → Seat S → Here
-here_in service (Running node) = here_at service node
-here_in service (Stopped keeper) = down_node (log_of service keeper.records) (armed_of keeper.armed)
-here_in service Empty = down_node [] None
+abbrev pub here_in : {S : Type 0} → Declarations → List Value → Seat S → Here
+here_in service past (Running node) = here_at service past node
+here_in service past (Stopped keeper) = down_node (log_of service past keeper.records) (armed_of keeper.armed)
+here_in service past Empty = down_node [] None
 
 -- the same node over a keeper that isn't armed
 abbrev pub disarmed : Here → Here
@@ -48,6 +52,10 @@ keeper_in (Running node) = node.keeper
 keeper_in (Stopped keeper) = keeper
 keeper_in Empty = unused_keeper
 
+-- the records of the node of this number
+abbrev pub records_at : {S : Type 0} → List (Seat S) → ℕ → List (List ℕ)
+records_at seats number = records_of (keeper_in (slice_index_or seats (number - 1) Empty))
+
 -- the seat isn't empty
 abbrev pub HasKeeper : {S : Type 0} → Seat S → Type 0
 HasKeeper (Running node) = Unit {0}
@@ -60,9 +68,9 @@ armed_in fate (Running node) = Running (record node { keeper = armed_to fate nod
 armed_in fate (Stopped keeper) = Stopped (armed_to fate keeper)
 armed_in fate Empty = Empty
 
-abbrev pub heres : {S : Type 0} → Declarations → List (Seat S) → List Here
-heres service [] = []
-heres service (seat ∷ seats) = here_in service seat ∷ heres service seats
+abbrev pub heres : {S : Type 0} → Declarations → List Value → List (Seat S) → List Here
+heres service past [] = []
+heres service past (seat ∷ seats) = here_in service past seat ∷ heres service past seats
 
 -- an armed keeper will fail once
 abbrev pub failing : Option Fate → ℕ
@@ -73,34 +81,30 @@ failing (Some fate) = 1
 abbrev pub faults_of : KeeperValue → ℕ
 faults_of k = k.faults + failing k.armed
 
--- each of the keeper's records is read again, and its failures can be counted
-pub record IsKeeping (service : Declarations) (k : KeeperValue) : Type 0 where
-  pub read : AreRead service (records_of k)
+-- each of the keeper's records is read again, beside the past, and each state in them; and its failures can be counted
+pub record IsKeeping (service : Declarations) (past : List Value) (k : KeeperValue) : Type 0 where
+  pub read : AreRead service past (records_of k)
+  pub stated : AreStated service (records_of k)
   pub room : faults_of k < 2 ^ 64 - 1
 
 -- a node of this number, among so many with this seed, is kept, and its keeper keeps its records
-pub record IsRunner (service : Declarations) (seed nodes number : ℕ) (x : NodeValue KeeperValue) : Type 0 where
+pub record IsRunner (service : Declarations) (past : List Value) (seed nodes number : ℕ) (x : NodeValue KeeperValue) : Type 0 where
   pub id : x.id ≡ number
   pub nodes_are : x.nodes ≡ nodes
   pub seed_is : x.seed ≡ seed
-  pub node : IsNode records_of service x
-  pub keeping : IsKeeping service x.keeper
+  pub node : IsNode records_of service past x
+  pub keeping : IsKeeping service past x.keeper
 
 -- the node of this number is kept, or the keeper of one that was stopped keeps its records; the seat isn't empty
-abbrev pub IsSeat : {S : Type 0} → Declarations → (seed nodes number : ℕ) → Seat S → Type 0
-IsSeat service seed nodes number (Running node) = IsRunner service seed nodes number node
-IsSeat service seed nodes number (Stopped keeper) = IsKeeping service keeper
-IsSeat service seed nodes number Empty = ⊥
+abbrev pub IsSeat : {S : Type 0} → Declarations → List Value → (seed nodes number : ℕ) → Seat S → Type 0
+IsSeat service past seed nodes number (Running node) = IsRunner service past seed nodes number node
+IsSeat service past seed nodes number (Stopped keeper) = IsKeeping service past keeper
+IsSeat service past seed nodes number Empty = ⊥
 
 -- the nodes from this number on
-abbrev pub AreSeats : {S : Type 0} → Declarations → (seed nodes number : ℕ) → List (Seat S) → Type 0
-AreSeats service seed nodes number [] = Unit {0}
-AreSeats service seed nodes number (seat ∷ seats) = IsSeat service seed nodes number seat × AreSeats service seed nodes (suc number) seats
-
--- these nodes have keepers, whose records are all read again
-abbrev pub AreReadAll : {S : Type 0} → Declarations → List (Seat S) → Type 0
-AreReadAll service [] = Unit {0}
-AreReadAll service (seat ∷ seats) = HasKeeper seat × AreRead service (records_of (keeper_in seat)) × AreReadAll service seats
+abbrev pub AreSeats : {S : Type 0} → Declarations → List Value → (seed nodes number : ℕ) → List (Seat S) → Type 0
+AreSeats service past seed nodes number [] = Unit {0}
+AreSeats service past seed nodes number (seat ∷ seats) = IsSeat service past seed nodes number seat × AreSeats service past seed nodes (suc number) seats
 
 -- no keeper of these nodes fails more often
 abbrev pub AreWithin : {S : Type 0} → ℕ → List (Seat S) → Type 0
@@ -108,19 +112,21 @@ AreWithin most [] = Unit {0}
 AreWithin most (seat ∷ seats) = (faults_of (keeper_in seat) ≤ most) × AreWithin most seats
 
 -- the nodes are kept, and no keeper of theirs fails more often
-pub record AreKept {S : Type 0} (service : Declarations) (seed nodes most : ℕ) (seats : List (Seat S)) : Type 0 where
-  pub seats_are : AreSeats service seed nodes 1 seats
+pub record AreKept {S : Type 0} (service : Declarations) (past : List Value) (seed nodes most : ℕ) (seats : List (Seat S)) : Type 0 where
+  pub seats_are : AreSeats service past seed nodes 1 seats
   pub within : AreWithin most seats
 
--- a node of this number is kept, and its keeper won't fail more often than it was to
-pub record StaysRunner (service : Declarations) (seed nodes number : ℕ) (before after : NodeValue KeeperValue) : Type 0 where
-  pub runner : IsRunner service seed nodes number after
+-- a node of this number is kept, its keeper won't fail more often than it was to, and has its records and maybe more
+pub record StaysRunner (service : Declarations) (past : List Value) (seed nodes number : ℕ) (before after : NodeValue KeeperValue) : Type 0 where
+  pub runner : IsRunner service past seed nodes number after
   pub within : faults_of after.keeper ≤ faults_of before.keeper
+  pub grown : Begins (records_of before.keeper) (records_of after.keeper)
 
 -- the same of what has this seat
-pub record StaysSeat {S : Type 0} (service : Declarations) (seed nodes number : ℕ) (before after : Seat S) : Type 0 where
-  pub seat : IsSeat service seed nodes number after
+pub record StaysSeat {S : Type 0} (service : Declarations) (past : List Value) (seed nodes number : ℕ) (before after : Seat S) : Type 0 where
+  pub seat : IsSeat service past seed nodes number after
   pub within : faults_of (keeper_in after) ≤ faults_of (keeper_in before)
+  pub grown : Begins (records_of (keeper_in before)) (records_of (keeper_in after))
 
 -- a store of a node that never was: it has no records, no append of it failed, none is to, and it fails only as it is armed
 pub record IsFresh {K : Type 0} (value : K → StoreValue) (store : K) : Type 0 where

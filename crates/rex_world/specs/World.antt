@@ -8,21 +8,22 @@ use Rattle.rex_safety.specs.Node.{Message}
 use Rattle.rex_safety.specs.Node.Content.{Ask}
 use Rattle.rex_safety.specs.Values.{Value}
 use Rattle.rex_safety.specs.World.{World as ModelWorld}
-use Rattle.rex_node.specs.Messages.{message_in}
+use Rattle.rex_log.specs.Messages.{message_in}
+use Rattle.rex_node.specs.Telling.{IsTold}
 use Rattle.rex_world.specs.declared.world.World.{World}
 use Rattle.rex_world.specs.Seats.{heres}
 
--- what bytes that were read say; bytes that say nothing ask for nothing
-abbrev pub read_message : Result Sent ℕ → Message Value
-read_message (Ok m) = message_in m
-read_message (Err at) = record { from = 0; to = 0; content = Ask 0 }
+-- what bytes that were read say beside the past; bytes that say nothing ask for nothing
+abbrev pub read_message : List Value → Result Sent ℕ → Message Value
+read_message past (Ok m) = message_in past m
+read_message past (Err at) = record { from = 0; to = 0; content = Ask 0 }
 
-abbrev pub message_of : List ℕ → Message Value
-message_of bytes = read_message (read_in bytes)
+abbrev pub message_of : List Value → List ℕ → Message Value
+message_of past bytes = read_message past (read_in bytes)
 
-abbrev pub messages_of : List (List ℕ) → List (Message Value)
-messages_of [] = []
-messages_of (bytes ∷ rest) = message_of bytes ∷ messages_of rest
+abbrev pub messages_of : List Value → List (List ℕ) → List (Message Value)
+messages_of past [] = []
+messages_of past (bytes ∷ rest) = message_of past bytes ∷ messages_of past rest
 
 -- the bytes spell a message
 pub record IsSpelled (bytes : List ℕ) : Type 0 where
@@ -30,12 +31,20 @@ pub record IsSpelled (bytes : List ℕ) : Type 0 where
   pub spelling : HasSpelling message
   pub is : bytes ≡ spelling_of message
 
--- the world of the model
+-- a state that a message tells is that after the first agreed values
+abbrev pub TellsIn : Declarations → List Value → Result Sent ℕ → Type 0
+TellsIn service past (Ok m) = IsTold service past m.content
+TellsIn service past (Err at) = Unit {0}
+
+pub record TellsRightly (service : Declarations) (past : List Value) (bytes : List ℕ) : Type 0 where
+  pub tells : TellsIn service past (read_in bytes)
+
+-- the world of the model, its nodes and messages read beside the agreed values
 abbrev pub world_of : {S : Type 0} → Declarations → World S → ModelWorld
 world_of service w = record {
   done = w.done;
-  nodes = heres service w.seats.items;
-  messages = messages_of w.net;
+  nodes = heres service w.agreed w.seats.items;
+  messages = messages_of w.agreed w.net;
   handed = w.handed.items;
 }
 

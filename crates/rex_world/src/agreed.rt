@@ -1,76 +1,129 @@
-//! What the nodes of a world agreed on.
+//! What the nodes of a world agreed on. The world keeps it: it grows by what the records of nodes say that they know.
 
-ghost use Rattle.std.specs.Prelude.{◌≡◌, length, IfOk};
-ghost use Rattle.rex_node.specs.Parts.{AreRead, log_of};
+ghost use Rattle.std.specs.Prelude.{◌≡◌, ◌≤◌, drop, length, IfOk, OnOk};
+ghost use Rattle.std.specs.List.{All};
+ghost use Rattle.rex_msg.specs.Spelling.{IsMessage};
+ghost use Rattle.rex_scenario.specs.Fits.{IsNode};
+ghost use Rattle.rex_syntax.specs.declared.service.Declarations.{Declarations};
 ghost use Rattle.rex_safety.specs.Agreed as model;
-ghost use Rattle.rex_safety.specs.Records.{known};
+ghost use Rattle.rex_world.specs.Agreed as specs;
+ghost use Rattle.rex_world.specs.Agreed.{learned, learned_in};
+ghost use Rattle.rex_world.specs.Calls.{IsSettled};
 ghost use Rattle.rex_world.specs.Kept.{IsRunning};
-ghost use Rattle.rex_world.specs.Seats.{AreReadAll, heres, records_of};
-ghost use Rattle.rex_world.specs.World.{world_of};
+ghost use Rattle.rex_world.specs.Seats.{keeper_in, records_at, records_of};
+ghost use Rattle.rex_world.specs.World.{nodes_of, world_of};
 
 use crate::seats::Seat;
+use crate::told::Told;
 use crate::world::World;
 use rex_ballot::Value;
-use rex_durable::{RecoverFault, recover};
+use rex_durable::layout::{HEAD, KNOWN};
 use rex_list::List;
-use rex_syntax::checked::Checked;
-use rex_traits::{Obedient, Store};
+use rex_node::{Refusal, Step};
+use rex_traits::{Keeper, Obedient, Store};
 use std::alloc::{AllocError, Global};
 
-// What a keeper's records say that its node knows.
-fn known_in<S: Store>(
+// The instance of a record of a known value.
+fn instance_in(bytes: &[u8]) -> u32
+    requires { 9 ≤ length bytes.now }
+    ensures { result ≡ specs.instance_in bytes.now }
+{
+    u32::from_be_bytes([bytes[1], bytes[2], bytes[3], bytes[4]])
+}
+
+// Whether a record is of a known value, and of the instance after so many.
+fn gives_next(bytes: &[u8], count: usize) -> bool
+    ensures { result ≡ specs.gives_next count bytes.now }
+{
+    if bytes.len() < HEAD || bytes[0] != KNOWN {
+        return false;
+    }
+    let instance = instance_in(bytes) as usize;
+    0 < instance && instance - 1 == count
+}
+
+// Takes in what a record says to be known, where that is the value of the next instance.
+fn learn_record(alloc: Global, agreed: &mut List<Value>, bytes: &[u8]) -> Result<(), AllocError>
+    ensures { OnOk result (agreed.new ≡ learned_in agreed.old bytes.now) }
+{
+    if !gives_next(bytes, agreed.len()) {
+        return Ok(());
+    }
+    let value = bytes[HEAD..].to_vec(alloc)?;
+    agreed.push(List::from_vec(value))
+}
+
+// Takes in the records of a keeper that come after so many.
+fn learn_from<S: Store>(
     alloc: Global,
-    svc: &Checked,
+    agreed: &mut List<Value>,
     keeper: &Obedient<S>,
-) -> Result<List<Value>, AllocError>
-    requires { AreRead svc.now (records_of keeper.now) }
-    ensures { IfOk result (λ values. values ≡ known (log_of svc.now (records_of keeper.now))) }
+    count: usize,
+) -> Result<(), AllocError>
+    ensures { OnOk result (agreed.new ≡ learned agreed.old (drop count (records_of keeper.now))) }
 {
-    let _service = svc.declarations();
-    match recover(alloc, keeper) {
-        Ok(recovered) => Ok(recovered.known),
-        Err(RecoverFault::OutOfMemory) => Err(AllocError),
-        Err(RecoverFault::BadRecord { .. }) => unreachable!(),
+    for index in count..keeper.len() {
+        learn_record(alloc, agreed, keeper.get(index))?;
     }
+    Ok(())
 }
 
-// The longer of two lists, in a tie the first.
-fn longer_of(first: List<Value>, second: List<Value>) -> List<Value>
-    ensures { result ≡ model.longer_of first second }
-{
-    if first.len() < second.len() {
-        second
-    } else {
-        first
-    }
-}
-
-// The longest of what nodes know.
-fn longest<S: Store>(
+// The same of the keeper of a node.
+fn learn_in<S: Store>(
     alloc: Global,
-    svc: &Checked,
-    seats: &[Seat<S>],
-) -> Result<List<Value>, AllocError>
-    requires { AreReadAll svc.now seats.now }
-    ensures { IfOk result (λ values. values ≡ model.longest (heres svc.now seats.now)) }
+    agreed: &mut List<Value>,
+    seat: &Seat<S>,
+    count: usize,
+) -> Result<(), AllocError>
+    ensures { OnOk result (agreed.new ≡ learned agreed.old (drop count (records_of (keeper_in seat.now)))) }
 {
-    let mut longest = List::new(alloc);
-    for back in 0..seats.len() {
-        let seat = &seats[seats.len() - 1 - back];
-        let known = known_in(alloc, svc, seat.keeper())?;
-        longest = longer_of(known, longest);
+    match seat {
+        Seat::Running(node) => learn_from(alloc, agreed, node.keeper(), count),
+        Seat::Stopped(keeper) => learn_from(alloc, agreed, keeper, count),
+        Seat::Empty => Ok(()),
     }
-    Ok(longest)
 }
 
 impl<S: Store> World<S> {
-    /// What the nodes agreed on: the longest list of values of those that nodes know, down or not. It takes memory, since what
-    /// a stopped node knows stands in its keeper's records.
-    pub fn agreed(&self, svc: &Checked) -> Result<List<Value>, AllocError>
-        requires { IsRunning svc.now self.now }
-        ensures { IfOk result (λ values. values ≡ model.agreed (world_of svc.now self.now)) }
+    /// How many records the node of a number has.
+    pub(crate) fn record_count(&self, node: u8) -> usize
+        requires { IsNode (nodes_of self.now) node }
+        ensures { result ≡ length (records_at self.now.seats.items node) }
     {
-        let _service = svc.declarations();
-        longest(self.alloc, svc, &self.seats)
+        self.seats[node as usize - 1].record_count()
+    }
+
+    // Takes in the records of a node that come after so many.
+    fn learn(&mut self, node: u8, count: usize) -> Result<(), AllocError>
+        requires { IsNode (nodes_of self.old) node }
+        ensures agreed { OnOk result (self.new.agreed ≡ learned self.old.agreed (drop count (records_at self.old.seats.items node))) }
+        ensures rest { self.new ≡ record self.old { agreed = self.new.agreed } }
+    {
+        let seat = &self.seats[node as usize - 1];
+        learn_in(self.alloc, &mut self.agreed, seat, count)
+    }
+
+    /// Tells what a call of a node came to that had so many records before, sends its messages, and takes in what it has come to
+    /// know, whether it is up or down.
+    pub(crate) fn settle(
+        &mut self,
+        told: &mut Told,
+        node: u8,
+        count: usize,
+        outcome: Result<Step, Refusal>,
+    ) -> Result<(), AllocError>
+        requires there { IsNode (nodes_of self.old) node }
+        requires sends { IfOk outcome (λ step. All IsMessage step.sends) }
+        ensures { OnOk result (IsSettled node count self.old self.new told.old told.new outcome) }
+    {
+        self.tell(told, node, outcome)?;
+        self.learn(node, count)
+    }
+
+    /// What the nodes agreed on: the longest list of values of those that nodes know, down or not.
+    pub fn agreed(&self) -> &[Value]
+        ensures { (service : Declarations) → IsRunning service self.now → result.now ≡ model.agreed (world_of service self.now) }
+    {
+        self.agreed.as_slice()
     }
 }

@@ -4,7 +4,7 @@ ghost use Rattle.std.specs.Prelude.{◌≡◌, ◌++◌, ◌∷◌, [], suc, len
 ghost use Rattle.std.specs.List.{All};
 ghost use Rattle.rex_msg.specs.Spelling.{IsMessage, HasSpelling, spelling_of};
 ghost use Rattle.rex_safety.specs.Node as model;
-ghost use Rattle.rex_node.specs.Messages.{content_in, message_in};
+ghost use Rattle.rex_log.specs.Messages.{content_in};
 ghost use Rattle.rex_world.specs.Calls as calls;
 ghost use Rattle.rex_world.specs.Calls.{Sends};
 
@@ -28,13 +28,14 @@ pub(crate) fn effect_of(node: u8, refusal: Refusal) -> Effect
         Refusal::Live { events } => Effect::Live { events },
         Refusal::UpToDate => Effect::UpToDate { node },
         Refusal::Spent => Effect::Spent { node },
+        Refusal::BadSnapshot { .. } => Effect::Nothing,
         Refusal::OutOfMemory => Effect::Nothing,
     }
 }
 
 /// The kind of a message.
 pub(crate) fn kind_of(content: &Content) -> MessageKind
-    ensures { result ≡ model.kind_of (content_in content.now) }
+    ensures { result ≡ model.kind_of (content_in [] content.now) }
 {
     match content {
         Content::Prepare { .. } => MessageKind::Prepare,
@@ -44,6 +45,7 @@ pub(crate) fn kind_of(content: &Content) -> MessageKind
         Content::Chosen { .. } => MessageKind::Chosen,
         Content::Nack { .. } => MessageKind::Nack,
         Content::Ask { .. } => MessageKind::Ask,
+        Content::Snapshot { .. } => MessageKind::Snapshot,
     }
 }
 

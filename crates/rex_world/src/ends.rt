@@ -1,6 +1,7 @@
 //! The end lines of a report.
 
 ghost use Rattle.std.specs.Prelude.{◌≡◌, ◌++◌, ◌≤◌, length, OnOk};
+ghost use Rattle.rex_node.specs.Parts as parts;
 ghost use Rattle.rex_node.specs.Parts.{IsNode, here_of, work_of};
 ghost use Rattle.rex_world.specs.Kept.{IsRunning};
 ghost use Rattle.rex_world.specs.Report as specs;
@@ -10,6 +11,8 @@ ghost use Rattle.rex_world.specs.World.{world_of};
 
 use crate::seats::Seat;
 use crate::world::World;
+use rex_ballot::Value;
+use rex_list::List;
 use rex_node::Node;
 use rex_report::{End, Role, UpEnd, push_end};
 use rex_syntax::checked::Checked;
@@ -30,14 +33,14 @@ fn count_of<S: Store>(node: &Node<Obedient<S>>) -> u32
 // What a node that is up came to.
 fn up_end_of<S: Store>(node: &Node<Obedient<S>>) -> UpEnd
     requires live { length (work_of node.now.acting).live ≤ 4096 }
-    requires known { length node.now.known ≤ 65535 }
+    requires known { parts.count_of node.now ≤ 65535 }
     ensures { result ≡ specs.up_end_of node.now }
 {
     UpEnd {
         node: node.id(),
         role: node.role(),
         promised: node.promised(),
-        known: node.known().len() as u32,
+        known: node.known(),
         count: count_of(node),
     }
 }
@@ -46,10 +49,11 @@ fn up_end_of<S: Store>(node: &Node<Obedient<S>>) -> UpEnd
 fn push_running<S: Store>(
     out: &mut Vec<u8>,
     svc: &Checked,
+    _agreed: &List<Value>,
     node: &Node<Obedient<S>>,
 ) -> Result<(), AllocError>
-    requires { IsNode records_of svc.now node.now }
-    ensures { OnOk result (out.new.items ≡ out.old.items ++ node_text svc.now node.now.id (here_of records_of svc.now node.now)) }
+    requires { IsNode records_of svc.now _agreed.now node.now }
+    ensures { OnOk result (out.new.items ≡ out.old.items ++ node_text svc.now node.now.id (here_of records_of svc.now _agreed.now node.now)) }
 {
     let service = svc.declarations();
     if !node.is_up() {
@@ -63,14 +67,15 @@ fn push_running<S: Store>(
 fn push_seat<S: Store>(
     out: &mut Vec<u8>,
     svc: &Checked,
+    agreed: &List<Value>,
     number: u8,
     seat: &Seat<S>,
 ) -> Result<(), AllocError>
-    requires { IsNumbered svc.now number seat.now }
-    ensures { OnOk result (out.new.items ≡ out.old.items ++ node_text svc.now number (here_in svc.now seat.now)) }
+    requires { IsNumbered svc.now agreed.now number seat.now }
+    ensures { OnOk result (out.new.items ≡ out.old.items ++ node_text svc.now number (here_in svc.now agreed.now seat.now)) }
 {
     match seat {
-        Seat::Running(node) => push_running(out, svc, node),
+        Seat::Running(node) => push_running(out, svc, agreed, node),
         Seat::Stopped(_) | Seat::Empty => {
             let service = svc.declarations();
             push_end(out, &End::Down { node: number }, service, &[], &[])
@@ -89,7 +94,7 @@ fn push_seats<S: Store>(
 {
     let mut number = 1;
     for seat in &world.seats {
-        push_seat(out, svc, number, seat)?;
+        push_seat(out, svc, &world.agreed, number, seat)?;
         number += 1;
     }
     Ok(())

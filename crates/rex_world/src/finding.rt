@@ -20,6 +20,7 @@ use rex_report::Effect;
 use rex_syntax::checked::Checked;
 use rex_traits::Store;
 use std::alloc::{AllocError, Global};
+use std::marker::Brand;
 
 // The message that bytes spell.
 fn read(alloc: Global, bytes: &[u8]) -> Result<Message, AllocError>
@@ -77,8 +78,16 @@ impl<S: Store> World<S> {
             to: message.to,
         })?;
         self.mark(number);
-        let outcome = on_message_at(&mut self.seats, svc, replayer, self.seed, message);
-        self.tell(told, message.to, outcome)
+        let count = self.record_count(message.to);
+        let outcome = on_message_at::<Brand, S, R>(
+            &mut self.seats,
+            &self.agreed,
+            svc,
+            replayer,
+            self.seed,
+            message,
+        );
+        self.settle(told, message.to, count, outcome)
     }
 
     /// Hands over the message of a number, if there is one.

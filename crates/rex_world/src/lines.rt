@@ -11,11 +11,12 @@ ghost use Rattle.rex_scenario.specs.declared.scenario.ScheduleLine.TheVariants a
 ghost use Rattle.rex_node.specs.Calls.{AreLimits};
 ghost use Rattle.rex_world.specs.World.{nodes_of, world_of};
 ghost use Rattle.rex_world.specs.Kept.{IsRunning, IsSame};
-ghost use Rattle.rex_world.specs.Calls.{Did, Comes, IsCall, IsTold, cut_line};
+ghost use Rattle.rex_world.specs.Calls.{Did, Comes, IsCall, HasTold, cut_line};
 
 use crate::calls::{effect_of, send_all, tell_all};
 use crate::places::{
-    ask_at, checkpoint_at, cut_at, elect_at, lane_at, replay_at, start_at, stop_at, submit_at,
+    ask_at, checkpoint_at, cut_at, drop_at, elect_at, lane_at, replay_at, start_at, stop_at,
+    submit_at,
 };
 use crate::told::Told;
 use crate::world::World;
@@ -27,6 +28,7 @@ use rex_syntax::checked::Checked;
 use rex_traits::Store;
 use rex_version::Version;
 use std::alloc::AllocError;
+use std::marker::Brand;
 
 impl<S: Store> World<S> {
     /// Tells what a call of a node came to, and sends its messages.
@@ -37,7 +39,7 @@ impl<S: Store> World<S> {
         outcome: Result<Step, Refusal>,
     ) -> Result<(), AllocError>
         requires { IfOk outcome (λ step. All IsMessage step.sends) }
-        ensures { OnOk result (IsTold node self.old self.new told.old told.new outcome) }
+        ensures { OnOk result (HasTold node self.old self.new told.old told.new outcome) }
     {
         let _event: Option<(Event, Kind)> = None;
         match outcome {
@@ -72,8 +74,16 @@ impl<S: Store> World<S> {
         ensures comes { OnOk result (Comes svc.now self.old self.new told.old told.new (line.Elect node)) }
         ensures ready { R.ready replayer.new }
     {
-        let outcome = elect_at(&mut self.seats, svc, replayer, self.seed, node);
-        self.tell(told, node, outcome)
+        let count = self.record_count(node);
+        let outcome = elect_at::<Brand, S, R>(
+            &mut self.seats,
+            &self.agreed,
+            svc,
+            replayer,
+            self.seed,
+            node,
+        );
+        self.settle(told, node, count, outcome)
     }
 
     // A client hands a request to the node.
@@ -89,9 +99,18 @@ impl<S: Store> World<S> {
         requires request { request < length self.old.requests }
         ensures comes { OnOk result (Comes svc.now self.old self.new told.old told.new (line.Submit node request)) }
     {
+        let count = self.record_count(node);
         let request = &self.requests.as_slice()[request as usize];
-        let outcome = submit_at(&mut self.seats, self.alloc, svc, self.seed, node, request);
-        self.tell(told, node, outcome)
+        let outcome = submit_at::<Brand, S>(
+            &mut self.seats,
+            &self.agreed,
+            self.alloc,
+            svc,
+            self.seed,
+            node,
+            request,
+        );
+        self.settle(told, node, count, outcome)
     }
 
     // A lane of the node has its turn.
@@ -101,8 +120,10 @@ impl<S: Store> World<S> {
         requires lane { lane < svc.now.lanes }
         ensures comes { OnOk result (Comes svc.now self.old self.new told.old told.new (line.Lane node lane)) }
     {
-        let outcome = lane_at(
+        let count = self.record_count(node);
+        let outcome = lane_at::<Brand, S>(
             &mut self.seats,
+            &self.agreed,
             self.alloc,
             svc,
             self.seed,
@@ -110,7 +131,7 @@ impl<S: Store> World<S> {
             lane,
             self.done,
         );
-        self.tell(told, node, outcome)
+        self.settle(told, node, count, outcome)
     }
 
     // The node proposes live events.
@@ -126,8 +147,16 @@ impl<S: Store> World<S> {
         requires limits { AreLimits svc.now (option_copied limits) }
         ensures comes { OnOk result (Comes svc.now self.old self.new told.old told.new (cut_line node (option_copied limits.entry))) }
     {
-        let outcome = cut_at(&mut self.seats, svc, self.seed, node, limits);
-        self.tell(told, node, outcome)
+        let count = self.record_count(node);
+        let outcome = cut_at::<Brand, S>(
+            &mut self.seats,
+            &self.agreed,
+            svc,
+            self.seed,
+            node,
+            limits,
+        );
+        self.settle(told, node, count, outcome)
     }
 
     // The node replays what it knows.
@@ -144,8 +173,16 @@ impl<S: Store> World<S> {
         ensures comes { OnOk result (Comes svc.now self.old self.new told.old told.new (line.Replay node)) }
         ensures ready { R.ready replayer.new }
     {
-        let outcome = replay_at(&mut self.seats, svc, replayer, self.seed, node);
-        self.tell(told, node, outcome)
+        let count = self.record_count(node);
+        let outcome = replay_at::<Brand, S, R>(
+            &mut self.seats,
+            &self.agreed,
+            svc,
+            replayer,
+            self.seed,
+            node,
+        );
+        self.settle(told, node, count, outcome)
     }
 
     // The node writes down the state that it has replayed, in a version.
@@ -161,8 +198,27 @@ impl<S: Store> World<S> {
         requires has { has_version svc.now version ≡ true }
         ensures comes { OnOk result (Comes svc.now self.old self.new told.old told.new (line.Checkpoint node version)) }
     {
-        let outcome = checkpoint_at(&mut self.seats, svc, self.seed, node, version);
-        self.tell(told, node, outcome)
+        let count = self.record_count(node);
+        let outcome = checkpoint_at::<Brand, S>(
+            &mut self.seats,
+            &self.agreed,
+            svc,
+            self.seed,
+            node,
+            version,
+        );
+        self.settle(told, node, count, outcome)
+    }
+
+    // The node forgets the values up to its base.
+    fn drop_known(&mut self, svc: &Checked, told: &mut Told, node: u8) -> Result<(), AllocError>
+        requires running { IsRunning svc.now self.old }
+        requires there { IsNode (nodes_of self.old) node }
+        ensures comes { OnOk result (Comes svc.now self.old self.new told.old told.new (line.DropKnown node)) }
+    {
+        let count = self.record_count(node);
+        let outcome = drop_at::<Brand, S>(&mut self.seats, &self.agreed, svc, self.seed, node);
+        self.settle(told, node, count, outcome)
     }
 
     // The node asks another one for what it doesn't know.
@@ -172,8 +228,16 @@ impl<S: Store> World<S> {
         requires other { IsNode (nodes_of self.old) other × (node ≢ other) }
         ensures comes { OnOk result (Comes svc.now self.old self.new told.old told.new (line.Ask node other)) }
     {
-        let outcome = ask_at(&mut self.seats, svc, self.seed, node, other);
-        self.tell(told, node, outcome)
+        let count = self.record_count(node);
+        let outcome = ask_at::<Brand, S>(
+            &mut self.seats,
+            &self.agreed,
+            svc,
+            self.seed,
+            node,
+            other,
+        );
+        self.settle(told, node, count, outcome)
     }
 
     // The node is stopped.
@@ -182,8 +246,16 @@ impl<S: Store> World<S> {
         requires there { IsNode (nodes_of self.old) node }
         ensures comes { OnOk result (Comes svc.now self.old self.new told.old told.new (line.Stop node)) }
     {
-        let outcome = stop_at(&mut self.seats, self.alloc, svc, self.seed, node);
-        self.tell(told, node, outcome)
+        let count = self.record_count(node);
+        let outcome = stop_at::<Brand, S>(
+            &mut self.seats,
+            &self.agreed,
+            self.alloc,
+            svc,
+            self.seed,
+            node,
+        );
+        self.settle(told, node, count, outcome)
     }
 
     // The node is started.
@@ -192,8 +264,16 @@ impl<S: Store> World<S> {
         requires there { IsNode (nodes_of self.old) node }
         ensures comes { OnOk result (Comes svc.now self.old self.new told.old told.new (line.Start node)) }
     {
-        let outcome = start_at(&mut self.seats, self.alloc, svc, self.seed, node);
-        self.tell(told, node, outcome)
+        let count = self.record_count(node);
+        let outcome = start_at::<Brand, S>(
+            &mut self.seats,
+            &self.agreed,
+            self.alloc,
+            svc,
+            self.seed,
+            node,
+        );
+        self.settle(told, node, count, outcome)
     }
 
     /// Does a line that is a call of one node.
@@ -227,6 +307,7 @@ impl<S: Store> World<S> {
             ScheduleLine::Checkpoint { node, version } => {
                 self.checkpoint(svc, told, *node, *version)
             }
+            ScheduleLine::DropKnown { node } => self.drop_known(svc, told, *node),
             _ => unreachable!(),
         }
     }

@@ -1,4 +1,5 @@
-//! Calls of the node of a number, among the nodes of a world.
+//! Calls of the node of a number, among the nodes of a world. Bytes of states are read beside the agreed values, which a call is
+//! handed for this alone: clauses name them as the past.
 
 ghost use Rattle.std.specs.Prelude.{◌≡◌, ◌<◌, ◌≤◌, ◌+◌, ◌^◌, true, length, Some, IsSome};
 ghost use Rattle.std.specs.Option.{option_copied};
@@ -9,6 +10,8 @@ ghost use Rattle.rex_scenario.specs.Fits.{IsNode, RequestFits};
 ghost use Rattle.rex_state.specs.Machine.{lane_of, run};
 ghost use Rattle.rex_state.specs.Counts.{AreCounted};
 ghost use Rattle.rex_safety.specs.Node.{is_active};
+ghost use Rattle.rex_safety.specs.Invariant.{Begins};
+ghost use Rattle.rex_safety.specs.Records.{known};
 ghost use Rattle.rex_safety.specs.Calls as calls;
 ghost use Rattle.rex_safety.specs.Calls.{begin};
 ghost use Rattle.rex_safety.specs.Lanes as lanes;
@@ -17,14 +20,18 @@ ghost use Rattle.rex_safety.specs.Values.{service_of};
 ghost use Rattle.rex_safety.specs.World.{node_at};
 ghost use Rattle.rex_node.specs.Calls.{AreLimits, CanBeCut, counts_for};
 ghost use Rattle.rex_node.specs.Going.{RunsOn};
-ghost use Rattle.rex_node.specs.Messages.{content_in, message_in};
+ghost use Rattle.rex_log.specs.Messages.{content_in, message_in};
+ghost use Rattle.rex_node.specs.Telling.{IsTold};
 ghost use Rattle.rex_world.specs.Blocks.{IsHandedBlockAt};
 ghost use Rattle.rex_world.specs.Seats.{AreSeats, disarmed, heres};
 ghost use Rattle.rex_world.specs.Calls.{Starts};
 ghost use Rattle.rex_world.specs.Places.{ActsAt, IsArmedAt, IsHandedAt, StartsAt};
 
 use crate::seats::Seat;
+use rex_ballot::Value;
 use rex_event::Event;
+use rex_list::List;
+use rex_log::Past;
 use rex_msg::Message;
 use rex_node::{Refusal, Step};
 use rex_record::Turn;
@@ -36,8 +43,9 @@ use rex_version::Version;
 use std::alloc::Global;
 
 /// The node asks to lead.
-pub(crate) fn elect_at<S: Store, R: Replayer>(
+pub(crate) fn elect_at<P: Past, S: Store, R: Replayer>(
     seats: &mut [Seat<S>],
+    _agreed: &List<Value>,
     svc: &Checked,
     replayer: &mut R,
     seed: u32,
@@ -45,19 +53,20 @@ pub(crate) fn elect_at<S: Store, R: Replayer>(
 ) -> Result<Step, Refusal>
     requires there { IsNode (length seats.old) number }
     requires few { length seats.old ≤ most_nodes }
-    requires seats { AreSeats svc.now seed (length seats.old) 1 seats.old }
+    requires seats { AreSeats svc.now P.past seed (length seats.old) 1 seats.old }
     requires ready { R.ready replayer.old }
-    requires runs { RunsOn svc.now (calls.elect (length seats.old) (service_of svc.now seed) number) (begin (disarmed (node_at (heres svc.now seats.old) number))) }
-    ensures acts { ActsAt svc.now seed (calls.elect (length seats.old) (service_of svc.now seed) number) number seats.old seats.new result }
+    requires runs { RunsOn svc.now (calls.elect (length seats.old) (service_of svc.now seed) number) (begin (disarmed (node_at (heres svc.now P.past seats.old) number))) }
+    ensures acts { ActsAt svc.now P.past seed (calls.elect (length seats.old) (service_of svc.now seed) number) number seats.old seats.new result }
     ensures ready { R.ready replayer.new }
 {
     let nodes = seats.len() as u8;
-    seats[number as usize - 1].elect(svc, replayer, seed, nodes, number)
+    seats[number as usize - 1].elect::<P, R>(svc, replayer, seed, nodes, number)
 }
 
 /// The node to which a message goes gets it.
-pub(crate) fn on_message_at<S: Store, R: Replayer>(
+pub(crate) fn on_message_at<P: Past, S: Store, R: Replayer>(
     seats: &mut [Seat<S>],
+    _agreed: &List<Value>,
     svc: &Checked,
     replayer: &mut R,
     seed: u32,
@@ -65,21 +74,24 @@ pub(crate) fn on_message_at<S: Store, R: Replayer>(
 ) -> Result<Step, Refusal>
     requires there { IsNode (length seats.old) message.now.to }
     requires few { length seats.old ≤ most_nodes }
-    requires seats { AreSeats svc.now seed (length seats.old) 1 seats.old }
+    requires seats { AreSeats svc.now P.past seed (length seats.old) 1 seats.old }
     requires ready { R.ready replayer.old }
-    requires message { MessageFits (length seats.old) (message_in message.now) }
+    requires message { MessageFits (length seats.old) (message_in P.past message.now) }
     requires spelling { HasSpelling message.now }
-    requires runs { RunsOn svc.now (calls.receive (length seats.old) (service_of svc.now seed) message.now.to message.now.from (content_in message.now.content)) (begin (disarmed (node_at (heres svc.now seats.old) message.now.to))) }
-    ensures acts { ActsAt svc.now seed (calls.receive (length seats.old) (service_of svc.now seed) message.now.to message.now.from (content_in message.now.content)) message.now.to seats.old seats.new result }
+    requires past { Begins (known (node_at (heres svc.now P.past seats.old) message.now.to).log) P.past }
+    requires tells { IsTold svc.now P.past message.now.content }
+    requires runs { RunsOn svc.now (calls.receive (length seats.old) (service_of svc.now seed) message.now.to message.now.from (content_in P.past message.now.content)) (begin (disarmed (node_at (heres svc.now P.past seats.old) message.now.to))) }
+    ensures acts { ActsAt svc.now P.past seed (calls.receive (length seats.old) (service_of svc.now seed) message.now.to message.now.from (content_in P.past message.now.content)) message.now.to seats.old seats.new result }
     ensures ready { R.ready replayer.new }
 {
     let nodes = seats.len() as u8;
-    seats[message.to as usize - 1].on_message(svc, replayer, seed, nodes, message)
+    seats[message.to as usize - 1].on_message::<P, R>(svc, replayer, seed, nodes, message)
 }
 
 /// A client hands a request to the node.
-pub(crate) fn submit_at<S: Store>(
+pub(crate) fn submit_at<P: Past, S: Store>(
     seats: &mut [Seat<S>],
+    _agreed: &List<Value>,
     alloc: Global,
     svc: &Checked,
     seed: u32,
@@ -88,17 +100,18 @@ pub(crate) fn submit_at<S: Store>(
 ) -> Result<Step, Refusal>
     requires there { IsNode (length seats.old) number }
     requires few { length seats.old ≤ most_nodes }
-    requires seats { AreSeats svc.now seed (length seats.old) 1 seats.old }
+    requires seats { AreSeats svc.now P.past seed (length seats.old) 1 seats.old }
     requires request { RequestFits svc.now request.now }
-    ensures acts { ActsAt svc.now seed (λ d. lanes.active_only (is_active d.node.role) d (lanes.submit_request svc.now (Some request.now) d)) number seats.old seats.new result }
+    ensures acts { ActsAt svc.now P.past seed (λ d. lanes.active_only (is_active d.node.role) d (lanes.submit_request svc.now (Some request.now) d)) number seats.old seats.new result }
 {
     let nodes = seats.len() as u8;
-    seats[number as usize - 1].submit(alloc, svc, seed, nodes, number, request)
+    seats[number as usize - 1].submit::<P>(alloc, svc, seed, nodes, number, request)
 }
 
 /// A lane of the node has its turn, after so many schedule lines.
-pub(crate) fn lane_at<S: Store>(
+pub(crate) fn lane_at<P: Past, S: Store>(
     seats: &mut [Seat<S>],
+    _agreed: &List<Value>,
     alloc: Global,
     svc: &Checked,
     seed: u32,
@@ -108,18 +121,19 @@ pub(crate) fn lane_at<S: Store>(
 ) -> Result<Step, Refusal>
     requires there { IsNode (length seats.old) number }
     requires few { length seats.old ≤ most_nodes }
-    requires seats { AreSeats svc.now seed (length seats.old) 1 seats.old }
+    requires seats { AreSeats svc.now P.past seed (length seats.old) 1 seats.old }
     requires lane { lane < svc.now.lanes }
-    requires count { (node_at (heres svc.now seats.old) number).up ≡ true → (lane_of (lanes.live_state svc.now (node_at (heres svc.now seats.old) number)) lane).done + 1 < 2 ^ 32 }
-    ensures acts { ActsAt svc.now seed (λ d. lanes.active_only (is_active d.node.role) d (lanes.lane_turn svc.now done lane d)) number seats.old seats.new result }
+    requires count { (node_at (heres svc.now P.past seats.old) number).up ≡ true → (lane_of (lanes.live_state svc.now (node_at (heres svc.now P.past seats.old) number)) lane).done + 1 < 2 ^ 32 }
+    ensures acts { ActsAt svc.now P.past seed (λ d. lanes.active_only (is_active d.node.role) d (lanes.lane_turn svc.now done lane d)) number seats.old seats.new result }
 {
     let nodes = seats.len() as u8;
-    seats[number as usize - 1].lane(alloc, svc, seed, nodes, number, lane, done)
+    seats[number as usize - 1].lane::<P>(alloc, svc, seed, nodes, number, lane, done)
 }
 
 /// The node is handed an event that was made elsewhere.
-pub(crate) fn take_at<S: Store>(
+pub(crate) fn take_at<P: Past, S: Store>(
     seats: &mut [Seat<S>],
+    _agreed: &List<Value>,
     svc: &Checked,
     seed: u32,
     number: u8,
@@ -127,17 +141,18 @@ pub(crate) fn take_at<S: Store>(
 ) -> Result<Turn, Refusal>
     requires there { IsNode (length seats.old) number }
     requires few { length seats.old ≤ most_nodes }
-    requires seats { AreSeats svc.now seed (length seats.old) 1 seats.old }
-    requires count { (node_at (heres svc.now seats.old) number).up ≡ true → (lane_of (lanes.live_state svc.now (node_at (heres svc.now seats.old) number)) event.now.lane).done + 1 < 2 ^ 32 }
-    ensures { IsHandedAt svc.now seed number event.now seats.old seats.new result }
+    requires seats { AreSeats svc.now P.past seed (length seats.old) 1 seats.old }
+    requires count { (node_at (heres svc.now P.past seats.old) number).up ≡ true → (lane_of (lanes.live_state svc.now (node_at (heres svc.now P.past seats.old) number)) event.now.lane).done + 1 < 2 ^ 32 }
+    ensures { IsHandedAt svc.now P.past seed number event.now seats.old seats.new result }
 {
     let nodes = seats.len() as u8;
-    seats[number as usize - 1].take_event(svc, seed, nodes, number, event)
+    seats[number as usize - 1].take_event::<P>(svc, seed, nodes, number, event)
 }
 
 /// The node is handed a block of events that were made elsewhere.
-pub(crate) fn take_block_at<S: Store, R: Replayer>(
+pub(crate) fn take_block_at<P: Past, S: Store, R: Replayer>(
     seats: &mut [Seat<S>],
+    _agreed: &List<Value>,
     svc: &Checked,
     replayer: &mut R,
     seed: u32,
@@ -146,20 +161,21 @@ pub(crate) fn take_block_at<S: Store, R: Replayer>(
 ) -> Result<(), Refusal>
     requires there { IsNode (length seats.old) number }
     requires few { length seats.old ≤ most_nodes }
-    requires seats { AreSeats svc.now seed (length seats.old) 1 seats.old }
-    requires runs { (node_at (heres svc.now seats.old) number).up ≡ true → IsSome (run svc.now (lanes.live_state svc.now (node_at (heres svc.now seats.old) number)) events.now) }
+    requires seats { AreSeats svc.now P.past seed (length seats.old) 1 seats.old }
+    requires runs { (node_at (heres svc.now P.past seats.old) number).up ≡ true → IsSome (run svc.now (lanes.live_state svc.now (node_at (heres svc.now P.past seats.old) number)) events.now) }
     requires counted { AreCounted events.now }
     requires ready { R.ready replayer.old }
-    ensures handed { IsHandedBlockAt svc.now seed number events.now seats.old seats.new result }
+    ensures handed { IsHandedBlockAt svc.now P.past seed number events.now seats.old seats.new result }
     ensures ready { R.ready replayer.new }
 {
     let nodes = seats.len() as u8;
-    seats[number as usize - 1].take_block(svc, replayer, seed, nodes, number, events)
+    seats[number as usize - 1].take_block::<P, R>(svc, replayer, seed, nodes, number, events)
 }
 
 /// The node proposes live events: all of them, or at most so many of each lane.
-pub(crate) fn cut_at<S: Store>(
+pub(crate) fn cut_at<P: Past, S: Store>(
     seats: &mut [Seat<S>],
+    _agreed: &List<Value>,
     svc: &Checked,
     seed: u32,
     number: u8,
@@ -167,19 +183,20 @@ pub(crate) fn cut_at<S: Store>(
 ) -> Result<Step, Refusal>
     requires there { IsNode (length seats.old) number }
     requires few { length seats.old ≤ most_nodes }
-    requires seats { AreSeats svc.now seed (length seats.old) 1 seats.old }
+    requires seats { AreSeats svc.now P.past seed (length seats.old) 1 seats.old }
     requires limits { AreLimits svc.now (option_copied limits) }
-    requires spelling { (node_at (heres svc.now seats.old) number).up ≡ true → CanBeCut (node_at (heres svc.now seats.old) number) (counts_for svc.now (node_at (heres svc.now seats.old) number) (option_copied limits)) }
-    requires runs { RunsOn svc.now (lanes.cut svc.now seed (length seats.old) number (counts_for svc.now (node_at (heres svc.now seats.old) number) (option_copied limits))) (begin (disarmed (node_at (heres svc.now seats.old) number))) }
-    ensures acts { ActsAt svc.now seed (lanes.cut svc.now seed (length seats.old) number (counts_for svc.now (node_at (heres svc.now seats.old) number) (option_copied limits.entry))) number seats.old seats.new result }
+    requires spelling { (node_at (heres svc.now P.past seats.old) number).up ≡ true → CanBeCut (node_at (heres svc.now P.past seats.old) number) (counts_for svc.now (node_at (heres svc.now P.past seats.old) number) (option_copied limits)) }
+    requires runs { RunsOn svc.now (lanes.cut svc.now seed (length seats.old) number (counts_for svc.now (node_at (heres svc.now P.past seats.old) number) (option_copied limits))) (begin (disarmed (node_at (heres svc.now P.past seats.old) number))) }
+    ensures acts { ActsAt svc.now P.past seed (lanes.cut svc.now seed (length seats.old) number (counts_for svc.now (node_at (heres svc.now P.past seats.old) number) (option_copied limits.entry))) number seats.old seats.new result }
 {
     let nodes = seats.len() as u8;
-    seats[number as usize - 1].cut(svc, seed, nodes, number, limits)
+    seats[number as usize - 1].cut::<P>(svc, seed, nodes, number, limits)
 }
 
 /// The node replays what it knows.
-pub(crate) fn replay_at<S: Store, R: Replayer>(
+pub(crate) fn replay_at<P: Past, S: Store, R: Replayer>(
     seats: &mut [Seat<S>],
+    _agreed: &List<Value>,
     svc: &Checked,
     replayer: &mut R,
     seed: u32,
@@ -187,18 +204,19 @@ pub(crate) fn replay_at<S: Store, R: Replayer>(
 ) -> Result<Step, Refusal>
     requires there { IsNode (length seats.old) number }
     requires few { length seats.old ≤ most_nodes }
-    requires seats { AreSeats svc.now seed (length seats.old) 1 seats.old }
+    requires seats { AreSeats svc.now P.past seed (length seats.old) 1 seats.old }
     requires ready { R.ready replayer.old }
-    ensures acts { ActsAt svc.now seed (calls.replay number) number seats.old seats.new result }
+    ensures acts { ActsAt svc.now P.past seed (calls.replay number) number seats.old seats.new result }
     ensures ready { R.ready replayer.new }
 {
     let nodes = seats.len() as u8;
-    seats[number as usize - 1].replay(svc, replayer, seed, nodes, number)
+    seats[number as usize - 1].replay::<P, R>(svc, replayer, seed, nodes, number)
 }
 
 /// The node writes down the state that it has replayed, in a version.
-pub(crate) fn checkpoint_at<S: Store>(
+pub(crate) fn checkpoint_at<P: Past, S: Store>(
     seats: &mut [Seat<S>],
+    _agreed: &List<Value>,
     svc: &Checked,
     seed: u32,
     number: u8,
@@ -207,16 +225,35 @@ pub(crate) fn checkpoint_at<S: Store>(
     requires has { has_version svc.now version ≡ true }
     requires there { IsNode (length seats.old) number }
     requires few { length seats.old ≤ most_nodes }
-    requires seats { AreSeats svc.now seed (length seats.old) 1 seats.old }
-    ensures acts { ActsAt svc.now seed (calls.checkpoint version (service_of svc.now seed) number) number seats.old seats.new result }
+    requires seats { AreSeats svc.now P.past seed (length seats.old) 1 seats.old }
+    ensures acts { ActsAt svc.now P.past seed (calls.checkpoint version (service_of svc.now seed) number) number seats.old seats.new result }
 {
     let nodes = seats.len() as u8;
-    seats[number as usize - 1].checkpoint(svc, seed, nodes, number, version)
+    seats[number as usize - 1].checkpoint::<P>(svc, seed, nodes, number, version)
+}
+
+/// The node forgets the values up to its base.
+pub(crate) fn drop_at<P: Past, S: Store>(
+    seats: &mut [Seat<S>],
+    _agreed: &List<Value>,
+    svc: &Checked,
+    seed: u32,
+    number: u8,
+) -> Result<Step, Refusal>
+    requires there { IsNode (length seats.old) number }
+    requires few { length seats.old ≤ most_nodes }
+    requires seats { AreSeats svc.now P.past seed (length seats.old) 1 seats.old }
+    requires past { Begins (known (node_at (heres svc.now P.past seats.old) number).log) P.past }
+    ensures acts { ActsAt svc.now P.past seed (calls.drop_known number) number seats.old seats.new result }
+{
+    let nodes = seats.len() as u8;
+    seats[number as usize - 1].drop_known::<P>(svc, seed, nodes, number)
 }
 
 /// The node asks another one for what it doesn't know.
-pub(crate) fn ask_at<S: Store>(
+pub(crate) fn ask_at<P: Past, S: Store>(
     seats: &mut [Seat<S>],
+    _agreed: &List<Value>,
     svc: &Checked,
     seed: u32,
     number: u8,
@@ -224,16 +261,17 @@ pub(crate) fn ask_at<S: Store>(
 ) -> Result<Step, Refusal>
     requires there { IsNode (length seats.old) number }
     requires few { length seats.old ≤ most_nodes }
-    requires seats { AreSeats svc.now seed (length seats.old) 1 seats.old }
-    ensures acts { ActsAt svc.now seed (calls.ask number other) number seats.old seats.new result }
+    requires seats { AreSeats svc.now P.past seed (length seats.old) 1 seats.old }
+    ensures acts { ActsAt svc.now P.past seed (calls.ask number other) number seats.old seats.new result }
 {
     let nodes = seats.len() as u8;
-    seats[number as usize - 1].ask(svc, seed, nodes, number, other)
+    seats[number as usize - 1].ask::<P>(svc, seed, nodes, number, other)
 }
 
 /// The node is stopped.
-pub(crate) fn stop_at<S: Store>(
+pub(crate) fn stop_at<P: Past, S: Store>(
     seats: &mut [Seat<S>],
+    _agreed: &List<Value>,
     alloc: Global,
     svc: &Checked,
     seed: u32,
@@ -241,16 +279,17 @@ pub(crate) fn stop_at<S: Store>(
 ) -> Result<Step, Refusal>
     requires there { IsNode (length seats.old) number }
     requires few { length seats.old ≤ most_nodes }
-    requires seats { AreSeats svc.now seed (length seats.old) 1 seats.old }
-    ensures acts { ActsAt svc.now seed (calls.stop number) number seats.old seats.new result }
+    requires seats { AreSeats svc.now P.past seed (length seats.old) 1 seats.old }
+    ensures acts { ActsAt svc.now P.past seed (calls.stop number) number seats.old seats.new result }
 {
     let nodes = seats.len() as u8;
-    seats[number as usize - 1].stop(alloc, svc, seed, nodes, number)
+    seats[number as usize - 1].stop::<P>(alloc, svc, seed, nodes, number)
 }
 
 /// The node is started.
-pub(crate) fn start_at<S: Store>(
+pub(crate) fn start_at<P: Past, S: Store>(
     seats: &mut [Seat<S>],
+    _agreed: &List<Value>,
     alloc: Global,
     svc: &Checked,
     seed: u32,
@@ -258,12 +297,12 @@ pub(crate) fn start_at<S: Store>(
 ) -> Result<Step, Refusal>
     requires there { IsNode (length seats.old) number }
     requires few { length seats.old ≤ most_nodes }
-    requires seats { AreSeats svc.now seed (length seats.old) 1 seats.old }
-    requires runs { Starts svc.now (node_at (heres svc.now seats.old) number) }
-    ensures starts { StartsAt svc.now seed number seats.old seats.new result }
+    requires seats { AreSeats svc.now P.past seed (length seats.old) 1 seats.old }
+    requires runs { Starts svc.now P.past (node_at (heres svc.now P.past seats.old) number) }
+    ensures starts { StartsAt svc.now P.past seed number seats.old seats.new result }
 {
     let nodes = seats.len() as u8;
-    seats[number as usize - 1].start(alloc, svc, seed, nodes, number)
+    seats[number as usize - 1].start::<P>(alloc, svc, seed, nodes, number)
 }
 
 /// The next append of the node's keeper will fail.

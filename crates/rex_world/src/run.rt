@@ -10,6 +10,7 @@ ghost use Rattle.rex_scenario.specs.Fits.{FormFits, LineFits, ScenarioFits};
 ghost use Rattle.rex_safety.specs.World.{row};
 ghost use Rattle.rex_world.specs.declared.run.RunFault.TheVariants as fault;
 ghost use Rattle.rex_world.specs.Kept.{IsOf, IsRunning, IsSame};
+ghost use Rattle.rex_world.specs.Runs.{DidLines};
 ghost use Rattle.rex_world.specs.Report.{effects_text, ends_text, report_from};
 ghost use Rattle.rex_world.specs.World.{nodes_of, world_of};
 ghost use Rattle.rex_world.specs.Writing.{IsWritten};
@@ -139,8 +140,36 @@ impl<S: Store> World<S> {
         write_waiting(sink, waiting, 0)
     }
 
+    // Does the lines of a scenario's schedule, and writes the report as it goes, to its end.
+    fn report<R: Replayer, K: Sink>(
+        &mut self,
+        svc: &Checked,
+        replayer: &mut R,
+        scenario: &Scenario,
+        sink: &mut K,
+    ) -> Result<(), RunFault>
+        requires running { IsRunning svc.now self.old }
+        requires ready { R.ready replayer.old }
+        requires fits { ScenarioFits svc.now scenario.now }
+        requires of { IsOf scenario.now self.old }
+        requires count { self.old.done + length scenario.now.schedule < 2 ^ 32 }
+        ensures whole { OnOk result (Appends (K.held sink.old) (K.held sink.new) (report_from svc.now scenario.now.requests scenario.now.seed scenario.now.nodes (world_of svc.now self.old) scenario.now.schedule)) }
+        ensures front { AppendsFront (K.held sink.old) (K.held sink.new) (report_from svc.now scenario.now.requests scenario.now.seed scenario.now.nodes (world_of svc.now self.old) scenario.now.schedule) }
+        ensures leads { OnOk result (DidLines svc.now scenario.now self.old self.new) }
+        ensures told { TellsAlike (K.held sink.old) (K.held sink.new) }
+        ensures later { K.faults sink.old ≤ K.faults sink.new }
+        ensures failed { IsErrOf result fault.Failed → Rose (K.faults sink.old) (K.faults sink.new) }
+        ensures ready { R.ready replayer.new }
+    {
+        let mut waiting = Vec::new(self.alloc);
+        for line in scenario.schedule.as_slice() {
+            self.write_line(svc, replayer, &mut waiting, line, sink)?;
+        }
+        self.write_ends(svc, &mut waiting, sink)
+    }
+
     /// Does the lines of a scenario's schedule from the world as it stands, and writes the report as it goes: the lines of each
-    /// schedule line, and at the end those of the nodes. After an error a front of it was written.
+    /// schedule line, and at the end those of the nodes. After an error a front of it was written, and the world is broken.
     pub fn run<R: Replayer, K: Sink>(
         &mut self,
         svc: &Checked,
@@ -155,15 +184,17 @@ impl<S: Store> World<S> {
         requires count { self.old.done + length scenario.now.schedule < 2 ^ 32 }
         ensures whole { OnOk result (Appends (K.held sink.old) (K.held sink.new) (report_from svc.now scenario.now.requests scenario.now.seed scenario.now.nodes (world_of svc.now self.old) scenario.now.schedule)) }
         ensures front { AppendsFront (K.held sink.old) (K.held sink.new) (report_from svc.now scenario.now.requests scenario.now.seed scenario.now.nodes (world_of svc.now self.old) scenario.now.schedule) }
+        ensures leads { OnOk result (DidLines svc.now scenario.now self.old self.new) }
+        ensures broken { OnErr result (self.new.broken ≡ true) }
         ensures told { TellsAlike (K.held sink.old) (K.held sink.new) }
         ensures later { K.faults sink.old ≤ K.faults sink.new }
         ensures failed { IsErrOf result fault.Failed → Rose (K.faults sink.old) (K.faults sink.new) }
         ensures ready { R.ready replayer.new }
     {
-        let mut waiting = Vec::new(self.alloc);
-        for line in scenario.schedule.as_slice() {
-            self.write_line(svc, replayer, &mut waiting, line, sink)?;
+        let end = self.report(svc, replayer, scenario, sink);
+        if end.is_err() {
+            self.broken = true;
         }
-        self.write_ends(svc, &mut waiting, sink)
+        end
     }
 }

@@ -9,24 +9,26 @@ ghost use Rattle.rex_scenario.specs.Fits.{RequestFits};
 ghost use Rattle.rex_state.specs.Machine.{lane_of, run};
 ghost use Rattle.rex_state.specs.Counts.{AreCounted};
 ghost use Rattle.rex_safety.specs.Node.{is_active};
+ghost use Rattle.rex_safety.specs.Invariant.{Begins};
+ghost use Rattle.rex_safety.specs.Records.{known, promise};
 ghost use Rattle.rex_safety.specs.Calls as calls;
 ghost use Rattle.rex_safety.specs.Calls.{begin};
 ghost use Rattle.rex_safety.specs.Lanes as lanes;
-ghost use Rattle.rex_safety.specs.Lanes.{effect_of};
 ghost use Rattle.rex_safety.specs.Ranges.{MessageFits};
 ghost use Rattle.rex_safety.specs.Values.{service_of};
 ghost use Rattle.rex_node.specs.Calls.{AreLimits, CanBeCut, counts_for};
 ghost use Rattle.rex_node.specs.Going.{RunsOn};
-ghost use Rattle.rex_node.specs.Messages.{content_in, message_in};
+ghost use Rattle.rex_log.specs.Messages.{content_in, message_in};
+ghost use Rattle.rex_node.specs.Telling.{AreTold, IsTold};
 ghost use Rattle.rex_report.specs.declared.effect.Effect.TheVariants as effect;
 ghost use Rattle.rex_world.specs.Blocks.{IsHandedBlock};
-ghost use Rattle.rex_world.specs.Seats.{HasKeeper, IsRunner, IsSeat, StaysRunner, StaysSeat, armed_in, disarmed, here_at, here_in, is_up_in, keeper_in};
-ghost use Rattle.rex_world.specs.Calls.{Acts, CameBack, IsWhole, Starts, IsStarted, TellsOf};
+ghost use Rattle.rex_world.specs.Seats.{HasKeeper, IsRunner, IsSeat, StaysRunner, StaysSeat, armed_in, disarmed, here_at, here_in, is_up_in, keeper_in, records_of};
+ghost use Rattle.rex_world.specs.Calls.{Acts, CameBack, IsWhole, Starts, IsStarted};
 ghost use Rattle.rex_world.specs.Places.{IsHanded};
 
-use rex_event::{Event, Kind};
-use rex_gate::Answer;
-use rex_list::List;
+use crate::steps::{answered, joined, step_of, turned};
+use rex_event::Event;
+use rex_log::Past;
 use rex_msg::Message;
 use rex_node::{Node, Refusal, RestartFault, Step};
 use rex_record::Turn;
@@ -34,7 +36,7 @@ use rex_replay::Replayer;
 use rex_report::Effect;
 use rex_syntax::checked::Checked;
 use rex_syntax::request::Request;
-use rex_traits::{Fate, Obedient, Store};
+use rex_traits::{Fate, Keeper, Obedient, Store};
 use rex_version::Version;
 use std::alloc::{AllocError, Global};
 use std::mem;
@@ -48,114 +50,35 @@ pub enum Seat<S: Store> {
     Empty,
 }
 
-// A step that reports this, and sends nothing.
-fn step_of(alloc: Global, effect: Effect) -> Result<Step, Refusal>
-    ensures effects { IfOk result (λ step. step.effects ≡ effect ∷ []) }
-    ensures sends { IfOk result (λ step. step.sends ≡ []) }
-    ensures memory { IfErr result (λ e. e ≡ Refusal.OutOfMemory) }
-{
-    let _event: Option<(Event, Kind)> = None;
-    let mut effects = List::new(alloc);
-    effects.push(effect)?;
-    Ok(Step {
-        effects,
-        sends: List::new(alloc),
-    })
-}
-
-// What is reported of an answer to a request.
-fn answer_effect(request: &Request, answer: Answer) -> Effect
-    ensures { result ≡ effect_of request.now answer }
-{
-    match answer {
-        Answer::Queued => Effect::Queued,
-        Answer::Waiting => Effect::Waiting,
-        Answer::Released(value) => Effect::Released {
-            client: request.client,
-            sequence: request.sequence,
-            value,
-        },
-        Answer::Old { last } => Effect::Old { last },
-        Answer::Gap { expected } => Effect::Gap { expected },
-    }
-}
-
-// What is reported of a lane's turn.
-fn turn_effect(lane: u8, turn: Turn) -> Effect
-    ensures { result ≡ lanes.turn_effect lane turn }
-{
-    match turn {
-        Turn::Done(event) => Effect::Recorded { event },
-        Turn::Full => Effect::Full { lane },
-        Turn::Idle => Effect::Idle { lane },
-        Turn::Held { by } => Effect::Held { lane, by },
-        Turn::Unsignalled => Effect::Unsignalled { lane },
-        Turn::Zero { semaphore } => Effect::Zero { lane, semaphore },
-        // No turn of a lane comes to this.
-        Turn::Unfit => Effect::Nothing,
-    }
-}
-
-// The step of an answer.
-fn answered(
-    alloc: Global,
-    request: &Request,
-    outcome: Result<Answer, Refusal>,
-) -> Result<Step, Refusal>
-    ensures { TellsOf (effect_of request.now) outcome result }
-{
-    match outcome {
-        Ok(answer) => step_of(alloc, answer_effect(request, answer)),
-        Err(refusal) => Err(refusal),
-    }
-}
-
-// The step of a turn.
-fn turned(alloc: Global, lane: u8, outcome: Result<Turn, Refusal>) -> Result<Step, Refusal>
-    ensures { TellsOf (lanes.turn_effect lane) outcome result }
-{
-    match outcome {
-        Ok(turn) => step_of(alloc, turn_effect(lane, turn)),
-        Err(refusal) => Err(refusal),
-    }
-}
-
 // The step of a node that has come up.
-fn started<S: Store>(alloc: Global, node: &Node<Obedient<S>>) -> Result<Step, Refusal>
-    requires few { length node.now.known < 2 ^ 32 }
-    ensures effects { IfOk result (λ step. step.effects ≡ effect.Started node.now.id node.now.acceptor.promised (length node.now.known) node.now.replayed ∷ []) }
+fn started<P: Past, S: Store>(
+    alloc: Global,
+    svc: &Checked,
+    seed: u32,
+    nodes: u8,
+    number: u8,
+    node: &Node<Obedient<S>>,
+) -> Result<Step, Refusal>
+    requires runner { IsRunner svc.now P.past seed nodes number node.now }
+    requires up { node.now.up ≡ true }
+    ensures effects { IfOk result (λ step. step.effects ≡ effect.Started number (promise (here_at svc.now P.past node.now).log) (length (known (here_at svc.now P.past node.now).log)) node.now.replayed ∷ []) }
     ensures sends { IfOk result (λ step. step.sends ≡ []) }
     ensures memory { IfErr result (λ e. e ≡ Refusal.OutOfMemory) }
 {
+    let _service = svc.declarations();
     step_of(
         alloc,
         Effect::Started {
             node: node.id(),
             promised: node.promised(),
-            known: node.known().len() as u32,
+            known: node.known(),
             replayed: node.replayed(),
         },
     )
 }
 
-// What two steps did, one after the other, of which the first sent nothing.
-fn joined(alloc: Global, first: Step, second: Step) -> Result<Step, Refusal>
-    ensures effects { IfOk result (λ step. step.effects ≡ first.effects ++ second.effects) }
-    ensures sends { IfOk result (λ step. step.sends ≡ second.sends) }
-    ensures memory { IfErr result (λ e. e ≡ Refusal.OutOfMemory) }
-{
-    let _event: Option<(Event, Kind)> = None;
-    let mut effects = first.effects.into_vec();
-    let mut more = second.effects.into_vec();
-    effects.append(&mut more)?;
-    Ok(Step {
-        effects: List::from_vec(effects),
-        sends: second.sends,
-    })
-}
-
 // What a node does that has come up: it says so, and writes its last checkpoint down again where that is in the old version.
-fn come_back<S: Store>(
+fn come_back<P: Past, S: Store>(
     alloc: Global,
     svc: &Checked,
     seed: u32,
@@ -163,17 +86,17 @@ fn come_back<S: Store>(
     number: u8,
     node: &mut Node<Obedient<S>>,
 ) -> Result<Step, Refusal>
-    requires runner { IsRunner svc.now seed nodes number node.old }
+    requires runner { IsRunner svc.now P.past seed nodes number node.old }
     requires up { node.old.up ≡ true }
-    ensures back { IfOk result (CameBack (service_of svc.now seed) number (here_at svc.now node.old) (here_at svc.now node.new)) }
+    ensures back { IfOk result (CameBack (service_of svc.now seed) number (here_at svc.now P.past node.old) (here_at svc.now P.past node.new)) }
     ensures memory { IfErr result (λ e. e ≡ Refusal.OutOfMemory) }
-    ensures stays { IsWhole result → StaysRunner svc.now seed nodes number node.old node.new }
+    ensures stays { IsWhole result → StaysRunner svc.now P.past seed nodes number node.old node.new }
 {
-    let step = started(alloc, node)?;
+    let step = started::<P, S>(alloc, svc, seed, nodes, number, node)?;
     if !node.has_old_base() {
         return Ok(step);
     }
-    let migrated = node.migrate(svc)?;
+    let migrated = node.migrate::<P>(svc)?;
     joined(alloc, step, migrated)
 }
 
@@ -188,15 +111,14 @@ impl<S: Store> Seat<S> {
         }
     }
 
-    /// The keeper of the node.
-    pub(crate) fn keeper(&self) -> &Obedient<S>
-        requires { HasKeeper self.now }
-        ensures { result.now ≡ keeper_in self.now }
+    /// How many records the node has.
+    pub(crate) fn record_count(&self) -> usize
+        ensures { result ≡ length (records_of (keeper_in self.now)) }
     {
         match self {
-            Seat::Running(node) => node.keeper(),
-            Seat::Stopped(keeper) => keeper,
-            Seat::Empty => unreachable!(),
+            Seat::Running(node) => node.keeper().len(),
+            Seat::Stopped(keeper) => keeper.len(),
+            Seat::Empty => 0,
         }
     }
 
@@ -213,7 +135,7 @@ impl<S: Store> Seat<S> {
     }
 
     /// The node asks to lead.
-    pub(crate) fn elect<R: Replayer>(
+    pub(crate) fn elect<P: Past, R: Replayer>(
         &mut self,
         svc: &Checked,
         replayer: &mut R,
@@ -221,21 +143,22 @@ impl<S: Store> Seat<S> {
         nodes: u8,
         number: u8,
     ) -> Result<Step, Refusal>
-        requires seat { IsSeat svc.now seed nodes number self.old }
+        requires seat { IsSeat svc.now P.past seed nodes number self.old }
         requires ready { R.ready replayer.old }
-        requires runs { RunsOn svc.now (calls.elect nodes (service_of svc.now seed) number) (begin (disarmed (here_in svc.now self.old))) }
-        ensures acts { Acts (calls.elect nodes (service_of svc.now seed) number) number (here_in svc.now self.old) (here_in svc.now self.new) result }
-        ensures seat { IsWhole result → StaysSeat svc.now seed nodes number self.old self.new }
+        requires runs { RunsOn svc.now (calls.elect nodes (service_of svc.now seed) number) (begin (disarmed (here_in svc.now P.past self.old))) }
+        ensures acts { Acts P.past (calls.elect nodes (service_of svc.now seed) number) number (here_in svc.now P.past self.old) (here_in svc.now P.past self.new) result }
+        ensures tells { IfOk result (λ step. AreTold svc.now P.past step.sends) }
+        ensures seat { IsWhole result → StaysSeat svc.now P.past seed nodes number self.old self.new }
         ensures ready { R.ready replayer.new }
     {
         match self {
-            Seat::Running(node) => node.elect(svc, replayer),
+            Seat::Running(node) => node.elect::<P, R>(svc, replayer),
             Seat::Stopped(_) | Seat::Empty => Err(Refusal::Down),
         }
     }
 
     /// The node gets a message.
-    pub(crate) fn on_message<R: Replayer>(
+    pub(crate) fn on_message<P: Past, R: Replayer>(
         &mut self,
         svc: &Checked,
         replayer: &mut R,
@@ -243,23 +166,26 @@ impl<S: Store> Seat<S> {
         nodes: u8,
         message: &Message,
     ) -> Result<Step, Refusal>
-        requires seat { IsSeat svc.now seed nodes message.now.to self.old }
+        requires seat { IsSeat svc.now P.past seed nodes message.now.to self.old }
         requires ready { R.ready replayer.old }
-        requires message { MessageFits nodes (message_in message.now) }
+        requires message { MessageFits nodes (message_in P.past message.now) }
         requires spelling { HasSpelling message.now }
-        requires runs { RunsOn svc.now (calls.receive nodes (service_of svc.now seed) message.now.to message.now.from (content_in message.now.content)) (begin (disarmed (here_in svc.now self.old))) }
-        ensures acts { Acts (calls.receive nodes (service_of svc.now seed) message.now.to message.now.from (content_in message.now.content)) message.now.to (here_in svc.now self.old) (here_in svc.now self.new) result }
-        ensures seat { IsWhole result → StaysSeat svc.now seed nodes message.now.to self.old self.new }
+        requires past { Begins (known (here_in svc.now P.past self.old).log) P.past }
+        requires tells { IsTold svc.now P.past message.now.content }
+        requires runs { RunsOn svc.now (calls.receive nodes (service_of svc.now seed) message.now.to message.now.from (content_in P.past message.now.content)) (begin (disarmed (here_in svc.now P.past self.old))) }
+        ensures acts { Acts P.past (calls.receive nodes (service_of svc.now seed) message.now.to message.now.from (content_in P.past message.now.content)) message.now.to (here_in svc.now P.past self.old) (here_in svc.now P.past self.new) result }
+        ensures tells { IfOk result (λ step. AreTold svc.now P.past step.sends) }
+        ensures seat { IsWhole result → StaysSeat svc.now P.past seed nodes message.now.to self.old self.new }
         ensures ready { R.ready replayer.new }
     {
         match self {
-            Seat::Running(node) => node.on_message(svc, replayer, message),
+            Seat::Running(node) => node.on_message::<P, R>(svc, replayer, message),
             Seat::Stopped(_) | Seat::Empty => Err(Refusal::Down),
         }
     }
 
     /// A client hands a request to the node.
-    pub(crate) fn submit(
+    pub(crate) fn submit<P: Past>(
         &mut self,
         alloc: Global,
         svc: &Checked,
@@ -268,19 +194,19 @@ impl<S: Store> Seat<S> {
         number: u8,
         request: &Request,
     ) -> Result<Step, Refusal>
-        requires seat { IsSeat svc.now seed nodes number self.old }
+        requires seat { IsSeat svc.now P.past seed nodes number self.old }
         requires request { RequestFits svc.now request.now }
-        ensures acts { Acts (λ d. lanes.active_only (is_active d.node.role) d (lanes.submit_request svc.now (Some request.now) d)) number (here_in svc.now self.old) (here_in svc.now self.new) result }
-        ensures seat { IsWhole result → StaysSeat svc.now seed nodes number self.old self.new }
+        ensures acts { Acts P.past (λ d. lanes.active_only (is_active d.node.role) d (lanes.submit_request svc.now (Some request.now) d)) number (here_in svc.now P.past self.old) (here_in svc.now P.past self.new) result }
+        ensures seat { IsWhole result → StaysSeat svc.now P.past seed nodes number self.old self.new }
     {
         match self {
-            Seat::Running(node) => answered(alloc, request, node.submit(svc, request)),
+            Seat::Running(node) => answered(alloc, request, node.submit::<P>(svc, request)),
             Seat::Stopped(_) | Seat::Empty => Err(Refusal::Down),
         }
     }
 
     /// A lane has its turn, after so many schedule lines.
-    pub(crate) fn lane(
+    pub(crate) fn lane<P: Past>(
         &mut self,
         alloc: Global,
         svc: &Checked,
@@ -290,23 +216,23 @@ impl<S: Store> Seat<S> {
         lane: u8,
         done: u32,
     ) -> Result<Step, Refusal>
-        requires seat { IsSeat svc.now seed nodes number self.old }
+        requires seat { IsSeat svc.now P.past seed nodes number self.old }
         requires there { lane < svc.now.lanes }
-        requires count { (here_in svc.now self.old).up ≡ true → (lane_of (lanes.live_state svc.now (here_in svc.now self.old)) lane).done + 1 < 2 ^ 32 }
-        ensures acts { Acts (λ d. lanes.active_only (is_active d.node.role) d (lanes.lane_turn svc.now done lane d)) number (here_in svc.now self.old) (here_in svc.now self.new) result }
-        ensures seat { IsWhole result → StaysSeat svc.now seed nodes number self.old self.new }
+        requires count { (here_in svc.now P.past self.old).up ≡ true → (lane_of (lanes.live_state svc.now (here_in svc.now P.past self.old)) lane).done + 1 < 2 ^ 32 }
+        ensures acts { Acts P.past (λ d. lanes.active_only (is_active d.node.role) d (lanes.lane_turn svc.now done lane d)) number (here_in svc.now P.past self.old) (here_in svc.now P.past self.new) result }
+        ensures seat { IsWhole result → StaysSeat svc.now P.past seed nodes number self.old self.new }
     {
         if !self.is_up() {
             return Err(Refusal::Down);
         }
         match self {
-            Seat::Running(node) => turned(alloc, lane, node.lane(svc, lane, done as i64)),
+            Seat::Running(node) => turned(alloc, lane, node.lane::<P>(svc, lane, done as i64)),
             Seat::Stopped(_) | Seat::Empty => Err(Refusal::Down),
         }
     }
 
     /// The node is handed an event that was made elsewhere.
-    pub(crate) fn take_event(
+    pub(crate) fn take_event<P: Past>(
         &mut self,
         svc: &Checked,
         seed: u32,
@@ -314,22 +240,22 @@ impl<S: Store> Seat<S> {
         number: u8,
         event: &Event,
     ) -> Result<Turn, Refusal>
-        requires seat { IsSeat svc.now seed nodes number self.old }
-        requires count { (here_in svc.now self.old).up ≡ true → (lane_of (lanes.live_state svc.now (here_in svc.now self.old)) event.now.lane).done + 1 < 2 ^ 32 }
-        ensures handed { IsHanded svc.now event.now (here_in svc.now self.old) (here_in svc.now self.new) result }
-        ensures seat { StaysSeat svc.now seed nodes number self.old self.new }
+        requires seat { IsSeat svc.now P.past seed nodes number self.old }
+        requires count { (here_in svc.now P.past self.old).up ≡ true → (lane_of (lanes.live_state svc.now (here_in svc.now P.past self.old)) event.now.lane).done + 1 < 2 ^ 32 }
+        ensures handed { IsHanded svc.now event.now (here_in svc.now P.past self.old) (here_in svc.now P.past self.new) result }
+        ensures seat { StaysSeat svc.now P.past seed nodes number self.old self.new }
     {
         if !self.is_up() {
             return Err(Refusal::Down);
         }
         match self {
-            Seat::Running(node) => node.take_event(svc, event),
+            Seat::Running(node) => node.take_event::<P>(svc, event),
             Seat::Stopped(_) | Seat::Empty => Err(Refusal::Down),
         }
     }
 
     /// The node is handed a block of events that were made elsewhere.
-    pub(crate) fn take_block<R: Replayer>(
+    pub(crate) fn take_block<P: Past, R: Replayer>(
         &mut self,
         svc: &Checked,
         replayer: &mut R,
@@ -338,25 +264,25 @@ impl<S: Store> Seat<S> {
         number: u8,
         events: &[Event],
     ) -> Result<(), Refusal>
-        requires seat { IsSeat svc.now seed nodes number self.old }
-        requires runs { (here_in svc.now self.old).up ≡ true → IsSome (run svc.now (lanes.live_state svc.now (here_in svc.now self.old)) events.now) }
+        requires seat { IsSeat svc.now P.past seed nodes number self.old }
+        requires runs { (here_in svc.now P.past self.old).up ≡ true → IsSome (run svc.now (lanes.live_state svc.now (here_in svc.now P.past self.old)) events.now) }
         requires counted { AreCounted events.now }
         requires ready { R.ready replayer.old }
-        ensures handed { IsHandedBlock svc.now events.now (here_in svc.now self.old) (here_in svc.now self.new) result }
-        ensures seat { StaysSeat svc.now seed nodes number self.old self.new }
+        ensures handed { IsHandedBlock svc.now events.now (here_in svc.now P.past self.old) (here_in svc.now P.past self.new) result }
+        ensures seat { StaysSeat svc.now P.past seed nodes number self.old self.new }
         ensures ready { R.ready replayer.new }
     {
         if !self.is_up() {
             return Err(Refusal::Down);
         }
         match self {
-            Seat::Running(node) => node.take_block(svc, replayer, events),
+            Seat::Running(node) => node.take_block::<P, R>(svc, replayer, events),
             Seat::Stopped(_) | Seat::Empty => Err(Refusal::Down),
         }
     }
 
     /// The node proposes live events: all of them, or at most so many of each lane.
-    pub(crate) fn cut(
+    pub(crate) fn cut<P: Past>(
         &mut self,
         svc: &Checked,
         seed: u32,
@@ -364,24 +290,25 @@ impl<S: Store> Seat<S> {
         number: u8,
         limits: Option<&[u32]>,
     ) -> Result<Step, Refusal>
-        requires seat { IsSeat svc.now seed nodes number self.old }
+        requires seat { IsSeat svc.now P.past seed nodes number self.old }
         requires limits { AreLimits svc.now (option_copied limits) }
-        requires spelling { (here_in svc.now self.old).up ≡ true → CanBeCut (here_in svc.now self.old) (counts_for svc.now (here_in svc.now self.old) (option_copied limits)) }
-        requires runs { RunsOn svc.now (lanes.cut svc.now seed nodes number (counts_for svc.now (here_in svc.now self.old) (option_copied limits))) (begin (disarmed (here_in svc.now self.old))) }
-        ensures acts { Acts (lanes.cut svc.now seed nodes number (counts_for svc.now (here_in svc.now self.old) (option_copied limits.entry))) number (here_in svc.now self.old) (here_in svc.now self.new) result }
-        ensures seat { IsWhole result → StaysSeat svc.now seed nodes number self.old self.new }
+        requires spelling { (here_in svc.now P.past self.old).up ≡ true → CanBeCut (here_in svc.now P.past self.old) (counts_for svc.now (here_in svc.now P.past self.old) (option_copied limits)) }
+        requires runs { RunsOn svc.now (lanes.cut svc.now seed nodes number (counts_for svc.now (here_in svc.now P.past self.old) (option_copied limits))) (begin (disarmed (here_in svc.now P.past self.old))) }
+        ensures acts { Acts P.past (lanes.cut svc.now seed nodes number (counts_for svc.now (here_in svc.now P.past self.old) (option_copied limits.entry))) number (here_in svc.now P.past self.old) (here_in svc.now P.past self.new) result }
+        ensures tells { IfOk result (λ step. AreTold svc.now P.past step.sends) }
+        ensures seat { IsWhole result → StaysSeat svc.now P.past seed nodes number self.old self.new }
     {
         if !self.is_up() {
             return Err(Refusal::Down);
         }
         match self {
-            Seat::Running(node) => node.cut(svc, limits),
+            Seat::Running(node) => node.cut::<P>(svc, limits),
             Seat::Stopped(_) | Seat::Empty => Err(Refusal::Down),
         }
     }
 
     /// The node replays what it knows.
-    pub(crate) fn replay<R: Replayer>(
+    pub(crate) fn replay<P: Past, R: Replayer>(
         &mut self,
         svc: &Checked,
         replayer: &mut R,
@@ -389,20 +316,20 @@ impl<S: Store> Seat<S> {
         nodes: u8,
         number: u8,
     ) -> Result<Step, Refusal>
-        requires seat { IsSeat svc.now seed nodes number self.old }
+        requires seat { IsSeat svc.now P.past seed nodes number self.old }
         requires ready { R.ready replayer.old }
-        ensures acts { Acts (calls.replay number) number (here_in svc.now self.old) (here_in svc.now self.new) result }
-        ensures seat { IsWhole result → StaysSeat svc.now seed nodes number self.old self.new }
+        ensures acts { Acts P.past (calls.replay number) number (here_in svc.now P.past self.old) (here_in svc.now P.past self.new) result }
+        ensures seat { IsWhole result → StaysSeat svc.now P.past seed nodes number self.old self.new }
         ensures ready { R.ready replayer.new }
     {
         match self {
-            Seat::Running(node) => node.replay(svc, replayer),
+            Seat::Running(node) => node.replay::<P, R>(svc, replayer),
             Seat::Stopped(_) | Seat::Empty => Err(Refusal::Down),
         }
     }
 
     /// The node writes down the state that it has replayed, in a version.
-    pub(crate) fn checkpoint(
+    pub(crate) fn checkpoint<P: Past>(
         &mut self,
         svc: &Checked,
         seed: u32,
@@ -411,12 +338,31 @@ impl<S: Store> Seat<S> {
         version: Version,
     ) -> Result<Step, Refusal>
         requires has { has_version svc.now version ≡ true }
-        requires seat { IsSeat svc.now seed nodes number self.old }
-        ensures acts { Acts (calls.checkpoint version (service_of svc.now seed) number) number (here_in svc.now self.old) (here_in svc.now self.new) result }
-        ensures seat { IsWhole result → StaysSeat svc.now seed nodes number self.old self.new }
+        requires seat { IsSeat svc.now P.past seed nodes number self.old }
+        ensures acts { Acts P.past (calls.checkpoint version (service_of svc.now seed) number) number (here_in svc.now P.past self.old) (here_in svc.now P.past self.new) result }
+        ensures seat { IsWhole result → StaysSeat svc.now P.past seed nodes number self.old self.new }
     {
         match self {
-            Seat::Running(node) => node.checkpoint_in(svc, version),
+            Seat::Running(node) => node.checkpoint_in::<P>(svc, version),
+            Seat::Stopped(_) | Seat::Empty => Err(Refusal::Down),
+        }
+    }
+
+    /// The node forgets the values up to its base.
+    pub(crate) fn drop_known<P: Past>(
+        &mut self,
+        svc: &Checked,
+        seed: u32,
+        nodes: u8,
+        number: u8,
+    ) -> Result<Step, Refusal>
+        requires seat { IsSeat svc.now P.past seed nodes number self.old }
+        requires past { Begins (known (here_in svc.now P.past self.old).log) P.past }
+        ensures acts { Acts P.past (calls.drop_known number) number (here_in svc.now P.past self.old) (here_in svc.now P.past self.new) result }
+        ensures seat { IsWhole result → StaysSeat svc.now P.past seed nodes number self.old self.new }
+    {
+        match self {
+            Seat::Running(node) => node.drop_known::<P>(svc),
             Seat::Stopped(_) | Seat::Empty => Err(Refusal::Down),
         }
     }
@@ -433,7 +379,7 @@ impl<S: Store> Seat<S> {
     }
 
     /// The node asks another one for what it doesn't know.
-    pub(crate) fn ask(
+    pub(crate) fn ask<P: Past>(
         &mut self,
         svc: &Checked,
         seed: u32,
@@ -441,18 +387,19 @@ impl<S: Store> Seat<S> {
         number: u8,
         other: u8,
     ) -> Result<Step, Refusal>
-        requires seat { IsSeat svc.now seed nodes number self.old }
-        ensures acts { Acts (calls.ask number other) number (here_in svc.now self.old) (here_in svc.now self.new) result }
-        ensures seat { IsWhole result → StaysSeat svc.now seed nodes number self.old self.new }
+        requires seat { IsSeat svc.now P.past seed nodes number self.old }
+        ensures acts { Acts P.past (calls.ask number other) number (here_in svc.now P.past self.old) (here_in svc.now P.past self.new) result }
+        ensures tells { IfOk result (λ step. AreTold svc.now P.past step.sends) }
+        ensures seat { IsWhole result → StaysSeat svc.now P.past seed nodes number self.old self.new }
     {
         match self {
-            Seat::Running(node) => node.ask(svc, other),
+            Seat::Running(node) => node.ask::<P>(svc, other),
             Seat::Stopped(_) | Seat::Empty => Err(Refusal::Down),
         }
     }
 
     /// The node is stopped: its keeper is left.
-    pub(crate) fn stop(
+    pub(crate) fn stop<P: Past>(
         &mut self,
         alloc: Global,
         svc: &Checked,
@@ -460,9 +407,9 @@ impl<S: Store> Seat<S> {
         nodes: u8,
         number: u8,
     ) -> Result<Step, Refusal>
-        requires seat { IsSeat svc.now seed nodes number self.old }
-        ensures acts { Acts (calls.stop number) number (here_in svc.now self.old) (here_in svc.now self.new) result }
-        ensures seat { IsWhole result → StaysSeat svc.now seed nodes number self.old self.new }
+        requires seat { IsSeat svc.now P.past seed nodes number self.old }
+        ensures acts { Acts P.past (calls.stop number) number (here_in svc.now P.past self.old) (here_in svc.now P.past self.new) result }
+        ensures seat { IsWhole result → StaysSeat svc.now P.past seed nodes number self.old self.new }
     {
         if !self.is_up() {
             return Err(Refusal::Down);
@@ -474,7 +421,7 @@ impl<S: Store> Seat<S> {
 
     /// The node is started from what its keeper has, which is reopened first. These are its own records, so none is bad, and a
     /// start that doesn't come up is short of memory.
-    pub(crate) fn start(
+    pub(crate) fn start<P: Past>(
         &mut self,
         alloc: Global,
         svc: &Checked,
@@ -484,18 +431,18 @@ impl<S: Store> Seat<S> {
     ) -> Result<Step, Refusal>
         requires there { (0 < number) × (number ≤ nodes) }
         requires few { nodes ≤ most_nodes }
-        requires seat { IsSeat svc.now seed nodes number self.old }
-        requires runs { Starts svc.now (here_in svc.now self.old) }
-        ensures starts { IsStarted (service_of svc.now seed) number (here_in svc.now self.old) (here_in svc.now self.new) result }
-        ensures seat { IsWhole result → StaysSeat svc.now seed nodes number self.old self.new }
+        requires seat { IsSeat svc.now P.past seed nodes number self.old }
+        requires runs { Starts svc.now P.past (here_in svc.now P.past self.old) }
+        ensures starts { IsStarted (service_of svc.now seed) number (here_in svc.now P.past self.old) (here_in svc.now P.past self.new) result }
+        ensures seat { IsWhole result → StaysSeat svc.now P.past seed nodes number self.old self.new }
     {
         if self.is_up() {
             return step_of(alloc, Effect::IsUp { node: number });
         }
         let keeper = self.take_keeper().reopen()?;
-        match Node::restart(alloc, number, nodes, seed, svc, keeper) {
+        match Node::restart::<P>(alloc, number, nodes, seed, svc, keeper) {
             Ok(mut node) => {
-                let step = come_back(alloc, svc, seed, nodes, number, &mut node)?;
+                let step = come_back::<P, S>(alloc, svc, seed, nodes, number, &mut node)?;
                 *self = Seat::Running(node);
                 Ok(step)
             }

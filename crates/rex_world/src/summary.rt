@@ -52,9 +52,9 @@ pub fn summarize<R: Replayer>(
     let _service = svc.declarations();
     let mut world = World::new(alloc, svc, scenario)?;
     let releases = world.follow(svc, replayer, scenario)?;
-    let values = world.agreed(svc)?;
+    let values = world.agreed();
     let start = State::start(alloc, svc)?;
-    let last = replay_values(alloc, svc, replayer, &start, values.as_slice())?;
+    let last = replay_values(alloc, svc, replayer, &start, values)?;
     let variables = listed(alloc, last.variables())?;
     Ok(Summary {
         lines: scenario.schedule.len() as u64,

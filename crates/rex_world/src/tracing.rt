@@ -74,8 +74,7 @@ impl<S: Store> World<S> {
         requires { IsRunning svc.now self.now }
         ensures { OnOk result (out.new.items ≡ out.old.items ++ values_text svc.now 1 (agreed (world_of svc.now self.now))) }
     {
-        let values = self.agreed(svc)?;
-        push_values(out, self.alloc, svc.declarations(), values.as_slice())
+        push_values(out, self.alloc, svc.declarations(), self.agreed())
     }
 }
 

@@ -1,6 +1,6 @@
 //! The world.
 
-ghost use Rattle.std.specs.Prelude.{◌≡◌, ◌<◌, ◌≤◌, ◌+◌, ◌^◌, Err, false, true, length, replicate, IsSome, IfOk, OnOk, OnErr, if◌then◌else◌};
+ghost use Rattle.std.specs.Prelude.{◌≡◌, ◌<◌, ◌≤◌, ◌+◌, ◌^◌, [], Err, false, true, length, replicate, IsSome, IfOk, OnOk, OnErr, if◌then◌else◌};
 ghost use Rattle.std.specs.List.{All};
 ghost use Rattle.rex_ballot.specs.Limits.{most_nodes};
 ghost use Rattle.rex_state.specs.Machine.{run};
@@ -27,6 +27,7 @@ use crate::calls::tell_all;
 use crate::places::{arm_at, take_at, take_block_at};
 use crate::seats::Seat;
 use crate::told::Told;
+use rex_ballot::Value;
 use rex_event::{Event, Kind};
 use rex_list::List;
 use rex_net::Net;
@@ -39,14 +40,18 @@ use rex_syntax::checked::Checked;
 use rex_syntax::request::Request;
 use rex_traits::{Fate, MemKeeper, Obedient, Store};
 use std::alloc::{AllocError, Global};
+use std::marker::Brand;
 
-/// The nodes of a cluster, and the messages between them. After an `Err`, which is want of memory, it is broken, and given up.
+/// The nodes of a cluster, the messages between them, and the values that they agreed on. After an `Err` of a step or a run it is
+/// broken, and given up.
 #[derive(Drop)]
 pub struct World<S: Store> {
     pub(crate) alloc: Global,
     pub(crate) seed: u32,
     pub(crate) requests: List<Request>,
     pub(crate) seats: Vec<Seat<S>>,
+    /// The values that the nodes agreed on.
+    pub(crate) agreed: List<Value>,
     /// The messages that were sent, as bytes.
     pub(crate) net: Net,
     /// For each of them whether a line handed it over.
@@ -69,11 +74,11 @@ fn new_seat<S: Store>(
     requires there { (0 < number) × (number ≤ nodes) }
     requires few { nodes ≤ most_nodes }
     requires fresh { IsFresh (value_by S.records S.faults S.armed S.broken S.as_armed) keeper }
-    ensures here { IfOk result (λ seat. here_in svc.now seat ≡ new_node) }
-    ensures seat { IfOk result (IsSeat svc.now seed nodes number) }
+    ensures here { IfOk result (λ seat. here_in svc.now [] seat ≡ new_node) }
+    ensures seat { IfOk result (IsSeat svc.now [] seed nodes number) }
     ensures within { IfOk result (λ seat. faults_of (keeper_in seat) ≡ 0) }
 {
-    match Node::restart(alloc, number, nodes, seed, svc, Obedient::new(keeper)) {
+    match Node::restart::<Brand>(alloc, number, nodes, seed, svc, Obedient::new(keeper)) {
         Ok(node) => Ok(Seat::Running(node)),
         Err(not_started) => match not_started.fault {
             RestartFault::OutOfMemory => Err(AllocError),
@@ -93,8 +98,8 @@ fn new_seats<S: Store>(
     requires few { nodes ≤ most_nodes }
     requires many { length keepers.items ≡ nodes }
     requires fresh { All (IsFresh (value_by S.records S.faults S.armed S.broken S.as_armed)) keepers.items }
-    ensures heres { IfOk result (λ seats. heres svc.now seats.items ≡ replicate nodes new_node) }
-    ensures seats { IfOk result (λ seats. AreSeats svc.now seed nodes 1 seats.items) }
+    ensures heres { IfOk result (λ seats. heres svc.now [] seats.items ≡ replicate nodes new_node) }
+    ensures seats { IfOk result (λ seats. AreSeats svc.now [] seed nodes 1 seats.items) }
     ensures within { IfOk result (λ seats. AreWithin 0 seats.items) }
     ensures many { IfOk result (λ seats. length seats.items ≡ nodes) }
 {
@@ -134,20 +139,12 @@ fn fate_of(kept: bool) -> Fate
     if kept { Fate::Kept } else { Fate::Lost }
 }
 
-// Whether memory was short where a node was handed an event.
-fn is_short(turn: &Result<Turn, Refusal>) -> bool
-    ensures whole { IsWhole turn.now → result ≡ false }
-    ensures short { turn.now ≡ Err why.OutOfMemory → result ≡ true }
+// Whether memory was short where a node was handed events.
+fn is_short<T>(outcome: &Result<T, Refusal>) -> bool
+    ensures whole { IsWhole outcome.now → result ≡ false }
+    ensures short { outcome.now ≡ Err why.OutOfMemory → result ≡ true }
 {
-    matches!(turn, Err(Refusal::OutOfMemory))
-}
-
-// The same of a block.
-fn is_block_short(taken: &Result<(), Refusal>) -> bool
-    ensures whole { IsWhole taken.now → result ≡ false }
-    ensures short { taken.now ≡ Err why.OutOfMemory → result ≡ true }
-{
-    matches!(taken, Err(Refusal::OutOfMemory))
+    matches!(outcome, Err(Refusal::OutOfMemory))
 }
 
 impl World<MemKeeper> {
@@ -196,6 +193,7 @@ impl<S: Store> World<S> {
             seed: scenario.seed,
             requests,
             seats,
+            agreed: List::new(alloc),
             net: Net::new(alloc),
             handed: Vec::new(alloc),
             flushed: 0,
@@ -213,7 +211,7 @@ impl<S: Store> World<S> {
         self.done
     }
 
-    /// Whether memory was short in a call: then no other call may be made.
+    /// Whether memory was short in a call, or a report was not written to its end: then no other call may be made.
     pub fn broken(&self) -> bool
         ensures { result ≡ self.now.broken }
     {
@@ -307,7 +305,7 @@ impl<S: Store> World<S> {
         ensures done { self.new.done ≡ self.old.done }
         ensures broken { result ≡ Err why.OutOfMemory → self.new.broken ≡ true }
     {
-        let turn = take_at(&mut self.seats, svc, self.seed, node, event);
+        let turn = take_at::<Brand, S>(&mut self.seats, &self.agreed, svc, self.seed, node, event);
         self.broken = is_short(&turn);
         turn
     }
@@ -336,8 +334,16 @@ impl<S: Store> World<S> {
         ensures broken { result ≡ Err why.OutOfMemory → self.new.broken ≡ true }
         ensures ready { R.ready replayer.new }
     {
-        let taken = take_block_at(&mut self.seats, svc, replayer, self.seed, node, events);
-        self.broken = is_block_short(&taken);
+        let taken = take_block_at::<Brand, S, R>(
+            &mut self.seats,
+            &self.agreed,
+            svc,
+            replayer,
+            self.seed,
+            node,
+            events,
+        );
+        self.broken = is_short(&taken);
         taken
     }
 

@@ -7,13 +7,13 @@ use Rattle.rex_world.proofs.Seated.{here_is, seat_is}
 use Rattle.rex_world.proofs.places.take_block_at.Goals as goal
 
 pub take_block-requires-clause-seat : goal.take_block-requires-clause-seat
-take_block-requires-clause-seat g c = seat_is c.args.svc.now c.args.seats.now c.args.number c.requires.there c.index-seats-number.result c.args.seed (length c.args.seats.now) c.requires.seats
+take_block-requires-clause-seat g c = seat_is c.args.svc.now g.P.Past.past c.args.seats.now c.args.number c.requires.there c.index-seats-number.result c.args.seed (length c.args.seats.now) c.requires.seats
 
 pub take_block-requires-clause-runs : goal.take_block-requires-clause-runs
 take_block-requires-clause-runs g c =
     subst (λ (x : Here). x.up ≡ true → IsSome (run c.args.svc.now (live_state c.args.svc.now x) c.args.events.now))
-    (here_is c.args.svc.now c.args.seats.now c.args.number c.requires.there c.index-seats-number.result) c.requires.runs
+    (here_is c.args.svc.now g.P.Past.past c.args.seats.now c.args.number c.requires.there c.index-seats-number.result) c.requires.runs
 
 pub returns-clause-handed : goal.returns-clause-handed
 returns-clause-handed g c =
-    block_at c.args.svc.now c.args.seats.now c.args.number c.requires.there c.index-seats-number.result c.args.seed c.args.events.now c.take_block.new.self c.take_block.result c.take_block.ensures.handed c.take_block.ensures.seat
+    block_at c.args.svc.now g.P.Past.past c.args.seats.now c.args.number c.requires.there c.index-seats-number.result c.args.seed c.args.events.now c.take_block.new.self c.take_block.result c.take_block.ensures.handed c.take_block.ensures.seat

@@ -3,9 +3,9 @@ use Rattle.rex_world.proofs.seats.come_back.Goals as goal
 
 pub returns-clause-back : goal.returns-clause-back
 returns-clause-back g c =
-    joined_back c.args.svc.now c.args.seed c.args.nodes c.args.number c.args.node.now c.requires.runner c.requires.up c.migrate.new.self c.in_ok-step.step c.in_ok-migrated.migrated c.joined.result
+    joined_back c.args.svc.now g.P.Past.past c.args.seed c.args.nodes c.args.number c.args.node.now c.requires.runner c.requires.up c.migrate.new.self c.in_ok-step.step c.in_ok-migrated.migrated c.joined.result
     c.in_ok-migrated.ensures.told c.in_ok-step.ensures.effects c.joined.ensures.effects c.joined.ensures.sends
 
 pub returns-clause-stays : goal.returns-clause-stays
 returns-clause-stays g c =
-    λ whole. migrate_stays c.args.svc.now c.args.seed c.args.nodes c.args.number c.args.node.now c.requires.runner c.requires.up c.migrate.new.self c.in_ok-migrated.migrated c.migrate.ensures.kept c.in_ok-migrated.ensures.told
+    λ whole. migrate_stays c.args.svc.now g.P.Past.past c.args.seed c.args.nodes c.args.number c.args.node.now c.requires.runner c.requires.up c.migrate.new.self c.in_ok-migrated.migrated c.migrate.ensures.kept c.in_ok-migrated.ensures.told

@@ -9,12 +9,12 @@ use Rattle.rex_world.proofs.seats.Seat.replay.Goals as goal
 
 pub returns-in-Running-clause-acts : goal.returns-in-Running-clause-acts
 returns-in-Running-clause-acts g c =
-    let runner = subst (IsSeat c.args.svc.now c.args.seed c.args.nodes c.args.number) c.in-Running.is c.requires.seat in
-    subst (λ (seat : Seat _). Acts (replay c.args.number) c.args.number (here_in c.args.svc.now seat) (here_at c.args.svc.now c.replay.new.self) c.replay.result) (sym c.in-Running.is)
-    (replays c.args.svc.now c.args.seed c.args.nodes c.args.number c.in-Running.node c.replay.new.self runner c.replay.result c.replay.ensures.refused c.replay.ensures.told (spared_if c.replay.result _ _ c.replay.ensures.same))
+    let runner = subst (IsSeat c.args.svc.now g.P.Past.past c.args.seed c.args.nodes c.args.number) c.in-Running.is c.requires.seat in
+    subst (λ (seat : Seat _). Acts g.P.Past.past (replay c.args.number) c.args.number (here_in c.args.svc.now g.P.Past.past seat) (here_at c.args.svc.now g.P.Past.past c.replay.new.self) c.replay.result) (sym c.in-Running.is)
+    (replays c.args.svc.now g.P.Past.past c.args.seed c.args.nodes c.args.number c.in-Running.node c.replay.new.self runner c.replay.result c.replay.ensures.refused c.replay.ensures.told (spared_if c.replay.result _ _ c.replay.ensures.same))
 
 pub returns-in-Running-clause-seat : goal.returns-in-Running-clause-seat
 returns-in-Running-clause-seat g c =
-    let runner = subst (IsSeat c.args.svc.now c.args.seed c.args.nodes c.args.number) c.in-Running.is c.requires.seat in
-    λ whole. in_seat c.args.svc.now c.args.seed c.args.nodes c.args.number c.args.self.now c.in-Running.node c.replay.new.self c.in-Running.is
-    (stays_whole c.args.svc.now c.args.seed c.args.nodes c.args.number c.in-Running.node runner c.replay.new.self (replay c.in-Running.node.id) c.replay.result (λ f. replay_either f c.in-Running.node.id) c.replay.ensures.kept c.replay.ensures.told (spared_if c.replay.result _ _ c.replay.ensures.same) whole)
+    let runner = subst (IsSeat c.args.svc.now g.P.Past.past c.args.seed c.args.nodes c.args.number) c.in-Running.is c.requires.seat in
+    λ whole. in_seat c.args.svc.now g.P.Past.past c.args.seed c.args.nodes c.args.number c.args.self.now c.in-Running.node c.replay.new.self c.in-Running.is
+    (stays_whole c.args.svc.now g.P.Past.past c.args.seed c.args.nodes c.args.number c.in-Running.node runner c.replay.new.self (replay c.in-Running.node.id) c.replay.result (λ f. replay_either f c.in-Running.node.id) c.replay.ensures.kept c.replay.ensures.told (spared_if c.replay.result _ _ c.replay.ensures.same) whole)

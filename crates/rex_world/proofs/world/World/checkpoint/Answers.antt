@@ -3,18 +3,21 @@ use Rattle.std.proofs.Common.{List}
 use Rattle.rex_world.specs.declared.seats.Seat.{Seat}
 use Rattle.rex_safety.specs.Calls as calls
 use Rattle.rex_safety.specs.Values.{service_of}
-use Rattle.rex_world.proofs.Stepping.{kept_next, call_fits, came}
+use Rattle.rex_world.proofs.Stepping.{kept_next, call_fits, came, still_there}
 use Rattle.rex_world.proofs.world.World.checkpoint.Goals as goal
 
-pub tell-requires : goal.tell-requires
-tell-requires g c =
+pub settle-requires-clause-sends : goal.settle-requires-clause-sends
+settle-requires-clause-sends g c =
     call_fits c.args.svc.now c.args.self.now c.requires.running c.args.node c.deref_mut.result.now c.deref_mut.ensures.value
     (λ (ys : List (Seat _)). calls.checkpoint c.args.version (service_of c.args.svc.now c.args.self.now.seed) c.args.node)
     c.checkpoint_at-outcome.new.seats c.checkpoint_at-outcome.result c.checkpoint_at-outcome.ensures.acts (kept_next c.args.svc.now c.args.self.now c.requires.running (line.Checkpoint c.args.node c.args.version) c.requires.there)
 
 pub returns : goal.returns
 returns g c = record {
-  comes = came c.args.svc.now c.args.self.now c.requires.running c.args.node c.deref_mut.result.now c.deref_mut.ensures.value
+  comes = came c.args.svc.now c.args.self.now c.requires.running c.args.node c.requires.there c.record_count-count.result c.record_count-count.ensures c.deref_mut.result.now c.deref_mut.ensures.value
       (λ (ys : List (Seat _)). calls.checkpoint c.args.version (service_of c.args.svc.now c.args.self.now.seed) c.args.node)
-      c.checkpoint_at-outcome.new.seats c.checkpoint_at-outcome.result c.tell.new.self c.args.told.now c.tell.new.told c.tell.result c.checkpoint_at-outcome.ensures.acts (kept_next c.args.svc.now c.args.self.now c.requires.running (line.Checkpoint c.args.node c.args.version) c.requires.there) c.tell.ensures;
+      c.checkpoint_at-outcome.new.seats c.checkpoint_at-outcome.result c.settle.new.self c.args.told.now c.settle.new.told c.settle.result c.checkpoint_at-outcome.ensures.acts (kept_next c.args.svc.now c.args.self.now c.requires.running (line.Checkpoint c.args.node c.args.version) c.requires.there) c.settle.ensures;
 }
+
+pub settle-requires-clause-there : goal.settle-requires-clause-there
+settle-requires-clause-there g c = still_there c.args.svc.now c.args.self.now c.requires.running c.args.node c.requires.there c.deref_mut.result.now c.deref_mut.ensures.value c.checkpoint_at-outcome.new.seats c.checkpoint_at-outcome.ensures.acts.changed.many

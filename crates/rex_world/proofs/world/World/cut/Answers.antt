@@ -4,7 +4,7 @@ use Rattle.rex_safety.specs.World.{node_at}
 use Rattle.rex_node.specs.Calls.{counts_for}
 use Rattle.rex_world.specs.declared.seats.Seat.{Seat}
 use Rattle.rex_world.specs.Seats.{heres}
-use Rattle.rex_world.proofs.Stepping.{call_fits, came, can_cut, cut_runs, cut_kept, cut_came}
+use Rattle.rex_world.proofs.Stepping.{call_fits, came, still_there, can_cut, cut_runs, cut_kept, cut_came, still_there}
 use Rattle.rex_world.proofs.world.World.cut.Goals as goal
 
 pub cut_at-outcome-requires-clause-runs : goal.cut_at-outcome-requires-clause-runs
@@ -13,16 +13,19 @@ cut_at-outcome-requires-clause-runs g c = cut_runs c.args.svc.now c.args.self.no
 pub cut_at-outcome-requires-clause-spelling : goal.cut_at-outcome-requires-clause-spelling
 cut_at-outcome-requires-clause-spelling g c = can_cut c.args.svc.now c.args.self.now c.requires.running c.deref_mut.result.now c.deref_mut.ensures.value c.args.node c.requires.there (option_copied c.args.limits) c.requires.limits
 
-pub tell-requires : goal.tell-requires
-tell-requires g c =
+pub settle-requires-clause-sends : goal.settle-requires-clause-sends
+settle-requires-clause-sends g c =
     call_fits c.args.svc.now c.args.self.now c.requires.running c.args.node c.deref_mut.result.now c.deref_mut.ensures.value
-    (λ (ys : List (Seat _)). lanes.cut c.args.svc.now c.args.self.now.seed (length ys) c.args.node (counts_for c.args.svc.now (node_at (heres c.args.svc.now ys) c.args.node) (option_copied c.args.limits)))
+    (λ (ys : List (Seat _)). lanes.cut c.args.svc.now c.args.self.now.seed (length ys) c.args.node (counts_for c.args.svc.now (node_at (heres c.args.svc.now c.args.self.now.agreed ys) c.args.node) (option_copied c.args.limits)))
     c.cut_at-outcome.new.seats c.cut_at-outcome.result c.cut_at-outcome.ensures.acts (cut_kept c.args.svc.now c.args.self.now c.requires.running c.args.node (option_copied c.args.limits) c.requires.there c.requires.limits)
 
 pub returns : goal.returns
 returns g c = record {
-  comes = cut_came c.args.svc.now c.args.self.now c.requires.running c.args.node (option_copied c.args.limits) c.tell.new.self c.args.told.now c.tell.new.told c.tell.result
-      (came c.args.svc.now c.args.self.now c.requires.running c.args.node c.deref_mut.result.now c.deref_mut.ensures.value
-      (λ (ys : List (Seat _)). lanes.cut c.args.svc.now c.args.self.now.seed (length ys) c.args.node (counts_for c.args.svc.now (node_at (heres c.args.svc.now ys) c.args.node) (option_copied c.args.limits)))
-      c.cut_at-outcome.new.seats c.cut_at-outcome.result c.tell.new.self c.args.told.now c.tell.new.told c.tell.result c.cut_at-outcome.ensures.acts (cut_kept c.args.svc.now c.args.self.now c.requires.running c.args.node (option_copied c.args.limits) c.requires.there c.requires.limits) c.tell.ensures);
+  comes = cut_came c.args.svc.now c.args.self.now c.requires.running c.args.node (option_copied c.args.limits) c.settle.new.self c.args.told.now c.settle.new.told c.settle.result
+      (came c.args.svc.now c.args.self.now c.requires.running c.args.node c.requires.there c.record_count-count.result c.record_count-count.ensures c.deref_mut.result.now c.deref_mut.ensures.value
+      (λ (ys : List (Seat _)). lanes.cut c.args.svc.now c.args.self.now.seed (length ys) c.args.node (counts_for c.args.svc.now (node_at (heres c.args.svc.now c.args.self.now.agreed ys) c.args.node) (option_copied c.args.limits)))
+      c.cut_at-outcome.new.seats c.cut_at-outcome.result c.settle.new.self c.args.told.now c.settle.new.told c.settle.result c.cut_at-outcome.ensures.acts (cut_kept c.args.svc.now c.args.self.now c.requires.running c.args.node (option_copied c.args.limits) c.requires.there c.requires.limits) c.settle.ensures);
 }
+
+pub settle-requires-clause-there : goal.settle-requires-clause-there
+settle-requires-clause-there g c = still_there c.args.svc.now c.args.self.now c.requires.running c.args.node c.requires.there c.deref_mut.result.now c.deref_mut.ensures.value c.cut_at-outcome.new.seats c.cut_at-outcome.ensures.acts.changed.many

@@ -3,20 +3,23 @@ use Rattle.std.proofs.Common.{List, length}
 use Rattle.rex_world.specs.declared.seats.Seat.{Seat}
 use Rattle.rex_safety.specs.Calls as calls
 use Rattle.rex_safety.specs.Values.{service_of}
-use Rattle.rex_world.proofs.Stepping.{kept_next, call_fits, came, elect_runs}
+use Rattle.rex_world.proofs.Stepping.{kept_next, call_fits, came, still_there, elect_runs}
 use Rattle.rex_world.proofs.world.World.elect.Goals as goal
 
 pub elect_at-outcome-requires-clause-runs : goal.elect_at-outcome-requires-clause-runs
 elect_at-outcome-requires-clause-runs g c = elect_runs c.args.svc.now c.args.self.now c.requires.running c.deref_mut.result.now c.deref_mut.ensures.value c.args.node c.requires.there
 
-pub tell-requires : goal.tell-requires
-tell-requires g c =
+pub settle-requires-clause-sends : goal.settle-requires-clause-sends
+settle-requires-clause-sends g c =
     call_fits c.args.svc.now c.args.self.now c.requires.running c.args.node c.deref_mut.result.now c.deref_mut.ensures.value
     (λ (ys : List (Seat _)). calls.elect (length ys) (service_of c.args.svc.now c.args.self.now.seed) c.args.node)
     c.elect_at-outcome.new.seats c.elect_at-outcome.result c.elect_at-outcome.ensures.acts (kept_next c.args.svc.now c.args.self.now c.requires.running (line.Elect c.args.node) c.requires.there)
 
 pub returns-clause-comes : goal.returns-clause-comes
 returns-clause-comes g c =
-    came c.args.svc.now c.args.self.now c.requires.running c.args.node c.deref_mut.result.now c.deref_mut.ensures.value
+    came c.args.svc.now c.args.self.now c.requires.running c.args.node c.requires.there c.record_count-count.result c.record_count-count.ensures c.deref_mut.result.now c.deref_mut.ensures.value
     (λ (ys : List (Seat _)). calls.elect (length ys) (service_of c.args.svc.now c.args.self.now.seed) c.args.node)
-    c.elect_at-outcome.new.seats c.elect_at-outcome.result c.tell.new.self c.args.told.now c.tell.new.told c.tell.result c.elect_at-outcome.ensures.acts (kept_next c.args.svc.now c.args.self.now c.requires.running (line.Elect c.args.node) c.requires.there) c.tell.ensures
+    c.elect_at-outcome.new.seats c.elect_at-outcome.result c.settle.new.self c.args.told.now c.settle.new.told c.settle.result c.elect_at-outcome.ensures.acts (kept_next c.args.svc.now c.args.self.now c.requires.running (line.Elect c.args.node) c.requires.there) c.settle.ensures
+
+pub settle-requires-clause-there : goal.settle-requires-clause-there
+settle-requires-clause-there g c = still_there c.args.svc.now c.args.self.now c.requires.running c.args.node c.requires.there c.deref_mut.result.now c.deref_mut.ensures.value c.elect_at-outcome.new.seats c.elect_at-outcome.ensures.acts.changed.many

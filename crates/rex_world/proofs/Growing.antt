@@ -1,0 +1,364 @@
+-- What is agreed on grows by what the records of a node say that it knows.
+use Rattle.std.proofs.Common.{◌≡◌, ℕ, zero, suc, ◌+◌, ◌-◌, ◌≤◌, ◌<◌, ◌⊎◌, inl, inr, Bool, true, false, cond, eqb, List, [], ◌∷◌, ◌++◌, length, drop, Result, Ok, Err, refl, sym, ap, subst, ◌∙◌, arith, append-nil, length-append, le_refl}
+use Rattle.std.specs.Prelude.{◌==◌, if◌then◌else◌, slice_index_or}
+use Rattle.std.specs.List.{All, list_all}
+use Rattle.std.proofs.lemmas.Bool.{and_parts, cases_lt, eqb-false, eqb-true}
+use Rattle.std.proofs.lemmas.List.Sums.{fold-append}
+use Rattle.std.proofs.Math.Seq.{drop-append_seam}
+use Rattle.rex_syntax.specs.declared.service.Declarations.{Declarations}
+use Rattle.rex_state.specs.Value.{StateValue}
+use Rattle.rex_traits.specs.Keeping.{KeeperValue}
+use Rattle.rex_durable.specs.declared.records.Rec.{Rec as KeptRec}
+use Rattle.rex_durable.specs.declared.records.Rec.TheVariants as rec
+use Rattle.rex_durable.specs.Reading.{record_in}
+use Rattle.rex_safety.specs.Records.{Rec, known}
+use Rattle.rex_safety.specs.Invariant.{AreRecords, Begins}
+use Rattle.rex_safety.specs.Node.{Service, down_node}
+use Rattle.rex_safety.specs.Quorum.{IsNode}
+use Rattle.rex_safety.specs.Values.{Value, runs, service_of, spells, trace_of}
+use Rattle.rex_safety.specs.Lanes.{Here}
+use Rattle.rex_safety.specs.Agreed.{agreed}
+use Rattle.rex_safety.specs.World.{node_at, put}
+use Rattle.rex_safety.specs.Kept.{IsKept}
+use Rattle.rex_safety.proofs.Agreeing.{known_begins, longest_most}
+use Rattle.rex_safety.proofs.Held.{transfers_right}
+use Rattle.rex_safety.proofs.Nexts.{next_fits}
+use Rattle.rex_safety.proofs.Nodes.{node_put}
+use Rattle.rex_log.specs.Log.{AreRead, first, log_behind, log_of, log_with, rec_of, standing_in}
+use Rattle.rex_log.proofs.Firsts.{first_length}
+use Rattle.rex_node.specs.Parts.{IsNode as IsKeptNode, IsUp, NodeValue, here_of, knows, whole}
+use Rattle.rex_world.specs.declared.seats.Seat.{Seat}
+use Rattle.rex_world.specs.declared.seats.Seat.TheVariants.{Running, Stopped, Empty}
+use Rattle.rex_world.specs.declared.world.World.{World}
+use Rattle.rex_world.specs.Agreed.{learned, learned_in}
+use Rattle.rex_world.specs.Seats.{AreSeats, IsKeeping, IsSeat, armed_of, here_at, here_in, heres, records_at, records_of}
+use Rattle.rex_world.specs.World.{TellsRightly, messages_of, nodes_of, world_of}
+use Rattle.rex_world.specs.Kept.{IsRunning}
+use Rattle.rex_world.proofs.Acted.{keeping_in, log_in}
+use Rattle.rex_world.proofs.Agreeing.{holds_of_longest}
+use Rattle.rex_world.proofs.Beside.{TakesFronts, begins_on, first_grown, log_grown, messages_grown, past_has, same_fronts, whole_front}
+use Rattle.rex_world.proofs.Learning.{known_due, learned_as, learned_of}
+use Rattle.rex_world.proofs.Seated.{here_is, later_at, many_here, seat_is}
+use Rattle.rex_world.proofs.Coming.{IsUnsettled, same_world}
+
+-- ---- records one after the other
+
+module _ (service : Declarations) (seed : ℕ) (past : List Value) where
+  abbrev Log : Type 0
+  Log = List (Rec Value StateValue)
+
+  abbrev sv : Service Value StateValue
+  sv = service_of service seed
+
+  abbrev with_one : Log → List ℕ → Log
+  with_one log bytes = log_with service past log (record_in (standing_in log) bytes)
+
+  -- no more are read than there are
+  few_with : (log : Log) (r : Result KeptRec ℕ) → length (log_with service past log r) ≤ suc (length log)
+  few_with log (Ok r) = le_refl (suc (length log))
+  few_with log (Err at) = omega arith
+
+  pub few_behind : (lists : List (List ℕ)) (log : Log) → length (log_behind service past log lists) ≤ length lists + length log
+  few_behind [] log = omega arith
+  few_behind (bytes ∷ lists) log =
+      let a = few_behind lists (with_one log bytes) in
+      let b = few_with log (record_in (standing_in log) bytes) in
+      omega (arith, a, b)
+
+  -- what is in order was in order, and what was known begins what is
+  one_front : (log : Log) (r : Result KeptRec ℕ) → AreRecords sv (log_with service past log r) → AreRecords sv log × Begins (known log) (known (log_with service past log r))
+  one_front log (Err at) h = (h, ([], append-nil (known log)))
+  one_front log (Ok (rec.Promised b)) h = (h, ([], append-nil (known log)))
+  one_front log (Ok (rec.Accepted b i v)) h = (h.1, ([], append-nil (known log)))
+  one_front log (Ok (rec.Known i v)) h = (h.1, (v ∷ [], refl))
+  one_front log (Ok (rec.Checkpoint k bytes)) h = (h.1, ([], append-nil (known log)))
+  one_front log (Ok (rec.Dropped k)) h = (h.1, ([], append-nil (known log)))
+  one_front log (Ok (rec.Transferred k bytes)) h = (h.1, h.0.1)
+
+  pub all_front : (lists : List (List ℕ)) (log : Log) → AreRecords sv (log_behind service past log lists) → AreRecords sv log × Begins (known log) (known (log_behind service past log lists))
+  all_front [] log h = (h, ([], append-nil (known log)))
+  all_front (bytes ∷ lists) log h =
+      let others = all_front lists (with_one log bytes) h in
+      let one = one_front log (record_in (standing_in log) bytes) others.0 in
+      (one.0, begins_on (known log) (known (with_one log bytes)) (known (log_behind service past (with_one log bytes) lists)) one.1 others.1)
+
+  -- ---- values that are learned
+
+  module _ (all : List Value) (fits : list_all (spells service) all ≡ true) where
+    -- these values begin them all, and are no fewer than the past has, and than are known
+    pub record KeepsUp (log : Log) (values : List Value) : Type 0 where
+      pub begins : Begins values all
+      pub long : length past ≤ length values
+      pub known_few : length (known log) ≤ length values
+
+    -- one known value more
+    keeps_known : (log : Log) (i : ℕ) (v : Value) (values : List Value) → i ≡ length (known log) + 1 → Begins (known log ++ v ∷ []) all → KeepsUp log values → (b : Bool) → (i == length values + 1) ≡ b
+        → KeepsUp (rec_of service past (rec.Known i v) ∷ log) (if b then values ++ v ∷ [] else values)
+    keeps_known log i v values due begins c true e =
+        let n : i ≡ length values + 1 = eqb-true i (length values + 1) e in
+        let same : known log ≡ values = same_fronts (known log) values all (begins_on (known log) (known log ++ v ∷ []) all (v ∷ [], refl) begins) c.begins (omega (arith, n, due)) in
+        record {
+          begins = subst (λ (vs : List Value). Begins (vs ++ v ∷ []) all) same begins;
+          long = let l = c.long in omega (arith, l, length-append values (v ∷ []));
+          known_few = let l = c.known_few in omega (arith, l, length-append (known log) (v ∷ []), length-append values (v ∷ []));
+        }
+    keeps_known log i v values due begins c false e =
+        record {
+          begins = c.begins;
+          long = c.long;
+          known_few = let l = c.known_few in let n = eqb-false i (length values + 1) e in not_next l n;
+        }
+      where
+        not_next : length (known log) ≤ length values → (i ≡ length values + 1 → ⊥) → length (known log ++ v ∷ []) ≤ length values
+        not_next l n = by (cases_lt (length (known log)) (length values))
+          where
+            by : (length (known log) < length values) ⊎ (length values ≤ length (known log)) → length (known log ++ v ∷ []) ≤ length values
+            by (inl m) = omega (arith, m, length-append (known log) (v ∷ []))
+            by (inr m) = absurd (n (omega (arith, m, l, due)))
+
+    keeps_one : (log : Log) (bytes : List ℕ) (r : KeptRec) (values : List Value) → record_in (standing_in log) bytes ≡ Ok r → Begins (known (rec_of service past r ∷ log)) all → KeepsUp log values
+        → KeepsUp (rec_of service past r ∷ log) (learned_of values r)
+    keeps_one log bytes (rec.Promised b) values e begins c = record { begins = c.begins; long = c.long; known_few = c.known_few }
+    keeps_one log bytes (rec.Accepted b i v) values e begins c = record { begins = c.begins; long = c.long; known_few = c.known_few }
+    keeps_one log bytes (rec.Known i v) values e begins c = keeps_known log i v values (known_due (standing_in log) bytes i v e) begins c (i == length values + 1) refl
+    keeps_one log bytes (rec.Checkpoint k snapshot) values e begins c = record { begins = c.begins; long = c.long; known_few = c.known_few }
+    keeps_one log bytes (rec.Dropped k) values e begins c = record { begins = c.begins; long = c.long; known_few = c.known_few }
+    keeps_one log bytes (rec.Transferred k snapshot) values e begins c = record {
+      begins = c.begins;
+      long = c.long;
+      known_few = let l = past_has service k past all fits begins in let m = c.long in omega (arith, l, m, first_length k past);
+    }
+
+    pub keeps_all : (lists : List (List ℕ)) (log : Log) (values : List Value) → length (log_behind service past log lists) ≡ length lists + length log → AreRecords sv (log_behind service past log lists)
+        → Begins (known (log_behind service past log lists)) all → KeepsUp log values → KeepsUp (log_behind service past log lists) (learned values lists)
+    keeps_all [] log values many good begins c = c
+    keeps_all (bytes ∷ lists) log values many good begins c = by (record_in (standing_in log) bytes) refl (λ few one. keeps_all lists (with_one log bytes) (learned_in values bytes) few good begins one)
+      where
+        by : (r : Result KeptRec ℕ) → record_in (standing_in log) bytes ≡ r → (length (log_behind service past (with_one log bytes) lists) ≡ length lists + length (with_one log bytes) → KeepsUp (with_one log bytes) (learned_in values bytes) → KeepsUp (log_behind service past (with_one log bytes) lists) (learned (learned_in values bytes) lists)) → KeepsUp (log_behind service past (with_one log bytes) lists) (learned (learned_in values bytes) lists)
+        by (Err at) e later =
+            let now : with_one log bytes ≡ log = ap (log_with service past log) e in
+            let l = few_behind lists log in
+            let n : length (log_behind service past log lists) ≡ suc (length lists) + length log = ap (λ (g : Log). length (log_behind service past g lists)) (sym now) ∙ many in
+            absurd (omega (arith, l, n))
+        by (Ok r) e later =
+            let now : with_one log bytes ≡ rec_of service past r ∷ log = ap (log_with service past log) e in
+            let l = few_with log (record_in (standing_in log) bytes) in
+            let f = few_behind lists (with_one log bytes) in
+            let front = all_front lists (with_one log bytes) good in
+            let one : KeepsUp (rec_of service past r ∷ log) (learned_of values r) =
+            keeps_one log bytes r values e (subst (λ (g : Log). Begins (known g) all) now (begins_on (known (with_one log bytes)) (known (log_behind service past (with_one log bytes) lists)) all front.1 begins)) c in
+            later (omega (arith, many, l, f))
+            (subst (λ (g : Log). KeepsUp g (learned_in values bytes)) (sym now) (subst (KeepsUp (rec_of service past r ∷ log)) (sym (learned_as (standing_in log) bytes r values e)) one))
+
+-- ---- nodes beside more values
+
+module _ (service : Declarations) (past values : List Value) (fits : list_all (spells service) values ≡ true) (front : Begins past values) where
+  -- what a node knows, and the values of states that it took over, begin the values
+  pub record Agrees (x : Here) : Type 0 where
+    pub knows_front : Begins (known x.log) values
+    pub takes : TakesFronts service past values fits front x.log
+
+  keeping_grown : (k : KeeperValue) → TakesFronts service past values fits front (log_of service past k.records) → IsKeeping service past k → IsKeeping service values k
+  keeping_grown k t h = record { read = ap length (log_grown service past values fits front k.records t) ∙ h.read; stated = h.stated; room = h.room }
+
+  node_grown : (x : NodeValue KeeperValue) → Agrees (here_at service past x) → IsKeptNode records_of service past x → IsKeptNode records_of service values x
+  node_grown x a h = record {
+    id = h.id;
+    few = h.few;
+    up = λ up.
+        let u = h.up up in
+        let begins : Begins (first x.offset past) values =
+        begins_on (first x.offset past) (knows past x) values (x.known, refl) (subst (λ (vs : List Value). Begins vs values) (sym u.known) a.knows_front) in
+        let low = past_has service x.offset past values fits begins in
+        let same_knows : knows values x ≡ knows past x = ap (λ (vs : List Value). vs ++ x.known) (first_grown service past values fits front x.offset low) in
+        let same_here : here_of records_of service values x ≡ here_of records_of service past x =
+        ap (λ (log : List (Rec Value StateValue)). let y : Here = record (here_of records_of service past x) { log = log } in y) (log_grown service past values fits front x.keeper.records a.takes) in
+        subst (λ (vs : List Value). let y : NodeValue KeeperValue = record x { known = vs } in IsUp service y (here_of records_of service values x)) (sym same_knows)
+        (subst (IsUp service (whole past x)) (sym same_here) u);
+    rests = h.rests;
+  }
+
+  -- the same of a seat, which is the same node of the model
+  pub here_grown : {S : Type 0} (seat : Seat S) → Agrees (here_in service past seat) → here_in service values seat ≡ here_in service past seat
+  here_grown (Running node) a =
+      ap (λ (log : List (Rec Value StateValue)). let y : Here = record (here_at service past node) { log = log } in y) (log_grown service past values fits front node.keeper.records a.takes)
+  here_grown (Stopped keeper) a =
+      ap (λ (log : List (Rec Value StateValue)). down_node log (armed_of keeper.armed)) (log_grown service past values fits front keeper.records a.takes)
+  here_grown Empty a = refl
+
+  seat_grown : {S : Type 0} (seed nodes number : ℕ) (seat : Seat S) → Agrees (here_in service past seat) → IsSeat service past seed nodes number seat → IsSeat service values seed nodes number seat
+  seat_grown seed nodes number (Running node) a h = record {
+    id = h.id;
+    nodes_are = h.nodes_are;
+    seed_is = h.seed_is;
+    node = node_grown node a h.node;
+    keeping = keeping_grown node.keeper a.takes h.keeping;
+  }
+  seat_grown seed nodes number (Stopped keeper) a h = keeping_grown keeper a.takes h
+  seat_grown seed nodes number Empty a none = none
+
+  abbrev EachAgrees : {S : Type 0} → List (Seat S) → Type 0
+  EachAgrees seats = (m : ℕ) → IsNode (length seats) m → Agrees (node_at (heres service past seats) m)
+
+  others_agree : {S : Type 0} (seat : Seat S) (seats : List (Seat S)) → EachAgrees (seat ∷ seats) → EachAgrees seats
+  others_agree seat seats each zero there = absurd (let l : 0 < 0 = there.0 in omega (arith, l))
+  others_agree seat seats each (suc i) there = subst Agrees (later_at (here_in service past seat) (heres service past seats) i) (each (suc (suc i)) (omega arith, omega (arith, there.1)))
+
+  pub heres_grown : {S : Type 0} (seats : List (Seat S)) → EachAgrees seats → heres service values seats ≡ heres service past seats
+  heres_grown [] each = refl
+  heres_grown (seat ∷ seats) each =
+      ap (λ (x : Here). x ∷ heres service values seats) (here_grown seat (each 1 (omega arith, omega arith)))
+      ∙ ap (λ (xs : List Here). here_in service past seat ∷ xs) (heres_grown seats (others_agree seat seats each))
+
+  pub seats_grown : {S : Type 0} (seed nodes number : ℕ) (seats : List (Seat S)) → EachAgrees seats → AreSeats service past seed nodes number seats → AreSeats service values seed nodes number seats
+  seats_grown seed nodes number [] each h = tt
+  seats_grown seed nodes number (seat ∷ seats) each h =
+      (seat_grown seed nodes number seat (each 1 (omega arith, omega arith)) h.0, seats_grown seed nodes (suc number) seats (others_agree seat seats each) h.1)
+
+-- ---- the world
+
+module _ {S : Type 0} (service : Declarations) (w x : World S) (h : IsRunning service w) (m : ℕ) (there : IsNode (nodes_of w) m) where
+  -- before what the node has come to know was agreed
+  abbrev pub unsettled : World S
+  unsettled = record x { agreed = w.agreed }
+
+  abbrev before : List Here
+  before = heres service w.agreed w.seats.items
+
+  abbrev nodes : List Here
+  nodes = heres service w.agreed x.seats.items
+
+  module _ (works : IsUnsettled service unsettled) (many : nodes_of x ≡ nodes_of w) (others : nodes ≡ put before m (node_at nodes m)) (grown : Begins (records_at w.seats.items m) (records_at x.seats.items m)) where
+    abbrev all : List Value
+    all = agreed (world_of service unsettled)
+
+    in_both : (q : ℕ) → IsNode (length nodes) q → IsNode (nodes_of x) q
+    in_both q l = subst (λ (n : ℕ). IsNode n q) (many_here service w.agreed x.seats.items) l
+
+    here : IsNode (nodes_of x) m
+    here = subst (λ (n : ℕ). IsNode n m) (sym many) there
+
+    begins : (q : ℕ) → IsNode (nodes_of x) q → Begins (known (node_at nodes q).log) all
+    begins q l = known_begins (nodes_of x) (service_of service x.seed) (world_of service unsettled) works.kept.world q l
+
+    fits : list_all (spells service) all ≡ true
+    fits =
+        holds_of_longest (λ (vs : List Value). list_all (spells service) vs ≡ true) nodes refl
+        (λ q l. (and_parts (list_all (spells service) (known (node_at nodes q).log)) (runs service (trace_of (known (node_at nodes q).log)))
+        ((next_fits service x.seed (nodes_of x) (world_of service unsettled) works.kept.world).known q (in_both q l))).0)
+
+    -- the node's records
+    abbrev old_records : List (List ℕ)
+    old_records = records_at w.seats.items m
+
+    abbrev old_log : List (Rec Value StateValue)
+    old_log = log_of service w.agreed old_records
+
+    abbrev new_log : List (Rec Value StateValue)
+    new_log = log_behind service w.agreed old_log grown.0
+
+    old_is : (node_at before m).log ≡ old_log
+    old_is = ap (λ (y : Here). y.log) (here_is service w.agreed w.seats.items m there Empty) ∙ log_in service w.agreed (slice_index_or w.seats.items (m - 1) Empty)
+
+    behind : log_of service w.agreed (records_at x.seats.items m) ≡ new_log
+    behind =
+        ap (log_of service w.agreed) (sym grown.1)
+        ∙ fold-append (λ (log : List (Rec Value StateValue)) (bytes : List ℕ). log_with service w.agreed log (record_in (standing_in log) bytes)) [] old_records grown.0
+
+    new_is : (node_at nodes m).log ≡ new_log
+    new_is = ap (λ (y : Here). y.log) (here_is service w.agreed x.seats.items m here Empty) ∙ log_in service w.agreed (slice_index_or x.seats.items (m - 1) Empty) ∙ behind
+
+    sorted : AreRecords (service_of service x.seed) new_log
+    sorted = subst (AreRecords (service_of service x.seed)) new_is (works.kept.world.cluster.safe.sorted m here)
+
+    old_read : AreRead service w.agreed old_records
+    old_read = (keeping_in service w.agreed w.seed (nodes_of w) m (slice_index_or w.seats.items (m - 1) Empty) (seat_is service w.agreed w.seats.items m there Empty w.seed (nodes_of w) h.seats)).read
+
+    new_read : AreRead service w.agreed (records_at x.seats.items m)
+    new_read = (keeping_in service w.agreed x.seed (nodes_of x) m (slice_index_or x.seats.items (m - 1) Empty) (seat_is service w.agreed x.seats.items m here Empty x.seed (nodes_of x) works.seats)).read
+
+    -- another node is as it was
+    at_node : (q : ℕ) → node_at nodes q ≡ cond (eqb q m) (node_at nodes m) (node_at before q)
+    at_node q =
+        ap (λ (xs : List Here). node_at xs q) others
+        ∙ node_put before m (node_at nodes m) q (subst (λ (n : ℕ). IsNode n m) (sym (many_here service w.agreed w.seats.items)) there)
+
+    -- what was agreed on begins what is
+    front : Begins w.agreed all
+    front =
+        subst (λ (vs : List Value). Begins vs all) (sym h.agreed)
+        (holds_of_longest (λ (vs : List Value). Begins vs all) before (all, refl) (λ q l. by q (subst (λ (n : ℕ). IsNode n q) (many_here service w.agreed w.seats.items ∙ sym many) l) (eqb q m) refl))
+      where
+        by : (q : ℕ) → IsNode (nodes_of x) q → (b : Bool) → eqb q m ≡ b → Begins (known (node_at before q).log) all
+        by q l true e =
+            let same : q ≡ m = eqb-true q m e in
+            subst (λ (k : ℕ). Begins (known (node_at before k).log) all) (sym same)
+            (subst (λ (log : List (Rec Value StateValue)). Begins (known log) all) (sym old_is)
+            (begins_on (known old_log) (known new_log) all (all_front service x.seed w.agreed grown.0 old_log sorted).1
+            (subst (λ (log : List (Rec Value StateValue)). Begins (known log) all) new_is (begins m here))))
+        by q l false e =
+            subst (λ (y : Here). Begins (known y.log) all) (at_node q ∙ ap (λ (b : Bool). cond b (node_at nodes m) (node_at before q)) e) (begins q l)
+
+    kept_up : KeepsUp service x.seed w.agreed all fits new_log (learned w.agreed grown.0)
+    kept_up =
+        keeps_all service x.seed w.agreed all fits grown.0 old_log w.agreed
+        (let e = ap length behind in let f = ap length grown.1 in let g = length-append old_records grown.0 in omega (arith, e, f, g, old_read, new_read))
+        sorted (subst (λ (log : List (Rec Value StateValue)). Begins (known log) all) new_is (begins m here))
+        (record {
+          begins = front;
+          long = le_refl (length w.agreed);
+          known_few =
+              let most = longest_most before m in
+              omega (arith, most, ap (λ (log : List (Rec Value StateValue)). length (known log)) old_is, ap length h.agreed);
+        })
+
+    -- and what was learned is all that is
+    pub learned_all : learned w.agreed grown.0 ≡ all
+    learned_all = whole_front (learned w.agreed grown.0) all kept_up.begins (holds_of_longest (λ (vs : List Value). length vs ≤ length (learned w.agreed grown.0)) nodes (omega arith) (λ q l. by q (eqb q m) refl))
+      where
+        by : (q : ℕ) (b : Bool) → eqb q m ≡ b → length (known (node_at nodes q).log) ≤ length (learned w.agreed grown.0)
+        by q true e =
+            let same : q ≡ m = eqb-true q m e in
+            let l = kept_up.known_few in
+            omega (arith, l, ap (λ (log : List (Rec Value StateValue)). length (known log)) new_is, ap (λ (k : ℕ). length (known (node_at nodes k).log)) same)
+        by q false e =
+            let was : node_at nodes q ≡ node_at before q = at_node q ∙ ap (λ (b : Bool). cond b (node_at nodes m) (node_at before q)) e in
+            let most = longest_most before q in
+            let l = kept_up.long in
+            omega (arith, most, l, ap (λ (y : Here). length (known y.log)) was, ap length h.agreed)
+
+    agree : (q : ℕ) → IsNode (nodes_of x) q → Agrees service w.agreed all fits front (node_at nodes q)
+    agree q l = record {
+      knows_front = begins q l;
+      takes = λ taken s has. ((transfers_right service x.seed (nodes_of x) (world_of service unsettled) works.kept.world).taken q taken s l has).0;
+    }
+
+    module _ (agreed_is : x.agreed ≡ learned w.agreed (drop (length old_records) (records_at x.seats.items m))) where
+      is_all : x.agreed ≡ all
+      is_all = agreed_is ∙ ap (learned w.agreed) (ap (drop (length old_records)) (sym grown.1) ∙ drop-append_seam old_records grown.0) ∙ learned_all
+
+      -- the model's world is the same
+      pub settled_world : world_of service x ≡ world_of service unsettled
+      settled_world =
+          same_world x.done x.done (heres service x.agreed x.seats.items) nodes (messages_of x.agreed x.net) (messages_of w.agreed x.net) x.handed.items x.handed.items refl
+          (ap (λ (vs : List Value). heres service vs x.seats.items) is_all ∙ heres_grown service w.agreed all fits front x.seats.items agree)
+          (ap (λ (vs : List Value). messages_of vs x.net) is_all ∙ (messages_grown service w.agreed all fits front x.net works.told).1)
+          refl
+
+      -- and the world runs
+      pub settled_running : IsRunning service x
+      settled_running = record {
+        service_is = works.service_is;
+        checked = works.checked;
+        whole = works.whole;
+        few = works.few;
+        kept = subst (IsKept service x.seed (nodes_of x)) (sym settled_world) works.kept;
+        agreed = is_all ∙ ap agreed (sym settled_world);
+        seats = subst (λ (vs : List Value). AreSeats service vs x.seed (nodes_of x) 1 x.seats.items) (sym is_all) (seats_grown service w.agreed all fits front x.seed (nodes_of x) 1 x.seats.items agree works.seats);
+        within = works.within;
+        spelled = works.spelled;
+        told = subst (λ (vs : List Value). All (TellsRightly service vs) x.net) (sym is_all) (messages_grown service w.agreed all fits front x.net works.told).0;
+        requests = works.requests;
+        flushed = works.flushed;
+        handed = works.handed;
+      }

@@ -1,0 +1,17 @@
+-- How many values a node knows.
+use Rattle.std.proofs.Common.{◌≡◌, ℕ, ◌+◌, true, List, length, sym, ◌∙◌, ap, length-append}
+use Rattle.rex_syntax.specs.declared.service.Declarations.{Declarations}
+use Rattle.rex_traits.specs.Keeping.{KeeperValue}
+use Rattle.rex_safety.specs.Records.{known}
+use Rattle.rex_safety.specs.Values.{Value}
+use Rattle.rex_log.specs.Log.{first}
+use Rattle.rex_log.proofs.Firsts.{first_length}
+use Rattle.rex_node.specs.Parts.{NodeValue, IsNode, count_of, here_of, knows}
+use Rattle.rex_world.specs.Seats.{records_of}
+
+count_knows : (past : List Value) (x : NodeValue KeeperValue) → count_of x ≡ length (knows past x)
+count_knows past x = ap (λ (n : ℕ). n + length x.known) (sym (first_length x.offset past)) ∙ sym (length-append (first x.offset past) x.known)
+
+-- a node that is up knows as many values as its records say
+pub count_known : (service : Declarations) (past : List Value) (x : NodeValue KeeperValue) → IsNode records_of service past x → x.up ≡ true → count_of x ≡ length (known (here_of records_of service past x).log)
+count_known service past x node up = count_knows past x ∙ ap length (node.up up).known

@@ -1,0 +1,25 @@
+use Rattle.rex_scenario.specs.declared.scenario.ScheduleLine.TheVariants as line
+use Rattle.std.proofs.Common.{List}
+use Rattle.rex_world.specs.declared.seats.Seat.{Seat}
+use Rattle.rex_safety.specs.Calls as calls
+use Rattle.rex_world.proofs.Stepping.{kept_next, call_fits, came, front_known_in, still_there}
+use Rattle.rex_world.proofs.world.World.drop_known.Goals as goal
+
+pub settle-requires-clause-sends : goal.settle-requires-clause-sends
+settle-requires-clause-sends g c =
+    call_fits c.args.svc.now c.args.self.now c.requires.running c.args.node c.deref_mut.result.now c.deref_mut.ensures.value
+    (λ (ys : List (Seat _)). calls.drop_known c.args.node)
+    c.drop_at-outcome.new.seats c.drop_at-outcome.result c.drop_at-outcome.ensures.acts (kept_next c.args.svc.now c.args.self.now c.requires.running (line.DropKnown c.args.node) c.requires.there)
+
+pub returns : goal.returns
+returns g c = record {
+  comes = came c.args.svc.now c.args.self.now c.requires.running c.args.node c.requires.there c.record_count-count.result c.record_count-count.ensures c.deref_mut.result.now c.deref_mut.ensures.value
+      (λ (ys : List (Seat _)). calls.drop_known c.args.node)
+      c.drop_at-outcome.new.seats c.drop_at-outcome.result c.settle.new.self c.args.told.now c.settle.new.told c.settle.result c.drop_at-outcome.ensures.acts (kept_next c.args.svc.now c.args.self.now c.requires.running (line.DropKnown c.args.node) c.requires.there) c.settle.ensures;
+}
+
+pub settle-requires-clause-there : goal.settle-requires-clause-there
+settle-requires-clause-there g c = still_there c.args.svc.now c.args.self.now c.requires.running c.args.node c.requires.there c.deref_mut.result.now c.deref_mut.ensures.value c.drop_at-outcome.new.seats c.drop_at-outcome.ensures.acts.changed.many
+
+pub drop_at-outcome-requires-clause-past : goal.drop_at-outcome-requires-clause-past
+drop_at-outcome-requires-clause-past g c = front_known_in c.args.svc.now c.args.self.now c.requires.running c.deref_mut.result.now c.deref_mut.ensures.value c.args.node c.requires.there
