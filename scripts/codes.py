@@ -176,7 +176,7 @@ SCENARIO = {
     ),
     "S13": (
         "a checkpoint in version 1, where the service has more than 16 lanes or 256 variables",
-        "`old` left over from a smaller service",
+        "`old` left over from a smaller service: `checkpoint N` takes each",
     ),
     "W1": (
         "of `rexlive --words` alone: the service's first `rwlock`, `cond` or `sem`; this comes after all lines are read, and before the check",

@@ -20,6 +20,8 @@ TEXTS = [
     ("released", r"released (?P<c>\d+) (?P<s>\d+) (?P<v>-?\d+)", "reply {v} to client {c}"),
     ("keep", NODE + r"checkpoint (?P<k>\d+)", "checkpoint after delta {k}"),
     ("keep", NODE + r"migrated (?P<k>\d+)", "migrates the checkpoint after delta {k}"),
+    ("keep", NODE + r"dropped (?P<k>\d+)", "forgets deltas up to {k}"),
+    ("known", NODE + r"transferred (?P<k>\d+)", "takes over the state after delta {k}"),
     ("keep", NODE + r"replayed (?P<k>\d+)", "replayed up to delta {k}"),
     ("stop", NODE + r"keepfail (?P<how>kept|lost)", "next record fails, {how}"),
     ("quiet", NODE + r"up to date", "up to date"),
@@ -35,7 +37,7 @@ TEXTS = [
 # no number of a report has more than twenty digits
 TEXTS = [(kind, re.compile(form.replace(r"\d+", r"\d{1,20}")), label) for kind, form, label in TEXTS]
 MINOR = ("event", "idle", "submit")
-MESSAGE = re.compile(r"(sent|message) ([1-9]\d{0,19}) (prepare|promise|accept|accepted|chosen|nack|ask) ([1-9]) ([1-9])")
+MESSAGE = re.compile(r"(sent|message) ([1-9]\d{0,19}) (prepare|promise|accept|accepted|chosen|nack|ask|snapshot) ([1-9]) ([1-9])")
 LINE = re.compile(r"([1-9]\d{0,5}) (.+)")
 END = re.compile(r"end node ([1-9]) (down|(?:active|follower|candidate|adopting) promised \d+ known \d+ (?:live|replayed) \d+(?: \w+=-?\d+)*)")
 ROLES = {"candidate": "candidate", "adopts": "adopting", "active": "active", "follower": "follower", "stopped": "down", "down": "down", "started": "follower"}
@@ -61,7 +63,7 @@ class Step:
 
     def calls_for(self, message):
         """Whether this step has what such a message is sent for."""
-        came, answers = self.message, {"promise": ["prepare"], "accepted": ["accept"], "nack": ["prepare", "accept"]}
+        came, answers = self.message, {"promise": ["prepare"], "accepted": ["accept"], "nack": ["prepare", "accept"], "snapshot": ["prepare", "accept", "ask"]}
         if message.kind in answers:
             return came is not None and came.kind in answers[message.kind] and came.sender == message.receiver
         if message.kind == "chosen":

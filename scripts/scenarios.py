@@ -110,7 +110,7 @@ def make_requests(dice, handlers):
 
 WEIGHTS = {
     "lane": 60, "submit": 14, "cut": 5, "flush": 3, "deliver": 16, "again": 1.5, "beyond": 0.3, "elect": 0.7, "replay": 1, "ask": 1, "stop": 0.5, "start": 4,
-    "checkpoint": 1, "keepfail": 0.5,
+    "checkpoint": 1, "drop": 0.5, "keepfail": 0.5,
 }
 TROUBLE = ("elect", "again", "ask", "stop", "keepfail")
 
@@ -125,6 +125,8 @@ class Schedule:
 
     def __init__(self, dice, world, lanes, unrest=None, without=()):
         self.dice, self.world, self.lanes, self.lines = dice, world, lanes, []
+        # its service's states have the old version of a snapshot
+        self.is_small = lanes <= 16 and len(world.service.variables) <= 256
         if unrest is None:
             unrest = dice.choice([0.2, 1, 1, 4])
         self.weights = {kind: weight * (unrest if kind in TROUBLE else 1) for kind, weight in WEIGHTS.items() if kind not in without}
@@ -168,7 +170,12 @@ class Schedule:
         return " ".join(["cut", str(node), *limits])
 
     def ask(self):
-        asking, asked = self.dice.sample(range(1, len(self.world.nodes) + 1), 2)
+        """Mostly of a node that doesn't hold what the asking one lacks, where there is one."""
+        nodes = self.world.nodes
+        behind = [(node.number, other.number) for node in nodes for other in nodes if node.is_up and other.is_up and node.known() < other.offset]
+        if behind and self.dice.random() < 0.7:
+            return "ask %d %d" % self.dice.choice(behind)
+        asking, asked = self.dice.sample(range(1, len(nodes) + 1), 2)
         return "ask %d %d" % (asking, asked)
 
     def lane(self):
@@ -182,6 +189,11 @@ class Schedule:
         ready = [node.number for node in self.world.nodes if node.is_up and node.replayed > node.base and not node.live]
         node = self.dice.choice(ready) if ready and self.dice.random() < 0.8 else self.any_node()
         return "checkpoint %d%s" % (node, " old" if self.lanes <= 16 and self.dice.random() < 0.4 else "")
+
+    def drop(self):
+        """Mostly at a node that holds values up to its base."""
+        ready = [node.number for node in self.world.nodes if node.is_up and node.base > node.offset]
+        return "drop %d" % (self.dice.choice(ready) if ready and self.dice.random() < 0.8 else self.any_node())
 
     def keepfail(self):
         node = self.leader() if self.dice.random() < 0.5 else self.any_node()
@@ -207,8 +219,8 @@ class Schedule:
             return self.ask()
         if kind in ("submit", "cut"):
             return self.request() if kind == "submit" else self.cut()
-        if kind in ("checkpoint", "keepfail"):
-            return self.checkpoint() if kind == "checkpoint" else self.keepfail()
+        if kind in ("checkpoint", "drop", "keepfail"):
+            return {"checkpoint": self.checkpoint, "drop": self.drop, "keepfail": self.keepfail}[kind]()
         return "flush" if kind in ("ask", "flush") else "%s %d" % (kind, self.any_node())
 
     def fill(self, count):
@@ -241,7 +253,7 @@ def spoil(dice, line):
     elif change == "number":
         words[place] = dice.choice(["0", "4", "6", "257", "-1", "1000001", "4294967296", "18446744073709551615", "18446744073709551616"])
     elif change == "word":
-        words[0] = dice.choice(["checkpoint", "keepfail", "elects", "ask", "deliver", "cut", "flush", "lane"])
+        words[0] = dice.choice(["checkpoint", "drop", "keepfail", "elects", "ask", "deliver", "cut", "flush", "lane"])
     return " ".join(words) + ("\x7f" if change == "byte" else "")
 
 

@@ -4,7 +4,7 @@ from .cluster import World
 from .live import trace_of
 from .scenarios import read
 from .services import read_service
-from .states import run
+from .states import State, run
 from .texts import MOST_BYTES, Refused
 from .values import Dice
 
@@ -38,7 +38,7 @@ def run_lines(text):
 
 
 def trace_lines(text):
-    return trace_of(ran(text).agreed())
+    return trace_of(ran(text).agreed)
 
 
 def check_lines(text):
@@ -75,9 +75,9 @@ def generated(seed, size):
 
 def soak_lines(seed, size):
     world = ran("\n".join([*generated(seed, size), ""]).encode())
-    agreed = world.agreed()
+    agreed = world.agreed
     released = sum(line.split(" ")[1] == "released" for line in world.report)
-    parts = seed, size, world.done, len(world.sent), len(agreed), released, run(world.service, agreed).variables["a"]
+    parts = seed, size, world.done, len(world.sent), len(agreed), released, run(State(world.service), agreed).variables["a"]
     return ["soak %d %d lines %d messages %d known %d released %d a=%d" % parts]
 
 

@@ -1,5 +1,5 @@
 """Nodes, their messages, and what each schedule line does."""
-from .states import MOST_LIVE, Event, below, run
+from .states import MOST_LIVE, Event, State, below, run
 from .values import Dice
 
 MOST_DELTAS = 65535
@@ -19,12 +19,14 @@ class Fallen(Exception):
 
 class Node:
     """A node. What outlives a stop is what its keeper has, `promised`, `accepted` (the last ballot and value of each instance),
-    `known`, `base` (of how many known values the last checkpoint is) and `is_old` (whether that is in the old version), and `armed`:
-    how the keeper's next append fails."""
+    `offset` (of how many instances it holds no value), `held` (the known values after these), `base` (of how many values the last
+    checkpoint is, or how many it took over since), `saved` (the state of that), `is_old` (whether the last checkpoint is in the old
+    version), and `armed`: how the keeper's next append fails."""
 
     def __init__(self, world, number):
         self.world, self.number, self.is_up = world, number, True
-        self.promised, self.accepted, self.known, self.base, self.is_old, self.armed = 0, {}, [], 0, False, None
+        self.promised, self.accepted, self.offset, self.held, self.armed = 0, {}, 0, [], None
+        self.base, self.saved, self.is_old = 0, State(world.service), False
         self.forget()
 
     def forget(self):
@@ -49,10 +51,32 @@ class Node:
         self.promised = max(self.promised, ballot)
 
     def write_known(self, value):
-        self.known.append(value)
+        self.held.append(value)
+        self.world.note(self.known(), value)
 
     def write_checkpoint(self, count, is_old):
-        self.base, self.is_old = count, is_old
+        self.saved, self.base, self.is_old = self.state_at(count), count, is_old
+
+    def write_dropped(self):
+        self.held, self.offset = self.held[self.base - self.offset:], self.base
+        self.forget_accepted()
+
+    def write_transferred(self, count, state):
+        self.held, self.offset, self.base, self.saved = [], count, count, state
+        self.forget_accepted()
+
+    def forget_accepted(self):
+        self.accepted = {instance: last for instance, last in self.accepted.items() if instance > self.offset}
+
+    # -- what it knows
+
+    def known(self):
+        """Of how many instances it knows the values."""
+        return self.offset + len(self.held)
+
+    def state_at(self, count):
+        """The state after so many values, which runs from the one at the base."""
+        return run(self.saved, self.held[self.base - self.offset:count - self.offset])
 
     def fall(self):
         """Goes down in the middle of a call: what it would have sent stays unsent."""
@@ -106,7 +130,7 @@ class Node:
         self.counted = {self.number}
         self.reports = self.proposals(1)
         self.tell("candidate ballot %d", ballot)
-        self.send_all("prepare", ballot=ballot, first=len(self.known) + 1)
+        self.send_all("prepare", ballot=ballot, first=self.known() + 1)
         if self.is_majority():
             self.go_on()
 
@@ -116,7 +140,7 @@ class Node:
 
     def go_on(self):
         """Proposes what was reported for the next instance, or begins to lead."""
-        instance = len(self.known) + 1
+        instance = self.known() + 1
         best = None
         for place, ballot, value in self.reports:
             if place == instance and (best is None or ballot > best[0]):
@@ -125,8 +149,8 @@ class Node:
             self.role = "adopting"
             self.propose(instance, best[1], "adopts")
             return
-        self.role, self.replayed = "active", len(self.known)
-        self.queue, self.live, self.state, self.dice = [], [], run(self.world.service, self.known), Dice(self.world.seed, self.ballot)
+        self.role, self.replayed = "active", self.known()
+        self.queue, self.live, self.state, self.dice = [], [], self.state_at(self.known()), Dice(self.world.seed, self.ballot)
         self.tell("active ballot %d", self.ballot)
 
     def propose(self, instance, value, word):
@@ -148,12 +172,12 @@ class Node:
             return
         proposed = {(event.lane, event.index) for event in value}
         self.live = [event for event in self.live if (event.lane, event.index) not in proposed]
-        self.replayed = len(self.known)
+        self.replayed = self.known()
         self.release(value)
 
     def learn(self, value):
         self.append(self.write_known, value)
-        self.tell("known %d", len(self.known))
+        self.tell("known %d", self.known())
 
     def release(self, value):
         """Releases the replies of the value that became known last, in its order."""
@@ -163,10 +187,11 @@ class Node:
 
     def sequence_of(self, reply):
         """The sequence of the request that a reply in the value that became known last ends: that of its client's begin before it."""
-        events = (event for value in reversed(self.known) for event in reversed(value))
+        events = (event for value in reversed(self.held[self.base - self.offset:]) for event in reversed(value))
         while next(events) is not reply:
             pass
-        return next(event.sequence for event in events if event.kind == "begin" and event.client == reply.client)
+        begins = (event.sequence for event in events if event.kind == "begin" and event.client == reply.client)
+        return next(begins, None) or self.saved.clients[reply.client][0]
 
     # -- messages
 
@@ -176,6 +201,9 @@ class Node:
     def on_prepare(self, message):
         if message.ballot < self.promised:
             self.send("nack", message.sender, ballot=message.ballot, promised=self.promised)
+            return
+        if message.first <= self.offset:
+            self.send_saved(message.sender)
             return
         if message.ballot > self.promised:
             self.append(self.write_promised, message.ballot)
@@ -202,6 +230,9 @@ class Node:
         if message.ballot < self.promised:
             self.send("nack", message.sender, ballot=message.ballot, promised=self.promised)
             return
+        if message.instance <= self.offset:
+            self.send_saved(message.sender)
+            return
         before = self.accepted.get(message.instance)
         if before is None or before[0] != message.ballot:
             self.append(self.write_accepted, message.ballot, message.instance, message.value)
@@ -225,8 +256,8 @@ class Node:
                 self.say("have %d", len(self.counted))
 
     def on_chosen(self, message):
-        if message.instance != len(self.known) + 1:
-            self.say("ignored instance %d %d", message.instance, len(self.known) + 1)
+        if message.instance != self.known() + 1:
+            self.say("ignored instance %d %d", message.instance, self.known() + 1)
             return
         self.learn(message.value)
         self.follow()
@@ -238,11 +269,27 @@ class Node:
             self.say("ignored ballot %d %d", message.promised, self.ballot)
 
     def on_ask(self, message):
-        asked = range(message.first, min(len(self.known), message.first + 63) + 1)
+        if message.first <= self.offset:
+            self.send_saved(message.sender)
+            return
+        asked = range(message.first, min(self.known(), message.first + 63) + 1)
         if not asked:
             self.say("nothing")
         for instance in asked:
-            self.send("chosen", message.sender, instance=instance, value=self.known[instance - 1])
+            self.send("chosen", message.sender, instance=instance, value=self.held[instance - self.offset - 1])
+
+    def send_saved(self, receiver):
+        """Answers who asks for values that it doesn't hold any more."""
+        self.send("snapshot", receiver, count=self.base, state=self.saved)
+
+    def on_snapshot(self, message):
+        if message.count <= self.known():
+            self.say("ignored instance %d %d", message.count, self.known() + 1)
+            return
+        self.append(self.write_transferred, message.count, message.state)
+        self.tell("transferred %d", message.count)
+        self.replayed = message.count
+        self.follow()
 
     # -- what the schedule asks for
 
@@ -291,17 +338,17 @@ class Node:
             return self.say("not active %s", self.role)
         if self.open:
             return self.say("open %d", self.open[0])
-        if len(self.known) >= MOST_DELTAS:
+        if self.known() >= MOST_DELTAS:
             return self.say("ended")
         value = below(self.live, limits)
         if not value:
             return self.say("nothing")
-        return self.propose(len(self.known) + 1, value, "proposes")
+        return self.propose(self.known() + 1, value, "proposes")
 
     def replay(self):
-        if self.role == "active" or self.replayed == len(self.known):
+        if self.role == "active" or self.replayed == self.known():
             return self.tell("up to date")
-        self.replayed = len(self.known)
+        self.replayed = self.known()
         return self.tell("replayed %d", self.replayed)
 
     def checkpoint(self, is_old):
@@ -311,6 +358,12 @@ class Node:
             return self.say("live %d", len(self.live))
         self.append(self.write_checkpoint, self.replayed, is_old)
         return self.tell("checkpoint %d", self.base)
+
+    def drop(self):
+        if self.base == self.offset:
+            return self.say("nothing")
+        self.append(self.write_dropped)
+        return self.tell("dropped %d", self.offset)
 
     def keepfail(self, how):
         self.armed = how
@@ -326,7 +379,7 @@ class Node:
             return self.tell("is up")
         self.is_up = True
         self.forget()
-        self.tell("started promised %d known %d replayed %d", self.promised, len(self.known), self.replayed)
+        self.tell("started promised %d known %d replayed %d", self.promised, self.known(), self.replayed)
         return self.migrate() if self.is_old else None
 
     def migrate(self):
@@ -340,23 +393,29 @@ class Node:
         if self.role == "active":
             state, count = self.state, "live %d" % len(self.live)
         else:
-            state, count = run(self.world.service, self.known[:self.replayed]), "replayed %d" % self.replayed
+            state, count = self.state_at(self.replayed), "replayed %d" % self.replayed
         values = "".join(" %s=%d" % pair for pair in [*state.variables.items(), *state.semaphores.items()])
-        return "end node %d %s promised %d known %d %s%s" % (self.number, self.role, self.promised, len(self.known), count, values)
+        return "end node %d %s promised %d known %d %s%s" % (self.number, self.role, self.promised, self.known(), count, values)
 
 
 # ---- the cluster
 
 class World:
-    """All nodes, the messages that they sent, those of them that wait to be handed over, by number, and the report so far."""
+    """All nodes, the messages that they sent, those of them that wait to be handed over, by number, the report so far, and the values that
+    nodes wrote down as known, by instance."""
 
     def __init__(self, nodes, seed, service, requests):
         self.seed, self.service, self.requests = seed, service, requests
-        self.done, self.report, self.sent, self.waiting, self.outgoing = 0, [], [], {}, []
+        self.done, self.report, self.sent, self.waiting, self.outgoing, self.agreed = 0, [], [], {}, [], []
         self.nodes = [Node(self, number) for number in range(1, nodes + 1)]
 
     def say(self, text):
         self.report.append("%d %s" % (self.done + 1, text))
+
+    def note(self, instance, value):
+        """Notes what a node wrote down as the value of an instance; the first of them are the agreed ones."""
+        if instance == len(self.agreed) + 1:
+            self.agreed.append(value)
 
     def step(self, words):
         """Does a schedule line."""
@@ -399,7 +458,7 @@ class World:
         elif word == "cut":
             node.cut([int(limit) for limit in words[2:]] or None)
         elif word == "ask":
-            node.send("ask", int(words[2]), first=len(node.known) + 1)
+            node.send("ask", int(words[2]), first=node.known() + 1)
         elif word == "checkpoint":
             node.checkpoint(len(words) == 3)
         else:
@@ -418,7 +477,3 @@ class World:
             self.say("nothing")
         for number in waiting:
             self.hand_over(number)
-
-    def agreed(self):
-        """The longest list of values that a node knows, be it up or down."""
-        return max((node.known for node in self.nodes), key=len)

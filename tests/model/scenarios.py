@@ -3,12 +3,14 @@ from .services import Service
 from .texts import MOST_BYTES, Refused, is_allowed, is_name, is_skipped, lines_of, natural, signed, words_of
 
 MOST_REQUESTS, MOST_LINES = 65536, 100000
+# of a service whose states have the old version of a snapshot
+MOST_OLD_LANES, MOST_OLD_VARIABLES = 16, 256
 FOLLOWING = {
     "start": ["%nodes"], "%nodes": ["%seed", "%service"], "%seed": ["%service"], "%service": ["%requests"], "%requests": ["%schedule"], "%schedule": [],
 }
 # the numbers behind each first word of a schedule line, by what they count: nodes, requests, lanes or messages
 FORMS = {
-    "elect": "n", "replay": "n", "checkpoint": "n", "stop": "n", "start": "n", "keepfail": "n", "submit": "nr", "lane": "nl", "ask": "nn", "deliver": "m",
+    "elect": "n", "replay": "n", "checkpoint": "n", "drop": "n", "stop": "n", "start": "n", "keepfail": "n", "submit": "nr", "lane": "nl", "ask": "nn", "deliver": "m",
     "flush": "",
 }
 
@@ -106,7 +108,7 @@ class Scenario:
             return "S10"
         if is_cut and len(numbers) not in (1, 1 + self.service.lanes):
             return "S12"
-        if is_old and (self.service.lanes > 16 or len(self.service.variables) > 256):
+        if is_old and (self.service.lanes > MOST_OLD_LANES or len(self.service.variables) > MOST_OLD_VARIABLES):
             return "S13"
         self.schedule.append(words)
         return None

@@ -61,6 +61,11 @@ class Frame:
         self.locals = dict(zip(handler.parameters, arguments))
         self.place, self.turns, self.held, self.status = 0, {}, {}, "running"
 
+    def copy(self):
+        other = Frame(self.client, self.sequence, self.handler, [])
+        other.locals, other.place, other.turns, other.held, other.status = dict(self.locals), self.place, dict(self.turns), dict(self.held), self.status
+        return other
+
 
 class State:
     """The state of a service."""
@@ -70,6 +75,15 @@ class State:
         self.variables, self.semaphores = dict(service.variables), dict(service.semaphores)
         self.counts = {lane: 0 for lane in range(1, service.lanes + 1)}
         self.frames, self.queues, self.clients = {}, {name: [] for name in service.lock_of}, {}
+
+    def copy(self):
+        """The same state once more; the service and its handlers are shared."""
+        other = State(self.service)
+        other.variables, other.semaphores, other.counts = dict(self.variables), dict(self.semaphores), dict(self.counts)
+        other.frames = {lane: frame.copy() for lane, frame in self.frames.items()}
+        other.queues = {name: list(lanes) for name, lanes in self.queues.items()}
+        other.clients = {client: list(entry) for client, entry in self.clients.items()}
+        return other
 
     def value(self, frame, words):
         """The value of an expression, from left to right."""
@@ -201,9 +215,9 @@ class State:
             frame.place += 1
 
 
-def run(service, deltas):
-    """The state to which deltas run from the start."""
-    state = State(service)
+def run(start, deltas):
+    """The state to which deltas run from another one."""
+    state = start.copy()
     for delta in deltas:
         for event in delta:
             state.apply(event)

@@ -22,8 +22,8 @@ fresh_runs : (service : Declarations) (seed : ℕ) → RunsOn service (elect 3 (
 fresh_runs service seed = refl
 
 -- what it knows after its election runs: nothing
-pub elected_runs : (service : Declarations) (fate : Fate) (x : NodeValue KeeperValue) → CameUp records_of service 1 3 0 (armed_to fate unused_keeper) x → RunsOn service (elect x.nodes (service_of service x.seed) x.id) (begin (here_of records_of service x))
+pub elected_runs : (service : Declarations) (fate : Fate) (x : NodeValue KeeperValue) → CameUp records_of service [] 1 3 0 (armed_to fate unused_keeper) x → RunsOn service (elect x.nodes (service_of service x.seed) x.id) (begin (here_of records_of service [] x))
 elected_runs service fate x h =
-    subst (λ (n : ℕ). RunsOn service (elect n (service_of service x.seed) x.id) (begin (here_of records_of service x))) (sym h.nodes_are)
-    (subst (λ (m : ℕ). RunsOn service (elect 3 (service_of service x.seed) m) (begin (here_of records_of service x))) (sym h.id_is)
+    subst (λ (n : ℕ). RunsOn service (elect n (service_of service x.seed) x.id) (begin (here_of records_of service [] x))) (sym h.nodes_are)
+    (subst (λ (m : ℕ). RunsOn service (elect 3 (service_of service x.seed) m) (begin (here_of records_of service [] x))) (sym h.id_is)
     (subst (λ (y : Here). RunsOn service (elect 3 (service_of service x.seed) 1) (begin y)) (sym h.node) (fresh_runs service x.seed)))

@@ -1,9 +1,8 @@
-ghost use Rattle.std.specs.Prelude.{◌<◌, length};
-
 use rex_durable::{Rec, RecoverFault, append, recover};
 use rex_list::List;
 use rex_traits::{Fate, KeepFault, Keeper, MemKeeper, SureKeeper};
 use std::alloc::Global;
+use std::process::Abort;
 use std::test::*;
 
 /// Ballot 17 is promised.
@@ -15,28 +14,49 @@ const KNOWN: [u8; 10] = [3, 0, 0, 0, 1, 0, 0, 0, 1, 7];
 /// The state after the first known value is no bytes.
 const CHECKPOINT: [u8; 9] = [4, 0, 0, 0, 1, 0, 0, 0, 0];
 
-/// Two records, and what is recovered of them: the promise, or the number of the first bad record and the offset of its
-/// first bad field.
-const RECOVERED: [(&[u8], &[u8], Result<u64, (usize, usize)>); 7] = [
-    (&PROMISED, &KNOWN, Ok(17)),
-    (&KNOWN, &CHECKPOINT, Ok(0)),
-    (&KNOWN, &KNOWN, Err((2, 1))),
-    (&CHECKPOINT, &KNOWN, Err((1, 1))),
-    (&PROMISED, &[1, 0, 0, 0, 0, 0, 0, 0], Err((2, 1))),
-    (&PROMISED, &[], Err((2, 0))),
-    (&[5, 0, 0, 0, 1], &KNOWN, Err((1, 0))),
+/// The node has forgotten the first known value.
+const DROPPED: [u8; 5] = [5, 0, 0, 0, 1];
+
+/// The node took over the state after two values, which is no bytes.
+const TRANSFERRED: [u8; 9] = [6, 0, 0, 0, 2, 0, 0, 0, 0];
+
+/// Records, and what is recovered of them: the promise, the offset and how many known values are held past it; or the number of the
+/// first bad record and the offset of its first bad field.
+const RECOVERED: [(&[&[u8]], Result<(u64, u32, usize), (usize, usize)>); 18] = [
+    (&[&PROMISED, &KNOWN], Ok((17, 0, 1))),
+    (&[&KNOWN, &CHECKPOINT], Ok((0, 0, 1))),
+    (&[&KNOWN, &KNOWN], Err((2, 1))),
+    (&[&CHECKPOINT, &KNOWN], Err((1, 1))),
+    (&[&PROMISED, &[1, 0, 0, 0, 0, 0, 0, 0]], Err((2, 1))),
+    (&[&PROMISED, &[]], Err((2, 0))),
+    (&[&[7, 0, 0, 0, 1]], Err((1, 0))),
+    (&[&[5, 0, 0, 0]], Err((1, 1))),
+    (&[&KNOWN, &CHECKPOINT, &DROPPED], Ok((0, 1, 0))),
+    (&[&KNOWN, &DROPPED], Err((2, 1))),
+    (&[&KNOWN, &CHECKPOINT, &DROPPED, &DROPPED], Err((4, 1))),
+    (&[&TRANSFERRED], Ok((0, 2, 0))),
+    (&[&TRANSFERRED, &[3, 0, 0, 0, 3, 0, 0, 0, 0]], Ok((0, 2, 1))),
+    (&[&TRANSFERRED, &KNOWN], Err((2, 1))),
+    (&[&KNOWN, &[6, 0, 0, 0, 1, 0, 0, 0, 0]], Err((2, 1))),
+    (&[&TRANSFERRED, &CHECKPOINT], Err((2, 1))),
+    (&[&TRANSFERRED, &[4, 0, 0, 0, 2, 0, 0, 0, 0]], Ok((0, 2, 0))),
+    (&[&[6, 0, 1, 0, 0, 0, 0, 0, 0]], Err((1, 1))),
 ];
 
-fn answer(alloc: Global, first: &[u8], second: &[u8]) -> Result<Result<u64, (usize, usize)>, Fail>
-    requires first { length first.now < 99 }
-    requires second { length second.now < 99 }
-{
+fn answer(
+    rt: &impl Abort,
+    alloc: Global,
+    records: &[&[u8]],
+) -> Result<Result<(u64, u32, usize), (usize, usize)>, Fail> {
     let mut keeper = SureKeeper::new(alloc);
-    if keeper.append(first).is_err() || keeper.append(second).is_err() {
-        return Err("not appended")?;
+    for record in records {
+        assert!(rt; record.len() < 99);
+        if keeper.append(record).is_err() {
+            return Err("not appended")?;
+        }
     }
     match recover(alloc, &keeper) {
-        Ok(recovered) => Ok(Ok(recovered.promised)),
+        Ok(recovered) => Ok(Ok((recovered.promised, recovered.offset, recovered.known.len()))),
         Err(RecoverFault::BadRecord { number, at }) => Ok(Err((number, at))),
         Err(RecoverFault::OutOfMemory) => Err("out of memory")?,
     }
@@ -44,9 +64,8 @@ fn answer(alloc: Global, first: &[u8], second: &[u8]) -> Result<Result<u64, (usi
 
 #[test]
 fn records_say_what_is_known_of_a_node(rt: HostRuntime) -> Result<(), Fail> {
-    for (first, second, recovered) in RECOVERED {
-        assert!(rt; first.len() < 99 && second.len() < 99);
-        assert_eq!(rt; answer(rt.alloc(), first, second)?, recovered);
+    for (records, recovered) in RECOVERED {
+        assert_eq!(rt; answer(&rt, rt.alloc(), records)?, recovered, "{records:?}");
     }
     Ok(())
 }

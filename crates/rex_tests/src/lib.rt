@@ -77,6 +77,8 @@ mod text;
 #[cfg(test)]
 mod traits;
 #[cfg(test)]
+mod transfer;
+#[cfg(test)]
 mod wire;
 #[cfg(test)]
 mod words;

@@ -9,7 +9,7 @@ use std::test::*;
 use std::thread::Threads;
 
 /// Two lanes that add to a variable under its lock, and two requests.
-pub(crate) const BOTH: &[u8] = b"%nodes 1
+const BOTH: &[u8] = b"%nodes 1
 %service
 lanes 2
 lock L
@@ -27,7 +27,7 @@ reply r
 ";
 
 /// How its output ends, whatever the trace.
-pub(crate) const BOTH_END: &[u8] = b"\nend node 1 active promised 17 known 1 live 0 a=12\n";
+const BOTH_END: &[u8] = b"\nend node 1 active promised 17 known 1 live 0 a=12\n";
 
 /// One lane, and one request, among three nodes.
 const ONE: &[u8] = b"%nodes 3
@@ -57,9 +57,26 @@ end node 2 follower promised 17 known 1 replayed 1 a=5
 end node 3 follower promised 17 known 1 replayed 1 a=5
 ";
 
+/// A service with a condition, at line 6.
+const WAITING: &[u8] = b"%nodes 1
+%service
+lanes 2
+lock L
+var a on L = 0
+cond C on L
+handler put
+acquire L
+set a = 1
+signal C
+release L
+reply 0
+%requests
+%schedule
+";
+
 /// Runs the program with these words over memory, behind a gate. The read and the write of these numbers, from 1, fail; 0
 /// is none.
-pub(crate) fn live<R: Threads + Wait + Sync + AllocGlobal, G: Gate + Sync>(
+fn live<R: Threads + Wait + Sync + AllocGlobal, G: Gate + Sync>(
     rt: &R,
     line: &str,
     input: &[u8],
@@ -82,7 +99,7 @@ pub(crate) fn live<R: Threads + Wait + Sync + AllocGlobal, G: Gate + Sync>(
 /// Words, an input, the read and the write that fail, the status, and the output.
 type Case = (&'static str, &'static [u8], (u64, u64), u8, &'static [u8]);
 
-static CASES: [Case; 12] = [
+static CASES: [Case; 13] = [
     ("rexlive", ONE, (0, 0), 0, ONE_TOLD),
     ("rexlive", b"", (0, 0), 1, b"refused line 1 S3\n"),
     (
@@ -114,6 +131,13 @@ static CASES: [Case; 12] = [
         3,
         b"refused handler h line 7 C7\n",
     ),
+    (
+        "rexlive --words",
+        WAITING,
+        (0, 0),
+        1,
+        b"refused line 6 W1\n",
+    ),
     ("rexlive run", ONE, (0, 0), 2, b"usage: rexlive [--words]\n"),
     (
         "rexlive --words --words",
@@ -143,11 +167,19 @@ fn each_status_has_its_cause(rt: HostRuntime) -> Result<(), Fail> {
     Ok(())
 }
 
+/// The two ways in which lanes record.
+const WAYS: [&str; 2] = ["rexlive", "rexlive --words"];
+
 #[test]
 fn two_lanes_end_alike(rt: HostRuntime) -> Result<(), Fail> {
-    for _ in 0..10 {
-        let outcome = live(&rt, "rexlive", BOTH, (0, 0), &OpenGate)?;
-        assert!(rt; outcome.status == 0 && outcome.written.ends_with(BOTH_END));
+    for way in WAYS {
+        for _ in 0..10 {
+            let outcome = live(&rt, way, BOTH, (0, 0), &OpenGate)?;
+            assert!(rt;
+                outcome.status == 0 && outcome.written.ends_with(BOTH_END),
+                "{way}"
+            );
+        }
     }
     Ok(())
 }
@@ -155,18 +187,25 @@ fn two_lanes_end_alike(rt: HostRuntime) -> Result<(), Fail> {
 /// Two lanes, of which one's thread is held until the other one tries its second event.
 fn live_held<R: Threads + Wait + Sync + AllocGlobal + Abort>(
     rt: &R,
+    way: &str,
     held: u8,
     until: u8,
 ) -> Result<(), Fail> {
     let gate = HoldingGate::new(held, until);
-    let outcome = live(rt, "rexlive", BOTH, (0, 0), &gate)?;
-    assert!(rt; outcome.status == 0 && outcome.written.ends_with(BOTH_END));
-    assert!(rt; gate.is_kept(), "{held} was held");
+    let outcome = live(rt, way, BOTH, (0, 0), &gate)?;
+    assert!(rt;
+        outcome.status == 0 && outcome.written.ends_with(BOTH_END),
+        "{way}"
+    );
+    assert!(rt; gate.is_kept(), "{way}: {held} was held");
     Ok(())
 }
 
 #[test]
 fn lanes_run_beside_each_other(rt: HostRuntime) -> Result<(), Fail> {
-    live_held(&rt, 0, 1)?;
-    live_held(&rt, 1, 0)
+    for way in WAYS {
+        live_held(&rt, way, 0, 1)?;
+        live_held(&rt, way, 1, 0)?;
+    }
+    Ok(())
 }

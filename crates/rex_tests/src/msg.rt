@@ -31,14 +31,19 @@ const NACK: [u8; 20] = [1, 6, 2, 1, 0, 0, 0, 0, 0, 0, 0, 17, 0, 0, 0, 0, 0, 0, 0
 /// Node 9 knows all instances that there can be, and asks node 8 for the next.
 const ASK: [u8; 8] = [1, 7, 9, 8, 0, 1, 0, 0];
 
-const MESSAGES: [&[u8]; 7] = [&PREPARE, &PROMISE, &ACCEPT, &ACCEPTED, &CHOSEN, &NACK, &ASK];
+/// Node 1 tells node 3 the state after two values, in one byte.
+const SNAPSHOT: [u8; 13] = [1, 8, 1, 3, 0, 0, 0, 2, 0, 0, 0, 1, 42];
+
+const MESSAGES: [&[u8]; 8] = [
+    &PREPARE, &PROMISE, &ACCEPT, &ACCEPTED, &CHOSEN, &NACK, &ASK, &SNAPSHOT,
+];
 
 /// Bytes put in the place of others of a message: their offset, and that of the first bad field.
-const CHANGES: [(&[u8], u8, &[u8], usize); 30] = [
+const CHANGES: [(&[u8], u8, &[u8], usize); 34] = [
     (&PREPARE, 0, &[0], 0),
     (&PREPARE, 0, &[2], 0),
     (&PREPARE, 1, &[0], 1),
-    (&PREPARE, 1, &[8], 1),
+    (&PREPARE, 1, &[9], 1),
     (&PREPARE, 2, &[0], 2),
     (&PREPARE, 2, &[10], 2),
     (&PREPARE, 3, &[1], 3),
@@ -65,6 +70,10 @@ const CHANGES: [(&[u8], u8, &[u8], usize); 30] = [
     (&CHOSEN, 5, &[1], 4),
     (&NACK, 19, &[17], 12),
     (&ASK, 7, &[1], 4),
+    (&SNAPSHOT, 7, &[0], 4),
+    (&SNAPSHOT, 5, &[1], 4),
+    (&SNAPSHOT, 11, &[2], 12),
+    (&SNAPSHOT, 11, &[0], 12),
 ];
 
 /// Where the first bad field of the bytes begins; of a message's bytes, which are written again, nothing.

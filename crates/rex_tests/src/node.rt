@@ -12,6 +12,7 @@ use rex_report::Effect;
 use rex_syntax::checked::Checked;
 use rex_traits::{Fate, Keeper, MemKeeper};
 use std::alloc::{AllocGlobal, Global};
+use std::marker::Brand;
 use std::process::Abort;
 use std::test::*;
 
@@ -29,10 +30,10 @@ fn failing(alloc: Global, fate: Fate) -> MemKeeper
 
 /// A node of three over a keeper whose first append fails.
 fn started(rt: &impl Abort, alloc: Global, svc: &Checked, fate: Fate) -> Node<MemKeeper>
-    ensures up { CameUp (λ k. k.records) svc.now 1 3 0 (armed_to fate unused_keeper) result }
-    ensures node { IsNode (λ k. k.records) svc.now result }
+    ensures up { CameUp (λ k. k.records) svc.now [] 1 3 0 (armed_to fate unused_keeper) result }
+    ensures node { IsNode (λ k. k.records) svc.now [] result }
 {
-    match Node::restart(alloc, 1, 3, 0, svc, failing(alloc, fate)) {
+    match Node::restart::<Brand>(alloc, 1, 3, 0, svc, failing(alloc, fate)) {
         Ok(node) => node,
         Err(_) => panic!(rt; "no node"),
     }
@@ -41,7 +42,10 @@ fn started(rt: &impl Abort, alloc: Global, svc: &Checked, fate: Fate) -> Node<Me
 /// Elects the node, whose keeper fails then: it is down, and sends nothing. The keeper comes back.
 fn falls(rt: &impl Abort, alloc: Global, svc: &Checked, fate: Fate) -> MemKeeper {
     let mut node = started(rt, alloc, svc, fate);
-    let step = node.elect(svc, &mut OneThread).ok().expect(rt, "memory");
+    let step = node
+        .elect::<Brand, OneThread>(svc, &mut OneThread)
+        .ok()
+        .expect(rt, "memory");
     assert!(rt; step.sends.is_empty() && step.effects.len() == 1);
     let is_down = step.effects.as_slice()[0] == Effect::Down { node: 1 };
     assert!(rt; is_down && !node.is_up());

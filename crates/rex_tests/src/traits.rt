@@ -37,6 +37,7 @@ fn the_forms_that_never_fail(rt: HostRuntime) -> Result<(), Fail> {
     assert_eq!(rt; source.read(&mut buf), Ok(1));
     assert_eq!(rt; sink.write(&buf[..1]), Ok(1));
     OpenGate.enter(0, 1, 2);
+    assert!(rt; OpenGate.is_open());
     Ok(())
 }
 

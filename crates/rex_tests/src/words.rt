@@ -5,20 +5,15 @@ ghost use Rattle.rex_words.specs.Dealing.{CanRecord};
 ghost use Rattle.rex_words.specs.Histories.{AreSeats};
 ghost use Rattle.rex_words.specs.Tables.{IsWords, assignment_of, table_of};
 
-use crate::gates::HoldingGate;
-use crate::live::{BOTH, BOTH_END, live};
 use rex_lockset::check;
 use rex_scenario::{Scenario, read_unscheduled};
 use rex_syntax::checked::Checked;
 use rex_syntax::request::Request;
 use rex_syntax::service::Service;
-use rex_traits::OpenGate;
 use rex_words::{WordSeat, WordTurn, Words};
 use std::alloc::{AllocGlobal, Global};
 use std::process::Abort;
-use std::sync::Wait;
 use std::test::*;
-use std::thread::Threads;
 
 /// Takes a step of a lane.
 fn step(words: &Words, seats: &mut [WordSeat], lane: usize) -> WordTurn
@@ -118,58 +113,4 @@ fn a_lane_finds_who_holds_a_lock(rt: HostRuntime) {
         Ok((scenario, service)) => meet_in(&rt, alloc, &scenario, service),
         Err(_) => panic!(&rt; "a scenario"),
     }
-}
-
-/// A service with a condition, at line 6.
-const WAITING: &[u8] = b"%nodes 1
-%service
-lanes 2
-lock L
-var a on L = 0
-cond C on L
-handler put
-acquire L
-set a = 1
-signal C
-release L
-reply 0
-%requests
-%schedule
-";
-
-#[test]
-fn a_condition_is_beyond_words(rt: HostRuntime) -> Result<(), Fail> {
-    let outcome = live(&rt, "rexlive --words", WAITING, (0, 0), &OpenGate)?;
-    assert!(rt;
-        outcome.status == 1 && outcome.written.as_slice() == b"refused line 6 W1\n".as_slice()
-    );
-    Ok(())
-}
-
-#[test]
-fn two_lanes_end_alike_by_words(rt: HostRuntime) -> Result<(), Fail> {
-    for _ in 0..10 {
-        let outcome = live(&rt, "rexlive --words", BOTH, (0, 0), &OpenGate)?;
-        assert!(rt; outcome.status == 0 && outcome.written.ends_with(BOTH_END));
-    }
-    Ok(())
-}
-
-/// Two lanes, of which one's thread is held until the other one tries its second event.
-fn words_held<R: Threads + Wait + Sync + AllocGlobal + Abort>(
-    rt: &R,
-    held: u8,
-    until: u8,
-) -> Result<(), Fail> {
-    let gate = HoldingGate::new(held, until);
-    let outcome = live(rt, "rexlive --words", BOTH, (0, 0), &gate)?;
-    assert!(rt; outcome.status == 0 && outcome.written.ends_with(BOTH_END));
-    assert!(rt; gate.is_kept(), "{held} was held");
-    Ok(())
-}
-
-#[test]
-fn lanes_run_beside_each_other_by_words(rt: HostRuntime) -> Result<(), Fail> {
-    words_held(&rt, 0, 1)?;
-    words_held(&rt, 1, 0)
 }
