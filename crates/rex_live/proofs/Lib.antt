@@ -8,3 +8,4 @@ pub mod Kept
 pub mod Once
 pub mod Opens
 pub mod Begun
+pub mod Below

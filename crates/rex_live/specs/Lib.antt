@@ -4,3 +4,4 @@ pub mod Desk
 pub mod Tally
 pub mod Lent
 pub mod Places
+pub mod Halting

@@ -1,8 +1,9 @@
 //! What lies under a floor's lock.
 
-ghost use Rattle.std.specs.Prelude.{◌≡◌, ◌+◌, ◌^◌, ◌<◌, ◌≤◌, IfOk, IsErrOf, IsSome, OnErr, OnOk, length, nat_le, replicate, slice_set, Some, None, true, false};
+ghost use Rattle.std.specs.Prelude.{◌≡◌, ◌+◌, ◌^◌, ◌<◌, ◌≤◌, ◌⊎◌, IfErr, IfNone, IfOk, IfSome, IsErrOf, IsOkUnless, IsSome, OnErr, OnOk, OnSome, is_some, length, nat_le, replicate, slice_set, Some, None, true, false};
 ghost use Rattle.rex_state.specs.Machine.{lane_of};
-ghost use Rattle.rex_live.specs.Desk.{MayGoOn};
+ghost use Rattle.rex_live.specs.Desk.{GoesOn, HasNoTurn, IsAbsent, MayGoOn, NoneIsAbsent, has_begun};
+ghost use Rattle.rex_live.specs.Halting.{Halts};
 ghost use Rattle.rex_live.specs.Floor as spec;
 ghost use Rattle.rex_live.specs.Lent.{is_out};
 ghost use Rattle.rex_live.specs.Places.{HasPlaces};
@@ -33,7 +34,7 @@ const BALLOT: u64 = 17;
 /// What a lane's event leaves to do outside the lock.
 #[derive(Drop)]
 pub(crate) struct Made<S: Setting> {
-    /// The lane's lines up to its next event, which are lent to its thread, unless there are none.
+    /// The lane's lines up to its next event, which are lent to the thread that made this one, unless there are none.
     pub(crate) lent: Option<Segment<S>>,
     /// A lane that waited and can go on now, if there is one. It has to be woken.
     pub(crate) woken: Option<u8>,
@@ -42,7 +43,9 @@ pub(crate) struct Made<S: Setting> {
 /// Why a lane made no event.
 #[derive(Clone, Copy, PartialEq, Eq)]
 pub(crate) enum Halt {
-    /// It can't go on, and another lane may. It waits.
+    /// It can't go on, and this lane may, whose thread hasn't begun. Its thread makes that lane's event.
+    Absent { lane: u8 },
+    /// It can't go on, nor can a lane whose thread hasn't begun, and another lane may. It waits.
     Stays,
     /// No lane can go on, or the history is as long as may be. The lane ends, and the others with it.
     Over,
@@ -60,6 +63,8 @@ pub(crate) struct Desk<S: Setting> {
     out: [bool; LANES],
     /// Per lane, whether it waits and nobody woke it.
     waits: [bool; LANES],
+    /// Per lane, whether its thread has begun. Another lane's thread makes the events of one that hasn't.
+    begun: [bool; LANES],
     dice: Lcg64Xsh32,
     requests: List<Request>,
     places: Places,
@@ -74,7 +79,7 @@ impl<S: Setting> Model for Desk<S> {
 
     ghost Value = { DeskValue };
 
-    ghost view = { λ d. record { floor = record { history = d.history.items; state = state_of S.service d.history.items; dice = d.dice }; out = d.out; given_up = d.is_given_up } };
+    ghost view = { λ d. record { floor = record { history = d.history.items; state = state_of S.service d.history.items; dice = d.dice }; out = d.out; begun = d.begun; given_up = d.is_given_up } };
 
     ghost invariant = { λ d. IsDesk S.service S.requests d.requests S.dice d.events.total d.places d.kept (record { history = d.history.items; state = state_of S.service d.history.items; dice = d.dice }) d.out };
 }
@@ -107,6 +112,7 @@ impl<S: Setting> Desk<S> {
         requires events { events.total ≡ 0 }
         ensures floor { IfOk result (λ d. d.floor ≡ spec.opened S.service S.dice) }
         ensures out { IfOk result (λ d. d.out ≡ replicate LANES false) }
+        ensures begun { IfOk result (λ d. d.begun ≡ replicate LANES false) }
         ensures given_up { IfOk result (λ d. d.given_up ≡ false) }
     {
         let kept = State::start(alloc, svc)?;
@@ -116,6 +122,7 @@ impl<S: Setting> Desk<S> {
             kept,
             out: [false; LANES],
             waits: [false; LANES],
+            begun: [false; LANES],
             dice: Lcg64Xsh32::new(seed, BALLOT),
             requests,
             places,
@@ -186,6 +193,7 @@ impl<S: Setting> Desk<S> {
         requires few { length self.old.floor.history < 268431360 }
         requires part { 0 < mine.old.parts }
         ensures recorded { OnOk result (self.new.floor ≡ spec.recorded S.service self.old.floor event.now) }
+        ensures begun { self.new.begun ≡ self.old.begun }
         ensures given_up { self.new.given_up ≡ self.old.given_up }
         ensures amount { OnOk result (mine.new.amount ≡ mine.old.amount + 1) }
         ensures parts { mine.new.parts ≡ mine.old.parts }
@@ -212,6 +220,7 @@ impl<S: Setting> Desk<S> {
         requires there { lane < S.service.lanes }
         ensures floor { self.new.floor ≡ self.old.floor }
         ensures back { self.new.out ≡ slice_set self.old.out lane false }
+        ensures begun { self.new.begun ≡ self.old.begun }
         ensures given_up { self.new.given_up ≡ self.old.given_up }
     {
         let _service = svc.declarations();
@@ -221,12 +230,13 @@ impl<S: Setting> Desk<S> {
         }
     }
 
-    /// Takes what a lane's thread brings back, if it was lent what is kept, and runs the lane's lines otherwise.
+    /// Takes what a thread brings back for a lane, if it was lent what is kept, and runs the lane's lines otherwise.
     pub(crate) fn bring_back(&mut self, svc: &Checked, lane: u8, brought: Brought<S>)
         requires service { svc.now ≡ S.service }
         requires there { lane < S.service.lanes }
         ensures floor { self.new.floor ≡ self.old.floor }
         ensures back { self.new.out ≡ slice_set self.old.out lane false }
+        ensures begun { self.new.begun ≡ self.old.begun }
         ensures given_up { self.new.given_up ≡ self.old.given_up }
     {
         let _service = svc.declarations();
@@ -236,11 +246,12 @@ impl<S: Setting> Desk<S> {
         }
     }
 
-    /// Lends a lane's lines to its thread. They are run at once where they are none, or where memory is short.
+    /// Lends a lane's lines to the thread that made its event. They are run at once where they are none, or where memory is short.
     fn lend(&mut self, alloc: Global, svc: &Checked, lane: u8) -> Option<Segment<S>>
         requires service { svc.now ≡ S.service }
         requires there { lane < S.service.lanes }
         ensures floor { self.new.floor ≡ self.old.floor }
+        ensures begun { self.new.begun ≡ self.old.begun }
         ensures given_up { self.new.given_up ≡ self.old.given_up }
     {
         match self.segment(alloc, svc, lane) {
@@ -292,6 +303,7 @@ impl<S: Setting> Desk<S> {
         ensures event { IfOk result (λ e. e ≡ spec.turn_at S.service S.requests self.old.floor lane) }
         ensures turned { IfOk result (λ e. self.new.floor ≡ spec.turned S.service self.old.floor e) }
         ensures answered { IfOk result (λ e. mine.new.amount ≡ mine.old.amount + spec.answered e) }
+        ensures begun { self.new.begun ≡ self.old.begun }
         ensures given_up { self.new.given_up ≡ self.old.given_up }
         ensures parts { mine.new.parts ≡ mine.old.parts }
         ensures err { OnErr result ((self.new.floor ≡ self.old.floor) × (mine.new.amount ≡ mine.old.amount)) }
@@ -312,6 +324,16 @@ impl<S: Setting> Desk<S> {
         ensures { result ≡ (lane_of self.now.floor.state lane).done }
     {
         self.kept.done(lane)
+    }
+
+    /// Notes that a lane's thread has begun, and answers how many events of the lane there are by then.
+    pub(crate) fn begin(&mut self, lane: u8) -> u32
+        requires there { lane < LANES }
+        ensures done { result ≡ (lane_of self.old.floor.state lane).done }
+        ensures begun { self.new ≡ record self.old { begun = slice_set self.old.begun lane true } }
+    {
+        self.begun[lane as usize] = true;
+        self.done(lane)
     }
 
     /// Ends the lanes at their next turn.
@@ -359,7 +381,9 @@ impl<S: Setting> Desk<S> {
     fn may_go_on(&self, svc: &Checked, lane: u8) -> Result<bool, AllocError>
         requires service { svc.now ≡ S.service }
         requires there { lane < S.service.lanes }
+        ensures back { IfOk result (λ may. may ≡ false → is_out self.now.out lane ≡ false) }
         ensures stays { IfOk result (λ may. may ≡ false → spec.next_event S.service S.requests self.now.floor lane ≡ None) }
+        ensures may { IfOk result (λ may. may ≡ true → GoesOn S.service S.requests self.now.floor self.now.out lane) }
         ensures goes_on { IfOk result (λ may. may ≡ true → MayGoOn S.service S.requests self.now.floor self.now.out) }
     {
         let _service = svc.declarations();
@@ -370,24 +394,66 @@ impl<S: Setting> Desk<S> {
         Ok(next.is_some())
     }
 
+    /// Whether a lane may go on whose thread hasn't begun.
+    fn is_absent(&self, svc: &Checked, lane: u8) -> Result<bool, AllocError>
+        requires service { svc.now ≡ S.service }
+        requires there { lane < S.service.lanes }
+        ensures absent { IfOk result (λ is. is ≡ true → IsAbsent S.service S.requests self.now.floor self.now.out self.now.begun lane) }
+        ensures back { IfOk result (λ is. is ≡ false → has_begun self.now.begun lane ≡ false → is_out self.now.out lane ≡ false) }
+        ensures stays { IfOk result (λ is. is ≡ false → has_begun self.now.begun lane ≡ false → spec.next_event S.service S.requests self.now.floor lane ≡ None) }
+    {
+        let _service = svc.declarations();
+        if !self.begun[lane as usize] {
+            return self.may_go_on(svc, lane);
+        }
+        Ok(false)
+    }
+
+    /// The first lane that may go on and whose thread hasn't begun, if there is one.
+    fn first_absent(&self, svc: &Checked) -> Result<Option<u8>, AllocError>
+        requires service { svc.now ≡ S.service }
+        ensures absent { IfOk result (λ found. IfSome found (IsAbsent S.service S.requests self.now.floor self.now.out self.now.begun)) }
+        ensures none { IfOk result (λ found. IfNone found (NoneIsAbsent S.service S.requests self.now.floor self.now.out self.now.begun)) }
+    {
+        for lane in 0..svc.declarations().lanes {
+            if self.is_absent(svc, lane)? {
+                return Ok(Some(lane));
+            }
+        }
+        Ok(None)
+    }
+
     /// Why a lane that can't go on makes no event.
+    fn halt(&self, svc: &Checked) -> Result<Halt, AllocError>
+        requires service { svc.now ≡ S.service }
+        ensures { IfOk result (Halts S.service S.requests self.now) }
+    {
+        if self.is_over(svc)? {
+            return Ok(Halt::Over);
+        }
+        match self.first_absent(svc)? {
+            Some(lane) => Ok(Halt::Absent { lane }),
+            None => Ok(Halt::Stays),
+        }
+    }
+
+    /// Why a lane that can't go on makes no event. It waits, where nothing else is to be done.
     fn stay(&mut self, svc: &Checked, lane: u8) -> Halt
         requires service { svc.now ≡ S.service }
         requires there { lane < S.service.lanes }
         ensures floor { self.new.floor ≡ self.old.floor }
         ensures out { self.new.out ≡ self.old.out }
-        ensures stays { result ≡ Halt.Stays → MayGoOn S.service S.requests self.old.floor self.old.out }
-        ensures over { result ≡ Halt.Over → spec.IsOver S.service S.requests self.old.floor }
-        ensures gave_up { result ≡ Halt.GaveUp → self.new.given_up ≡ true }
+        ensures begun { self.new.begun ≡ self.old.begun }
+        ensures halts { Halts S.service S.requests self.new result }
         ensures given_up { self.old.given_up ≡ false → self.new.given_up ≡ true → result ≡ Halt.GaveUp }
     {
         let _service = svc.declarations();
-        match self.is_over(svc) {
-            Ok(true) => Halt::Over,
-            Ok(false) => {
+        match self.halt(svc) {
+            Ok(Halt::Stays) => {
                 self.waits[lane as usize] = true;
                 Halt::Stays
             }
+            Ok(halt) => halt,
             Err(_) => {
                 self.give_up();
                 Halt::GaveUp
@@ -435,11 +501,47 @@ impl<S: Setting> Desk<S> {
         requires service { svc.now ≡ S.service }
         requires there { lane < S.service.lanes }
         ensures floor { self.new.floor ≡ self.old.floor }
+        ensures begun { self.new.begun ≡ self.old.begun }
         ensures given_up { self.new.given_up ≡ self.old.given_up }
     {
         let lent = self.lend(alloc, svc, lane);
         let woken = self.woken_by(svc, lane, &event.kind);
         Made { lent, woken }
+    }
+
+    /// A lane's turn, and what its event leaves to do, if it makes one. Where memory is short the lanes end.
+    fn try_turn(
+        &mut self,
+        alloc: Global,
+        svc: &Checked,
+        lane: u8,
+        mine: &mut Share<S>,
+    ) -> Result<Option<Made<S>>, Halt>
+        requires service { svc.now ≡ S.service }
+        requires there { lane < S.service.lanes }
+        requires part { 0 < mine.old.parts }
+        ensures event { IfOk result (λ made. is_some made ≡ is_some (spec.turn_at S.service S.requests self.old.floor lane)) }
+        ensures turned { OnOk result (self.new.floor ≡ spec.turned S.service self.old.floor (spec.turn_at S.service S.requests self.old.floor lane)) }
+        ensures answered { IfOk result (λ made. mine.new.amount ≡ mine.old.amount + spec.answered (spec.turn_at S.service S.requests self.old.floor lane)) }
+        ensures parts { mine.new.parts ≡ mine.old.parts }
+        ensures begun { self.new.begun ≡ self.old.begun }
+        ensures given_up { OnOk result (self.new.given_up ≡ false) }
+        ensures same { OnErr result ((self.new.floor ≡ self.old.floor) × (mine.new.amount ≡ mine.old.amount)) }
+        ensures gave_up { OnErr result (self.new.given_up ≡ true) }
+        ensures cause { IsOkUnless result Halt.GaveUp }
+    {
+        let _service = svc.declarations();
+        if self.is_given_up {
+            return Err(Halt::GaveUp);
+        }
+        match self.turn(svc, lane, mine) {
+            Ok(Some(event)) => Ok(Some(self.made(alloc, svc, lane, &event))),
+            Ok(None) => Ok(None),
+            Err(_) => {
+                self.give_up();
+                Err(Halt::GaveUp)
+            }
+        }
     }
 
     /// A lane's try: its turn, what is left to do where it makes an event, and why it makes none.
@@ -457,29 +559,54 @@ impl<S: Setting> Desk<S> {
         ensures turned { OnOk result (self.new.floor ≡ spec.turned S.service self.old.floor (spec.turn_at S.service S.requests self.old.floor lane)) }
         ensures answered { OnOk result (mine.new.amount ≡ mine.old.amount + 1) }
         ensures parts { mine.new.parts ≡ mine.old.parts }
+        ensures begun { self.new.begun ≡ self.old.begun }
         ensures same { OnErr result ((self.new.floor ≡ self.old.floor) × (mine.new.amount ≡ mine.old.amount)) }
-        ensures none { IsErrOf result Halt.Stays → spec.turn_at S.service S.requests self.old.floor lane ≡ None }
-        ensures stays { IsErrOf result Halt.Stays → MayGoOn S.service S.requests self.new.floor self.new.out }
-        ensures over { IsErrOf result Halt.Over → spec.IsOver S.service S.requests self.old.floor }
-        ensures gave_up { IsErrOf result Halt.GaveUp → self.new.given_up ≡ true }
+        ensures none { OnErr result (self.new.given_up ≡ false → spec.turn_at S.service S.requests self.old.floor lane ≡ None) }
+        ensures halts { IfErr result (Halts S.service S.requests self.new) }
         ensures given_up { self.new.given_up ≡ true → IsErrOf result Halt.GaveUp }
     {
         let _service = svc.declarations();
         self.waits[lane as usize] = false;
-        if self.is_given_up {
-            return Err(Halt::GaveUp);
-        }
-        match self.turn(svc, lane, mine) {
-            Ok(Some(event)) => Ok(self.made(alloc, svc, lane, &event)),
+        match self.try_turn(alloc, svc, lane, mine) {
+            Ok(Some(made)) => Ok(made),
             Ok(None) => Err(self.stay(svc, lane)),
-            Err(_) => {
-                self.give_up();
-                Err(Halt::GaveUp)
-            }
+            Err(halt) => Err(halt),
         }
     }
 
-    /// The whole history, once it is over. After want of memory the lanes may run again.
+    /// A try for a lane whose thread hasn't begun, by another lane's thread: what is left to do where it makes an event. It makes
+    /// none where the lane's thread has begun meanwhile, since one that fell asleep would not be woken for what comes next.
+    pub(crate) fn step_for(
+        &mut self,
+        alloc: Global,
+        svc: &Checked,
+        lane: u8,
+        mine: &mut Share<S>,
+    ) -> Option<Made<S>>
+        requires service { svc.now ≡ S.service }
+        requires there { lane < S.service.lanes }
+        requires part { 0 < mine.old.parts }
+        ensures absent { OnSome result (has_begun self.old.begun lane ≡ false) }
+        ensures event { OnSome result (IsSome (spec.turn_at S.service S.requests self.old.floor lane)) }
+        ensures turned { OnSome result (self.new.floor ≡ spec.turned S.service self.old.floor (spec.turn_at S.service S.requests self.old.floor lane)) }
+        ensures answered { OnSome result (mine.new.amount ≡ mine.old.amount + 1) }
+        ensures parts { mine.new.parts ≡ mine.old.parts }
+        ensures begun { self.new.begun ≡ self.old.begun }
+        ensures same { IfNone result ((self.new.floor ≡ self.old.floor) × (mine.new.amount ≡ mine.old.amount)) }
+        ensures none { IfNone result (HasNoTurn S.service S.requests self.old.floor self.new.begun self.new.given_up lane) }
+    {
+        let _service = svc.declarations();
+        if self.begun[lane as usize] {
+            return None;
+        }
+        match self.try_turn(alloc, svc, lane, mine) {
+            Ok(made) => made,
+            Err(_) => None,
+        }
+    }
+
+    /// The whole history, once it is over. After want of memory the lanes may run again, by threads that have
+    /// yet to begin.
     pub(crate) fn history(
         &mut self,
         alloc: Global,
@@ -491,9 +618,10 @@ impl<S: Setting> Desk<S> {
         ensures history { IfOk result (λ h. spec.IsHistory S.service S.requests S.dice h) }
         ensures answered { IfOk result (λ h. length h ≡ all.new.amount) }
         ensures parts { all.new.parts ≡ all.old.parts }
-        ensures same { self.new ≡ record self.old { given_up = false } }
+        ensures same { self.new ≡ record self.old { begun = replicate LANES false; given_up = false } }
     {
         self.is_given_up = false;
+        self.begun = [false; LANES];
         self.events.audit(all);
         if self.is_over(svc)? {
             Ok(List::from_vec(self.history.to_vec(alloc)?))

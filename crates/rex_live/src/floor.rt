@@ -1,8 +1,8 @@
 //! A floor, and its lanes as threads.
 
-ghost use Rattle.std.specs.Prelude.{◌≡◌, ◌+◌, ◌<◌, ◌≤◌, IfOk, IsErrOf, length, true};
-ghost use Rattle.rex_live.specs.Desk.{MayGoOn};
+ghost use Rattle.std.specs.Prelude.{◌≡◌, ◌+◌, ◌<◌, ◌≤◌, IfErr, IfOk, length};
 ghost use Rattle.rex_live.specs.Floor as spec;
+ghost use Rattle.rex_live.specs.Halting.{Halts};
 ghost use Rattle.rex_live.specs.Tally.{Tally};
 
 use crate::desk::{Desk, Halt, Made};
@@ -144,9 +144,8 @@ fn try_on<S: Setting>(
     requires there { lane < S.service.lanes }
     requires part { 0 < mine.old.parts }
     ensures parts { mine.new.parts ≡ mine.old.parts }
-    ensures stays { IsErrOf result Halt.Stays → MayGoOn S.service S.requests desk.new.floor desk.new.out }
-    ensures over { IsErrOf result Halt.Over → spec.IsOver S.service S.requests desk.new.floor }
-    ensures gave_up { IsErrOf result Halt.GaveUp → desk.new.given_up ≡ true }
+    ensures begun { desk.new.begun ≡ desk.old.begun }
+    ensures halts { IfErr result (Halts S.service S.requests desk.new) }
 {
     let mut turn = desk.step(alloc, svc, lane, mine);
     for _ in 1..tries {
@@ -163,9 +162,40 @@ fn tries_at<G: Gate>(gate: &G) -> u32 {
     if gate.is_open() { TRIES } else { 1 }
 }
 
+/// Makes the event of an index for a lane whose thread hasn't begun, if it is still the next one and the lane can go on, and
+/// brings back what the lane's lines led to.
+fn stand_in<S: Setting, R: Wait>(
+    wait: &R,
+    alloc: Global,
+    svc: &Checked,
+    desk: &Mutex<CachePadded<Desk<S>>>,
+    wakers: &Wakers,
+    lane: u8,
+    index: u32,
+    mine: &mut Share<S>,
+)
+    requires service { svc.now ≡ S.service }
+    requires there { lane < S.service.lanes }
+    requires part { 0 < mine.old.parts }
+    ensures { mine.new.parts ≡ mine.old.parts }
+{
+    let mut guard = take_lock(wait, desk);
+    if guard.done(lane) != index {
+        return;
+    }
+    let made = guard.step_for(alloc, svc, lane, mine);
+    drop(guard);
+    if let Some(Made { lent, woken }) = made {
+        wakers.wake(woken);
+        if let Some(brought) = run_outside(alloc, svc, lent) {
+            take_lock(wait, desk).bring_back(svc, lane, brought);
+        }
+    }
+}
+
 /// One lane's loop: it passes the gate, takes the lock, brings back what its lines led to, and tries its next event. Where the gate is
-/// open it tries the ones after it, too, as long as there is nothing to do outside the lock. Where it can't go on it sleeps. It
-/// ends when no lane can go on, or a lane found no memory.
+/// open it tries the ones after it, too, as long as there is nothing to do outside the lock. Where it can't go on it makes an event
+/// for a lane whose thread hasn't begun, or else sleeps. It ends when no lane can go on, or a lane found no memory.
 fn work<S: Setting, R: Wait, G: Gate>(
     wait: &R,
     alloc: Global,
@@ -184,7 +214,7 @@ fn work<S: Setting, R: Wait, G: Gate>(
     let _service = svc.declarations();
     let mut mine = share;
     let tries = tries_at(gate);
-    let mut index = take_lock(wait, desk).done(lane);
+    let mut index = take_lock(wait, desk).begin(lane);
     let mut brought = None;
     for _ in wait.forever() {
         gate.enter(lane, lane, index);
@@ -201,7 +231,13 @@ fn work<S: Setting, R: Wait, G: Gate>(
                 brought = run_outside(alloc, svc, lent);
             }
             Err(Halt::Stays) => wakers.sleep(wait, lane, guard),
-            Err(_) => {
+            Err(Halt::Absent { lane: other }) => {
+                let next = guard.done(other);
+                drop(guard);
+                gate.enter(lane, other, next);
+                stand_in(wait, alloc, svc, desk, wakers, other, next, &mut mine);
+            }
+            Err(Halt::Over | Halt::GaveUp) => {
                 drop(guard);
                 wakers.wake_all();
                 break;
@@ -255,7 +291,10 @@ fn work_from<S: Setting + Send + Sync, T: Threads + Sync, R: Wait + Sync, G: Gat
 }
 
 /// Runs the floor's lanes, each as a thread, until none can go on or the history is as long as may be, and gives the whole
-/// history. Each lane passes the gate before each try of an event, as the worker of its number.
+/// history. Each try of an event passes the gate before, as the worker of the number of the lane whose thread makes it: the
+/// lane of the event, or another one that can't go on, as long as that lane's thread hasn't begun. The index is that of the lane's
+/// next event when the try is decided on; of another lane it may have been made before the try, which then makes none. What a
+/// thread that can't be made would do begins when the lanes above have ended.
 ///
 /// Where memory is short the floor stays as it is by then, and its lanes may run again.
 pub fn run_lanes<S: Setting + Send + Sync, T: Threads + Sync, R: Wait + Sync, G: Gate + Sync>(

@@ -14,11 +14,17 @@
 //! - A semaphore. Each event that raises it wakes one lane that sleeps at it. So its value is at most the number of lanes
 //!   that are awake at it, while one sleeps.
 //! - A request. Nobody is woken: a reply lets at most one request more begin, that of its client, and leaves its lane idle and
-//!   awake. A lane falls asleep idle only where no request may begin. So while one sleeps, at most as many clients may begin a
-//!   request as lanes are idle and awake, and these try next.
+//!   awake, or its thread not begun. A lane falls asleep idle only where no request may begin. So while one sleeps, at most as many
+//!   clients may begin a request as lanes are idle that don't sleep, and these try next.
+//! - A lane whose thread hasn't begun. It sleeps for nothing, and nobody wakes it: it may be that its thread begins only when those of
+//!   other lanes have ended. Whoever finds no event of its own makes one for such a lane that may go on, and falls asleep only
+//!   where there is none. So what lets such a lane go on wakes nobody: the thread that made that event looks for it before it
+//!   falls asleep. An event is made for it only as long as its thread hasn't begun. So its thread, once begun, is one of those
+//!   above, and nobody takes from it that it waits.
 //! - The end. The lane that finds that no lane can go on, or no memory, wakes all.
 //!
-//! So not all lanes sleep where one could go on: the last one that falls asleep finds a lane that may, which then is awake.
+//! So not all lanes sleep where one could go on: the last one that falls asleep finds a lane that may, and all of those whose
+//! threads haven't begun can't; so it is one that then is awake.
 
 ghost use Rattle.std.specs.Prelude.{◌≡◌, ◌<◌, ◌≤◌};
 
