@@ -1,15 +1,16 @@
 -- What noted deltas and answers say of a trace.
-use Rattle.std.specs.Prelude.{◌≡◌, ◌<◌, ◌+◌, ◌||◌, ◌==◌, ℕ, true, List, ◌++◌, Option, Some, None}
+use Rattle.std.specs.Prelude.{◌≡◌, ◌<◌, ◌≤◌, ◌+◌, ◌||◌, ◌==◌, ◌⊎◌, ℕ, suc, ℤ, true, false, List, ◌∷◌, ◌++◌, length, Option, Some, None}
 use Rattle.rex_syntax.specs.declared.request.Request.{Request}
 use Rattle.rex_syntax.specs.declared.service.Declarations.{Declarations}
 use Rattle.rex_event.specs.declared.event.Event.{Event}
 use Rattle.rex_event.specs.declared.delta.Delta.{Delta}
 use Rattle.rex_state.specs.declared.lane.Entry.{Entry}
 use Rattle.rex_state.specs.Value.{StateValue}
-use Rattle.rex_state.specs.Machine.{is_replied, run}
+use Rattle.rex_state.specs.Machine.{entry_at, is_replied, run}
 use Rattle.rex_state.specs.Start.{start_of, no_entries}
 use Rattle.rex_gate.specs.declared.answer.Answer.TheVariants.{Queued}
-use Rattle.rex_gate.specs.Noted.{noted, noted_all, joined}
+use Rattle.rex_gate.specs.Noted.{noted, noted_all, joined, no_answers, answers_at, numbering_all, noting_all, stamp_of}
+use Rattle.rex_gate.specs.Numbers.{stamp_of_state, replies_to}
 use Rattle.rex_gate.specs.Answer.{answer_of, answer_to}
 
 -- where the entries are a state's, a delta that runs from it leaves those of the state after it
@@ -49,3 +50,27 @@ abbrev pub QueuedRequestsAreDue : Type 0
 QueuedRequestsAreDue =
     (sequence : ℕ) (queued : Option ℕ) (live known : Entry) → ((other : ℕ) → queued ≡ Some other → 0 < other) → answer_of sequence queued live known ≡ Queued
     → IsDue sequence queued live
+
+-- the last of the deltas with a reply to the client, and its number, where the first one's is one above the offset
+pub record HoldsLastReply (client offset : ℕ) (ds : List Delta) (stamp : Option ℕ) : Type 0 where
+  pub first : List Delta
+  pub delta : Delta
+  pub later : List Delta
+  pub parts : ds ≡ first ++ delta ∷ later
+  pub replies : replies_to client delta.events ≡ true
+  pub quiet : replies_to client (joined later) ≡ false
+  pub number : stamp ≡ Some (offset + suc (length first))
+
+-- a stamp is that number; where no delta has a reply to the client it is 0, if the state had one, and else there is none
+abbrev pub IsStamp : ℕ → ℕ → Option ℤ → List Delta → Option ℕ → Type 0
+IsStamp client offset reply ds stamp = HoldsLastReply client offset ds stamp ⊎ ((replies_to client (joined ds) ≡ false) × (stamp ≡ (stamp_of_state reply).number))
+
+-- from a state on, once some deltas are numbered and others noted after them, each client's stamp is so
+abbrev pub StampsAreOfLastReplies : Type 0
+StampsAreOfLastReplies =
+    (clients : List Entry) (offset : ℕ) (held others : List Delta) (client : ℕ) → client < length clients → offset + length (held ++ others) ≤ 4294967295
+    → IsStamp client offset (entry_at clients client).reply (held ++ others) (stamp_of (noting_all (numbering_all (answers_at clients offset) held) others) client)
+
+-- before any delta is known it is as at the state at the start
+abbrev pub AnswersBeginAtTheStart : Type 0
+AnswersBeginAtTheStart = no_answers ≡ answers_at no_entries 0

@@ -5,6 +5,7 @@ mod answer;
 mod answers;
 mod clients;
 pub mod laws;
+mod numbers;
 
 pub use answer::Answer;
 pub use answers::Answers;
