@@ -197,6 +197,7 @@ module _ (service : Declarations) (good : IsService service) (checked : IsChecke
   steps_lanes w (line.Checkpoint m version) l = (l, tt)
   steps_lanes w (line.DropKnown m) l = (l, tt)
   steps_lanes w (line.KeepFail m kept) l = (l, tt)
+  steps_lanes w (line.ReadVariable m client variable) l = (l, tt)
 
   steps_work : (w : World) (xs : List ScheduleLine) → IsWorld n sv w → AllWork w → HaveLanes xs → AllWork (steps service requests seed n w xs).world
   steps_work w [] ok h l = h

@@ -34,7 +34,7 @@ module _ (service : Declarations) (requests : List Request) (seed n : ℕ) (few 
   does_ok w (Does line) ok = row_ok service requests seed n few w line ok
   does_ok w (Takes m e) ok = take_ok service seed n w m e ok
 
-  doings_ok : (w : World) (xs : List Doing) → IsWorld n sv w → GoesOnTo n sv w (after_doings service requests seed n w xs)
+  pub doings_ok : (w : World) (xs : List Doing) → IsWorld n sv w → GoesOnTo n sv w (after_doings service requests seed n w xs)
   doings_ok w [] ok = row_same n sv w ok
   doings_ok w (x ∷ xs) ok =
       let first = does_ok w x ok in
@@ -49,7 +49,7 @@ module _ (service : Declarations) (requests : List Request) (seed n : ℕ) (few 
 
 -- ---- at two moments
 
-after_both : (service : Declarations) (requests : List Request) (seed n : ℕ) (w : World) (doings more : List Doing)
+pub after_both : (service : Declarations) (requests : List Request) (seed n : ℕ) (w : World) (doings more : List Doing)
     → after_doings service requests seed n w (doings ++ more) ≡ after_doings service requests seed n (after_doings service requests seed n w doings) more
 after_both service requests seed n w [] more = refl
 after_both service requests seed n w (x ∷ doings) more = after_both service requests seed n (does service requests seed n w x) doings more

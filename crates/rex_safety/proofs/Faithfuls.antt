@@ -221,6 +221,7 @@ module _ (service : Declarations) (good : IsService service) (checked : IsChecke
     steps_typed w ok short h (line.Checkpoint m version) = step_typed w ok.many short h (line.Checkpoint m version)
     steps_typed w ok short h (line.DropKnown m) = step_typed w ok.many short h (line.DropKnown m)
     steps_typed w ok short h (line.KeepFail m kept) = step_typed w ok.many short h (line.KeepFail m kept)
+    steps_typed w ok short h (line.ReadVariable m client variable) = step_typed w ok.many short h (line.ReadVariable m client variable)
 
     row_typed : (w : World) → IsWorld n sv w → w.done < 2 ^ 63 → AllTyped w → (x : ScheduleLine) → AllTyped (row service requests seed n w x).world
     row_typed w ok short h x = steps_typed w ok short h x

@@ -47,6 +47,7 @@ has_lane service nodes requests (line.Start m) l = tt
 has_lane service nodes requests (line.Checkpoint m version) l = tt
 has_lane service nodes requests (line.DropKnown m) l = tt
 has_lane service nodes requests (line.KeepFail m kept) l = tt
+has_lane service nodes requests (line.ReadVariable m client variable) l = tt
 
 -- ---- the messages that were handed over
 
@@ -83,6 +84,7 @@ step_told service requests seed n w (line.Start m) h = start_told (service_of se
 step_told service requests seed n w (line.Checkpoint m version) h = if_up_told (node_at w.nodes m).up w m _ h
 step_told service requests seed n w (line.DropKnown m) h = if_up_told (node_at w.nodes m).up w m _ h
 step_told service requests seed n w (line.KeepFail m kept) h = after_told w m (arm m kept (begin (node_at w.nodes m))) h
+step_told service requests seed n w (line.ReadVariable m client variable) h = h
 
 -- ---- steps
 

@@ -20,7 +20,8 @@ pub mod Leaders
 pub mod Saying
 pub mod Replies
 pub mod Moments
-pub mod Showing
+pub mod Stamps
+pub mod Seen
 pub mod Rounds
 pub mod Onces
 pub mod Requests
@@ -45,6 +46,8 @@ pub mod Keeps
 pub mod Spelled
 pub mod Takes
 pub mod Doings
+pub mod Showing
+pub mod Readings
 pub mod Reached
 pub mod Typing
 pub mod Typings
@@ -57,3 +60,4 @@ pub mod Asking
 pub mod Ruled
 pub mod Examples
 pub mod Schedules
+pub mod Staying

@@ -1,6 +1,6 @@
 -- Each released reply stands in the trace of every later leader.
 use Rattle.std.proofs.Common.{◌≡◌, ℕ, zero, suc, ◌+◌, ◌<◌, ◌≤◌, Bool, true, false, cond, ◌⊎◌, List, [], ◌∷◌, ◌++◌, length, Option, Some, None, refl, sym, ◌∙◌, ap, subst, inl, inr, arith, eq-eqb}
-use Rattle.std.specs.Prelude.{take, slice_get}
+use Rattle.std.specs.Prelude.{take, slice_get, get_or}
 use Rattle.std.proofs.lemmas.Bool.{cases_lt, false≢true}
 use Rattle.rex_ballot.specs.Limits.{most_nodes}
 use Rattle.rex_syntax.specs.declared.request.Request.{Request}
@@ -17,7 +17,10 @@ use Rattle.rex_safety.specs.Node.Role.{Follower, Leads}
 use Rattle.rex_safety.specs.Calls.{begin, elect, receive, ask, replay, checkpoint, drop_known, stop}
 use Rattle.rex_safety.specs.Values.{Value, service_of}
 use Rattle.rex_safety.specs.Lanes.{Here, CallHere, no_limits, with_limits}
-use Rattle.rex_safety.specs.World.{World, Row, node_at, put, logs, beginning, after, if_up, at_node, start_if, first_told, with_handed, deliver_found, message_at, step, steps_of, steps, row}
+use Rattle.rex_safety.specs.World.{World, Row, node_at, put, logs, beginning, after, if_up, at_node, start_if, read_row, first_told, with_handed, deliver_found, message_at, step, steps_of, steps, row}
+use Rattle.rex_reads.specs.declared.seen.Read.{Read as Told}
+use Rattle.rex_reads.specs.declared.seen.Read.TheVariants as told
+use Rattle.rex_safety.specs.Reading.{read_at, read_effect}
 use Rattle.rex_safety.specs.Invariant.{Begins, Grows, LeadsRightly, IsRightRole}
 use Rattle.std.specs.Prelude.{ℤ}
 use Rattle.std.specs.List.{All}
@@ -44,6 +47,13 @@ use Rattle.rex_safety.proofs.Agreeing.{known_begins, agreed_grows}
 use Rattle.rex_safety.proofs.Replies.{trace_both, stands_begins, StandsIn, replies_stand, SaysHere, quietly, submit_says, turn_says, cut_tells}
 
 -- ---- a step
+
+-- an answer to a client that reads is no release
+pub read_quiet : (m client variable : ℕ) (a : Told) (c s : ℕ) (x : ℤ) → read_effect m client variable a ≡ effect.Released c s x → ⊥
+read_quiet m client variable told.Down c s x e = cc
+read_quiet m client variable told.Primary c s x e = cc
+read_quiet m client variable (told.Behind have seen) c s x e = cc
+read_quiet m client variable (told.Value value number) c s x e = cc
 
 -- what it releases stands in what its node knows, and the node is there and active
 pub record IsTrue (service : Declarations) (good : IsService service) (checked : IsChecked service) (n m : ℕ) (w : World) (effects : List Effect) : Type 0 where
@@ -87,6 +97,10 @@ module _ (service : Declarations) (good : IsService service) (checked : IsChecke
   start_true w m true = quiet_true m w (effect.IsUp m ∷ []) (quiet_one (effect.IsUp m) (λ c s x e. cc))
   start_true w m false = quiet_true m (start_if (service_of service seed) false w m).world (start_if (service_of service seed) false w m).effects (start_quiet (service_of service seed) m (begin (node_at w.nodes m)) quiet_none)
 
+  -- an answer to a client that reads releases nothing
+  read_true : (w : World) (m client variable : ℕ) (a : Told) → IsTrue service good checked n m (read_row w m client variable a).world (read_row w m client variable a).effects
+  read_true w m client variable a = quiet_true m (read_row w m client variable a).world (read_row w m client variable a).effects (quiet_one (read_effect m client variable a) (read_quiet m client variable a))
+
   pub step_true : (requests : List Request) → All (RequestFits service) requests → (w : World) → length w.nodes ≡ n → (x : ScheduleLine) → IsTrue service good checked n (node_in w x) (step service requests seed n w x).world (step service requests seed n w x).effects
   step_true requests fit w many (line.Elect m) = at_node_true w many m (elect n (service_of service seed) m) (λ d q. elect_says n (service_of service seed) m (StandsIn service good checked) (replies_stand service good checked) d q)
   step_true requests fit w many (line.Submit m r) = at_node_true w many m _ (λ d q. submit_says service good checked seed n m requests fit r d q)
@@ -102,6 +116,7 @@ module _ (service : Declarations) (good : IsService service) (checked : IsChecke
   step_true requests fit w many (line.Checkpoint m version) = at_node_true w many m (checkpoint version (service_of service seed) m) (λ d q. checkpoint_says n (service_of service seed) m (StandsIn service good checked) (replies_stand service good checked) version d q)
   step_true requests fit w many (line.DropKnown m) = at_node_true w many m (drop_known m) (λ d q. drop_says n (service_of service seed) m (StandsIn service good checked) (replies_stand service good checked) d q)
   step_true requests fit w many (line.KeepFail m kept) = quiet_true m (step service requests seed n w (line.KeepFail m kept)).world (step service requests seed n w (line.KeepFail m kept)).effects (quiet_one _ (λ c s x e. cc))
+  step_true requests fit w many (line.ReadVariable m client variable) = read_true w m client variable (read_at service (node_at w.nodes m) variable (get_or w.seen client 0))
 
 -- ---- the moments of a run
 

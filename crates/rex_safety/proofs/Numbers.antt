@@ -168,6 +168,7 @@ module _ (service : Declarations) (requests : List Request) (seed n : ℕ) (few 
   step_fits w ok h (line.Checkpoint m version) l = any_fits w ok.many h m (checkpoint version sv m) (λ min d k. checkpoint_fits n few sv m min version d k)
   step_fits w ok h (line.DropKnown m) l = any_fits w ok.many h m (drop_known m) (λ min d k. drop_fits n few sv m min d k)
   step_fits w ok h (line.KeepFail m kept) l = arm_fits w ok.many h m kept
+  step_fits w ok h (line.ReadVariable m client variable) l = record { nodes = h.nodes; messages = h.messages }
 
   -- ---- lines
 
@@ -199,6 +200,7 @@ module _ (service : Declarations) (requests : List Request) (seed n : ℕ) (few 
   steps_fit w (line.Checkpoint m version) l = (l, tt)
   steps_fit w (line.DropKnown m) l = (l, tt)
   steps_fit w (line.KeepFail m kept) l = (l, tt)
+  steps_fit w (line.ReadVariable m client variable) l = (l, tt)
 
   all_steps_fit : (w : World) (xs : List ScheduleLine) → IsWorld n sv w → AllFit w → AllLinesFit xs → AllFit (steps service requests seed n w xs).world
   all_steps_fit w [] ok h l = h

@@ -256,6 +256,7 @@ module _ (service : Declarations) (requests : List Request) (seed n : ℕ) (few 
   step_cand w ok has (line.Checkpoint m version) = each w ok has m (checkpoint version svc m) (step_ok service requests seed n few w (line.Checkpoint m version) ok) (λ P Q plain d h. checkpoint_cast P Q n svc m plain version d h)
   step_cand w ok has (line.DropKnown m) = each w ok has m (drop_known m) (step_ok service requests seed n few w (line.DropKnown m) ok) (λ P Q plain d h. drop_cast P Q n svc m plain d h)
   step_cand w ok has (line.KeepFail m kept) = any w ok has m (arm m kept) (step_ok service requests seed n few w (line.KeepFail m kept) ok) refl (λ P Q plain d h. arm_cast P Q n svc m plain kept d h)
+  step_cand w ok has (line.ReadVariable m client variable) = record { first = has.first; holds = record { messages = has.holds.messages; roles = has.holds.roles } }
 
   take_cand : (w : World) → IsWorld n (service_of service seed) w → HasCandidacies n w → (m : ℕ) (e : Event) → HasCandidacies n (take service w m e)
   take_cand w ok has m e =

@@ -1,6 +1,6 @@
 -- Rounds rise by at most one with each line, so that a run of no more lines than there are rounds never lacks one.
 use Rattle.std.proofs.Common.{◌≡◌, ℕ, zero, suc, ◌+◌, ◌*◌, ◌<◌, ◌≤◌, Bool, true, false, cond, ◌⊎◌, List, [], ◌∷◌, ◌++◌, length, drop, Option, Some, None, eqb, refl, sym, ◌∙◌, ap, subst, inl, inr, arith, lt_of_lt_of_le}
-use Rattle.std.specs.Prelude.{slice_get, nat_le, map}
+use Rattle.std.specs.Prelude.{slice_get, get_or, nat_le, map}
 use Rattle.std.proofs.lemmas.Bool.{false≢true}
 use Rattle.std.proofs.lemmas.Option.{same_Some}
 use Rattle.rex_ballot.specs.Limits.{most_nodes}
@@ -28,7 +28,10 @@ use Rattle.rex_safety.specs.Node.Role.{Follower, Leads}
 use Rattle.rex_safety.specs.Calls.{begin, say, settle, enough, elect, receive, ask, replay, checkpoint, drop_known, stop, start, arm}
 use Rattle.rex_safety.specs.Values.{Value, trace_of, state_after, events_of, service_of}
 use Rattle.rex_safety.specs.Lanes.{Here, CallHere, active_only, submit_request, effect_of, lane_turn, turn_effect, turn_in, is_faithful, cut_live, cut_lead, cut_role, cut, value_at, no_limits, with_limits, known_state, live_state}
-use Rattle.rex_safety.specs.World.{World, Row, node_at, logs, beginning, after, only, if_up, at_node, start_if, first_told, with_handed, deliver_found, message_at, step, waiting_from, flush_steps, steps_of, steps, sent_from, row, after_lines, effects_of}
+use Rattle.rex_safety.specs.World.{World, Row, node_at, logs, beginning, after, only, if_up, at_node, start_if, read_row, first_told, with_handed, deliver_found, message_at, step, waiting_from, flush_steps, steps_of, steps, sent_from, row, after_lines, effects_of}
+use Rattle.rex_reads.specs.declared.seen.Read.{Read as Told}
+use Rattle.rex_reads.specs.declared.seen.Read.TheVariants as told
+use Rattle.rex_safety.specs.Reading.{read_at, read_effect}
 use Rattle.rex_safety.specs.Invariant.{IsIn, IsJustified}
 use Rattle.rex_safety.specs.Agreed.{world_after}
 use Rattle.rex_safety.specs.Kept.{IsWorld}
@@ -226,6 +229,15 @@ module _ (service : Declarations) (requests : List Request) (seed n : ℕ) (few 
   start_if_low w many h m true = only_low w h (effect.IsUp m) (λ m e. cc)
   start_if_low w many h m false = any_low w many h m (start sv m) (start_low n sv m limit some calm_replies)
 
+  read_low : (w : World) → AreLow n limit w → (m client variable : ℕ) (a : Told) → StepLow n limit (read_row w m client variable a)
+  read_low w h m client variable a = record { nodes = h; calm = calm_one (read_effect m client variable a) (other a) }
+    where
+      other : (a : Told) → Other (read_effect m client variable a)
+      other told.Down k e = cc
+      other told.Primary k e = cc
+      other (told.Behind have seen) k e = cc
+      other (told.Value value number) k e = cc
+
   pub step_low : (w : World) → IsWorld n sv w → AreLow n limit w → (x : ScheduleLine) → IsOther x → StepLow n limit (step service requests seed n w x)
   step_low w ok h (line.Elect m) o = absurd o
   step_low w ok h (line.Submit m r) o = each_low w ok.many h m _ (λ d b. active_low m (is_active d.node.role) d _ b (submit_low m (slice_get requests r) d b))
@@ -241,6 +253,7 @@ module _ (service : Declarations) (requests : List Request) (seed n : ℕ) (few 
   step_low w ok h (line.Checkpoint m version) o = each_low w ok.many h m (checkpoint version sv m) (checkpoint_low n sv m limit some calm_replies version)
   step_low w ok h (line.DropKnown m) o = each_low w ok.many h m (drop_known m) (drop_low n sv m limit some calm_replies)
   step_low w ok h (line.KeepFail m kept) o = any_low w ok.many h m (arm m kept) (arm_low n sv m limit some calm_replies kept)
+  step_low w ok h (line.ReadVariable m client variable) o = read_low w h m client variable (read_at service (node_at w.nodes m) variable (get_or w.seen client 0))
 
   take_low : (w : World) → IsWorld n sv w → AreLow n limit w → (m : ℕ) (e : Event) → StepLow n limit (at_node w m (λ d. active_only (is_active d.node.role) d (take_event service e d)))
   take_low w ok h m e = each_low w ok.many h m _ (λ d b. active_low m (is_active d.node.role) d (take_event service e d) b (record { promised = b.promised; own = b.own; calm = b.calm }))
@@ -307,6 +320,7 @@ elects_or_not w (line.Start m) = inr (tt, tt)
 elects_or_not w (line.Checkpoint m version) = inr (tt, tt)
 elects_or_not w (line.DropKnown m) = inr (tt, tt)
 elects_or_not w (line.KeepFail m kept) = inr (tt, tt)
+elects_or_not w (line.ReadVariable m client variable) = inr (tt, tt)
 
 -- below the ballots of the rounds above this one
 abbrev pub end_of : ℕ → ℕ

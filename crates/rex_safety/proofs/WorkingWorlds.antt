@@ -83,6 +83,7 @@ module _ (service : Declarations) (seed n : ℕ) (A : List Value → Option (Pro
   step_works requests w many h (line.Checkpoint m version) l = at_works w many h m (checkpoint version sv m) (λ d k. checkpoint_works n sv m A new more version d k)
   step_works requests w many h (line.DropKnown m) l = at_works w many h m (drop_known m) (λ d k. drop_works n sv m A new more d k)
   step_works requests w many h (line.KeepFail m kept) l = after_works w many h m (arm m kept (begin (node_at w.nodes m))) (record { each = (h m).each })
+  step_works requests w many h (line.ReadVariable m client variable) l = h
 
   pub fresh_works : (m : ℕ) (x : Here) → IsFresh x → WorksAt m (begin x)
   fresh_works m x (inl e) = subst (λ (y : Here). WorksAt m (begin y)) (sym e) (passive n sv m A new more _ refl)

@@ -106,16 +106,16 @@ none_same n sv w ok m none d e =
     subst (λ (x : World). GoesOnTo n sv w x) (sym same) (changed, grows_same (logs w))
   where
     flags : World
-    flags = record w { handed = w.handed ++ replicate (length d.sends) false }
+    flags = record w { handed = w.handed ++ replicate (length d.sends) false; seen = (after w m d).world.seen }
 
-    same : (after w m d).world ≡ record w { handed = w.handed ++ replicate (length d.sends) false }
+    same : (after w m d).world ≡ record w { handed = w.handed ++ replicate (length d.sends) false; seen = (after w m d).world.seen }
     same =
         let a : put w.nodes m d.node ≡ w.nodes = put_none w.nodes m d.node (λ l. none (subst (λ k. IsNode k m) ok.many l)) in
         let b : w.messages ++ d.sends ≡ w.messages = ap (λ xs. w.messages ++ xs) e ∙ append-nil w.messages in
-        ap (λ (xs : List Here). record w { nodes = xs; messages = w.messages ++ d.sends; handed = w.handed ++ replicate (length d.sends) false }) a
-        ∙ ap (λ (ms : List (Message Value)). record w { messages = ms; handed = w.handed ++ replicate (length d.sends) false }) b
+        ap (λ (xs : List Here). record w { nodes = xs; messages = w.messages ++ d.sends; handed = w.handed ++ replicate (length d.sends) false; seen = (after w m d).world.seen }) a
+        ∙ ap (λ (ms : List (Message Value)). record w { messages = ms; handed = w.handed ++ replicate (length d.sends) false; seen = (after w m d).world.seen }) b
 
-    changed : IsWorld n sv (record w { handed = w.handed ++ replicate (length d.sends) false })
+    changed : IsWorld n sv (record w { handed = w.handed ++ replicate (length d.sends) false; seen = (after w m d).world.seen })
     changed = record { many = ok.many; cluster = ok.cluster; nodes = ok.nodes }
 
 -- a call of any number keeps it, where it does of a node's

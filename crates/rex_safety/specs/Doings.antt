@@ -1,5 +1,5 @@
 -- What holds of every world to which schedule lines and events that nodes are handed lead.
-use Rattle.std.specs.Prelude.{◌≡◌, ℕ, ◌+◌, ◌≤◌, true, List, [], ◌∷◌, ◌++◌, length}
+use Rattle.std.specs.Prelude.{◌≡◌, ℕ, ◌+◌, ◌≤◌, ℤ, true, List, [], ◌∷◌, ◌++◌, length, Some, slice_get}
 use Rattle.std.specs.List.{All}
 use Rattle.rex_ballot.specs.Limits.{most_nodes}
 use Rattle.rex_syntax.specs.declared.request.Request.{Request}
@@ -7,9 +7,11 @@ use Rattle.rex_syntax.specs.declared.service.Declarations.{Declarations}
 use Rattle.rex_syntax.specs.Service.{IsService}
 use Rattle.rex_syntax.specs.Check.{IsChecked}
 use Rattle.rex_event.specs.declared.event.Event.{Event}
+use Rattle.rex_report.specs.declared.effect.Effect.TheVariants.{Released}
+use Rattle.rex_scenario.specs.declared.scenario.ScheduleLine.TheVariants.{ReadVariable}
 use Rattle.rex_scenario.specs.Fits.{IsNode, RequestFits}
 use Rattle.rex_safety.specs.World.{World, node_at, beginning, steps_of}
-use Rattle.rex_safety.specs.Agreed.{agreed}
+use Rattle.rex_safety.specs.Agreed.{agreed, trace_at}
 use Rattle.rex_safety.specs.Values.{Value, trace_of, service_of}
 use Rattle.rex_safety.specs.Once.{IsOnce}
 use Rattle.rex_safety.specs.Kept.{IsKept}
@@ -17,7 +19,9 @@ use Rattle.rex_safety.specs.Laws.{HasOneValue, KnowsAgreed, OnlyGrows, IsOneList
 use Rattle.rex_safety.specs.Rules.{Rules}
 use Rattle.rex_safety.specs.Node.{Lead}
 use Rattle.rex_safety.specs.Node.Role.{Leads}
-use Rattle.rex_safety.specs.Releases.{Moment, step_moments}
+use Rattle.rex_safety.specs.Stands.{Stands}
+use Rattle.rex_safety.specs.Releases.{Moment, IsAmong, step_moments}
+use Rattle.rex_safety.specs.Seeing.{IsTold, ReportsWhatIsTold, TellsAgreed}
 use Rattle.rex_safety.specs.Takes.{Doing, DoingFits, BeginsInRange, take, does, after_doings}
 use Rattle.rex_safety.specs.Takes.Doing.{Does, Takes}
 
@@ -161,3 +165,30 @@ abbrev pub DoingsKeepAgreed : Type 0
 DoingsKeepAgreed =
     (service : Declarations) (requests : List Request) (seed n : ℕ) (doings : List Doing) → n ≤ most_nodes → IsService service → IsChecked service → All (RequestFits service) requests
     → ReleasesAreAgreed (moments_of_doings service requests seed n (beginning n) doings)
+
+-- ---- reads
+
+-- a line that reads reports what its client is told, and no other value
+abbrev pub DoingsReportReads : Type 0
+DoingsReportReads = AfterAnyDoings ReportsWhatIsTold
+
+-- what is told is the variable's value after the first so many agreed deltas
+abbrev pub DoingsTellAgreed : Type 0
+DoingsTellAgreed = AfterAnyDoings TellsAgreed
+
+-- the number of deltas that a client is told never falls
+abbrev pub DoingsNeverGoBack : Type 0
+DoingsNeverGoBack =
+    (service : Declarations) (requests : List Request) (seed n : ℕ) (doings more : List Doing) → n ≤ most_nodes → (m client variable : ℕ) (value : ℤ) (number : ℕ) → client ≤ 256
+    → IsTold service (world_after_doings service requests seed n doings) m client variable value number
+    → (m_later variable_later : ℕ) (value_later : ℤ) (number_later : ℕ)
+    → IsTold service (world_after_doings service requests seed n (doings ++ Does (ReadVariable m client variable) ∷ more)) m_later client variable_later value_later number_later → number ≤ number_later
+
+-- with a checked service and requests that fit it: each reply that was released to a client at one of their moments stands in the trace of as many agreed deltas as the client is told where it reads then
+abbrev pub DoingsShowReplies : Type 0
+DoingsShowReplies =
+    (service : Declarations) (requests : List Request) (seed n : ℕ) (doings : List Doing) → n ≤ most_nodes → IsService service → IsChecked service → All (RequestFits service) requests
+    → (i : ℕ) (release : Moment) → slice_get (moments_of_doings service requests seed n (beginning n) doings) i ≡ Some release
+    → (client sequence : ℕ) (reply : ℤ) → client ≤ 256 → IsAmong (Released client sequence reply) release.effects
+    → (m variable : ℕ) (value : ℤ) (number : ℕ) → IsTold service (world_after_doings service requests seed n doings) m client variable value number
+    → Stands (trace_at (world_after_doings service requests seed n doings) number) client sequence reply

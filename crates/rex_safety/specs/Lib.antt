@@ -6,6 +6,7 @@ pub mod Calls
 pub mod Values
 pub mod Same
 pub mod Lanes
+pub mod Reading
 pub mod Invariant
 pub mod World
 pub mod Agreed
@@ -21,6 +22,7 @@ pub mod Kept
 pub mod Takes
 pub mod Limits
 pub mod Keeping
+pub mod Seeing
 pub mod Doings
 pub mod Rounds
 pub mod Typed

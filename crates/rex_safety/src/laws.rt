@@ -8,7 +8,8 @@ ghost use Rattle.rex_safety.specs.Rounds.{RoundsStayFew, RoundsAreLeft, DoingsKe
 ghost use Rattle.rex_safety.specs.Faithful.{CutsStayFaithful, DoingsKeepCutsFaithful};
 ghost use Rattle.rex_safety.specs.Limits.{ValuesLeadToLimitedStates};
 ghost use Rattle.rex_safety.specs.Migrating.{MigrationsSayTheSame, MigrationsKeepStates, MigrationsHappenOnce};
-ghost use Rattle.rex_safety.specs.Doings.{TakesAreKept, DoingsAreKept, DoingsAgree, DoingsBeginAgreed, DoingsOnlyGrow, DoingsGivePrefixes, DoingsRun, DoingsKeepBases, DoingsGiveAgreed, DoingsHoldAgreed, DoingsTransferRightly, DoingsHappenOnce, DoingsKeepReplies, DoingsKeepAgreed, DoingsLetCutsGoFirst, DoingsKeepCausesLeast, DoingsFitNext, DoingsKeepBytes, DoingsKeepShort, DoingsKeepRules, DoingsKeepNodes, DoingsRunActives, DoingsKeepNumbers};
+ghost use Rattle.rex_safety.specs.Seeing.{ReadsAreReported, ReadsAreOfTheAgreed, ReadsNeverGoBack, ReadsShowReplies};
+ghost use Rattle.rex_safety.specs.Doings.{TakesAreKept, DoingsAreKept, DoingsAgree, DoingsBeginAgreed, DoingsOnlyGrow, DoingsGivePrefixes, DoingsRun, DoingsKeepBases, DoingsGiveAgreed, DoingsHoldAgreed, DoingsTransferRightly, DoingsHappenOnce, DoingsKeepReplies, DoingsKeepAgreed, DoingsLetCutsGoFirst, DoingsKeepCausesLeast, DoingsFitNext, DoingsKeepBytes, DoingsKeepShort, DoingsKeepRules, DoingsKeepNodes, DoingsRunActives, DoingsKeepNumbers, DoingsReportReads, DoingsTellAgreed, DoingsNeverGoBack, DoingsShowReplies};
 
 /// Two values that are chosen for one instance are equal (Lamport, 2001).
 pub fn chosen_values_agree()
@@ -333,4 +334,44 @@ pub fn migrations_keep_states()
 /// A checkpoint is migrated once.
 pub fn migrations_happen_once()
     ensures { MigrationsHappenOnce }
+{}
+
+/// A line that reads reports what its client is told, and no other value.
+pub fn reads_are_reported()
+    ensures { ReadsAreReported }
+{}
+
+/// A value that a client reads at a node is the variable's value after the first so many agreed deltas.
+pub fn reads_are_of_the_agreed()
+    ensures { ReadsAreOfTheAgreed }
+{}
+
+/// The number of deltas after which a client reads never falls, at whatever nodes it reads.
+pub fn reads_never_go_back()
+    ensures { ReadsNeverGoBack }
+{}
+
+/// Each reply that was released to a client before it reads stands in the trace to whose state the value belongs.
+pub fn reads_show_replies()
+    ensures { ReadsShowReplies }
+{}
+
+/// After events that nodes are handed, too, a line that reads reports what its client is told, and no other value.
+pub fn reads_are_reported_after_doings()
+    ensures { DoingsReportReads }
+{}
+
+/// After them a value that a client reads is the variable's value after the first so many agreed deltas.
+pub fn reads_are_of_the_agreed_after_doings()
+    ensures { DoingsTellAgreed }
+{}
+
+/// With them among the lines the number of deltas after which a client reads never falls.
+pub fn reads_never_go_back_after_doings()
+    ensures { DoingsNeverGoBack }
+{}
+
+/// With them among the lines each reply that was released to a client before it reads stands in the trace to whose state the value belongs.
+pub fn reads_show_replies_after_doings()
+    ensures { DoingsShowReplies }
 {}

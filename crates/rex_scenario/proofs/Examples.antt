@@ -12,11 +12,11 @@ use Rattle.rex_syntax.specs.declared.request.Request.{Request}
 use Rattle.rex_scenario.specs.Requests.{is_repeated, place_code}
 use Rattle.rex_version.specs.declared.version.Version.TheVariants.{One, Two}
 use Rattle.rex_scenario.specs.Schedule.{step_of, is_there, schedule_code}
-use Rattle.rex_scenario.specs.Reading.{answer_from, answer_of, unscheduled_answer_of, scenario_of}
+use Rattle.rex_scenario.specs.Reading.{start, answer_from, answer_of, unscheduled_answer_of, scenario_of}
 use Rattle.rex_scenario.specs.declared.scenario.ScenarioCode.{ScenarioCode}
 use Rattle.rex_scenario.specs.declared.scenario.ScenarioCode.TheVariants as code
 use Rattle.rex_scenario.specs.declared.scenario.ScheduleLine.{ScheduleLine}
-use Rattle.rex_scenario.specs.declared.scenario.ScheduleLine.TheVariants.{Elect, Submit, Lane, Cut, CutBelow, Deliver, Flush, Replay, Ask, Stop, Start}
+use Rattle.rex_scenario.specs.declared.scenario.ScheduleLine.TheVariants.{Elect, Submit, Lane, Cut, CutBelow, Deliver, Flush, Replay, Ask, Stop, Start, ReadVariable}
 use Rattle.rex_scenario.specs.declared.schedule.Step.{Step}
 use Rattle.rex_scenario.specs.declared.schedule.Step.TheVariants as step
 use Rattle.rex_scenario.specs.declared.scenario.Sections.{Sections}
@@ -55,6 +55,25 @@ cluster =
 cluster_says : said (answer_of (text_of cluster)) ≡ Some ([], Elect 1 ∷ Deliver 1 ∷ Flush ∷ Replay 3 ∷ Ask 3 1 ∷ Stop 1 ∷ Start 1 ∷ Elect 3 ∷ Deliver 18446744073709551615 ∷ [])
 unfolding text_of cluster counter_of said answer_from is_name new_code lock_code variable_code local_code number_code expr_code digits
 cluster_says = refl
+
+-- a client reads a variable of the service
+reading : List (List ℕ) → List (List ℕ)
+reading lines = counter_of (codes "%nodes 3") ++ codes "%requests" ∷ codes "%schedule" ∷ lines
+
+reading_says : said (answer_of (text_of (reading (codes "read 3 1 a" ∷ codes "read 1 256 a" ∷ [])))) ≡ Some ([], ReadVariable 3 1 0 ∷ ReadVariable 1 256 0 ∷ [])
+unfolding text_of reading counter_of said answer_from is_name new_code lock_code variable_code local_code number_code expr_code digits
+reading_says = refl
+
+-- a client that is none, a word that is no name, and a word too many
+read_misspelled : map (λ line. result_err (answer_of (text_of (reading (line ∷ []))))) (codes "read 3 257 a" ∷ codes "read 3 0 a" ∷ codes "read 3 1 5" ∷ codes "read 3 1 a a" ∷ codes "read 3 1" ∷ [])
+    ≡ Some (14, code.BadLine) ∷ Some (14, code.BadLine) ∷ Some (14, code.BadLine) ∷ Some (14, code.BadLine) ∷ Some (14, code.BadLine) ∷ []
+unfolding text_of reading counter_of answer_from is_name new_code lock_code variable_code local_code number_code expr_code digits
+read_misspelled = refl
+
+-- a node that isn't there, a name of a lock, and a name of nothing
+read_not_there : map (λ line. result_err (answer_of (text_of (reading (line ∷ []))))) (codes "read 4 1 a" ∷ codes "read 3 1 L" ∷ codes "read 3 1 b" ∷ []) ≡ Some (14, code.NotThere) ∷ Some (14, code.NotThere) ∷ Some (14, code.NotThere) ∷ []
+unfolding text_of reading counter_of answer_from is_name new_code lock_code variable_code local_code number_code expr_code digits
+read_not_there = refl
 
 -- where the schedule may have no lines, the first is refused
 first_line_is_refused : result_err (unscheduled_answer_of (text_of counter)) ≡ Some (15, code.BadLine)
@@ -163,7 +182,7 @@ no_request = refl
 
 -- the codes of schedule lines, where three nodes, a request and two lanes are there, the service's states have the old version, and so many schedule lines came before
 codes_of : ℕ → List (List ℕ) → List (Option ScenarioCode)
-codes_of earlier lines = map (λ line. schedule_code true 3 1 2 true earlier (words_of line)) lines
+codes_of earlier lines = map (λ line. schedule_code true 3 1 2 true earlier (start true).service (words_of line)) lines
 
 limits_taken : codes_of 0 (codes "cut 1 0 0" ∷ codes "cut 1 4294967295 0" ∷ []) ≡ None ∷ None ∷ []
 unfolding codes_of digits
@@ -224,7 +243,7 @@ no_form = refl
 
 -- the steps that lines spell
 steps_of : List (List ℕ) → List (Option Step)
-steps_of lines = map (λ line. step_of (words_of line)) lines
+steps_of lines = map (λ line. step_of (start true).service (words_of line)) lines
 
 spelled : steps_of (codes "checkpoint 2" ∷ codes "drop 3" ∷ codes "drop" ∷ codes "keepfail 2 kept" ∷ codes "keepfail 3 lost" ∷ codes "keepfail 1" ∷ codes "keepfail 1 keep" ∷ [])
     ≡ Some (step.Checkpoint 2 Two) ∷ Some (step.DropKnown 3) ∷ None ∷ Some (step.KeepFail 2 true) ∷ Some (step.KeepFail 3 false) ∷ None ∷ None ∷ []
@@ -244,11 +263,11 @@ unfolding steps_of digits
 old_spelled = refl
 
 -- they are refused where the service's states don't have it, after a node that isn't there
-old_refused : map (λ (old : Bool). schedule_code true 3 1 2 old 0 (words_of (codes "checkpoint 2 old"))) (true ∷ false ∷ []) ≡ None ∷ Some code.NoOldForm ∷ []
+old_refused : map (λ (old : Bool). schedule_code true 3 1 2 old 0 (start true).service (words_of (codes "checkpoint 2 old"))) (true ∷ false ∷ []) ≡ None ∷ Some code.NoOldForm ∷ []
 unfolding digits
 old_refused = refl
 
-old_of_no_node : schedule_code true 3 1 2 false 0 (words_of (codes "checkpoint 4 old")) ≡ Some code.NotThere
+old_of_no_node : schedule_code true 3 1 2 false 0 (start true).service (words_of (codes "checkpoint 4 old")) ≡ Some code.NotThere
 unfolding digits
 old_of_no_node = refl
 
@@ -257,7 +276,7 @@ old_of_no_node = refl
 too_long : (bytes : List ℕ) → 4194304 < length bytes → answer_of bytes ≡ Err (0, code.TooLong)
 too_long bytes lt = rw (lt-ltb 4194304 (length bytes) lt) refl
 
-too_many_lines : (lanes : ℕ) → schedule_code true 1 0 lanes true 100000 (codes "elect" ∷ codes "1" ∷ []) ≡ Some code.TooManyLines
+too_many_lines : (lanes : ℕ) → schedule_code true 1 0 lanes true 100000 (start true).service (codes "elect" ∷ codes "1" ∷ []) ≡ Some code.TooManyLines
 unfolding digits
 too_many_lines lanes = refl
 

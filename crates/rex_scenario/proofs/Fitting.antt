@@ -20,6 +20,7 @@ use Rattle.rex_scenario.specs.declared.scenario.Sections.{Sections}
 use Rattle.rex_scenario.specs.declared.scenario.Stage.{Stage}
 use Rattle.rex_scenario.specs.declared.scenario.Stage.TheVariants as stage
 use Rattle.rex_scenario.proofs.Placed.{good_first, requests_fit, schedule_fits}
+use Rattle.rex_scenario.proofs.Variables.{variables_fit}
 
 pub good_service : (o : Option ServiceCode) → of_service o ≡ None → o ≡ None
 good_service None e = refl
@@ -56,7 +57,7 @@ begin_fits stage.Service stage.Requests s ws due good whole fit =
     (record { nodes = fit.1; whole = whole refl; few = rw fit.0.requests (omega arith); each = rw fit.0.requests (All-nil _) }, fit.0.schedule)
 begin_fits stage.Requests stage.Schedule s ws due good whole fit = (
   record { nodes = fit.0.nodes; whole = fit.0.whole; few = fit.0.few; each = fit.0.each },
-  record { few = rw fit.1 (omega arith); each = rw fit.1 (All-nil _); forms = rw fit.1 (All-nil _); none = λ _. fit.1 },
+  record { few = rw fit.1 (omega arith); each = rw fit.1 (All-nil _); forms = rw fit.1 (All-nil _); variables = rw fit.1 (All-nil _); none = λ _. fit.1 },
 )
 begin_fits st next s ws due good whole fit = absurd cc
 
@@ -92,38 +93,39 @@ service_fits s number line false at h e fit = rw (h, at) (record { requests = fi
 
 -- ---- the other sections
 
-words_fit : (st : Stage) (s : Sections) (ws : List Word) → s.stage ≡ st → words_code s st ws ≡ None → FitsAt st s → FitsAt (after_words s st ws).stage (after_words s st ws)
-words_fit stage.Start s ws at e fit = absurd cc
-words_fit stage.Nodes s ws at e fit = absurd cc
-words_fit stage.Seed s ws at e fit = absurd cc
-words_fit stage.Service s ws at e fit = absurd cc
-words_fit stage.Requests s ws at e fit =
+words_fit : (st : Stage) (s : Sections) (ws : List Word) → IsGood s.service → s.stage ≡ st → words_code s st ws ≡ None → FitsAt st s → FitsAt (after_words s st ws).stage (after_words s st ws)
+words_fit stage.Start s ws good at e fit = absurd cc
+words_fit stage.Nodes s ws good at e fit = absurd cc
+words_fit stage.Seed s ws good at e fit = absurd cc
+words_fit stage.Service s ws good at e fit = absurd cc
+words_fit stage.Requests s ws good at e fit =
     let more = requests_fit s.service s.requests ws e fit.0.each in
     rw at (record { nodes = fit.0.nodes; whole = fit.0.whole; few = more.0; each = more.1 }, fit.1)
-words_fit stage.Schedule s ws at e fit =
-    let more = schedule_fits s.scheduled s.nodes (length s.requests) (unwrap_or s.service.lanes 0) (is_old_size (unwrap_or s.service.lanes 0) (length s.service.variables)) s.schedule (step_of ws) e fit.1.each fit.1.forms in
-    rw at (record { nodes = fit.0.nodes; whole = fit.0.whole; few = fit.0.few; each = fit.0.each }, record { few = more.1.0; each = more.1.1; forms = more.1.2; none = λ closed. absurd (false≢true (sym closed ∙ more.0)) })
+words_fit stage.Schedule s ws good at e fit =
+    let more = schedule_fits s.scheduled s.nodes (length s.requests) (unwrap_or s.service.lanes 0) (is_old_size (unwrap_or s.service.lanes 0) (length s.service.variables)) s.schedule (step_of s.service ws) e fit.1.each fit.1.forms in
+    let read = variables_fit s.service ws s.scheduled s.nodes (length s.requests) (unwrap_or s.service.lanes 0) (is_old_size (unwrap_or s.service.lanes 0) (length s.service.variables)) s.schedule good e fit.1.variables in
+    rw at (record { nodes = fit.0.nodes; whole = fit.0.whole; few = fit.0.few; each = fit.0.each }, record { few = more.1.0; each = more.1.1; forms = more.1.2; variables = read; none = λ closed. absurd (false≢true (sym closed ∙ more.0)) })
 
-other_fits : (s : Sections) (line : List ℕ) (clean skipped heading : Bool) → is_clean line ≡ clean → is_skipped (words_of line) ≡ skipped → is_heading (words_of line) ≡ heading
+other_fits : (s : Sections) (line : List ℕ) (clean skipped heading : Bool) → IsGood s.service → is_clean line ≡ clean → is_skipped (words_of line) ≡ skipped → is_heading (words_of line) ≡ heading
     → (s.stage ≡ stage.Service → ⊥) → other_line_code s line ≡ None → FitsAt s.stage s → FitsAt (other_line_after s line).stage (other_line_after s line)
-other_fits s line false skipped heading c k h outside e fit = absurd (let f = rw c at e in cc)
-other_fits s line true true heading c k h outside e fit = rw k fit
-other_fits s line true false true c k h outside e fit = rw (k, h) (heading_fits s (words_of line) (rw (c, k, h) at e) (λ at. absurd (outside at)) fit)
-other_fits s line true false false c k h outside e fit = rw (k, h) (words_fit s.stage s (words_of line) refl (rw (c, k, h) at e) fit)
+other_fits s line false skipped heading good c k h outside e fit = absurd (let f = rw c at e in cc)
+other_fits s line true true heading good c k h outside e fit = rw k fit
+other_fits s line true false true good c k h outside e fit = rw (k, h) (heading_fits s (words_of line) (rw (c, k, h) at e) (λ at. absurd (outside at)) fit)
+other_fits s line true false false good c k h outside e fit = rw (k, h) (words_fit s.stage s (words_of line) good refl (rw (c, k, h) at e) fit)
 
 -- ---- each stage
 
-at_stage : (st : Stage) (s : Sections) (number : ℕ) (line : List ℕ) → s.stage ≡ st → code_in st s line ≡ None → FitsAt st s → FitsAt (after_in st s number line).stage (after_in st s number line)
-at_stage stage.Service s number line at e fit = service_fits s number line (is_heading (words_of line)) at refl e fit
-at_stage stage.Start s number line at e fit = other_fits s line _ _ _ refl refl refl (λ h. absurd cc) e (stage_fits s _ at fit)
-at_stage stage.Nodes s number line at e fit = other_fits s line _ _ _ refl refl refl (λ h. absurd cc) e (stage_fits s _ at fit)
-at_stage stage.Seed s number line at e fit = other_fits s line _ _ _ refl refl refl (λ h. absurd cc) e (stage_fits s _ at fit)
-at_stage stage.Requests s number line at e fit = other_fits s line _ _ _ refl refl refl (λ h. absurd cc) e (stage_fits s _ at fit)
-at_stage stage.Schedule s number line at e fit = other_fits s line _ _ _ refl refl refl (λ h. absurd cc) e (stage_fits s _ at fit)
+at_stage : (st : Stage) (s : Sections) (number : ℕ) (line : List ℕ) → IsGood s.service → s.stage ≡ st → code_in st s line ≡ None → FitsAt st s → FitsAt (after_in st s number line).stage (after_in st s number line)
+at_stage stage.Service s number line good at e fit = service_fits s number line (is_heading (words_of line)) at refl e fit
+at_stage stage.Start s number line good at e fit = other_fits s line _ _ _ good refl refl refl (λ h. absurd cc) e (stage_fits s _ at fit)
+at_stage stage.Nodes s number line good at e fit = other_fits s line _ _ _ good refl refl refl (λ h. absurd cc) e (stage_fits s _ at fit)
+at_stage stage.Seed s number line good at e fit = other_fits s line _ _ _ good refl refl refl (λ h. absurd cc) e (stage_fits s _ at fit)
+at_stage stage.Requests s number line good at e fit = other_fits s line _ _ _ good refl refl refl (λ h. absurd cc) e (stage_fits s _ at fit)
+at_stage stage.Schedule s number line good at e fit = other_fits s line _ _ _ good refl refl refl (λ h. absurd cc) e (stage_fits s _ at fit)
 
 -- a good line keeps what fits
 pub line_fits : (s : Sections) (number : ℕ) (line : List ℕ) → SectionsFit s → line_code s line ≡ None → IsGood (line_after s number line).service → SectionsFit (line_after s number line)
-line_fits s number line fit e good = record { service = good; sections = at_stage s.stage s number line refl e fit.sections }
+line_fits s number line fit e good = record { service = good; sections = at_stage s.stage s number line fit.service refl e fit.sections }
 
 -- ---- what no line changes
 
@@ -178,7 +180,7 @@ ended stage.Requests s e fit = absurd cc
 pub scenario_fits : (s : Sections) → SectionsFit s → end_of s s.stage ≡ None → ScenarioFits (service_of s.service) (scenario_of s)
 scenario_fits s fit e =
     let parts = ended s.stage s e fit.sections in
-    record { nodes = parts.0.nodes; few_requests = parts.0.few; few_lines = parts.1.few; requests = parts.0.each; schedule = parts.1.each; forms = parts.1.forms }
+    record { nodes = parts.0.nodes; few_requests = parts.0.few; few_lines = parts.1.few; requests = parts.0.each; schedule = parts.1.each; forms = parts.1.forms; variables = parts.1.variables }
 
 -- and its schedule has no lines where it may have none
 pub schedule_empty : (s : Sections) → SectionsFit s → end_of s s.stage ≡ None → s.scheduled ≡ false → s.schedule ≡ []

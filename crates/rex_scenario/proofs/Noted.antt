@@ -12,7 +12,8 @@ use Rattle.rex_parse.specs.Reading.{raw_code}
 use Rattle.rex_scenario.specs.Beyond.{is_beyond, declares_beyond, beyond_words, beyond_after, IsPlain}
 use Rattle.rex_scenario.specs.Headings.{is_heading, begun, after_heading, next_stage}
 use Rattle.rex_scenario.specs.Requests.{client_of, is_request}
-use Rattle.rex_scenario.specs.Schedule.{lone_step, short_step, long_step, longer_step, step_of}
+use Rattle.rex_parse.specs.declared.language.Above.{Above}
+use Rattle.rex_scenario.specs.Schedule.{lone_step, short_step, long_step, longer_step, plain_step, step_of}
 use Rattle.rex_scenario.specs.Reading.{start, is_clean, service_line_code, service_line_after, other_line_code, other_line_after, words_code, after_words, code_in, after_in, line_code, line_after, end_of, or_next, answer_from}
 use Rattle.rex_scenario.specs.declared.scenario.ScenarioCode.{ScenarioCode}
 use Rattle.rex_scenario.specs.declared.scenario.Sections.{Sections}
@@ -71,24 +72,28 @@ record IsNoStep (w : Word) : Type 0 where
   short : (n : ℕ) → short_step w n ≡ None
   longer : (n : ℕ) (u : Word) → longer_step w n u ≡ None
   cut : bytes_eq w (codes "cut") ≡ false
+  read : bytes_eq w (codes "read") ≡ false
 
 no_step : (w : Word) → is_beyond w ≡ true → IsNoStep w
 no_step = for_each IsNoStep
-    (record { lone = refl; short = λ n. refl; longer = λ n u. none_then (long_step (codes "rwlock") n) (u64_at u) (λ m. refl); cut = refl })
-    (record { lone = refl; short = λ n. refl; longer = λ n u. none_then (long_step (codes "cond") n) (u64_at u) (λ m. refl); cut = refl })
-    (record { lone = refl; short = λ n. refl; longer = λ n u. none_then (long_step (codes "sem") n) (u64_at u) (λ m. refl); cut = refl })
+    (record { lone = refl; short = λ n. refl; longer = λ n u. none_then (long_step (codes "rwlock") n) (u64_at u) (λ m. refl); cut = refl; read = refl })
+    (record { lone = refl; short = λ n. refl; longer = λ n u. none_then (long_step (codes "cond") n) (u64_at u) (λ m. refl); cut = refl; read = refl })
+    (record { lone = refl; short = λ n. refl; longer = λ n u. none_then (long_step (codes "sem") n) (u64_at u) (λ m. refl); cut = refl; read = refl })
 
-spells_no_step : (w : Word) (ws : List Word) → IsNoStep w → step_of (w ∷ ws) ≡ None
-spells_no_step w [] h = h.lone
-spells_no_step w (v ∷ []) h = none_then (short_step w) (u64_at v) h.short
-spells_no_step w (v ∷ u ∷ []) h = rw h.cut (none_then (λ n. longer_step w n u) (u64_at v) (λ n. h.longer n u))
-spells_no_step w (v ∷ u ∷ t ∷ us) h = rw h.cut refl
+spells_none : (w : Word) (ws : List Word) → IsNoStep w → plain_step (w ∷ ws) ≡ None
+spells_none w [] h = h.lone
+spells_none w (v ∷ []) h = none_then (short_step w) (u64_at v) h.short
+spells_none w (v ∷ u ∷ []) h = rw h.cut (none_then (λ n. longer_step w n u) (u64_at v) (λ n. h.longer n u))
+spells_none w (v ∷ u ∷ t ∷ us) h = rw h.cut refl
+
+spells_no_step : (a : Above) (w : Word) (ws : List Word) → IsNoStep w → step_of a (w ∷ ws) ≡ None
+spells_no_step a w ws h = rw h.read (spells_none w ws h)
 
 words_differ : (st : Stage) (s : Sections) (ws : List Word) → words_code s st ws ≡ None → declares_beyond ws ≡ false
 words_differ stage.Requests s [] e = refl
 words_differ stage.Requests s (w ∷ ws) e = false_from_ne_true (is_beyond w) (λ b. absurd (let f = rw (no_request w ws (no_client w b)) at e in cc))
 words_differ stage.Schedule s [] e = refl
-words_differ stage.Schedule s (w ∷ ws) e = false_from_ne_true (is_beyond w) (λ b. absurd (let f = rw (spells_no_step w ws (no_step w b)) at e in cc))
+words_differ stage.Schedule s (w ∷ ws) e = false_from_ne_true (is_beyond w) (λ b. absurd (let f = rw (spells_no_step s.service w ws (no_step w b)) at e in cc))
 words_differ stage.Start s ws e = absurd cc
 words_differ stage.Nodes s ws e = absurd cc
 words_differ stage.Seed s ws e = absurd cc

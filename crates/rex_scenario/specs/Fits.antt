@@ -9,7 +9,7 @@ use Rattle.rex_scenario.specs.Headings.{is_node_count}
 use Rattle.rex_scenario.specs.Requests.{takes_so_many}
 use Rattle.rex_scenario.specs.declared.scenario.Scenario.{Scenario}
 use Rattle.rex_scenario.specs.declared.scenario.ScheduleLine.{ScheduleLine}
-use Rattle.rex_scenario.specs.declared.scenario.ScheduleLine.TheVariants.{Elect, Submit, Lane, Cut, CutBelow, Deliver, Flush, Replay, Ask, Stop, Start, Checkpoint, DropKnown, KeepFail}
+use Rattle.rex_scenario.specs.declared.scenario.ScheduleLine.TheVariants.{Elect, Submit, Lane, Cut, CutBelow, Deliver, Flush, Replay, Ask, Stop, Start, Checkpoint, DropKnown, KeepFail, ReadVariable}
 
 -- client and sequence are in their ranges, and the handler is there and takes the arguments
 pub record RequestFits (service : Declarations) (r : Request) : Type 0 where
@@ -24,7 +24,7 @@ pub record RequestFits (service : Declarations) (r : Request) : Type 0 where
 abbrev pub IsNode : ℕ → ℕ → Type 0
 IsNode nodes n = (0 < n) × (n ≤ nodes)
 
--- the node, the lane and the request of a schedule line are there, limits are as many as the lanes, a message is any but 0, and a node asks another one
+-- the node, the lane and the request of a schedule line are there, limits are as many as the lanes, a message is any but 0, a node asks another one, and the client that reads is one
 abbrev pub LineFits : ℕ → ℕ → ℕ → ScheduleLine → Type 0
 LineFits nodes requests lanes (Elect n) = IsNode nodes n
 LineFits nodes requests lanes (Submit n r) = IsNode nodes n × (r < requests)
@@ -40,11 +40,17 @@ LineFits nodes requests lanes (Start n) = IsNode nodes n
 LineFits nodes requests lanes (Checkpoint n version) = IsNode nodes n
 LineFits nodes requests lanes (DropKnown n) = IsNode nodes n
 LineFits nodes requests lanes (KeepFail n kept) = IsNode nodes n
+LineFits nodes requests lanes (ReadVariable n client variable) = IsNode nodes n × ((0 < client) × (client ≤ 256))
 
 -- a checkpoint is in a version that the service's states have, where these have the old one or don't
 abbrev pub FormFits : Bool → ScheduleLine → Type 0
 FormFits old (Checkpoint n One) = old ≡ true
 FormFits old _ = Unit {0}
+
+-- a variable that is read is there
+abbrev pub VariableFits : ℕ → ScheduleLine → Type 0
+VariableFits variables (ReadVariable n client variable) = variable < variables
+VariableFits variables _ = Unit {0}
 
 -- what a scenario names is there in its service
 pub record ScenarioFits (service : Declarations) (s : Scenario) : Type 0 where
@@ -54,3 +60,4 @@ pub record ScenarioFits (service : Declarations) (s : Scenario) : Type 0 where
   pub requests : All (RequestFits service) s.requests
   pub schedule : All (LineFits s.nodes (length s.requests) service.lanes) s.schedule
   pub forms : All (FormFits (has_old_form service)) s.schedule
+  pub variables : All (VariableFits (length service.variables)) s.schedule

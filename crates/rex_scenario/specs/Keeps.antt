@@ -6,7 +6,7 @@ use Rattle.rex_parse.specs.Good.{IsGood}
 use Rattle.rex_parse.specs.Reading.{end_code}
 use Rattle.rex_version.specs.Versions.{is_old_size}
 use Rattle.rex_scenario.specs.Headings.{is_node_count}
-use Rattle.rex_scenario.specs.Fits.{RequestFits, LineFits, FormFits}
+use Rattle.rex_scenario.specs.Fits.{RequestFits, LineFits, FormFits, VariableFits}
 use Rattle.rex_scenario.specs.declared.scenario.Sections.{Sections}
 use Rattle.rex_scenario.specs.declared.scenario.Stage.{Stage}
 use Rattle.rex_scenario.specs.declared.scenario.Stage.TheVariants as stage
@@ -28,6 +28,7 @@ pub record ScheduleFits (s : Sections) : Type 0 where
   pub few : length s.schedule ≤ 100000
   pub each : All (LineFits s.nodes (length s.requests) (unwrap_or s.service.lanes 0)) s.schedule
   pub forms : All (FormFits (is_old_size (unwrap_or s.service.lanes 0) (length s.service.variables))) s.schedule
+  pub variables : All (VariableFits (length s.service.variables)) s.schedule
   pub none : s.scheduled ≡ false → s.schedule ≡ []
 
 -- what holds of the sections that were read

@@ -46,7 +46,7 @@ service_line_code s line = if is_heading (words_of line) then service_end_code s
 abbrev pub words_code : Sections → Stage → List Word → Option ScenarioCode
 words_code s stage.Requests ws = request_code s.service s.requests ws
 words_code s stage.Schedule ws =
-    schedule_code s.scheduled s.nodes (length s.requests) (unwrap_or s.service.lanes 0) (is_old_size (unwrap_or s.service.lanes 0) (length s.service.variables)) (length s.schedule) ws
+    schedule_code s.scheduled s.nodes (length s.requests) (unwrap_or s.service.lanes 0) (is_old_size (unwrap_or s.service.lanes 0) (length s.service.variables)) (length s.schedule) s.service ws
 words_code s _ ws = Some OutOfPlace
 
 -- the code that fits a line outside the service
@@ -73,7 +73,7 @@ service_line_after s number line = if is_heading (words_of line) then after_head
 -- what a good line with words outside the service that is no heading says
 abbrev pub after_words : Sections → Stage → List Word → Sections
 after_words s stage.Requests ws = record s { requests = s.requests ++ request_of s.service ws ∷ [] }
-after_words s stage.Schedule ws = record s { schedule = with_step s.schedule (step_of ws) }
+after_words s stage.Schedule ws = record s { schedule = with_step s.schedule (step_of s.service ws) }
 after_words s _ ws = s
 
 -- what a good line outside the service says

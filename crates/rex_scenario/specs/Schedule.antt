@@ -1,10 +1,16 @@
 -- Schedule lines: a word and numbers.
-use Rattle.std.specs.Prelude.{◌-◌, ◌++◌, ◌&&◌, ◌==◌, ℕ, Bool, true, false, not, length, List, [], ◌∷◌, nat_le, nat_lt, Option, Some, None, codes, option_map, option_and_then, if◌then◌else◌}
+use Rattle.std.specs.Prelude.{◌-◌, ◌++◌, ◌&&◌, ◌==◌, ℕ, Bool, true, false, not, length, List, [], ◌∷◌, nat_le, nat_lt, Option, Some, None, is_some, unwrap_or, codes, option_map, option_and_then, if◌then◌else◌}
 use Rattle.std.specs.Str.{bytes_eq}
 use Rattle.rex_text.specs.Text.{Word}
 use Rattle.rex_text.specs.Numbers.{u64_at}
 use Rattle.rex_parse.specs.Table.{in_range}
+use Rattle.rex_parse.specs.Words.{is_name}
+use Rattle.rex_parse.specs.Above.{meaning_of}
+use Rattle.rex_parse.specs.declared.language.Above.{Above}
+use Rattle.rex_parse.specs.declared.language.Meaning.{Meaning}
+use Rattle.rex_parse.specs.declared.language.Meaning.TheVariants as meaning
 use Rattle.rex_version.specs.declared.version.Version.TheVariants.{One, Two}
+use Rattle.rex_scenario.specs.Requests.{client_of}
 use Rattle.rex_scenario.specs.declared.scenario.ScenarioCode.{ScenarioCode}
 use Rattle.rex_scenario.specs.declared.scenario.ScenarioCode.TheVariants.{BadLine, TooManyLines, NotThere, WrongLimits, NoOldForm}
 use Rattle.rex_scenario.specs.declared.schedule.Step.{Step}
@@ -74,15 +80,39 @@ longer_step w n u =
     else if bytes_eq w (codes "checkpoint") then old_step n u
     else option_and_then (long_step w n) (u64_at u)
 
--- the step that the words spell
-abbrev pub step_of : List Word → Option Step
-step_of [] = None
-step_of (w ∷ []) = lone_step w
-step_of (w ∷ v ∷ []) = option_and_then (short_step w) (u64_at v)
-step_of (w ∷ v ∷ u ∷ []) = if bytes_eq w (codes "cut") then cut_step w v (u ∷ []) else option_and_then (λ n. longer_step w n u) (u64_at v)
-step_of (w ∷ v ∷ u ∷ t ∷ us) = cut_step w v (u ∷ t ∷ us)
+-- the number of a variable, where a name stands for one
+abbrev pub variable_meant : Option Meaning → Option ℕ
+variable_meant (Some (meaning.Variable n)) = Some n
+variable_meant _ = None
 
--- the node, the request and the lane that it names, counted from 1, are there; so is any message but 0, and a node asks another one
+-- the number of the variable with a name
+abbrev pub variable_named : Above → Word → Option ℕ
+variable_named a w = variable_meant (meaning_of a w)
+
+-- a node, a client, a name, and the variable that has it, if one has
+abbrev pub read_of : Option ℕ → Option ℕ → Bool → Option ℕ → Option Step
+read_of (Some n) (Some client) true found = Some (step.ReadVariable n client found)
+read_of _ _ _ found = None
+
+-- a node, a client and a name, and no word more
+abbrev pub reading : Above → List Word → Option Step
+reading a (v ∷ u ∷ t ∷ []) = read_of (u64_at v) (client_of u) (is_name t) (variable_named a t)
+reading a _ = None
+
+-- the step that words spell that needs no name of the service
+abbrev pub plain_step : List Word → Option Step
+plain_step [] = None
+plain_step (w ∷ []) = lone_step w
+plain_step (w ∷ v ∷ []) = option_and_then (short_step w) (u64_at v)
+plain_step (w ∷ v ∷ u ∷ []) = if bytes_eq w (codes "cut") then cut_step w v (u ∷ []) else option_and_then (λ n. longer_step w n u) (u64_at v)
+plain_step (w ∷ v ∷ u ∷ t ∷ us) = cut_step w v (u ∷ t ∷ us)
+
+-- the step that the words spell, where these lines of the service came before
+abbrev pub step_of : Above → List Word → Option Step
+step_of a [] = None
+step_of a (w ∷ ws) = if bytes_eq w (codes "read") then reading a ws else plain_step (w ∷ ws)
+
+-- the node, the request, the lane, the client and the variable that it names are there, numbers counted from 1; so is any message but 0, and a node asks another one
 abbrev pub is_there : ℕ → ℕ → ℕ → Step → Bool
 is_there nodes requests lanes (step.Elect n) = in_range 1 nodes n
 is_there nodes requests lanes (step.Submit n r) = in_range 1 nodes n && in_range 1 requests r
@@ -98,6 +128,7 @@ is_there nodes requests lanes (step.Start n) = in_range 1 nodes n
 is_there nodes requests lanes (step.Checkpoint n version) = in_range 1 nodes n
 is_there nodes requests lanes (step.DropKnown n) = in_range 1 nodes n
 is_there nodes requests lanes (step.KeepFail n kept) = in_range 1 nodes n
+is_there nodes requests lanes (step.ReadVariable n client found) = in_range 1 nodes n && (in_range 1 256 client && is_some found)
 
 -- a cut with limits has one for each lane
 abbrev pub has_limits : ℕ → Step → Bool
@@ -125,6 +156,7 @@ line_of (step.Start n) = line.Start n
 line_of (step.Checkpoint n version) = line.Checkpoint n version
 line_of (step.DropKnown n) = line.DropKnown n
 line_of (step.KeepFail n kept) = line.KeepFail n kept
+line_of (step.ReadVariable n client found) = line.ReadVariable n client (unwrap_or found 0)
 
 -- the code that fits a step, or words that spell none; a schedule that may have no lines has none of a form
 abbrev pub step_code : Bool → ℕ → ℕ → ℕ → Bool → ℕ → Option Step → Option ScenarioCode
@@ -136,9 +168,9 @@ step_code scheduled nodes requests lanes old earlier (Some s) =
     else if not (has_limits lanes s) then Some WrongLimits
     else if has_form old s then None else Some NoOldForm
 
--- the code that fits a schedule line, where so many nodes, requests and lanes are there, the service's states have the old version or don't, and so many schedule lines came before
-abbrev pub schedule_code : Bool → ℕ → ℕ → ℕ → Bool → ℕ → List Word → Option ScenarioCode
-schedule_code scheduled nodes requests lanes old earlier ws = step_code scheduled nodes requests lanes old earlier (step_of ws)
+-- the code that fits a schedule line, where so many nodes, requests and lanes are there, the service's states have the old version or don't, so many schedule lines came before, and these lines of the service
+abbrev pub schedule_code : Bool → ℕ → ℕ → ℕ → Bool → ℕ → Above → List Word → Option ScenarioCode
+schedule_code scheduled nodes requests lanes old earlier a ws = step_code scheduled nodes requests lanes old earlier (step_of a ws)
 
 -- the schedule with a good line
 abbrev pub with_step : List ScheduleLine → Option Step → List ScheduleLine

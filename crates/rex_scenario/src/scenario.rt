@@ -10,33 +10,71 @@ use std::alloc::AllocError;
 #[derive(Drop)]
 pub enum ScheduleLine {
     /// The node asks to lead.
-    Elect { node: u8 },
+    Elect {
+        node: u8,
+    },
     /// A client hands a request to the node.
-    Submit { node: u8, request: u32 },
+    Submit {
+        node: u8,
+        request: u32,
+    },
     /// A lane of the node makes its next event.
-    Lane { node: u8, lane: u8 },
+    Lane {
+        node: u8,
+        lane: u8,
+    },
     /// The node proposes all its live events.
-    Cut { node: u8 },
+    Cut {
+        node: u8,
+    },
     /// The node proposes the greatest consistent cut of its live events with at most so many of each lane.
-    CutBelow { node: u8, limits: List<u32> },
+    CutBelow {
+        node: u8,
+        limits: List<u32>,
+    },
     /// A message is handed over. Messages are numbered as they are sent; as many need not have been sent.
-    Deliver { message: u64 },
+    Deliver {
+        message: u64,
+    },
     /// Each message that was sent before this line, and that no line handed over yet, is handed over.
     Flush,
     /// The node runs what it knows and has not run yet.
-    Replay { node: u8 },
+    Replay {
+        node: u8,
+    },
     /// The node asks another one for what it doesn't know yet.
-    Ask { node: u8, other: u8 },
+    Ask {
+        node: u8,
+        other: u8,
+    },
     /// The node is stopped. What it has recorded is left.
-    Stop { node: u8 },
+    Stop {
+        node: u8,
+    },
     /// The node is started from what it has recorded.
-    Start { node: u8 },
+    Start {
+        node: u8,
+    },
     /// The node records the state that it has come to, in this version.
-    Checkpoint { node: u8, version: Version },
+    Checkpoint {
+        node: u8,
+        version: Version,
+    },
     /// The node forgets the values of the deltas up to its base.
-    DropKnown { node: u8 },
+    DropKnown {
+        node: u8,
+    },
     /// The next record that the node appends will fail, and be kept or lost.
-    KeepFail { node: u8, kept: bool },
+    KeepFail {
+        node: u8,
+        kept: bool,
+    },
+    /// A client reads a variable at the node.
+    ReadVariable {
+        node: u8,
+        client: u16,
+        variable: u16,
+    },
 }
 
 /// The requests and the schedule of a scenario, which its service is read beside.

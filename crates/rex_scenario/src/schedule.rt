@@ -5,10 +5,14 @@ ghost use Rattle.rex_parse.specs.Answers.{texts};
 ghost use Rattle.rex_parse.specs.Table.{in_range};
 ghost use Rattle.rex_text.specs.Numbers.{u64_at};
 ghost use Rattle.rex_scenario.specs.Answers.{Reads};
+ghost use Rattle.rex_parse.specs.Words.{is_name};
+ghost use Rattle.rex_scenario.specs.Requests.{client_of};
 ghost use Rattle.rex_scenario.specs.Schedule as schedule;
 
+use crate::requests::client_of;
 use crate::scenario::{LineFault, ScenarioCode, ScheduleLine};
 use rex_list::List;
+use rex_parse::{Above, Meaning, is_name};
 use rex_syntax::service::LANES;
 use rex_text::read_u64;
 use rex_version::Version;
@@ -31,11 +35,28 @@ pub(crate) enum Step {
     Checkpoint(u64, Version),
     DropKnown(u64),
     KeepFail(u64, bool),
+    /// A node, a client, and the variable of the name, if one has it.
+    ReadVariable(u64, u16, Option<u16>),
 }
 
 /// The step that words spell. Limits are all that takes memory.
-pub(crate) fn step_of(alloc: Global, words: &[&[u8]]) -> Result<Option<Step>, AllocError>
-    ensures { IfOk result (λ step. step ≡ schedule.step_of (texts words.now)) }
+pub(crate) fn step_of(
+    alloc: Global,
+    above: &Above,
+    words: &[&[u8]],
+) -> Result<Option<Step>, AllocError>
+    ensures { IfOk result (λ step. step ≡ schedule.step_of above.now (texts words.now)) }
+{
+    match words {
+        [] => Ok(None),
+        [word, rest @ ..] if *word == b"read".as_slice() => Ok(reading(above, rest)),
+        _ => plain_step(alloc, words),
+    }
+}
+
+// A step that needs no name of the service.
+fn plain_step(alloc: Global, words: &[&[u8]]) -> Result<Option<Step>, AllocError>
+    ensures { IfOk result (λ step. step ≡ schedule.plain_step (texts words.now)) }
 {
     match words {
         [word] => Ok(lone_step(word)),
@@ -123,6 +144,39 @@ fn long_step(word: &[u8], node: u64, number: u64) -> Option<Step>
     }
 }
 
+// A node, a client and a name, and no word more.
+fn reading(above: &Above, words: &[&[u8]]) -> Option<Step>
+    ensures { result ≡ schedule.reading above.now (texts words.now) }
+{
+    match words {
+        [node, client, name] => read_step(above, node, client, name),
+        _ => None,
+    }
+}
+
+// A read of a client at a node.
+fn read_step(above: &Above, node: &[u8], client: &[u8], name: &[u8]) -> Option<Step>
+    ensures { result ≡ schedule.read_of (u64_at node.now) (client_of client.now) (is_name name.now) (schedule.variable_named above.now name.now) }
+{
+    let node = read_u64(node)?;
+    let client = client_of(client)?;
+    if !is_name(name) {
+        return None;
+    }
+    let variable = variable_named(above, name);
+    Some(Step::ReadVariable(node, client, variable))
+}
+
+// The number of the variable with a name, if one has it.
+fn variable_named(above: &Above, name: &[u8]) -> Option<u16>
+    ensures { result ≡ schedule.variable_named above.now name.now }
+{
+    match above.meaning_of(name) {
+        Some(Meaning::Variable(number)) => Some(number),
+        _ => None,
+    }
+}
+
 // Whether a record whose append fails is kept.
 fn kept_of(word: &[u8]) -> Option<bool>
     ensures { result ≡ schedule.kept_at word.now }
@@ -173,6 +227,7 @@ fn limit_of(word: &[u8]) -> Option<u32>
 /// states have the old version or don't, so many schedule lines came before, and the schedule may have lines, or may not.
 pub(crate) fn read_schedule_line(
     alloc: Global,
+    above: &Above,
     words: &[&[u8]],
     scheduled: bool,
     nodes: u8,
@@ -183,10 +238,10 @@ pub(crate) fn read_schedule_line(
 ) -> Result<ScheduleLine, LineFault>
     requires requests { requests ≤ 65536 }
     requires lanes { lanes ≤ LANES }
-    ensures { Reads result (schedule.schedule_code scheduled nodes requests lanes old earlier (texts words.now))
-        (option_map schedule.line_of (schedule.step_of (texts words.now))) }
+    ensures { Reads result (schedule.schedule_code scheduled nodes requests lanes old earlier above.now (texts words.now))
+        (option_map schedule.line_of (schedule.step_of above.now (texts words.now))) }
 {
-    let Some(step) = step_of(alloc, words)? else {
+    let Some(step) = step_of(alloc, above, words)? else {
         return Err(LineFault::Refused(ScenarioCode::BadLine));
     };
     if !scheduled {
@@ -282,6 +337,11 @@ fn placed(step: Step, nodes: u8, requests: u64, lanes: u64) -> Option<ScheduleLi
             node: node_of(node, nodes)?,
             kept,
         },
+        Step::ReadVariable(node, client, variable) => ScheduleLine::ReadVariable {
+            node: node_of(node, nodes)?,
+            client: reader_of(client)?,
+            variable: variable?,
+        },
     };
     Some(line)
 }
@@ -303,6 +363,17 @@ fn other_of(node: u64, number: u64, nodes: u8) -> Option<u8>
 {
     let other = node_of(number, nodes)?;
     if node == number { None } else { Some(other) }
+}
+
+// The number of a client that reads.
+fn reader_of(client: u16) -> Option<u16>
+    ensures { result ≡ (if in_range 1 256 client then Some client else None) }
+{
+    if 1 <= client && client <= 256 {
+        Some(client)
+    } else {
+        None
+    }
 }
 
 // The number of a message, which may be any but 0.

@@ -7,6 +7,7 @@ use Rattle.std.proofs.lemmas.Bool.{lt-leb}
 use Rattle.rex_text.specs.Text.{is_allowed, words_of}
 use Rattle.rex_syntax.specs.declared.request.Request.{Request}
 use Rattle.rex_gen.specs.Commands.{command}
+use Rattle.rex_parse.specs.declared.language.Above.{Above}
 use Rattle.rex_scenario.specs.Reading.{line_code, line_after}
 use Rattle.rex_scenario.specs.Schedule.{schedule_code, step_of, line_of, with_step}
 use Rattle.rex_scenario.specs.declared.scenario.ScheduleLine.{ScheduleLine}
@@ -64,16 +65,16 @@ pub record IsFirst (w : List ℕ) : Type 0 where
 
 -- no code fits the words where so many requests are there, as long as there is room
 abbrev pub Fits : ℕ → List (List ℕ) → Type 0
-Fits requests words = (earlier : ℕ) → nat_le 100000 earlier ≡ false → schedule_code true 3 requests 2 true earlier words ≡ None
+Fits requests words = (earlier : ℕ) (a : Above) → nat_le 100000 earlier ≡ false → schedule_code true 3 requests 2 true earlier a words ≡ None
 
 good_line : (seed : ℕ) (requests : List Request) (schedule : List ScheduleLine) (n : ℕ) (line w : List ℕ) (ws : List (List ℕ)) → list_all is_allowed line ≡ true → words_of line ≡ w ∷ ws
-    → eqb (slice_index w 0) 35 ≡ false → eqb (slice_index w 0) 37 ≡ false → schedule_code true 3 (length requests) 2 true (length schedule) (w ∷ ws) ≡ None
-    → (line_code (scheduling seed requests schedule) line ≡ None) × (line_after (scheduling seed requests schedule) n line ≡ scheduling seed requests (with_step schedule (step_of (w ∷ ws))))
+    → eqb (slice_index w 0) 35 ≡ false → eqb (slice_index w 0) 37 ≡ false → schedule_code true 3 (length requests) 2 true (length schedule) (scheduling seed requests schedule).service (w ∷ ws) ≡ None
+    → (line_code (scheduling seed requests schedule) line ≡ None) × (line_after (scheduling seed requests schedule) n line ≡ scheduling seed requests (with_step schedule (step_of (scheduling seed requests schedule).service (w ∷ ws))))
 good_line seed requests schedule n line w ws clean words hash percent good =
     (rw (clean, words, hash, percent) good, rw (words, hash, percent) refl)
 
-one_more : (schedule : List ScheduleLine) (ws : List (List ℕ)) → length (with_step schedule (step_of ws)) ≤ length schedule + 1
-one_more schedule ws = elim (step_of ws) as (λ o. length (with_step schedule o) ≤ length schedule + 1) [
+one_more : (schedule : List ScheduleLine) (a : Above) (ws : List (List ℕ)) → length (with_step schedule (step_of a ws)) ≤ length schedule + 1
+one_more schedule a ws = elim (step_of a ws) as (λ o. length (with_step schedule o) ≤ length schedule + 1) [
   | None ↦ omega arith
   | Some s ↦ omega (arith, length-append schedule (line_of s ∷ []))
 ]
@@ -88,12 +89,12 @@ adds_line seed requests w ws first are fit small =
       short = omega (arith, length-spaced w ws, first.short);
       grown = λ schedule n room.
           let good = good_line seed requests schedule n (spaced (w ∷ ws)) w ws (plain_clean (spaced (w ∷ ws)) plain) (spaced_words (w ∷ ws) all) first.no_comment first.no_heading
-          (fit (length schedule) (lt-leb 100000 (length schedule) (omega arith))) in
+          (fit (length schedule) (scheduling seed requests schedule).service (lt-leb 100000 (length schedule) (omega arith))) in
           record {
-            more = with_step schedule (step_of (w ∷ ws));
+            more = with_step schedule (step_of (scheduling seed requests schedule).service (w ∷ ws));
             next = n + 1;
             read = rw (← good.1) (read_line (scheduling seed requests schedule) n (spaced (w ∷ ws)) plain good.0);
-            few = one_more schedule (w ∷ ws);
+            few = one_more schedule (scheduling seed requests schedule).service (w ∷ ws);
           };
     }
 

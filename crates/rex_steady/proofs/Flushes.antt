@@ -9,6 +9,7 @@ use Rattle.rex_safety.specs.Node.{Message}
 use Rattle.rex_safety.specs.Calls.{begin, receive}
 use Rattle.rex_safety.specs.Values.{Value, service_of}
 use Rattle.rex_safety.specs.Lanes.{Here, CallHere}
+use Rattle.rex_safety.specs.Reading.{stamp_at, seen_by_releases}
 use Rattle.rex_safety.specs.World.{World, node_at, put, after, if_up, at_node, with_handed, deliver_found, step, waiting_from, flush_steps, steps, finished, row}
 
 -- ---- which messages were handed over
@@ -101,6 +102,14 @@ module _ (service : Declarations) (seed n : ℕ) where
   sends_after nodes [] = []
   sends_after nodes (x ∷ xs) = (received nodes x).sends ++ sends_after (put nodes x.to (received nodes x).node) xs
 
+  -- what clients have seen after a message, and after messages
+  abbrev pub seen_next : List ℕ → List Here → Message Value → List ℕ
+  seen_next seen nodes x = seen_by_releases (stamp_at (received nodes x).node) (received nodes x).effects seen
+
+  abbrev pub seen_after : List ℕ → List Here → List (Message Value) → List ℕ
+  seen_after seen nodes [] = seen
+  seen_after seen nodes (x ∷ xs) = seen_after (seen_next seen nodes x) (put nodes x.to (received nodes x).node) xs
+
   -- each message reaches a node that is up
   abbrev pub ReachUp : List Here → List (Message Value) → Type 0
   ReachUp nodes [] = Unit {0}
@@ -108,53 +117,53 @@ module _ (service : Declarations) (seed n : ℕ) where
 
 module _ (service : Declarations) (requests : List Request) (seed n : ℕ) where
   -- a world in which all but the last messages were handed over
-  abbrev shaped : ℕ → List Here → List (Message Value) → List (Message Value) → World
-  shaped done nodes old xs = record { done = done; nodes = nodes; messages = old ++ xs; handed = trues old ++ falses xs }
+  abbrev shaped : ℕ → List ℕ → List Here → List (Message Value) → List (Message Value) → World
+  shaped done seen nodes old xs = record { done = done; nodes = nodes; messages = old ++ xs; handed = trues old ++ falses xs; seen = seen }
 
   called : (t : Bool) (w : World) (m : ℕ) (d : CallHere) → t ≡ true → (if_up t w m d).world ≡ (after w m d).world
   called t w m d e = ap (λ (t : Bool). (if_up t w m d).world) e
 
-  delivered : (done : ℕ) (nodes : List Here) (old : List (Message Value)) (x : Message Value) (xs more : List (Message Value)) → (node_at nodes x.to).up ≡ true
-      → (step service requests seed n (shaped done nodes old (x ∷ (xs ++ more))) (Deliver (suc (length old)))).world
-      ≡ shaped done (put nodes x.to (received service seed n nodes x).node) (old ++ x ∷ []) (xs ++ (more ++ (received service seed n nodes x).sends))
-  delivered done nodes old x xs more up =
-      ap (λ (o : Option (Message Value)). (deliver_found service seed n (shaped done nodes old (x ∷ (xs ++ more))) (suc (length old)) o).world) (found old x (xs ++ more))
-      ∙ (called (node_at nodes x.to).up (with_handed (shaped done nodes old (x ∷ (xs ++ more))) (suc (length old))) x.to (received service seed n nodes x) up
-      ∙ (ap (λ (k : ℕ). (after (record (shaped done nodes old (x ∷ (xs ++ more))) { handed = slice_set (trues old ++ falses (x ∷ (xs ++ more))) k true }) x.to (received service seed n nodes x)).world) less
-      ∙ (ap (λ (ms : List (Message Value)). record { done = done; nodes = put nodes x.to (received service seed n nodes x).node; messages = ms; handed = slice_set (trues old ++ falses (x ∷ (xs ++ more))) (length old) true ++ replicate (length (received service seed n nodes x).sends) false }) (moved old x xs more (received service seed n nodes x).sends)
-      ∙ ap (λ (ts : List Bool). record { done = done; nodes = put nodes x.to (received service seed n nodes x).node; messages = (old ++ x ∷ []) ++ (xs ++ (more ++ (received service seed n nodes x).sends)); handed = ts }) (one_more old x xs more (received service seed n nodes x).sends))))
+  delivered : (done : ℕ) (seen : List ℕ) (nodes : List Here) (old : List (Message Value)) (x : Message Value) (xs more : List (Message Value)) → (node_at nodes x.to).up ≡ true
+      → (step service requests seed n (shaped done seen nodes old (x ∷ (xs ++ more))) (Deliver (suc (length old)))).world
+      ≡ shaped done (seen_next service seed n seen nodes x) (put nodes x.to (received service seed n nodes x).node) (old ++ x ∷ []) (xs ++ (more ++ (received service seed n nodes x).sends))
+  delivered done seen nodes old x xs more up =
+      ap (λ (o : Option (Message Value)). (deliver_found service seed n (shaped done seen nodes old (x ∷ (xs ++ more))) (suc (length old)) o).world) (found old x (xs ++ more))
+      ∙ (called (node_at nodes x.to).up (with_handed (shaped done seen nodes old (x ∷ (xs ++ more))) (suc (length old))) x.to (received service seed n nodes x) up
+      ∙ (ap (λ (k : ℕ). (after (record (shaped done seen nodes old (x ∷ (xs ++ more))) { handed = slice_set (trues old ++ falses (x ∷ (xs ++ more))) k true }) x.to (received service seed n nodes x)).world) less
+      ∙ (ap (λ (ms : List (Message Value)). record { done = done; nodes = put nodes x.to (received service seed n nodes x).node; messages = ms; handed = slice_set (trues old ++ falses (x ∷ (xs ++ more))) (length old) true ++ replicate (length (received service seed n nodes x).sends) false; seen = seen_next service seed n seen nodes x }) (moved old x xs more (received service seed n nodes x).sends)
+      ∙ ap (λ (ts : List Bool). record { done = done; nodes = put nodes x.to (received service seed n nodes x).node; messages = (old ++ x ∷ []) ++ (xs ++ (more ++ (received service seed n nodes x).sends)); handed = ts; seen = seen_next service seed n seen nodes x }) (one_more old x xs more (received service seed n nodes x).sends))))
     where
       less : suc (length old) - 1 ≡ length old
       less = omega arith
 
-  deliveries : (xs : List (Message Value)) (done : ℕ) (nodes : List Here) (old more : List (Message Value)) → ReachUp service seed n nodes xs
-      → (steps service requests seed n (shaped done nodes old (xs ++ more)) (map Deliver (numbers (suc (length old)) xs))).world ≡ shaped done (nodes_after service seed n nodes xs) (old ++ xs) (more ++ sends_after service seed n nodes xs)
-  deliveries [] done nodes old more up =
-      ap (λ (ms : List (Message Value)). shaped done nodes ms more) (sym (append-nil old)) ∙ ap (λ (ms : List (Message Value)). shaped done nodes (old ++ []) ms) (sym (append-nil more))
-  deliveries (x ∷ xs) done nodes old more up =
+  deliveries : (xs : List (Message Value)) (done : ℕ) (seen : List ℕ) (nodes : List Here) (old more : List (Message Value)) → ReachUp service seed n nodes xs
+      → (steps service requests seed n (shaped done seen nodes old (xs ++ more)) (map Deliver (numbers (suc (length old)) xs))).world ≡ shaped done (seen_after service seed n seen nodes xs) (nodes_after service seed n nodes xs) (old ++ xs) (more ++ sends_after service seed n nodes xs)
+  deliveries [] done seen nodes old more up =
+      ap (λ (ms : List (Message Value)). shaped done seen nodes ms more) (sym (append-nil old)) ∙ ap (λ (ms : List (Message Value)). shaped done seen nodes (old ++ []) ms) (sym (append-nil more))
+  deliveries (x ∷ xs) done seen nodes old more up =
       let longer : suc (suc (length old)) ≡ suc (length (old ++ x ∷ [])) = ap suc (omega (arith, length-append old (x ∷ []))) in
-      ap (λ (w : World). (steps service requests seed n w (map Deliver (numbers (suc (suc (length old))) xs))).world) (delivered done nodes old x xs more up.0)
-      ∙ (ap (λ (k : ℕ). (steps service requests seed n (shaped done (put nodes x.to (received service seed n nodes x).node) (old ++ x ∷ []) (xs ++ (more ++ (received service seed n nodes x).sends))) (map Deliver (numbers k xs))).world) longer
-      ∙ (deliveries xs done (put nodes x.to (received service seed n nodes x).node) (old ++ x ∷ []) (more ++ (received service seed n nodes x).sends) up.1
-      ∙ (ap (λ (ms : List (Message Value)). shaped done (nodes_after service seed n (put nodes x.to (received service seed n nodes x).node) xs) ms ((more ++ (received service seed n nodes x).sends) ++ sends_after service seed n (put nodes x.to (received service seed n nodes x).node) xs)) (append_assoc old (x ∷ []) xs)
-      ∙ ap (λ (ms : List (Message Value)). shaped done (nodes_after service seed n (put nodes x.to (received service seed n nodes x).node) xs) (old ++ x ∷ xs) ms) (append_assoc more (received service seed n nodes x).sends (sends_after service seed n (put nodes x.to (received service seed n nodes x).node) xs)))))
+      ap (λ (w : World). (steps service requests seed n w (map Deliver (numbers (suc (suc (length old))) xs))).world) (delivered done seen nodes old x xs more up.0)
+      ∙ (ap (λ (k : ℕ). (steps service requests seed n (shaped done (seen_next service seed n seen nodes x) (put nodes x.to (received service seed n nodes x).node) (old ++ x ∷ []) (xs ++ (more ++ (received service seed n nodes x).sends))) (map Deliver (numbers k xs))).world) longer
+      ∙ (deliveries xs done (seen_next service seed n seen nodes x) (put nodes x.to (received service seed n nodes x).node) (old ++ x ∷ []) (more ++ (received service seed n nodes x).sends) up.1
+      ∙ (ap (λ (ms : List (Message Value)). shaped done (seen_after service seed n (seen_next service seed n seen nodes x) (put nodes x.to (received service seed n nodes x).node) xs) (nodes_after service seed n (put nodes x.to (received service seed n nodes x).node) xs) ms ((more ++ (received service seed n nodes x).sends) ++ sends_after service seed n (put nodes x.to (received service seed n nodes x).node) xs)) (append_assoc old (x ∷ []) xs)
+      ∙ ap (λ (ms : List (Message Value)). shaped done (seen_after service seed n (seen_next service seed n seen nodes x) (put nodes x.to (received service seed n nodes x).node) xs) (nodes_after service seed n (put nodes x.to (received service seed n nodes x).node) xs) (old ++ x ∷ xs) ms) (append_assoc more (received service seed n nodes x).sends (sends_after service seed n (put nodes x.to (received service seed n nodes x).node) xs)))))
 
   -- a flush hands over all that waits, and what is sent then waits
-  flushes : (xs : List (Message Value)) (done : ℕ) (nodes : List Here) (old : List (Message Value)) → ReachUp service seed n nodes xs
-      → (steps service requests seed n (shaped done nodes old xs) (flush_steps (numbers (suc (length old)) xs))).world ≡ shaped done (nodes_after service seed n nodes xs) (old ++ xs) (sends_after service seed n nodes xs)
-  flushes [] done nodes old up = ap (λ (ms : List (Message Value)). shaped done nodes ms []) (sym (append-nil old))
-  flushes (x ∷ xs) done nodes old up =
-      ap (λ (ms : List (Message Value)). (steps service requests seed n (shaped done nodes old (x ∷ ms)) (map Deliver (numbers (suc (length old)) (x ∷ xs)))).world) (sym (append-nil xs))
-      ∙ deliveries (x ∷ xs) done nodes old [] up
+  flushes : (xs : List (Message Value)) (done : ℕ) (seen : List ℕ) (nodes : List Here) (old : List (Message Value)) → ReachUp service seed n nodes xs
+      → (steps service requests seed n (shaped done seen nodes old xs) (flush_steps (numbers (suc (length old)) xs))).world ≡ shaped done (seen_after service seed n seen nodes xs) (nodes_after service seed n nodes xs) (old ++ xs) (sends_after service seed n nodes xs)
+  flushes [] done seen nodes old up = ap (λ (ms : List (Message Value)). shaped done seen nodes ms []) (sym (append-nil old))
+  flushes (x ∷ xs) done seen nodes old up =
+      ap (λ (ms : List (Message Value)). (steps service requests seed n (shaped done seen nodes old (x ∷ ms)) (map Deliver (numbers (suc (length old)) (x ∷ xs)))).world) (sym (append-nil xs))
+      ∙ deliveries (x ∷ xs) done seen nodes old [] up
 
   flushed : (w : World) (xs : List (Message Value)) (h : Waits w xs) → ReachUp service seed n w.nodes xs
-      → (row service requests seed n w Flush).world ≡ shaped (w.done + 1) (nodes_after service seed n w.nodes xs) (h.old ++ xs) (sends_after service seed n w.nodes xs)
+      → (row service requests seed n w Flush).world ≡ shaped (w.done + 1) (seen_after service seed n w.seen w.nodes xs) (nodes_after service seed n w.nodes xs) (h.old ++ xs) (sends_after service seed n w.nodes xs)
   flushed w xs h up =
-      let same : w ≡ shaped w.done w.nodes h.old xs =
+      let same : w ≡ shaped w.done w.seen w.nodes h.old xs =
       ap (λ (ms : List (Message Value)). record w { messages = ms }) h.messages ∙ ap (λ (ts : List Bool). record w { messages = h.old ++ xs; handed = ts }) h.handed in
       ap (λ (w : World). (row service requests seed n w Flush).world) same
-      ∙ (ap (λ (ns : List ℕ). (finished (shaped w.done w.nodes h.old xs) (steps service requests seed n (shaped w.done w.nodes h.old xs) (flush_steps ns))).world) (waits 1 h.old xs ∙ ap (λ (k : ℕ). numbers k xs) (omega arith))
-      ∙ ap (λ (v : World). record v { done = w.done + 1 }) (flushes xs w.done w.nodes h.old up))
+      ∙ (ap (λ (ns : List ℕ). (finished (shaped w.done w.seen w.nodes h.old xs) (steps service requests seed n (shaped w.done w.seen w.nodes h.old xs) (flush_steps ns))).world) (waits 1 h.old xs ∙ ap (λ (k : ℕ). numbers k xs) (omega arith))
+      ∙ ap (λ (v : World). record v { done = w.done + 1 }) (flushes xs w.done w.seen w.nodes h.old up))
 
   -- the world after a flush
   pub record Flushed (w : World) (xs : List (Message Value)) : Type 0 where
