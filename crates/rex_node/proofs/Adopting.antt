@@ -1,5 +1,5 @@
 -- A node that goes on adopts the value that was reported for the next instance; alone it knows it at once.
-use Rattle.std.proofs.Common.{◌≡◌, ℕ, zero, suc, ◌+◌, ◌-◌, ◌*◌, ◌^◌, ◌<◌, ◌≤◌, Bool, true, false, cond, not, ◌&&◌, List, [], ◌∷◌, ◌++◌, length, Option, Some, None, refl, sym, ap, subst, ◌∙◌, arith, append_assoc, length-append}
+use Rattle.std.proofs.Common.{◌≡◌, ℕ, zero, suc, ◌+◌, ◌-◌, ◌*◌, ◌^◌, ◌<◌, ◌≤◌, Bool, true, false, cond, not, ◌&&◌, List, [], ◌∷◌, ◌++◌, length, inl, inr, Option, Some, None, refl, sym, ap, subst, ◌∙◌, arith}
 use Rattle.std.specs.Prelude.{map, is_some, is_none, nat_lt, option_map, IfSome, IsSome}
 use Rattle.std.specs.List.{All}
 use Rattle.std.proofs.lemmas.Bool.{and_parts, le-ltb, lt-ltb}
@@ -44,13 +44,14 @@ use Rattle.rex_node.specs.declared.step.Draft.{Draft}
 use Rattle.rex_log.specs.Log.{proposal_in}
 use Rattle.rex_node.specs.Parts.{NodeValue, ActingValue, IsCutAt, IsKept, HasGoneOn, IsResting, IsProposer, IsSame, IsUp, Proposes, here_of, lead_of, open_of, role_of}
 use Rattle.rex_node.specs.Calls.{armed_with}
-use Rattle.rex_node.specs.Going.{Comes, Fell, IsStuck, Leads, MayGoOn, RunsOn, above, so_far}
-use Rattle.rex_node.specs.Leading.{FromLead, GoesRound, IsFree, IsLonger, accept_own, knowing, HasLearned, HasOpened, IsOwnCut, Learns, Opens, goes_on, may_lead, opened, reported_value, settling}
+use Rattle.rex_node.specs.Going.{BreaksOff, Comes, Fell, IsStuck, Leads, LosesFirst, MayGoOn, RunsOn, above, so_far}
+use Rattle.rex_node.specs.Leading.{FromLead, GoesRound, IsFree, IsLonger, accept_own, knowing, HasLearned, HasOpened, IsOwnCut, Learns, LearnsShort, Opens, OpensShort, goes_on, may_lead, opened, reported_value, settling}
 use Rattle.rex_node.proofs.Appended.{beside_of, fits_instance}
 use Rattle.rex_node.proofs.Bridges as bridges
 use Rattle.rex_node.proofs.Grows.{fits_before, rest_runs, settle_learns}
 use Rattle.rex_node.proofs.GoingLemmas.{leads_same, leads_then, leads_fell}
 use Rattle.rex_node.proofs.Opening.{lead_opened, opened_by, opened_is}
+use Rattle.rex_node.proofs.Stuck.{breaks_after, breaks_as, settle_loses}
 
 -- ---- the model's turn
 
@@ -145,21 +146,6 @@ chooses_of (Some p) w i v g r =
     }
 
 -- ---- a node that adopts
-
--- more records came after those with which memory was short
-stuck_after : {K : Type 0} (records : K → List (List ℕ)) (service : Declarations) (past : List Value) (x y z : NodeValue K) (written : List (List ℕ)) → records y.keeper ≡ records x.keeper ++ written → length (records x.keeper) < length (records y.keeper) → IsStuck records service past y z → IsStuck records service past x z
-stuck_after records service past x y z written grown longer h = record {
-  more = written ++ h.more;
-  grown = h.grown ∙ ap (λ (l : List (List ℕ)). l ++ h.more) grown ∙ append_assoc (records x.keeper) written h.more;
-  same = λ e. absurd (none e);
-  based = h.based;
-}
-  where
-    none : written ++ h.more ≡ [] → ⊥
-    none e =
-        let some : length (records y.keeper) ≡ length (records x.keeper) + length written = ap length grown ∙ length-append (records x.keeper) written in
-        let few : length written + length h.more ≡ 0 = sym (length-append written h.more) ∙ ap length e in
-        omega (arith, longer)
 
 module _ {K : Type 0} (records : K → List (List ℕ)) (gives : K → List ℕ → Answer → K → Type 0) (faults : K → ℕ) (service : Declarations) (past : List Value) (good : IsService service) (checked : IsChecked service) (x : NodeValue K) (kept_so : IsKept records service past x) (up : x.up ≡ true)
     (i : ℕ) (v : Value) (next : i ≡ length x.known + 1) (c : Chooses x.proposer x.acting i v) (turns : ℕ) (may : MayGoOn x turns) where
@@ -261,6 +247,14 @@ module _ {K : Type 0} (records : K → List (List ℕ)) (gives : K → List ℕ 
         ),
         down_node_kept y same o.1,
       )
+
+  -- memory was short as it proposed
+  pub adopt_stuck : (y : NodeValue K) (before : Draft) → OpensShort records gives faults service past told i v x y before → IsStuck records gives faults service past (settles turns) x y before
+  adopt_stuck y before (inl s) = inl s
+  adopt_stuck y before (inr b) =
+      inr (breaks_as records gives faults service past (settles turns) (λ d. propose x.nodes x.id told d l i v (settles (turns - 1))) x y before (settle_is before)
+      (subst (λ (o : Option ProposerValue). IfSome o (λ (q : ProposerValue). (k : CallHere → CallHere) → LosesFirst k → BreaksOff records gives faults service past (λ d. propose x.nodes x.id told d (lead_of x.acceptor q (is_some x.acting)) i v k) x y before)) c.p_is b
+      (settles (turns - 1)) (settle_loses (turns - 1) x.nodes x.id sv)))
 
   -- ---- the proposal is open
 
@@ -377,6 +371,12 @@ module _ {K : Type 0} (records : K → List (List ℕ)) (gives : K → List ℕ 
           subst (λ (q : ProposerValue). (k : CallHere → CallHere) → Comes records gives faults service past (λ d. decide x.nodes sv x.id d (lead_of (accepting x.acceptor (record { instance = i; ballot = c.p.ballot; value = v })) q (is_some x.acting)) i v k) k y z mid after g) p_opened
           (subst (λ (n : NodeValue K). FromLead n (λ m. (k : CallHere → CallHere) → Comes records gives faults service past (λ d. decide n.nodes (service_of service n.seed) n.id d m i v k) k y z mid after g)) y_is learns)
 
+      broken_at : (z : NodeValue K) → FromLead y (λ m. (k : CallHere → CallHere) → LosesFirst k → BreaksOff records gives faults service past (λ d. decide y.nodes (service_of service y.seed) y.id d m i v k) y z mid)
+          → (k : CallHere → CallHere) → LosesFirst k → BreaksOff records gives faults service past (λ d. decide x.nodes sv x.id d l i v k) y z mid
+      broken_at z b =
+          subst (λ (q : ProposerValue). (k : CallHere → CallHere) → LosesFirst k → BreaksOff records gives faults service past (λ d. decide x.nodes sv x.id d (lead_of (accepting x.acceptor (record { instance = i; ballot = c.p.ballot; value = v })) q (is_some x.acting)) i v k) y z mid) p_opened
+          (subst (λ (n : NodeValue K). FromLead n (λ m. (k : CallHere → CallHere) → LosesFirst k → BreaksOff records gives faults service past (λ d. decide n.nodes (service_of service n.seed) n.id d m i v k) y z mid)) y_is b)
+
       -- up to where the model decides
       leads_decide : Leads records gives faults service (settles turns) (λ d. decide x.nodes sv x.id d l i v (settles (turns - 2))) x.keeper y.keeper (so_far records service past x before) (so_far records service past y mid)
       leads_decide = leads_then records gives faults service (settles turns) (λ d. settles (turns - 1) (led role_with d)) (λ d. decide x.nodes sv x.id d l i v (settles (turns - 2))) x.keeper y.keeper y.keeper (so_far records service past x before) (so_far records service past y mid) (so_far records service past y mid) leads_y
@@ -395,8 +395,13 @@ module _ {K : Type 0} (records : K → List (List ℕ)) (gives : K → List ℕ 
           )
 
       -- memory was short as it learned
-      pub alone_stuck : (z : NodeValue K) → IsStuck records service past y z → IsStuck records service past x z
-      alone_stuck z h = stuck_after records service past x y z leads_y.written leads_y.grown longer h
+      pub alone_stuck : (z : NodeValue K) → LearnsShort records gives faults service past i v y z mid → IsStuck records gives faults service past (settles turns) x z before
+      alone_stuck z h =
+          inr (breaks_after records gives faults service past (settles turns) (λ d. decide x.nodes sv x.id d l i v (settles (turns - 2))) x y z before mid leads_decide longer (alone_kept.up alone_up).base (λ d. refl) (by h))
+        where
+          by : LearnsShort records gives faults service past i v y z mid → IsStuck records gives faults service past (λ d. decide x.nodes sv x.id d l i v (settles (turns - 2))) y z mid
+          by (inl s) = inl s
+          by (inr b) = inr (broken_at z b (settles (turns - 2)) (settle_loses (turns - 2) x.nodes x.id sv))
 
       -- it knows the value, and goes on
       pub alone_again : (z : NodeValue K) (after : Draft) → Learns records gives faults service past i v y z mid after On → z ≡ record (knowing service y i v) { keeper = z.keeper } → length (records y.keeper) < length (records z.keeper) → GoesRound records gives faults service past turns x z before after Again
@@ -428,6 +433,10 @@ pub opens_as : {K : Type 0} (records : K → List (List ℕ)) (gives : K → Lis
     → said ≡ named → g ≡ h → Opens records gives faults service past said i v x y before mid g → Opens records gives faults service past named i v x y before mid h
 opens_as records gives faults service past x y before mid i v said named g h e s opens =
     subst (λ (t : Going). Opens records gives faults service past named i v x y before mid t) s (subst (λ (t : Effect). Opens records gives faults service past t i v x y before mid g) e opens)
+
+pub opens_short_as : {K : Type 0} (records : K → List (List ℕ)) (gives : K → List ℕ → Answer → K → Type 0) (faults : K → ℕ) (service : Declarations) (past : List Value) (x y : NodeValue K) (before : Draft) (i : ℕ) (v : Value) (said named : Effect)
+    → said ≡ named → OpensShort records gives faults service past said i v x y before → OpensShort records gives faults service past named i v x y before
+opens_short_as records gives faults service past x y before i v said named e short = subst (λ (t : Effect). OpensShort records gives faults service past t i v x y before) e short
 
 pub parts_as : {K : Type 0} (x y : NodeValue K) (i : ℕ) (v : Value) (g : Going) → g ≡ On → HasOpened x y i v g → y ≡ record (opened x i v) { keeper = y.keeper }
 parts_as x y i v g s parts = subst (HasOpened x y i v) s parts

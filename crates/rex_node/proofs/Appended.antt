@@ -32,7 +32,7 @@ use Rattle.rex_log.specs.Messages.{message_in}
 use Rattle.rex_node.specs.Calls.{armed_with}
 use Rattle.rex_node.specs.Going.{Leads, Fell, Appends, so_far}
 use Rattle.rex_log.specs.Log.{log_of, rec_of, proposal_in, standing_in}
-use Rattle.rex_node.specs.Parts.{failed_records, fallen, NodeValue, IsActing, IsProposer, IsUp, AreShort, here_of, state_of}
+use Rattle.rex_node.specs.Parts.{failed_records, fallen, NodeValue, IsActing, IsProposer, HasStamps, IsUp, AreShort, here_of, state_of}
 use Rattle.rex_node.specs.Stated.{is_stated}
 use Rattle.rex_node.proofs.GoingLemmas.{leads_append, fell_append}
 use Rattle.rex_log.proofs.Pasts.{log_then}
@@ -91,6 +91,7 @@ module _ {K : Type 0} (records : K → List (List ℕ)) (service : Declarations)
     pub caught_up : is_some x.acting ≡ true → x.replayed ≡ length x.known
     pub proposer : IsProposer x.nodes x.id x.acceptor x.proposer
     pub acting : IsActing service x.known x.acceptor x.proposer x.acting
+    pub stamped : HasStamps x.offset x.known x.acting
     pub role : RoleFits (length x.known) (here_of records service past x).role
 
   pub up_of : IsLogged service x (log_of service past (records x.keeper)) → Beside → IsUp service x (here_of records service past x)
@@ -112,6 +113,7 @@ module _ {K : Type 0} (records : K → List (List ℕ)) (service : Declarations)
     short = l.short;
     proposer = b.proposer;
     acting = b.acting;
+    stamped = b.stamped;
     fits = l.fits;
     numbers = record { log = l.numbers; role = subst (λ (vs : List Value). RoleFits (length vs) (here_of records service past x).role) l.known b.role };
   }
@@ -124,6 +126,7 @@ module _ {K : Type 0} (records : K → List (List ℕ)) (service : Declarations)
     caught_up = u.caught_up;
     proposer = u.proposer;
     acting = u.acting;
+    stamped = u.stamped;
     role = subst (λ (vs : List Value). RoleFits (length vs) (here_of records service past x).role) (sym u.known) u.numbers.role;
   }
 

@@ -1,5 +1,5 @@
 -- A node that asks to lead does as the model's.
-use Rattle.std.proofs.Common.{◌≡◌, ℕ, suc, ◌+◌, ◌*◌, ◌<◌, ◌≤◌, Bool, true, false, cond, List, [], ◌∷◌, ◌++◌, length, take, Result, Option, Some, None, refl, sym, ap, subst, ◌∙◌, arith, le_refl, add-one}
+use Rattle.std.proofs.Common.{◌≡◌, ℕ, suc, ◌+◌, ◌*◌, ◌<◌, ◌≤◌, Bool, true, false, cond, List, [], ◌∷◌, ◌++◌, length, take, Result, Ok, Err, Option, Some, None, inr, refl, sym, ap, subst, ◌∙◌, arith, le_refl, add-one}
 use Rattle.std.specs.Prelude.{map, nat_lt, is_some, IfOk, OnErr, IfSome}
 use Rattle.std.specs.declared.alloc.AllocError.{AllocError}
 use Rattle.std.proofs.lemmas.Bool.{false≢true}
@@ -32,7 +32,7 @@ use Rattle.rex_safety.specs.Ranges.{LeadFits}
 use Rattle.rex_safety.specs.Calls.{append, begin, candidacy, elect, enough, logged, others, own_reports, say, send, settle, stand, with_role}
 use Rattle.rex_safety.specs.Values.{Value, service_of, trace_of}
 use Rattle.rex_safety.specs.Lanes.{Here, CallHere}
-use Rattle.rex_safety.proofs.Lists.{in_from_on}
+use Rattle.rex_safety.proofs.Lists.{in_from_on, length_push}
 use Rattle.rex_safety.proofs.Ranged.{accepted_fit}
 use Rattle.rex_node.specs.declared.going.Going.{Going}
 use Rattle.rex_node.specs.declared.going.Going.TheVariants.{On, Down}
@@ -43,12 +43,13 @@ use Rattle.rex_node.specs.declared.step.Step.{Step}
 use Rattle.rex_node.specs.Calls.{armed_with, if_up}
 use Rattle.rex_node.specs.Leading.{IsFree}
 use Rattle.rex_node.specs.Electing.{candidate_of, standing}
-use Rattle.rex_node.specs.Going.{Appends, Ends, Finishes, IsStuck, Leads, RunsOn, above, so_far}
+use Rattle.rex_node.specs.Going.{Appends, Ends, Finishes, IsStuck, Leads, LosesFirst, RunsOn, above, so_far}
 use Rattle.rex_log.specs.Log.{log_of, proposal_in}
 use Rattle.rex_node.specs.Parts.{NodeValue, IsKept, IsResting, IsSame, IsUp, Proposes, here_of, lead_of}
 use Rattle.rex_node.proofs.Appended.{Beside, IsLogged, appended_here, appended_leads, appended_log, ballot_fits, beside_of, call_at, logged_of, logged_promised, up_of}
 use Rattle.rex_node.proofs.Bridges.{left_is}
-use Rattle.rex_node.proofs.Continuing.{ends_if, stuck_if}
+use Rattle.rex_node.proofs.Continuing.{ends_if}
+use Rattle.rex_node.proofs.Stuck.{breaks_after, settle_loses}
 use Rattle.rex_node.proofs.Ending.{HasCome}
 use Rattle.rex_node.proofs.Following.{far, follower_here}
 use Rattle.rex_node.proofs.GoingLemmas.{leads_same, leads_then}
@@ -107,6 +108,9 @@ module _ {K : Type 0} (records : K → List (List ℕ)) (gives : K → List ℕ 
     abbrev begun : CallHere
     begun = so_far records service past x before
 
+    then_loses : LosesFirst then_on
+    then_loses d = settle_loses (enough (own_reports log)) x.nodes x.id (service_of service x.seed) (send (say (effect.Candidate x.id b) (with_role (Leading (candidacy x.id b log)) d)) (others x.nodes x.id (Prepare b (suc (length (known log))))))
+
     appends_is : (f : Option Failure) → whole (armed_with f begun) ≡ append f x.id (Promised b) (armed_with f begun) then_on
     appends_is f = elect_is f (armed_with f begun) refl
 
@@ -115,8 +119,8 @@ module _ {K : Type 0} (records : K → List (List ℕ)) (gives : K → List ℕ 
       stand_down h = recorded_down records gives faults service past x y before mid node up (kept.Promised b) spelled tt refl refl whole then_on appends_is h
 
       module _ (h : Appends records faults gives x y before mid (record_bytes (kept.Promised b)) On) where
-        pub stand_stuck : (z : NodeValue K) → z.keeper ≡ y.keeper → z.base ≡ y.base → IsStuck records service past x z
-        stand_stuck z keeper based = recorded_stuck records gives faults service past x y before mid node up (kept.Promised b) spelled tt refl refl h z keeper based
+        pub stand_stuck : (z : NodeValue K) → z.keeper ≡ y.keeper → z.base ≡ y.base → IsStuck records gives faults service past whole x z before
+        stand_stuck z keeper based = recorded_stuck records gives faults service past x y before mid node up (kept.Promised b) spelled tt refl refl whole then_on appends_is h then_loses z keeper based
 
         abbrev z_at : NodeValue K
         z_at = record (standing x b) { keeper = y.keeper }
@@ -176,6 +180,7 @@ module _ {K : Type 0} (records : K → List (List ℕ)) (gives : K → List ℕ 
               caught_up = λ t. absurd (false≢true t);
               proposer = proposes;
               acting = tt;
+              stamped = tt;
               role = subst (LeadFits (length x.known)) (sym lead_is) lead_fits;
             }
 
@@ -250,14 +255,18 @@ module _ {K : Type 0} (records : K → List (List ℕ)) (gives : K → List ℕ 
                   subst (λ (n : NodeValue K). RunsOn service (settle turns n.nodes (service_of service n.seed) n.id) (so_far records service past n after)) (sym all)
                   (rest_runs records gives faults service past whole rest x z_at before after stand_leads r)
 
+              pub stand_short : (w : NodeValue K) (end : Result Going AllocError) → OnErr end (IsStuck records gives faults service past (settle turns z.nodes (service_of service z.seed) z.id) z w after) → OnErr end (IsStuck records gives faults service past whole x w before)
+              stand_short w (Ok going) s = tt
+              stand_short w (Err e) s =
+                  inr (breaks_after records gives faults service past whole rest x z_at w before after stand_leads (omega (arith, ap length h.0.records, length_push (records x.keeper) (record_bytes (kept.Promised b)))) (z_kept.up up).base
+                  (settle_loses turns x.nodes x.id (service_of service x.seed))
+                  (subst (λ (n : NodeValue K). IsStuck records gives faults service past (settle turns n.nodes (service_of service n.seed) n.id) n w after) all s))
+
               pub stand_ends : (w : NodeValue K) (final : Draft) (end : Result Going AllocError) → IfOk end (Ends records gives faults service past (settle turns z.nodes (service_of service z.seed) z.id) z w after final)
                   → IfOk end (Ends records gives faults service past whole x w before final)
               stand_ends w final end e =
                   ends_if records gives faults service past whole rest x z_at w before after final end refl stand_leads
                   (subst (λ (n : NodeValue K). IfOk end (Ends records gives faults service past (settle turns n.nodes (service_of service n.seed) n.id) n w after final)) all e)
-
-          pub stand_short : (w : NodeValue K) (end : Result Going AllocError) → OnErr end (IsStuck records service past z w) → OnErr end (IsStuck records service past x w)
-          stand_short w end s = stuck_if records service past x z w (record_bytes (kept.Promised b)) (ap (λ (n : NodeValue K). records n.keeper) all ∙ h.0.records) end s
 
 -- ---- the end of an election
 
@@ -271,7 +280,7 @@ module _ {K : Type 0} (records : K → List (List ℕ)) (gives : K → List ℕ 
   elects = elect x.nodes (service_of service x.seed) x.id
 
   pub elected : (end : Result Going AllocError) (result : Result Step Refusal) → IsResting records service past x → if_up x.up None ≡ None → before ≡ length (records x.keeper) → first.effects.items ≡ [] → first.sends.items ≡ []
-      → IfOk end (Ends records gives faults service past elects x y first draft) → OnErr end (IsStuck records service past x y) → IsSame x y → Finishes records before draft end y z result
+      → IfOk end (Ends records gives faults service past elects x y first draft) → OnErr end (IsStuck records gives faults service past elects x y first) → IsSame x y → Finishes records before draft end y z result
       → HasCome records gives faults service past elects x y z before first draft end result
   elected end result node up many effects sends ends stuck same finishes = record {
     node = node;

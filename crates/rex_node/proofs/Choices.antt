@@ -60,8 +60,8 @@ module _ {K : Type 0} (records : K → List (List ℕ)) (gives : K → List ℕ 
       → (Fell records gives faults service chooses x.id x.keeper y.keeper (so_far records service past x before) (so_far records service past y mid) × (y.up ≡ false)) × IsResting records service past y
   chosen_down h = recorded_down records gives faults service past x y before mid node up (kept.Known i v) spelled due refl refl chooses _ chosen_is h
 
-  pub chosen_stuck : Appends records faults gives x y before mid (record_bytes (kept.Known i v)) On → (z : NodeValue K) → z.keeper ≡ y.keeper → z.base ≡ y.base → IsStuck records service past x z
-  chosen_stuck h z keeper based = recorded_stuck records gives faults service past x y before mid node up (kept.Known i v) spelled due refl refl h z keeper based
+  pub chosen_stuck : Appends records faults gives x y before mid (record_bytes (kept.Known i v)) On → (z : NodeValue K) → z.keeper ≡ y.keeper → z.base ≡ y.base → IsStuck records gives faults service past chooses x z before
+  chosen_stuck h z keeper based = recorded_stuck records gives faults service past x y before mid node up (kept.Known i v) spelled due refl refl chooses (λ e. follow x.id (effect.Known x.id i ∷ []) e) chosen_is h (λ d. refl) z keeper based
 
   pub chosen_on : RunsOn service (on_chosen x.id i v) (so_far records service past x before) → Appends records faults gives x y before mid (record_bytes (kept.Known i v)) On → (z : NodeValue K) (after : Draft) → z ≡ record (leaving y) { known = y.known ++ v ∷ [] }
       → Tells mid after (effect.Known y.id i ∷ followed y.id (role_of y.acceptor y.proposer (is_some y.acting))) → EndsWell records gives faults service past x z before after chooses

@@ -1,13 +1,13 @@
 -- A call whose first parts are done goes on to its last one.
-use Rattle.std.proofs.Common.{◌≡◌, ℕ, List, [], ◌∷◌, ◌++◌, Result, Ok, Err, ap, subst, ◌∙◌, append_assoc}
-use Rattle.std.specs.Prelude.{IfOk, OnErr}
+use Rattle.std.proofs.Common.{◌≡◌, ℕ, List, Result, Ok, Err, subst}
+use Rattle.std.specs.Prelude.{IfOk}
 use Rattle.rex_syntax.specs.declared.service.Declarations.{Declarations}
 use Rattle.rex_traits.specs.Chains.{Answer}
 use Rattle.rex_safety.specs.Lanes.{CallHere}
 use Rattle.rex_node.specs.declared.going.Going.{Going}
 use Rattle.rex_node.specs.declared.going.Going.TheVariants.{On, Down}
 use Rattle.rex_node.specs.declared.step.Draft.{Draft}
-use Rattle.rex_node.specs.Going.{Ends, Fell, IsStuck, Leads, so_far}
+use Rattle.rex_node.specs.Going.{Ends, Fell, Leads, so_far}
 use Rattle.rex_node.specs.Parts.{NodeValue}
 use Rattle.rex_node.proofs.GoingLemmas.{leads_then, leads_fell}
 use Rattle.rex_safety.specs.Values.{Value}
@@ -38,20 +38,3 @@ module _ {K : Type 0} (records : K → List (List ℕ)) (gives : K → List ℕ 
       → IfOk end (Ends records gives faults service past rest z w mid after) → IfOk end (Ends records gives faults service past whole x w before after)
   ends_if (Ok going) id l h = ends_then going id l h
   ends_if (Err e) id l h = tt
-
--- memory was short in the last part, with a record there already
-module _ {K : Type 0} (records : K → List (List ℕ)) (service : Declarations) (past : List Value) (x z w : NodeValue K) (bytes : List ℕ) (grown : records z.keeper ≡ records x.keeper ++ bytes ∷ []) where
-  pub stuck_then : IsStuck records service past z w → IsStuck records service past x w
-  stuck_then s = record {
-    more = bytes ∷ s.more;
-    grown = s.grown ∙ ap (λ (l : List (List ℕ)). l ++ s.more) grown ∙ append_assoc (records x.keeper) (bytes ∷ []) s.more;
-    same = λ e. absurd (some e);
-    based = s.based;
-  }
-    where
-      some : bytes ∷ s.more ≡ [] → ⊥
-      some e = cc
-
-  pub stuck_if : {T E : Type 0} (end : Result T E) → OnErr end (IsStuck records service past z w) → OnErr end (IsStuck records service past x w)
-  stuck_if (Ok t) h = tt
-  stuck_if (Err e) h = stuck_then h

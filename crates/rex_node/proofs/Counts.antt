@@ -24,7 +24,7 @@ use Rattle.rex_state.specs.Value.{StateValue}
 use Rattle.rex_report.specs.declared.effect.Effect.{Effect}
 use Rattle.rex_report.specs.declared.effect.Effect.TheVariants as effect
 use Rattle.rex_traits.specs.Chains.{Answer}
-use Rattle.rex_safety.specs.Records.{Proposal, base}
+use Rattle.rex_safety.specs.Records.{Proposal}
 use Rattle.rex_safety.specs.Quorum.{is_in, is_majority}
 use Rattle.rex_safety.specs.Node.{Failure, Lead, Service}
 use Rattle.rex_safety.specs.Node.Role.{Leads as Leading}
@@ -39,10 +39,10 @@ use Rattle.rex_node.specs.declared.step.Draft.{Draft}
 use Rattle.rex_log.specs.Messages.{message_in}
 use Rattle.rex_node.specs.Calls.{armed_with}
 use Rattle.rex_node.specs.Electing.{counting, reports_of, told_of, uncounting, vote_on}
-use Rattle.rex_node.specs.Going.{Ends, IsStuck, Leads, RunsOn, above, so_far}
+use Rattle.rex_node.specs.Going.{BreaksOff, Ends, IsStuck, Leads, RunsOn, above, so_far}
 use Rattle.rex_node.specs.Leading.{IsFree}
 use Rattle.rex_log.specs.Log.{log_of, proposal_in}
-use Rattle.rex_node.specs.Parts.{NodeValue, ActingValue, HasGoneOn, HasOpen, IsActing, IsKept, IsResting, IsProposer, IsUp, Proposes, here_of, lead_of, open_of, role_of}
+use Rattle.rex_node.specs.Parts.{NodeValue, ActingValue, HasGoneOn, HasOpen, IsActing, IsKept, IsResting, IsProposer, IsUp, Proposes, RunsShort, Stands, here_of, lead_of, open_of, role_of}
 use Rattle.rex_node.proofs.Appended.{Beside, ballot_fits, beside_of, instance_fits, logged_of, up_of}
 use Rattle.rex_node.proofs.Bridges.{in_counted, majority_is}
 use Rattle.rex_node.proofs.Candidates.{above_most}
@@ -51,7 +51,7 @@ use Rattle.rex_node.proofs.Following.{EndsWell, ends_same, far}
 use Rattle.rex_node.proofs.GoingLemmas.{leads_same}
 use Rattle.rex_node.proofs.Grows.{rest_runs}
 use Rattle.rex_node.proofs.Opening.{logged_as}
-use Rattle.rex_node.proofs.Written.{stuck_same}
+use Rattle.rex_node.proofs.Stuck.{breaks_kept, breaks_later, stands_same}
 
 -- ---- votes
 
@@ -311,6 +311,7 @@ module _ {K : Type 0} (records : K → List (List ℕ)) (gives : K → List ℕ 
             caught_up = o.caught_up;
             proposer = z_proposes;
             acting = z_acting x.acting (subst (λ (q : Option ProposerValue). IsActing service x.known x.acceptor q x.acting) e o.acting);
+            stamped = o.stamped;
             role = z_role (subst (λ (q : Option ProposerValue). RoleFits (length x.known) (role_of x.acceptor q (is_some x.acting))) e o.role);
           }
 
@@ -320,6 +321,32 @@ module _ {K : Type 0} (records : K → List (List ℕ)) (gives : K → List ℕ 
       -- the call counts it
       hears_is : (f : Option Failure) → whole (armed_with f begun) ≡ hear x.nodes (service_of service x.seed) x.id (lead_of x.acceptor more (is_some x.acting)) (armed_with f begun)
       hears_is f = made_is p e f None new ∙ ap (λ (l : Lead Value). hear x.nodes (service_of service x.seed) x.id l (armed_with f begun)) (sym heard_is)
+
+      -- ---- memory was short, and it is taken back
+
+      stands_back : (z w v : NodeValue K) → z ≡ counting x b from reported → Stands records faults gives z w → v ≡ uncounting w (length reported) → Stands records faults gives x v
+      stands_back z w v z_is s v_is = record {
+        parts =
+            v_is
+            ∙ ap (λ (n : NodeValue K). uncounting n (length reported)) s.parts
+            ∙ ap (λ (n : NodeValue K). record (uncounting n (length reported)) { keeper = w.keeper }) z_is
+            ∙ ap (λ (o : Option ProposerValue). record x { keeper = w.keeper; proposer = option_map (λ (q : ProposerValue). without_last q (length reported)) (option_map (λ (q : ProposerValue). promise_counted q b from reported) o) }) e
+            ∙ ap (λ (q : ProposerValue). record x { keeper = w.keeper; proposer = Some q }) (taken_back p b from reported new)
+            ∙ ap (λ (o : Option ProposerValue). record x { keeper = w.keeper; proposer = o }) (sym e)
+            ∙ ap (λ (k : K). record x { keeper = k }) (sym keeper);
+        records = ap records keeper ∙ s.records ∙ ap records counted;
+        faults = ap faults keeper ∙ s.faults ∙ ap faults counted;
+        short = subst (λ (k : K). RunsShort gives x.keeper k) (sym keeper) (subst (λ (k : K). RunsShort gives k w.keeper) counted s.short);
+      }
+        where
+          keeper : v.keeper ≡ w.keeper
+          keeper = ap (λ (n : NodeValue K). n.keeper) v_is
+
+          counted : z.keeper ≡ x.keeper
+          counted = ap (λ (n : NodeValue K). n.keeper) (counted_at z z_is)
+
+      pub promise_back : (z v : NodeValue K) → z ≡ counting x b from reported → v ≡ uncounting z (length reported) → IsStuck records gives faults service past whole x v before
+      promise_back z v z_is v_is = inl (stands_back z z v z_is (stands_same records gives faults z) v_is)
 
       -- ---- it is no majority yet
 
@@ -383,22 +410,10 @@ module _ {K : Type 0} (records : K → List (List ℕ)) (gives : K → List ℕ 
               ends_then records gives faults service past whole rest x z_at w before before after going refl promise_leads
               (subst (λ (n : NodeValue K). Ends records gives faults service past (settle turns n.nodes (service_of service n.seed) n.id) n w before after going) (counted_at z z_is) h)
 
-      -- ---- memory was short, and it is taken back
-
-      pub promise_stuck : (z w v : NodeValue K) → z ≡ counting x b from reported → IsStuck records service past z w → v ≡ uncounting w (length reported) → IsStuck records service past x v
-      promise_stuck z w v z_is s v_is = record {
-        more = s.more;
-        grown = ap (λ (n : NodeValue K). records n.keeper) v_is ∙ s.grown ∙ ap (λ (n : NodeValue K). records n.keeper ++ s.more) (counted_at z z_is);
-        same = λ none.
-            v_is
-            ∙ ap (λ (n : NodeValue K). uncounting n (length reported)) (s.same none)
-            ∙ ap (λ (n : NodeValue K). record (uncounting n (length reported)) { keeper = w.keeper }) z_is
-            ∙ ap (λ (o : Option ProposerValue). record x { keeper = w.keeper; proposer = option_map (λ (q : ProposerValue). without_last q (length reported)) (option_map (λ (q : ProposerValue). promise_counted q b from reported) o) }) e
-            ∙ ap (λ (q : ProposerValue). record x { keeper = w.keeper; proposer = Some q }) (taken_back p b from reported new)
-            ∙ ap (λ (o : Option ProposerValue). record x { keeper = w.keeper; proposer = o }) (sym e)
-            ∙ ap (λ (k : K). record x { keeper = k }) (sym (ap (λ (n : NodeValue K). n.keeper) v_is));
-        based = ap (λ (n : NodeValue K). n.base) v_is ∙ s.based ∙ ap (λ (n : NodeValue K). base (log_of service past (records n.keeper))) (sym v_is);
-      }
-
-      pub promise_back : (z v : NodeValue K) → z ≡ counting x b from reported → v ≡ uncounting z (length reported) → IsStuck records service past x v
-      promise_back z v z_is v_is = promise_stuck z z v z_is (subst (λ (n : NodeValue K). IsStuck records service past n n) (sym (counted_at z z_is)) (stuck_same records service past z_at (z_kept.up up))) v_is
+          -- memory was short, and it is taken back
+          pub promise_stuck : (w v : NodeValue K) → IsStuck records gives faults service past (settle turns z.nodes (service_of service z.seed) z.id) z w before → v ≡ uncounting w (length reported) → IsStuck records gives faults service past whole x v before
+          promise_stuck w v (inl s) v_is = inl (stands_back z w v z_is s v_is)
+          promise_stuck w v (inr b) v_is =
+              inr (breaks_later records gives faults service past whole rest x z_at v before before promise_leads
+              (breaks_kept records gives faults service past rest z_at w v before (ap (λ (n : NodeValue K). n.keeper) v_is) (ap (λ (n : NodeValue K). n.base) v_is)
+              (subst (λ (n : NodeValue K). BreaksOff records gives faults service past (settle turns n.nodes (service_of service n.seed) n.id) n w before) (counted_at z z_is) b)))

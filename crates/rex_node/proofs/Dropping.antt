@@ -39,6 +39,7 @@ use Rattle.rex_node.proofs.Appended.{Beside, IsLogged, appended_log, beside_of, 
 use Rattle.rex_node.proofs.Following.{EndsWell, far}
 use Rattle.rex_node.proofs.Knows as knowing
 use Rattle.rex_node.proofs.Recorded.{recorded_down, recorded_on, recorded_stuck}
+use Rattle.rex_node.proofs.Stamping.{stamped_more}
 use Rattle.rex_node.proofs.Votes.{found_instance}
 
 -- ---- what it knows
@@ -192,8 +193,8 @@ module _ {K : Type 0} (records : K → List (List ℕ)) (gives : K → List ℕ 
       → (Fell records gives faults service (drop_known x.id) x.id x.keeper y.keeper (so_far records service past x before) (so_far records service past y mid) × (y.up ≡ false)) × IsResting records service past y
   drop_down h = recorded_down records gives faults service past x y before mid node up (kept.Dropped x.base) drop_spelled due refl refl (drop_known x.id) (say (effect.Dropped x.id x.base)) appends h
 
-  pub drop_stuck : Appends records faults gives x y before mid (record_bytes (kept.Dropped x.base)) On → (z : NodeValue K) → z.keeper ≡ y.keeper → z.base ≡ y.base → IsStuck records service past x z
-  drop_stuck h z keeper based = recorded_stuck records gives faults service past x y before mid node up (kept.Dropped x.base) drop_spelled due refl refl h z keeper based
+  pub drop_stuck : Appends records faults gives x y before mid (record_bytes (kept.Dropped x.base)) On → (z : NodeValue K) → z.keeper ≡ y.keeper → z.base ≡ y.base → IsStuck records gives faults service past (drop_known x.id) x z before
+  drop_stuck h z keeper based = recorded_stuck records gives faults service past x y before mid node up (kept.Dropped x.base) drop_spelled due refl refl (drop_known x.id) (say (effect.Dropped x.id x.base)) appends h (λ d. refl) z keeper based
 
   module _ (h : Appends records faults gives x y before mid (record_bytes (kept.Dropped x.base)) On) where
     log_is : log_of service past (records y.keeper) ≡ Dropped x.base ∷ log
@@ -225,6 +226,7 @@ module _ {K : Type 0} (records : K → List (List ℕ)) (gives : K → List ℕ 
           caught_up = b.caught_up;
           proposer = proposer_kept x.nodes x.id x.acceptor x.base x.proposer later b.proposer;
           acting = acting_kept service x.known x.acceptor x.base x.proposer x.acting later b.acting;
+          stamped = stamped_more x.offset x.base x.known x.acting l.low b.stamped;
           role = subst (RoleFits (length x.known)) (sym (role_kept x.acceptor x.base (is_some x.acting) x.proposer later)) b.role;
         })
 

@@ -1,21 +1,17 @@
 -- How a call that came to its end answers, and what it leaves.
-use Rattle.std.proofs.Common.{◌≡◌, ℕ, ◌<◌, ◌≤◌, true, ◌⊎◌, inl, inr, List, [], ◌∷◌, ◌++◌, length, Result, Ok, Err, Option, Some, None, refl, sym, ap, subst, ◌∙◌, arith, append-nil, append_assoc, length-append}
+use Rattle.std.proofs.Common.{◌≡◌, ℕ, ◌<◌, ◌≤◌, true, ◌⊎◌, inl, inr, List, [], ◌∷◌, ◌++◌, length, Result, Ok, Err, Option, Some, None, refl, sym, ap, subst, ◌∙◌, arith, length-append}
+use Rattle.std.proofs.lemmas.List.{append_cancel_left}
 use Rattle.std.specs.Prelude.{map, IfOk, OnErr}
 use Rattle.std.proofs.lemmas.Bool.{false≢true}
 use Rattle.std.proofs.lemmas.Option.{same_Some}
-use Rattle.std.proofs.lemmas.List.Sums.{fold-append}
 use Rattle.std.specs.declared.alloc.AllocError.{AllocError}
 use Rattle.rex_ballot.specs.Limits.{most_nodes}
 use Rattle.rex_msg.specs.declared.message.Message.{Message}
 use Rattle.rex_syntax.specs.declared.service.Declarations.{Declarations}
-use Rattle.rex_state.specs.Value.{StateValue}
-use Rattle.rex_durable.specs.declared.records.Rec.{Rec as KeptRec}
-use Rattle.rex_durable.specs.Reading.{record_in}
 use Rattle.rex_report.specs.declared.effect.Effect.{Effect}
 use Rattle.rex_report.specs.declared.effect.Effect.TheVariants as effect
 use Rattle.rex_traits.specs.Chains.{Answer, AppendsInTurn}
 use Rattle.rex_traits.specs.declared.keeper.KeepFault.TheVariants.{Failed}
-use Rattle.rex_safety.specs.Records.{Rec}
 use Rattle.rex_safety.specs.Node.{Failure, down_node}
 use Rattle.rex_safety.specs.Node.Failure.{After}
 use Rattle.rex_safety.specs.Releases.{IsAmong}
@@ -28,10 +24,10 @@ use Rattle.rex_node.specs.declared.refusal.Refusal.{Refusal}
 use Rattle.rex_node.specs.declared.step.Draft.{Draft}
 use Rattle.rex_node.specs.declared.step.Step.{Step}
 use Rattle.rex_log.specs.Messages.{message_in}
-use Rattle.rex_log.specs.Log.{log_of, log_with, rec_of, standing_in}
-use Rattle.rex_node.specs.Parts.{NodeValue, IsUp, IsResting, IsSame, StaysResting, fallen, here_of}
-use Rattle.rex_node.specs.Calls.{Does, EndsDown, IsGivenUp, Leaves, Refuses, armed_with, call_of, last_of}
-use Rattle.rex_node.specs.Going.{Ends, Finishes, IsStuck, Leads, so_far}
+use Rattle.rex_log.specs.Log.{first as front_of, log_of}
+use Rattle.rex_node.specs.Parts.{NodeValue, IsUp, IsResting, IsSame, Stands, StaysResting, fallen, here_of, whole}
+use Rattle.rex_node.specs.Calls.{Does, EndsDown, IsGivenUp, Leaves, Refuses, StopsShort, armed_with, call_of, last_of}
+use Rattle.rex_node.specs.Going.{BreaksOff, Ends, Finishes, IsStuck, Leads, so_far}
 use Rattle.rex_node.proofs.Appended.{IsLogged, call_at, Beside, logged_of, beside_of, up_of}
 use Rattle.rex_node.proofs.Grows.{later_none}
 use Rattle.rex_node.proofs.Quiet.{IsQuiet}
@@ -52,29 +48,7 @@ last_among [] e h = absurd (cc)
 last_among (x ∷ []) e h = inl (same_Some x e h)
 last_among (x ∷ y ∷ es) e h = inr (last_among (y ∷ es) e h)
 
--- ---- more records
-
--- records that are kept after others say more
-pub log_grows : (service : Declarations) (past : List Value) (more kept : List (List ℕ)) → (extra : List (Rec Value StateValue)) × (log_of service past (kept ++ more) ≡ extra ++ log_of service past kept)
-log_grows service past [] kept = ([], ap (log_of service past) (append-nil kept))
-log_grows service past (bytes ∷ more) kept = by (log_grows service past more (kept ++ bytes ∷ [])) (record_in (standing_in (log_of service past kept)) bytes) refl
-  where
-    one : log_of service past (kept ++ bytes ∷ []) ≡ log_with service past (log_of service past kept) (record_in (standing_in (log_of service past kept)) bytes)
-    one = fold-append (λ log b. log_with service past log (record_in (standing_in log) b)) [] kept (bytes ∷ [])
-
-    by : (extra : List (Rec Value StateValue)) × (log_of service past ((kept ++ bytes ∷ []) ++ more) ≡ extra ++ log_of service past (kept ++ bytes ∷ [])) → (r : Result KeptRec ℕ) → record_in (standing_in (log_of service past kept)) bytes ≡ r
-        → (extra : List (Rec Value StateValue)) × (log_of service past (kept ++ bytes ∷ more) ≡ extra ++ log_of service past kept)
-    by h (Ok r) e = (
-      h.0 ++ rec_of service past r ∷ [],
-      ap (log_of service past) (sym (append_assoc kept (bytes ∷ []) more)) ∙ h.1
-          ∙ ap (λ (l : List (Rec Value StateValue)). h.0 ++ l) (one ∙ ap (log_with service past (log_of service past kept)) e)
-          ∙ sym (append_assoc h.0 (rec_of service past r ∷ []) (log_of service past kept)),
-    )
-    by h (Err at) e = (
-      h.0,
-      ap (log_of service past) (sym (append_assoc kept (bytes ∷ []) more)) ∙ h.1
-          ∙ ap (λ (l : List (Rec Value StateValue)). h.0 ++ l) (one ∙ ap (log_with service past (log_of service past kept)) e),
-    )
+-- ---- another keeper
 
 -- a node is kept with another keeper of the same records
 pub node_with_keeper : {K : Type 0} (records : K → List (List ℕ)) (service : Declarations) (past : List Value) (x : NodeValue K) (k : K) → records k ≡ records x.keeper → IsResting records service past x → IsResting records service past (record x { keeper = k })
@@ -86,7 +60,7 @@ node_with_keeper records service past x k same h = record { id = h.id; few = h.f
         let b : Beside records service past x = beside_of records service past x u in
         up_of records service past (record x { keeper = k })
         (record { promised = l.promised; accepted = l.accepted; offset_is = l.offset_is; low = l.low; known = l.known; base = l.base; old_base = l.old_base; few = l.few; start = l.start; short = l.short; fits = l.fits; numbers = l.numbers })
-        (record { based = b.based; replayed = b.replayed; ahead = b.ahead; caught_up = b.caught_up; proposer = b.proposer; acting = b.acting; role = b.role })
+        (record { based = b.based; replayed = b.replayed; ahead = b.ahead; caught_up = b.caught_up; proposer = b.proposer; acting = b.acting; stamped = b.stamped; role = b.role })
 
 -- ---- the end of a public call
 
@@ -105,7 +79,7 @@ module _ {K : Type 0} (records : K → List (List ℕ)) (gives : K → List ℕ 
     pub effects : first.effects.items ≡ []
     pub sends : first.sends.items ≡ []
     pub ends : IfOk end (Ends records gives faults service past call x y first draft)
-    pub stuck : OnErr end (IsStuck records service past x y)
+    pub stuck : OnErr end (IsStuck records gives faults service past call x y first)
     pub same : IsSame x y
     pub finishes : Finishes records before draft end y z result
 
@@ -170,45 +144,29 @@ module _ {K : Type 0} (records : K → List (List ℕ)) (gives : K → List ℕ 
   down end (Err refusal) h quiet = tt
   down (Err e) (Ok step) h quiet = absurd h.finishes
 
-  -- where memory was short
-  more_or_none : (more : List (List ℕ)) → (more ≡ []) ⊎ (0 < length more)
-  more_or_none [] = inl refl
-  more_or_none (bytes ∷ more) = inr (omega arith)
+  -- where memory was short nothing has changed, or the call has broken off and the node has fallen
+  short : IsStuck records gives faults service past call x y first → before ≡ length (records x.keeper) → (before < length (records y.keeper) → z ≡ fallen y) → (length (records y.keeper) ≤ before → z ≡ y)
+      → Stands records faults gives x z ⊎ ((z ≡ fallen y) × BreaksOff records gives faults service past call x y first)
+  short (inl s) many fell stands = inl (subst (Stands records faults gives x) (sym (stands (omega (arith, many, ap length s.records)))) s)
+  short (inr b) many fell stands = inr (fell (omega (arith, many, ap length b.stops.grown, length-append (records x.keeper) b.stops.written, b.stops.some)), b)
 
-  -- it is as it was, or it has fallen with more records
-  short : IsStuck records service past x y → before ≡ length (records x.keeper) → (before < length (records y.keeper) → z ≡ fallen y) → (length (records y.keeper) ≤ before → z ≡ y)
-      → ((z ≡ record x { keeper = y.keeper }) × (records y.keeper ≡ records x.keeper)) ⊎ (z ≡ fallen y)
-  short s many fell stands = go (more_or_none s.more)
-    where
-      go : (s.more ≡ []) ⊎ (0 < length s.more) → ((z ≡ record x { keeper = y.keeper }) × (records y.keeper ≡ records x.keeper)) ⊎ (z ≡ fallen y)
-      go (inl e) =
-          let same : records y.keeper ≡ records x.keeper = s.grown ∙ ap (λ (l : List (List ℕ)). records x.keeper ++ l) e ∙ append-nil (records x.keeper) in
-          inl (stands (omega (arith, many, ap length same)) ∙ s.same e, same)
-      go (inr l) = inr (fell (omega (arith, many, ap length s.grown, length-append (records x.keeper) s.more)))
-
-  left_short : IsStuck records service past x y → ((z ≡ record x { keeper = y.keeper }) × (records y.keeper ≡ records x.keeper)) ⊎ (z ≡ fallen y) → (here_of records service past z ≡ here_of records service past x) ⊎ IsGivenUp (here_of records service past x) (here_of records service past z)
-  left_short s (inl e) =
-      inl (ap (here_of records service past) e.0 ∙ ap (λ (kept : List (List ℕ)). record (here_of records service past x) { log = log_of service past kept }) e.1)
-  left_short s (inr e) =
-      let g = log_grows service past s.more (records x.keeper) in
-      let log : log_of service past (records y.keeper) ≡ g.0 ++ log_of service past (records x.keeper) = ap (log_of service past) s.grown ∙ g.1 in
-      inr (record {
-        more = g.0;
-        down = ap (here_of records service past) e
-            ∙ ap (λ (b : ℕ). record (down_node (log_of service past (records y.keeper)) None) { replayed = b }) s.based
-            ∙ ap (λ (l : List (Rec Value StateValue)). down_node l None) log;
+  pub gives_up : z ≡ fallen y → so_far records service past x first ≡ begin (here_of records service past x) → BreaksOff records gives faults service past call x y first → IsGivenUp records gives faults service past call x z
+  gives_up fell starts b =
+      subst (IsGivenUp records gives faults service past call x) (sym fell) (record {
+        stops = subst (λ (d : CallHere). StopsShort records gives faults service call x.keeper y.keeper d (log_of service past (records y.keeper))) starts b.stops;
+        down = ap (λ (n : ℕ). record (down_node (log_of service past (records y.keeper)) None) { replayed = n }) b.based;
       })
 
-  pub left : (end : Result Going AllocError) (result : Result Step Refusal) → HasCome end result → Leaves result (here_of records service past x) (here_of records service past z)
-  left end (Ok step) h = tt
-  left (Ok going) (Err refusal) h = absurd h.finishes
-  left (Err e) (Err refusal) h =
-      subst (λ (r : Refusal). Leaves {A = Step} (Err r) (here_of records service past x) (here_of records service past z)) (sym h.finishes.0)
-      (left_short h.stuck (short h.stuck h.many h.finishes.1 h.finishes.2))
+  pub left_short : (e : AllocError) (refusal : Refusal) → HasCome (Err e) (Err refusal) → Stands records faults gives x z ⊎ IsGivenUp records gives faults service past call x z
+  left_short e refusal h = by (short h.stuck h.many h.finishes.1 h.finishes.2)
+    where
+      by : Stands records faults gives x z ⊎ ((z ≡ fallen y) × BreaksOff records gives faults service past call x y first) → Stands records faults gives x z ⊎ IsGivenUp records gives faults service past call x z
+      by (inl s) = inl s
+      by (inr b) = inr (gives_up b.0 (begins records service past x first h.effects h.sends) b.1)
 
-  kept_short : IsResting records service past x → IsSame x y → ((z ≡ record x { keeper = y.keeper }) × (records y.keeper ≡ records x.keeper)) ⊎ (z ≡ fallen y) → StaysResting records service past x z
-  kept_short n s (inl e) = subst (StaysResting records service past x) (sym e.0) (record { same = record { id = refl; nodes = refl; seed = refl }; kept = node_with_keeper records service past x y.keeper e.1 n })
-  kept_short n s (inr e) = subst (StaysResting records service past x) (sym e) (record { same = record { id = s.id; nodes = s.nodes; seed = s.seed }; kept = down_kept })
+  kept_short : IsResting records service past x → IsSame x y → Stands records faults gives x z ⊎ ((z ≡ fallen y) × BreaksOff records gives faults service past call x y first) → StaysResting records service past x z
+  kept_short n s (inl t) = subst (StaysResting records service past x) (sym t.parts) (record { same = record { id = refl; nodes = refl; seed = refl }; kept = node_with_keeper records service past x z.keeper t.records n })
+  kept_short n s (inr b) = subst (StaysResting records service past x) (sym b.0) (record { same = record { id = s.id; nodes = s.nodes; seed = s.seed }; kept = down_kept })
     where
       down_kept : IsResting records service past (fallen y)
       down_kept = record {
@@ -229,3 +187,30 @@ module _ {K : Type 0} (records : K → List (List ℕ)) (gives : K → List ℕ 
   refused end (Ok step) h due e = subst (λ (o : Option Refusal). Refuses {A = Step} o (Ok step)) (sym e) tt
   refused (Ok going) (Err refusal) h due e = absurd h.finishes
   refused (Err a) (Err refusal) h due e = subst (λ (o : Option Refusal). Refuses {A = Step} o (Err refusal)) (sym e) h.finishes.0
+
+-- ---- the same of a node that holds but some of the values
+
+-- where nothing has changed of all that it knows, nothing has changed of what it holds
+pub stands_own : {K : Type 0} (records : K → List (List ℕ)) (gives : K → List ℕ → Answer → K → Type 0) (faults : K → ℕ) (past : List Value) (x z : NodeValue K) → Stands records faults gives (whole past x) (whole past z) → Stands records faults gives x z
+stands_own records gives faults past x z s = record {
+  parts =
+      ap (λ (n : NodeValue _). record n { known = z.known }) s.parts
+      ∙ ap (λ (vs : List Value). record x { keeper = z.keeper; known = vs })
+      (append_cancel_left (front_of x.offset past) z.known x.known (ap (λ (n : ℕ). front_of n past ++ z.known) (sym (ap (λ (n : NodeValue _). n.offset) s.parts)) ∙ ap (λ (n : NodeValue _). n.known) s.parts));
+  records = s.records;
+  faults = s.faults;
+  short = s.short;
+}
+
+-- what a call leaves that came to its end
+module _ {K : Type 0} (records : K → List (List ℕ)) (gives : K → List ℕ → Answer → K → Type 0) (faults : K → ℕ) (service : Declarations) (past : List Value) (call : CallHere → CallHere) (x y z : NodeValue K) (before : ℕ) (start draft : Draft) where
+  pub left : (end : Result Going AllocError) (result : Result Step Refusal) → HasCome records gives faults service past call (whole past x) y (whole past z) before start draft end result → Leaves records gives faults service past call result x z
+  left end (Ok step) h = tt
+  left (Ok going) (Err refusal) h = absurd h.finishes
+  left (Err e) (Err refusal) h =
+      subst (λ (r : Refusal). Leaves {A = Step} records gives faults service past call (Err r) x z) (sym h.finishes.0)
+      (by (left_short records gives faults service past call (whole past x) y (whole past z) before start draft e refusal h))
+    where
+      by : Stands records faults gives (whole past x) (whole past z) ⊎ IsGivenUp records gives faults service past call (whole past x) (whole past z) → Stands records faults gives x z ⊎ IsGivenUp records gives faults service past call x z
+      by (inl s) = inl (stands_own records gives faults past x z s)
+      by (inr g) = inr (record { stops = g.stops; down = g.down })

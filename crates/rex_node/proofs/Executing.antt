@@ -41,7 +41,7 @@ use Rattle.rex_node.specs.Calls.{LeadsTo, if_up, turn_at}
 use Rattle.rex_node.specs.Parts.{StaysResting}
 use Rattle.rex_safety.proofs.Replies.{state_is}
 use Rattle.rex_safety.proofs.Queues.{queued_positive, due_begins, queue_after_answer}
-use Rattle.rex_node.specs.Parts.{ActingValue, NodeValue, Executes, ActsFor, OpenIsCut, IsActing, IsUp, IsResting, HasGoneOn, here_of, open_of, role_of, work_of}
+use Rattle.rex_node.specs.Parts.{ActingValue, NodeValue, Executes, ActsFor, OpenIsCut, NumbersReplies, IsActing, HasStamps, IsUp, IsResting, HasGoneOn, here_of, open_of, role_of, work_of}
 use Rattle.rex_node.proofs.Proposed.{open_turned}
 use Rattle.rex_node.specs.Submitting.{answer_in, taken, given}
 
@@ -65,7 +65,7 @@ module _ (service : Declarations) (values : List Value) (a : ActingValue) (h : E
   pub answer_is : (r : Request) (vs : List Value) (w : Option ActingValue) → values ≡ vs → w ≡ Some a
       → answer_in a r ≡ answer_to r (queued_in (work_of w).queue r.client) (state_after service (trace_of vs ++ (work_of w).live)).clients (state_after service (trace_of vs)).clients
   answer_is r vs w e f =
-      ap (λ (s : StateValue). answer_to r (queued_in a.recorder.queue r.client) s.clients a.answers) (sym live_is)
+      ap (λ (s : StateValue). answer_to r (queued_in a.recorder.queue r.client) s.clients a.answers.entries) (sym live_is)
       ∙ ap (λ (known : List Entry). answer_to r (queued_in a.recorder.queue r.client) (state_after service (trace_of values ++ a.recorder.live)).clients known) (h.answers ∙ ap (λ (s : StateValue). s.clients) (sym start_is))
       ∙ ap (λ (us : List Value). answer_to r (queued_in a.recorder.queue r.client) (state_after service (trace_of us ++ a.recorder.live)).clients (state_after service (trace_of us)).clients) e
       ∙ ap (λ (u : Option ActingValue). answer_to r (queued_in (work_of u).queue r.client) (state_after service (trace_of vs ++ (work_of u).live)).clients (state_after service (trace_of vs)).clients) (sym f)
@@ -91,7 +91,7 @@ module _ (service : Declarations) (values : List Value) (a : ActingValue) (h : E
       runs = h.recorder.runs;
       few = h.recorder.few;
       queue =
-          queue_after_answer service a.recorder.state a.recorder.queue r a.answers fits
+          queue_after_answer service a.recorder.state a.recorder.queue r a.answers.entries fits
           (run_keeps service a.recorder.start a.recorder.state a.recorder.live good h.recorder.sound h.recorder.runs).by.complete.clients h.recorder.queue;
     };
     known = h.known;
@@ -130,7 +130,7 @@ module _ (service : Declarations) (values : List Value) (a : ActingValue) (h : E
 module _ (service : Declarations) (a : ActingValue) (h : IsRecorder service a.recorder) (r : Request) (fits : RequestFits service r) (e : answer_in a r ≡ Queued) where
   due : IsDue r.sequence (queued_in a.recorder.queue r.client) (entry_at a.recorder.state.clients r.client)
   due =
-      queued_due r.sequence (queued_in a.recorder.queue r.client) (entry_at a.recorder.state.clients r.client) (entry_at a.answers r.client)
+      queued_due r.sequence (queued_in a.recorder.queue r.client) (entry_at a.recorder.state.clients r.client) (entry_at a.answers.entries r.client)
       (λ k z. queued_positive service a.recorder.state a.recorder.queue r.client k h.queue z) e
 
   pub none_queued : queued_in a.recorder.queue r.client ≡ None
@@ -150,11 +150,11 @@ open_answered service values a r answer (Some p) c = record { consistent = c.con
 
 -- whatever proposal is open
 abbrev pub ActsAlike : Declarations → List Value → ActingValue → ActingValue → Type 0
-ActsAlike service values a b = (p : Option (Proposal Value)) → ActsFor service values p a → ActsFor service values p b
+ActsAlike service values a b = (b.answers ≡ a.answers) × ((p : Option (Proposal Value)) → ActsFor service values p a → ActsFor service values p b)
 
 acting_with : (service : Declarations) (values : List Value) (c : AcceptorValue) (o : Option ProposerValue) (a b : ActingValue) → IsActing service values c o (Some a) → ActsAlike service values a b → IsActing service values c o (Some b)
 acting_with service values c None a b h k = h
-acting_with service values c (Some p) a b h k = k (open_of c p.open_instance) h
+acting_with service values c (Some p) a b h k = k.1 (open_of c p.open_instance) h
 
 -- a node that has a recorder has a proposer, and executes what it knows
 pub executes : (service : Declarations) (values : List Value) (c : AcceptorValue) (o : Option ProposerValue) (w : Option ActingValue) (a : ActingValue) → IsActing service values c o w → w ≡ Some a → Executes service values a
@@ -183,6 +183,7 @@ module _ {K : Type 0} (records : K → List (List ℕ)) (service : Declarations)
     caught_up = λ _. u.caught_up (ap (λ (w : Option ActingValue). is_some w) e);
     proposer = u.proposer;
     acting = acting_with service x.known x.acceptor x.proposer a b (subst (IsActing service x.known x.acceptor x.proposer) e u.acting) k;
+    stamped = subst (NumbersReplies x.offset x.known) (sym k.0) (subst (HasStamps x.offset x.known) e u.stamped);
     fits = u.fits;
     short = u.short;
     numbers = record {
@@ -264,12 +265,12 @@ module _ {K : Type 0} (records : K → List (List ℕ)) (service : Declarations)
       (record { same = record { id = refl; nodes = refl; seed = refl }; kept = node_with records service past x a b node x_has k })
 
   pub submit_stays : (r : Request) (b : ActingValue) (answer : Answer) → b ≡ taken a r answer → answer ≡ answer_in a r → IsService service → RequestFits service r → StaysResting records service past x (record z { acting = Some b })
-  submit_stays r b answer f g good fits = stays b (λ p h. subst (ActsFor service x.known p) (sym (f ∙ ap (taken a r) g)) (record { executes = answered service x.known a h.executes r good fits; open_is_cut = open_answered service x.known a r (answer_in a r) p h.open_is_cut }))
+  submit_stays r b answer f g good fits = stays b (ap (λ (c : ActingValue). c.answers) f, λ p h. subst (ActsFor service x.known p) (sym (f ∙ ap (taken a r) g)) (record { executes = answered service x.known a h.executes r good fits; open_is_cut = open_answered service x.known a r (answer_in a r) p h.open_is_cut }))
 
   pub turn_stays : (t : Turn) (dice : Lcg) (b : ActingValue) → b ≡ record { recorder = turned service a.recorder t; dice = dice; proposed = a.proposed; answers = a.answers } → IsRecorder service b.recorder → IsService service → StaysResting records service past x (record z { acting = Some b })
   turn_stays t dice b f k good =
       let kept : IsRecorder service (turned service a.recorder t) = subst (λ (c : ActingValue). IsRecorder service c.recorder) f k in
-      stays b (λ p h. subst (ActsFor service x.known p) (sym f) (record { executes = turned_executes service x.known a h.executes t dice a.proposed kept; open_is_cut = open_turned service good x.known a h.executes t (queue_after a.recorder.queue t) dice kept p h.open_is_cut }))
+      stays b (ap (λ (c : ActingValue). c.answers) f, λ p h. subst (ActsFor service x.known p) (sym f) (record { executes = turned_executes service x.known a h.executes t dice a.proposed kept; open_is_cut = open_turned service good x.known a h.executes t (queue_after a.recorder.queue t) dice kept p h.open_is_cut }))
 
   pub given_of_node : (event : Event) → taken_turn service a.recorder.state a.recorder.queue (length a.recorder.live) event ≡ takes.taken_in service (here_of records service past x) event
   given_of_node event = given_is service x.known a has event (known (here_of records service past x).log) x.acting is_up.known x_has
@@ -283,4 +284,4 @@ module _ {K : Type 0} (records : K → List (List ℕ)) (service : Declarations)
   pub given_stays : (t : Turn) (b : ActingValue) → b ≡ given service a t → IsRecorder service b.recorder → IsService service → StaysResting records service past x (record z { acting = Some b })
   given_stays t b f k good =
       let kept : IsRecorder service (given service a t).recorder = subst (λ (c : ActingValue). IsRecorder service c.recorder) f k in
-      stays b (λ p h. subst (ActsFor service x.known p) (sym f) (record { executes = given_executes service x.known a h.executes t kept; open_is_cut = open_turned service good x.known a h.executes t a.recorder.queue a.dice kept p h.open_is_cut }))
+      stays b (ap (λ (c : ActingValue). c.answers) f, λ p h. subst (ActsFor service x.known p) (sym f) (record { executes = given_executes service x.known a h.executes t kept; open_is_cut = open_turned service good x.known a h.executes t a.recorder.queue a.dice kept p h.open_is_cut }))

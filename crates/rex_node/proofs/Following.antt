@@ -171,5 +171,6 @@ module _ {K : Type 0} (records : K → List (List ℕ)) (service : Declarations)
             caught_up = λ t. absurd (false≢true t);
             proposer = tt;
             acting = tt;
+            stamped = tt;
             role = tt;
           })

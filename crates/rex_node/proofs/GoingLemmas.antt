@@ -25,7 +25,7 @@ later_both : (first second : List (List ℕ)) (f : Option Failure) → later (fi
 later_both [] second f = refl
 later_both (bytes ∷ first) second f = ap one_later (later_both first second f)
 
-later_count : (first second : List (List ℕ)) (kept : Bool) → later first (Some (After (length second) kept)) ≡ Some (After (length (first ++ second)) kept)
+pub later_count : (first second : List (List ℕ)) (kept : Bool) → later first (Some (After (length second) kept)) ≡ Some (After (length (first ++ second)) kept)
 later_count [] second kept = refl
 later_count (bytes ∷ first) second kept = ap one_later (later_count first second kept)
 
@@ -42,7 +42,7 @@ pub stated_both : (service : Declarations) (first second : List (List ℕ)) → 
 stated_both service first second h k = list_all-append (is_stated service) first second ∙ (rw (h, k) refl)
 
 -- how many records there are after these appends and then those
-both : (first second : List (List ℕ)) (n m l : ℕ) → m ≡ length first + n → l ≡ length second + m → l ≡ length (first ++ second) + n
+pub both : (first second : List (List ℕ)) (n m l : ℕ) → m ≡ length first + n → l ≡ length second + m → l ≡ length (first ++ second) + n
 both first second n m l h k = let e = length-append first second in omega arith
 
 both_failed : (kept : Bool) (first second : List (List ℕ)) (n m l : ℕ) → m ≡ length first + n → l ≡ failed_many kept (length second) + m → l ≡ failed_many kept (length (first ++ second)) + n

@@ -1,5 +1,5 @@
 -- A majority accepted the value of the next instance: the node knows it.
-use Rattle.std.proofs.Common.{◌≡◌, ℕ, suc, ◌+◌, ◌<◌, ◌≤◌, Bool, true, not, List, [], ◌∷◌, ◌++◌, length, take, Option, Some, None, filter, refl, sym, ap, subst, ◌∙◌, arith}
+use Rattle.std.proofs.Common.{◌≡◌, ℕ, suc, ◌+◌, ◌<◌, ◌≤◌, Bool, true, not, List, [], ◌∷◌, ◌++◌, length, take, Option, Some, None, inr, filter, refl, sym, ap, subst, ◌∙◌, arith}
 use Rattle.std.specs.Prelude.{map, is_some, option_map, IfSome, IsSome, unwrap_or}
 use Rattle.std.proofs.lemmas.Bool.{false≢true}
 use Rattle.std.proofs.lemmas.List.{take-append-le}
@@ -16,7 +16,7 @@ use Rattle.rex_event.specs.declared.event.Event.{Event}
 use Rattle.rex_event.specs.Cuts.{is_below, below, beyond}
 use Rattle.rex_state.specs.declared.lane.Entry.{Entry}
 use Rattle.rex_state.specs.Value.{StateValue}
-use Rattle.rex_gate.specs.Noted.{noted}
+use Rattle.rex_gate.specs.Noted.{noted, noting}
 use Rattle.rex_gate.proofs.Traced.{run_noted}
 use Rattle.rex_state.specs.Start.{start_of}
 use Rattle.rex_state.specs.Machine.{run}
@@ -49,15 +49,16 @@ use Rattle.rex_node.specs.declared.going.Going.TheVariants.{On, Down}
 use Rattle.rex_node.specs.declared.step.Draft.{Draft}
 use Rattle.rex_log.specs.Messages.{content_in, message_in}
 use Rattle.rex_log.specs.Log.{log_of}
-use Rattle.rex_node.specs.Parts.{NodeValue, ActingValue, Executes, IsActing, IsProposer, Proposes, IsCutAt, IsUp, IsKept, Keeps, Falls, ahead_of, here_of, lead_of, role_of, work_of}
+use Rattle.rex_node.specs.Parts.{NodeValue, ActingValue, Executes, HasStamps, IsActing, IsProposer, NumbersReplies, Proposes, IsCutAt, IsUp, IsKept, Keeps, Falls, ahead_of, here_of, lead_of, role_of, work_of}
 use Rattle.rex_node.specs.Calls.{armed_with}
-use Rattle.rex_node.specs.Going.{Appends, IsStuck, Comes, so_far}
-use Rattle.rex_node.specs.Leading.{CanSettle, IsOwnCut, Learns, knowing, releases_in, replayed_to, settling}
+use Rattle.rex_node.specs.Going.{Appends, BreaksOff, Comes, LosesFirst, so_far}
+use Rattle.rex_node.specs.Leading.{CanSettle, IsOwnCut, Learns, LearnsShort, knowing, releases_in, replayed_to, settling}
 use Rattle.rex_node.proofs.Appended.{instance_fits, logged_known, logged_of, beside_of, up_of, IsLogged, Beside}
 use Rattle.rex_node.proofs.Executing.{start_is}
 use Rattle.rex_node.proofs.GoingLemmas.{leads_same, leads_then}
 use Rattle.rex_node.proofs.Opening.{logged_as, some_of}
-use Rattle.rex_node.proofs.Written.{appends_as, call_is, log_written, stuck_written, written_on, written_down}
+use Rattle.rex_node.proofs.Stamping.{noted_next}
+use Rattle.rex_node.proofs.Written.{appends_as, call_is, log_written, written_on, written_down, broken_written}
 
 -- ---- what is executed
 
@@ -115,6 +116,10 @@ module _ (service : Declarations) (good : IsService service) (seed : ℕ) (value
   acting_known : (w : Option ActingValue) → IsActing service values acceptor (Some p) w → IsCut w → IsActing service (values ++ v ∷ []) acceptor (Some (closed p)) (option_map (settling service) w)
   acting_known None h c = tt
   acting_known (Some a) h c = record { executes = executes_settled service good values a h.executes v c; open_is_cut = tt }
+
+  stamped_known : (offset : ℕ) (w : Option ActingValue) → length values < 65535 → HasStamps offset values w → IsCut w → HasStamps offset (values ++ v ∷ []) (option_map (settling service) w)
+  stamped_known offset None few h c = tt
+  stamped_known offset (Some a) few h c = subst (λ (es : List Event). NumbersReplies offset (values ++ v ∷ []) (noting a.answers es)) c.events (noted_next offset values a.answers h few v)
 
   work_is : (w : Option ActingValue) → IsActing service values acceptor (Some p) w → IsCut w → work_known (service_of service seed) (is_some w) (values ++ v ∷ []) (work_of w) ≡ work_of (option_map (settling service) w)
   work_is None h c = refl
@@ -215,6 +220,7 @@ module _ {K : Type 0} (records : K → List (List ℕ)) (gives : K → List ℕ 
           caught_up = known_all service x.acting i x.replayed (length x.known) (length (x.known ++ v ∷ [])) next (omega (arith, length_push x.known v));
           proposer = proposes_closed x.nodes x.id x.acceptor p (subst (IsProposer x.nodes x.id x.acceptor) e b.proposer);
           acting = acting_known service good seed_any x.known x.acceptor p v x.acting acting cut;
+          stamped = stamped_known service good seed_any x.known x.acceptor p v x.offset x.acting (let last = there.last in omega (arith, next, last)) b.stamped cut;
           role = lead_closed (length x.known) (length (x.known ++ v ∷ [])) x.acceptor p (is_some x.acting) (is_some (option_map (settling service) x.acting))
               (subst (λ (o : Option ProposerValue). RoleFits (length x.known) (role_of x.acceptor o (is_some x.acting))) e b.role);
         }
@@ -281,6 +287,13 @@ module _ {K : Type 0} (records : K → List (List ℕ)) (gives : K → List ℕ 
       subst (λ (o : Option ProposerValue). IfSome o (λ (q : ProposerValue). (k : CallHere → CallHere) → Comes records gives faults service past (λ d. decide x.nodes (service_of service x.seed) x.id d (lead_of x.acceptor q (is_some x.acting)) i v k) k x y before after Down)) (sym e)
       (λ k. written_down records gives faults service past x u (kept.Known i v) spelled due refl y before (whole k) (rest k) (λ f. refl) after refl h effects sends k)
 
+  -- or memory was short with the known value written down
+  learns_broken : (y z : NodeValue K) (before : Draft) → Keeps records faults gives x y (record_bytes (kept.Known i v)) → z.keeper ≡ y.keeper → z.base ≡ y.base → LearnsShort records gives faults service past i v x z before
+  learns_broken y z before h keeper based =
+      inr (subst (λ (o : Option ProposerValue). IfSome o (λ (q : ProposerValue). (k : CallHere → CallHere) → LosesFirst k → BreaksOff records gives faults service past (λ d. decide x.nodes (service_of service x.seed) x.id d (lead_of x.acceptor q (is_some x.acting)) i v k) x z before)) (sym e)
+      (λ k loses. broken_written records gives faults service past x u (kept.Known i v) spelled due refl y before (whole k) (rest k) (λ f. refl) z refl h keeper based
+      (λ d. loses (send (learned (service_of service x.seed) x.id lead i v (known log) d) (others x.nodes x.id (Chose i v))))))
+
 -- ---- the same of the call
 
 module _ {K : Type 0} (records : K → List (List ℕ)) (gives : K → List ℕ → Answer → K → Type 0) (faults : K → ℕ) (service : Declarations) (past : List Value) (good : IsService service) (x : NodeValue K) (kept_so : IsKept records service past x) (up : x.up ≡ true) (leads : IsSome x.proposer)
@@ -312,9 +325,8 @@ module _ {K : Type 0} (records : K → List (List ℕ)) (gives : K → List ℕ 
         let k : Appends records faults gives x y before mid (record_bytes (kept.Known i v)) On = appends_as records gives faults x y before mid (kept.Known i w) (kept.Known i v) g On same_rec e h in
         learns_on records gives faults service past good x (kept_so.up up) kept_so.id kept_so.few s.0 s.1 i v next there short fits cut up y z before mid after k.0 k.1 k.2 z_is effects sends
 
-    pub learn_stuck : g ≡ On → (z : NodeValue K) → z.keeper ≡ y.keeper → z.base ≡ y.base → IsStuck records service past x z
+    pub learn_stuck : g ≡ On → (z : NodeValue K) → z.keeper ≡ y.keeper → z.base ≡ y.base → LearnsShort records gives faults service past i v x z before
     learn_stuck e z keeper based =
         let s = some_of x.proposer leads in
         let k : Appends records faults gives x y before mid (record_bytes (kept.Known i v)) On = appends_as records gives faults x y before mid (kept.Known i w) (kept.Known i v) g On same_rec e h in
-        stuck_written records gives faults service past x (kept_so.up up) (kept.Known i v) (spelled records gives faults service past good x (kept_so.up up) kept_so.id kept_so.few s.0 s.1 i v next there short fits cut)
-        (due records gives faults service past good x (kept_so.up up) kept_so.id kept_so.few s.0 s.1 i v next there short fits cut) refl y z refl k.0 keeper based
+        learns_broken records gives faults service past good x (kept_so.up up) kept_so.id kept_so.few s.0 s.1 i v next there short fits cut y z before k.0 keeper based

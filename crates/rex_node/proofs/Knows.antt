@@ -1,5 +1,5 @@
 -- What a node knows of values that it holds, and of those before them.
-use Rattle.std.proofs.Common.{◌≡◌, ℕ, ◌+◌, ◌-◌, ◌<◌, ◌≤◌, List, [], ◌++◌, length, get_or, drop, Some, refl, sym, ap, ◌∙◌, arith, append_assoc, length-append}
+use Rattle.std.proofs.Common.{◌≡◌, ℕ, ◌+◌, ◌-◌, ◌<◌, ◌≤◌, List, [], ◌∷◌, ◌++◌, length, get_or, drop, Some, refl, sym, ap, ◌∙◌, arith, append_assoc, length-append}
 use Rattle.std.proofs.Math.Seq.{drop-append-add}
 use Rattle.std.specs.Prelude.{slice_get}
 use Rattle.std.proofs.lemmas.List.{get_or-append_right}
@@ -25,6 +25,14 @@ pub drop_known : {K : Type 0} (past : List Value) (x : NodeValue K) (n : ℕ) �
 drop_known past x n le =
     let e : n ≡ length (first x.offset past) + (n - x.offset) = let l = first_length x.offset past in omega (arith, le, l) in
     ap (λ (m : ℕ). drop m (knows past x)) e ∙ drop-append-add (first x.offset past) x.known (n - x.offset)
+
+-- those past the offset are those that it holds
+pub held_are : {K : Type 0} (past : List Value) (x : NodeValue K) → drop x.offset (knows past x) ≡ x.known
+held_are past x = drop_known past x x.offset (omega arith) ∙ ap (λ (n : ℕ). drop n x.known) (let n : x.offset - x.offset ≡ 0 = omega arith in n) ∙ all x.known
+  where
+    all : (vs : List Value) → drop 0 vs ≡ vs
+    all [] = refl
+    all (v ∷ vs) = refl
 
 -- the value of an instance past the offset is one that it holds
 pub value_at : {K : Type 0} (past : List Value) (x : NodeValue K) (place : ℕ) (value : Value) → x.offset ≤ place → slice_get x.known (place + 1 - x.offset - 1) ≡ Some value → get_or (knows past x) place [] ≡ value

@@ -67,6 +67,7 @@ module _ {K : Type 0} (records : K → List (List ℕ)) (service : Declarations)
     caught_up = λ t. absurd (false≢true t);
     proposer = tt;
     acting = tt;
+    stamped = tt;
     fits = u.fits;
     short = u.short;
     numbers = record { log = u.numbers.log; role = tt };

@@ -37,7 +37,10 @@ pub mod OwnPieces
 pub mod Recalling
 pub mod Restarts
 pub mod Rounds
+pub mod Stamping
+pub mod Admitted
 pub mod Spelled
+pub mod Stuck
 pub mod Told
 pub mod Turns
 pub mod Votes

@@ -1,5 +1,5 @@
 -- A majority accepted the open proposal of a node that leads: it knows the value, and goes on.
-use Rattle.std.proofs.Common.{◌≡◌, ℕ, suc, ◌+◌, ◌-◌, ◌*◌, ◌^◌, ◌<◌, ◌≤◌, Bool, true, false, cond, not, ◌||◌, List, [], ◌∷◌, ◌++◌, length, Option, Some, None, refl, sym, ap, subst, ◌∙◌, arith}
+use Rattle.std.proofs.Common.{◌≡◌, ℕ, suc, ◌+◌, ◌-◌, ◌*◌, ◌^◌, ◌<◌, ◌≤◌, Bool, true, false, cond, not, ◌||◌, List, [], ◌∷◌, ◌++◌, length, inl, inr, Option, Some, None, refl, sym, ap, subst, ◌∙◌, arith}
 use Rattle.std.specs.Prelude.{map, is_some, option_map, IfSome, IsSome, IfOk, OnErr, Result, Ok, Err, if◌then◌else◌}
 use Rattle.std.proofs.lemmas.Bool.{false≢true}
 use Rattle.std.proofs.lemmas.Option.{same_Some}
@@ -38,14 +38,15 @@ use Rattle.rex_node.specs.Electing.{acceptance_vote_on, reports_of}
 use Rattle.rex_log.specs.Log.{proposal_in}
 use Rattle.rex_node.specs.Parts.{NodeValue, ActingValue, HasGoneOn, IsActing, IsCutAt, IsKept, IsResting, IsProposer, IsSame, IsUp, OpenIsCut, Proposes, here_of, lead_of, open_of, role_of}
 use Rattle.rex_node.specs.Calls.{armed_with}
-use Rattle.rex_node.specs.Going.{Comes, Ends, IsStuck, Leads, MayGoOn, RunsOn, above, so_far}
-use Rattle.rex_node.specs.Leading.{IsFree, IsOwnCut, Learns, knowing, replayed_to, settling}
+use Rattle.rex_node.specs.Going.{BreaksOff, Comes, Ends, IsStuck, Leads, LosesFirst, MayGoOn, RunsOn, above, so_far}
+use Rattle.rex_node.specs.Leading.{IsFree, IsOwnCut, Learns, LearnsShort, knowing, replayed_to, settling}
 use Rattle.rex_node.proofs.Adopting.{decide_led}
 use Rattle.rex_node.proofs.Appended.{beside_of, fits_instance}
 use Rattle.rex_node.proofs.Candidates.{above_most}
 use Rattle.rex_node.proofs.GoingLemmas.{leads_same, leads_then, leads_fell}
 use Rattle.rex_node.proofs.Grows.{fits_before, rest_runs, settle_learns}
-use Rattle.rex_node.proofs.Turns.{ends_then, settles_as, stuck_longer, stuck_then}
+use Rattle.rex_node.proofs.Stuck.{breaks_after, breaks_later, settle_loses}
+use Rattle.rex_node.proofs.Turns.{ends_then, settles_as}
 use Rattle.rex_node.proofs.Votes.{found_all, found_instance, is_quorum, majority_more, one, one_more, opens, outcome, parts, whole_is}
 
 -- what a majority is for: the node's proposer, its open proposal, and what makes the vote one
@@ -184,6 +185,14 @@ module _ {K : Type 0} (records : K → List (List ℕ)) (gives : K → List ℕ 
         },
       )
 
+  -- memory was short as it did
+  pub choose_stuck : (z : NodeValue K) → LearnsShort records gives faults service past i v x z before → IsStuck records gives faults service past whole x z before
+  choose_stuck z (inl s) = inl s
+  choose_stuck z (inr b) =
+      inr (breaks_later records gives faults service past whole (λ d. decide x.nodes sv x.id d l i v rest) x x z before before leads_decide
+      (subst (λ (o : Option ProposerValue). IfSome o (λ (q : ProposerValue). (k : CallHere → CallHere) → LosesFirst k → BreaksOff records gives faults service past (λ d. decide x.nodes sv x.id d (lead_of x.acceptor q (is_some x.acting)) i v k) x z before)) c.p_is b
+      rest (settle_loses (2 * length c.p.reported + 2) x.nodes x.id sv)))
+
   module _ (z : NodeValue K) (mid : Draft) (same : IsSame x z) (learns : Learns records gives faults service past i v x z before mid On) (known_is : z ≡ record (knowing service x i v) { keeper = z.keeper }) (longer : length (records x.keeper) < length (records z.keeper))
       (turns : ℕ) (turns_is : turns ≡ 2 * reports_of x.proposer + 3) where
     comes_z : Comes records gives faults service past (λ d. decide x.nodes sv x.id d l i v rest) rest x z before mid On
@@ -235,6 +244,8 @@ module _ {K : Type 0} (records : K → List (List ℕ)) (gives : K → List ℕ 
     chosen_ends y after (Ok going) h = ends_then records gives faults service past whole rest x z y before mid after going same.id leads_z (subst (λ (k : CallHere → CallHere). Ends records gives faults service past k z y mid after going) rest_of h)
     chosen_ends y after (Err e) h = tt
 
-    pub chosen_stuck : (y : NodeValue K) (result : Result Going AllocError) → OnErr result (IsStuck records service past z y) → OnErr result (IsStuck records service past x y)
+    pub chosen_stuck : (y : NodeValue K) (result : Result Going AllocError) → OnErr result (IsStuck records gives faults service past (settle (turns - 1) z.nodes (service_of service z.seed) z.id) z y mid) → OnErr result (IsStuck records gives faults service past whole x y before)
     chosen_stuck y (Ok going) h = tt
-    chosen_stuck y (Err e) h = stuck_then records service past x z y (stuck_longer records service past x z leads_z.written leads_z.grown longer (chosen_kept.up chosen_up).base) h
+    chosen_stuck y (Err e) h =
+        inr (breaks_after records gives faults service past whole rest x z y before mid leads_z longer (chosen_kept.up chosen_up).base (settle_loses (2 * length c.p.reported + 2) x.nodes x.id sv)
+        (subst (λ (k : CallHere → CallHere). IsStuck records gives faults service past k z y mid) rest_of h))

@@ -1,5 +1,5 @@
 -- A node takes over the state after so many values, of which it knows fewer.
-use Rattle.std.proofs.Common.{◌≡◌, ℕ, suc, ◌+◌, ◌<◌, ◌≤◌, Bool, true, false, cond, leb, List, [], ◌∷◌, ◌++◌, length, Ok, Option, Some, None, refl, sym, ap, subst, ◌∙◌, arith, le_refl}
+use Rattle.std.proofs.Common.{◌≡◌, ℕ, suc, ◌+◌, ◌<◌, ◌≤◌, Bool, true, false, cond, leb, List, [], ◌∷◌, ◌++◌, length, Ok, Option, Some, None, inl, inr, refl, sym, ap, subst, ◌∙◌, arith, le_refl}
 use Rattle.std.specs.Prelude.{map, is_ok, is_some, nat_lt, Result, if◌then◌else◌}
 use Rattle.std.proofs.lemmas.Bool.{false≢true, leb-true, leb-false, le-leb, le-ltb, lt-ltb, lt-leb}
 use Rattle.std.proofs.lemmas.List.{append-nil, take_all}
@@ -42,6 +42,7 @@ use Rattle.rex_node.specs.Calls.{armed_with}
 use Rattle.rex_node.specs.Going.{Appends, Fell, IsStuck, Leads, RunsOn, Tells, so_far}
 use Rattle.rex_node.proofs.Appended.{IsLogged, appended_here, appended_leads, appended_log, call_at, logged_of, up_of}
 use Rattle.rex_node.proofs.Following.{EndsWell, ends_same, far, within}
+use Rattle.rex_node.proofs.Stuck.{breaks_here}
 use Rattle.rex_node.proofs.GoingLemmas.{fell_append, leads_same, leads_then}
 use Rattle.rex_node.proofs.Leaving.{no_work_left, role_active}
 
@@ -161,16 +162,12 @@ module _ {K : Type 0} (records : K → List (List ℕ)) (gives : K → List ℕ 
 
   module _ (h : Appends records faults gives x y before mid (record_bytes r) On) where
     -- memory is short then
-    pub moved_stuck : (z : NodeValue K) → z.keeper ≡ y.keeper → z.base ≡ k → IsStuck records service past x z
-    moved_stuck z keeper based = record {
-      more = record_bytes r ∷ [];
-      grown = ap records keeper ∙ h.0.records;
-      same = λ e. absurd (some e);
-      based = based ∙ sym long ∙ ap base (sym (ap (λ (j : K). log_of service past (records j)) keeper ∙ appended_log records gives faults service past x y before mid r spelling due stated h));
-    }
-      where
-        some : record_bytes r ∷ [] ≡ [] → ⊥
-        some e = cc
+    pub moved_stuck : (z : NodeValue K) → z.keeper ≡ y.keeper → z.base ≡ k → IsStuck records gives faults service past call x z before
+    moved_stuck z keeper based =
+        inr (breaks_here records gives faults service past call rest x y z before mid (appended_leads records gives faults service past x y before mid r spelling due stated call rest call_is h)
+        (omega (arith, ap length h.0.records, length_push (records x.keeper) (record_bytes r)))
+        (based ∙ sym long ∙ ap base (sym (ap (λ (j : K). log_of service past (records j)) keeper ∙ appended_log records gives faults service past x y before mid r spelling due stated h)))
+        (λ d. refl) (ap records keeper) (ap faults keeper) (inl keeper))
 
     -- the node is a follower at the state
     abbrev follower : K → NodeValue K
@@ -257,6 +254,7 @@ module _ {K : Type 0} (records : K → List (List ℕ)) (gives : K → List ℕ 
               caught_up = λ t. absurd (false≢true t);
               proposer = tt;
               acting = tt;
+              stamped = tt;
               role = tt;
             });
         rests = λ t. tt;

@@ -1,5 +1,5 @@
 -- A node that leads proposes a value: it accepts the value itself and counts that.
-use Rattle.std.proofs.Common.{◌≡◌, ℕ, suc, ◌+◌, ◌<◌, ◌≤◌, Bool, true, false, cond, List, [], ◌∷◌, ◌++◌, length, Option, Some, None, refl, sym, ap, subst, ◌∙◌, arith}
+use Rattle.std.proofs.Common.{◌≡◌, ℕ, suc, ◌+◌, ◌<◌, ◌≤◌, Bool, true, false, cond, List, [], ◌∷◌, ◌++◌, length, Option, Some, None, inr, refl, sym, ap, subst, ◌∙◌, arith}
 use Rattle.std.specs.Prelude.{map, max, take, is_some, option_map, IfSome, IsSome, unwrap_or}
 use Rattle.rex_ballot.specs.Limits.{most_nodes}
 use Rattle.rex_ballot.specs.declared.proposal.Proposal.{Proposal as Kept}
@@ -39,11 +39,11 @@ use Rattle.rex_log.specs.Messages.{content_in, message_in}
 use Rattle.rex_log.specs.Log.{log_of, proposal_in}
 use Rattle.rex_node.specs.Parts.{NodeValue, ActingValue, ActsFor, IsActing, IsProposer, Proposes, IsCutAt, IsUp, IsKept, HasOpen, OpenIsCut, AreShort, Keeps, Falls, here_of, lead_of, open_of, role_of, work_of}
 use Rattle.rex_node.specs.Calls.{armed_with}
-use Rattle.rex_node.specs.Going.{Appends, IsStuck, Comes, so_far}
-use Rattle.rex_node.specs.Leading.{FromLead, IsOwnCut, Opens, accept_own, opened}
+use Rattle.rex_node.specs.Going.{Appends, BreaksOff, Comes, LosesFirst, so_far}
+use Rattle.rex_node.specs.Leading.{FromLead, IsOwnCut, Opens, OpensShort, accept_own, opened}
 use Rattle.rex_node.proofs.Appended.{fits_ballot, instance_fits, logged_accepted, logged_of, beside_of, up_of, IsLogged, Beside}
 use Rattle.rex_node.proofs.GoingLemmas.{leads_same, leads_then}
-use Rattle.rex_node.proofs.Written.{appends_as, call_is, log_written, stuck_written, written_on, written_down}
+use Rattle.rex_node.proofs.Written.{appends_as, call_is, broken_written, log_written, written_on, written_down}
 
 -- the parts that a node has of its records don't know its role
 pub logged_as : {K : Type 0} (service : Declarations) (x y : NodeValue K) (log : List (Rec Value StateValue)) → y.acceptor ≡ x.acceptor → y.offset ≡ x.offset → y.known ≡ x.known → y.base ≡ x.base → y.old_base ≡ x.old_base → y.start ≡ x.start → IsLogged service x log → IsLogged service y log
@@ -195,6 +195,7 @@ module _ {K : Type 0} (records : K → List (List ℕ)) (gives : K → List ℕ 
       caught_up = b.caught_up;
       proposer = proposes_opened x.nodes x.id id.0 id.1 x.acceptor p proposes i v;
       acting = acting_opened service x.known x.acceptor p x.acting i v (subst (λ (o : Option ProposerValue). IsActing service x.known x.acceptor o x.acting) e u.acting) cut;
+      stamped = b.stamped;
       role = role_opened (length x.known) x.acceptor p (is_some x.acting) i v (omega (arith, next)) (instance_fits i there) lead_fits;
     }
 
@@ -248,6 +249,14 @@ module _ {K : Type 0} (records : K → List (List ℕ)) (gives : K → List ℕ 
       (λ k. written_down records gives faults service past x u (kept.Accepted p.ballot i v) spelled tt refl y before (λ d. propose x.nodes x.id told d (lead_of x.acceptor p (is_some x.acting)) i v k) (λ d. k (send (say told (led (leading (lead_of x.acceptor p (is_some x.acting)) (Some (proposal_of p.ballot i v)) (x.id ∷ []) (is_some x.acting)) d)) (others x.nodes x.id (Accept p.ballot i v)))) (λ f. refl)
       after refl h effects sends (λ d. k (led (leading (lead_of x.acceptor p (is_some x.acting)) (Some (proposal_of p.ballot i v)) (x.id ∷ []) (is_some x.acting)) d)))
 
+  -- or memory was short with the acceptance written down
+  pub opens_broken : (told : Effect) (y z : NodeValue K) (before : Draft) → Keeps records faults gives x y (record_bytes (kept.Accepted p.ballot i v)) → z.keeper ≡ y.keeper → z.base ≡ y.base → OpensShort records gives faults service past told i v x z before
+  opens_broken told y z before h keeper based =
+      inr (subst (λ (o : Option ProposerValue). IfSome o (λ (q : ProposerValue). (k : CallHere → CallHere) → LosesFirst k → BreaksOff records gives faults service past (λ d. propose x.nodes x.id told d (lead_of x.acceptor q (is_some x.acting)) i v k) x z before))
+      (sym e)
+      (λ k loses. broken_written records gives faults service past x u (kept.Accepted p.ballot i v) spelled tt refl y before (λ d. propose x.nodes x.id told d (lead_of x.acceptor p (is_some x.acting)) i v k) (λ d. k (send (say told (led (leading (lead_of x.acceptor p (is_some x.acting)) (Some (proposal_of p.ballot i v)) (x.id ∷ []) (is_some x.acting)) d)) (others x.nodes x.id (Accept p.ballot i v)))) (λ f. refl)
+      z refl h keeper based (λ d. loses (send (say told (led (leading (lead_of x.acceptor p (is_some x.acting)) (Some (proposal_of p.ballot i v)) (x.id ∷ []) (is_some x.acting)) d)) (others x.nodes x.id (Accept p.ballot i v))))))
+
 -- ---- the same of the call
 
 module _ {K : Type 0} (records : K → List (List ℕ)) (gives : K → List ℕ → Answer → K → Type 0) (faults : K → ℕ) (service : Declarations) (past : List Value) (x : NodeValue K) (kept_so : IsKept records service past x) (up : x.up ≡ true) (leads : IsSome x.proposer)
@@ -282,8 +291,8 @@ module _ {K : Type 0} (records : K → List (List ℕ)) (gives : K → List ℕ 
         let k : Appends records faults gives x y before mid (record_bytes (kept.Accepted s.0.ballot i v)) On = appends_as records gives faults x y before mid (kept.Accepted b i w) (kept.Accepted s.0.ballot i v) g On (same_rec s.0 s.1) e h in
         opens_on records gives faults service past x (kept_so.up up) kept_so.id kept_so.few s.0 s.1 i v next there short cut up told y z before mid after k.0 k.1 k.2 z_is effects sends
 
-    pub propose_stuck : g ≡ On → (z : NodeValue K) → z.keeper ≡ y.keeper → z.base ≡ y.base → IsStuck records service past x z
+    pub propose_stuck : g ≡ On → (z : NodeValue K) → z.keeper ≡ y.keeper → z.base ≡ y.base → OpensShort records gives faults service past told i v x z before
     propose_stuck e z keeper based =
         let s = some_of x.proposer leads in
         let k : Appends records faults gives x y before mid (record_bytes (kept.Accepted s.0.ballot i v)) On = appends_as records gives faults x y before mid (kept.Accepted b i w) (kept.Accepted s.0.ballot i v) g On (same_rec s.0 s.1) e h in
-        stuck_written records gives faults service past x (kept_so.up up) (kept.Accepted s.0.ballot i v) (spelled records gives faults service past x (kept_so.up up) kept_so.id kept_so.few s.0 s.1 i v next there short cut) tt refl y z refl k.0 keeper based
+        opens_broken records gives faults service past x (kept_so.up up) kept_so.id kept_so.few s.0 s.1 i v next there short cut told y z before k.0 keeper based

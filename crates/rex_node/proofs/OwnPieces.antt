@@ -1,6 +1,6 @@
 -- A node proposes the piece that it has made.
-use Rattle.std.proofs.Common.{◌≡◌, ℕ, suc, ◌+◌, ◌<◌, Bool, true, false, cond, List, [], ◌∷◌, ◌++◌, length, Option, Some, None, Result, Ok, Err, refl, sym, ap, subst, ◌∙◌, arith}
-use Rattle.std.specs.Prelude.{IfSome, IfOk, is_some, is_err, nat_le, option_map}
+use Rattle.std.proofs.Common.{◌≡◌, ℕ, suc, ◌+◌, ◌<◌, Bool, true, false, cond, List, [], ◌∷◌, ◌++◌, length, Option, Some, None, Result, Ok, Err, inl, inr, refl, sym, ap, subst, ◌∙◌, arith}
+use Rattle.std.specs.Prelude.{IfSome, IfOk, OnErr, is_some, is_err, nat_le, option_map}
 use Rattle.std.proofs.lemmas.Bool.{false≢true, lt-leb}
 use Rattle.rex_syntax.specs.declared.service.Declarations.{Declarations}
 use Rattle.rex_syntax.specs.Service.{IsService}
@@ -20,14 +20,16 @@ use Rattle.rex_node.specs.declared.going.Going.{Going}
 use Rattle.rex_node.specs.declared.going.Going.TheVariants.{On, Down}
 use Rattle.rex_node.specs.declared.pieces.Piece.{Piece}
 use Rattle.rex_node.specs.declared.step.Draft.{Draft}
-use Rattle.rex_node.specs.Calls.{armed_with, counts_for}
-use Rattle.rex_node.specs.Going.{Ends, Fell, Leads as LeadsOn, so_far}
-use Rattle.rex_node.specs.Leading.{IsOwnCut}
-use Rattle.rex_node.specs.Cutting.{HasPiece, IsIdle, IsOwnPiece, IsPieceOf, ProposesCut, ProposesPiece, counts_in, cut_at, cut_in, with_cut}
-use Rattle.rex_node.specs.Parts.{ActingValue, NodeValue, Executes, IsCutAt, IsResting, IsUp, here_of, lead_of, open_of, role_of, work_of}
+use Rattle.rex_node.specs.Calls.{StopsShort, armed_with, counts_for}
+use Rattle.rex_node.specs.Going.{BreaksOff, Ends, Fell, IsStuck, Leads as LeadsOn, so_far}
+use Rattle.rex_node.specs.Leading.{FromLead, IsOwnCut}
+use Rattle.rex_node.specs.Cutting.{HasPiece, IsIdle, IsOwnPiece, IsPieceOf, ProposesCut, ProposesCutShort, ProposesPiece, ProposesPieceShort, counts_in, cut_at, cut_before, cut_in, with_cut}
+use Rattle.rex_node.specs.Parts.{ActingValue, NodeValue, Executes, IsCutAt, IsResting, IsUp, RunsShort, Stands, here_of, lead_of, open_of, role_of, work_of}
 use Rattle.rex_node.proofs.Dues.{counts_are}
 use Rattle.rex_node.proofs.Executing.{executes}
 use Rattle.rex_node.proofs.GoingLemmas.{leads_fell, leads_same, leads_then}
+use Rattle.rex_log.specs.Log.{log_of}
+use Rattle.rex_node.proofs.Stuck.{breaks_as, breaks_kept}
 use Rattle.rex_node.proofs.Openings.{from_lead, lead_from}
 use Rattle.rex_node.proofs.ProposedCuts.{idle_leads}
 use Rattle.rex_node.proofs.Proposing.{piece_cut, piece_faithful, piece_fits}
@@ -157,10 +159,67 @@ module _ {K : Type 0} (records : K → List (List ℕ)) (service : Declarations)
               subst (λ (z : NodeValue K). ProposesCut records gives faults service past p.events p.value z y before after going) mid_is
               (subst (λ (v : Value). ProposesCut records gives faults service past p.events v mid y before after going) value_is h)
 
+      -- ---- memory was short, and the cut that was proposed last is the one before
+
+      cut_back : (w : Option ActingValue) → option_map (cut_at (cut_before w cut)) (option_map (cut_at cut) w) ≡ w
+      cut_back None = refl
+      cut_back (Some a) = refl
+
+      short_back : (mid z : NodeValue K) → mid ≡ with_cut x cut → (counts : List ℕ) → counts ≡ cut_before x.acting cut → z ≡ with_cut y counts → Stands records faults gives mid y → Stands records faults gives x z
+      short_back mid z mid_is counts counts_are z_is s = record {
+        parts =
+            z_is
+            ∙ ap (λ (n : NodeValue K). with_cut n counts) s.parts
+            ∙ ap (λ (n : NodeValue K). with_cut (record n { keeper = y.keeper }) counts) mid_is
+            ∙ ap (λ (c : List ℕ). with_cut (record (with_cut x cut) { keeper = y.keeper }) c) counts_are
+            ∙ ap (λ (w : Option ActingValue). record x { keeper = y.keeper; acting = w }) (cut_back x.acting)
+            ∙ ap (λ (k : K). record x { keeper = k }) (sym keeper);
+        records = ap records keeper ∙ s.records ∙ ap records begun;
+        faults = ap faults keeper ∙ s.faults ∙ ap faults begun;
+        short = subst (λ (k : K). RunsShort gives x.keeper k) (sym keeper) (subst (λ (k : K). RunsShort gives k y.keeper) begun s.short);
+      }
+        where
+          keeper : z.keeper ≡ y.keeper
+          keeper = ap (λ (n : NodeValue K). n.keeper) z_is
+
+          begun : mid.keeper ≡ x.keeper
+          begun = ap (λ (n : NodeValue K). n.keeper) mid_is
+
+      abbrev BreaksBy : (CallHere → CallHere) → NodeValue K → Type 0
+      BreaksBy whole z = BreaksOff records gives faults service past whole z y before
+
+      -- a call of the node with this cut is one of the node
+      breaks_with : (l : Lead Value) → BreaksBy (proposes p.events p.value l) at → BreaksBy (propose_cut service x.seed x.nodes x.id cut l) x
+      breaks_with l h =
+          breaks_as records gives faults service past (propose_cut service x.seed x.nodes x.id cut l) (proposes p.events p.value l) x y before (λ f. same_call before l f)
+          (record { stops = subst (λ (d : CallHere). StopsShort records gives faults service (proposes p.events p.value l) x.keeper y.keeper d (log_of service past (records y.keeper))) (draft_with before) h.stops; based = h.based })
+
+      abbrev ProposesAt : ℕ → Value → NodeValue K → Type 0
+      ProposesAt events v n =
+          FromLead n (λ l. BreaksOff records gives faults service past (λ d. propose n.nodes n.id (effect.Proposes n.id (length n.known + 1) events) d l (length n.known + 1) v (settle (enough l.reported) n.nodes (service_of service n.seed) n.id)) n y before)
+
+      pub piece_short : (mid z : NodeValue K) → mid ≡ with_cut x p.cut.counts → (value : Value) → value ≡ p.value → (counts : List ℕ) → counts ≡ cut_before x.acting p.cut.counts → z ≡ with_cut y counts
+          → ProposesCutShort records gives faults service past p.events value mid y before → ProposesPieceShort records gives faults service past p.cut.counts x z before
+      piece_short mid z mid_is value value_is counts counts_are z_is (inl s) = inl (short_back mid z mid_is counts counts_are z_is s)
+      piece_short mid z mid_is value value_is counts counts_are z_is (inr b) =
+          inr (from_lead x (λ l. BreaksOff records gives faults service past (propose_cut service x.seed x.nodes x.id cut l) x z before)
+          (λ q leads. breaks_kept records gives faults service past (propose_cut service x.seed x.nodes x.id cut (lead_of x.acceptor q (is_some x.acting))) x y z before (ap (λ (n : NodeValue K). n.keeper) z_is) (ap (λ (n : NodeValue K). n.base) z_is)
+          (breaks_with (lead_of x.acceptor q (is_some x.acting))
+          (subst (λ (t : Bool). BreaksBy (proposes p.events p.value (lead_of x.acceptor q t)) at) (active_same x.acting)
+          (lead_from at (λ l. BreaksBy (proposes p.events p.value l) at) q leads b_at)))))
+        where
+          b_at : ProposesAt p.events p.value at
+          b_at = subst (λ (n : NodeValue K). ProposesAt p.events p.value n) mid_is (subst (λ (v : Value). ProposesAt p.events v mid) value_is b)
+
 -- a result that is an error says nothing
 pub if_error : {A E : Type 0} (P : A → Type 0) (r : Result A E) → is_err r ≡ true → IfOk r P
 if_error P (Ok x) e = absurd (false≢true e)
 if_error P (Err e) h = tt
+
+-- one that is none says nothing of errors
+pub on_ok : {A E : Type 0} (P : Type 0) (r : Result A E) → is_err r ≡ false → OnErr r P
+on_ok P (Ok x) e = tt
+on_ok P (Err a) e = absurd (false≢true (sym e))
 
 pub if_then : {A E : Type 0} (P Q : A → Type 0) (r : Result A E) → ((x : A) → P x → Q x) → IfOk r P → IfOk r Q
 if_then P Q (Ok x) f h = f x h
@@ -236,3 +295,13 @@ module _ {K : Type 0} (records : K → List (List ℕ)) (gives : K → List ℕ 
       ends_as records gives faults service past (propose_cut service x.seed x.nodes x.id p.cut.counts (lead_of x.acceptor o.0 (is_some x.acting))) (lanes.cut service x.seed x.nodes x.id (counts_for service (here_of records service past x) has.limits)) x y first draft going
       (λ f. cuts_piece records service past x node p has good o.0 o.1 first f)
       (lead_from x (λ l. Ends records gives faults service past (propose_cut service x.seed x.nodes x.id p.cut.counts l) x y first draft going) o.0 o.1 h)
+
+  pub cut_short : (x : NodeValue K) (node : IsResting records service past x) (p : Piece) (has : HasPiece service x p) → IsService service → (y : NodeValue K) (first : Draft)
+      → ProposesPieceShort records gives faults service past p.cut.counts x y first
+      → IsStuck records gives faults service past (lanes.cut service x.seed x.nodes x.id (counts_for service (here_of records service past x) has.limits)) x y first
+  cut_short x node p has good y first (inl s) = inl s
+  cut_short x node p has good y first (inr b) =
+      let o = idle_leads x.acceptor x.proposer has.can.idle in
+      inr (breaks_as records gives faults service past (lanes.cut service x.seed x.nodes x.id (counts_for service (here_of records service past x) has.limits)) (propose_cut service x.seed x.nodes x.id p.cut.counts (lead_of x.acceptor o.0 (is_some x.acting))) x y first
+      (λ f. cuts_piece records service past x node p has good o.0 o.1 first f)
+      (lead_from x (λ l. BreaksOff records gives faults service past (propose_cut service x.seed x.nodes x.id p.cut.counts l) x y first) o.0 o.1 b))

@@ -145,8 +145,8 @@ module _ {K : Type 0} (records : K → List (List ℕ)) (gives : K → List ℕ 
           → (Fell records gives faults service prepare x.id x.keeper y.keeper (so_far records service past x before) (so_far records service past y mid) × (y.up ≡ false)) × IsResting records service past y
       raise_down h = recorded_down records gives faults service past x y before mid node up (kept.Promised b) spelled tt refl refl prepare _ raises_is h
 
-      pub raise_stuck : Appends records faults gives x y before mid (record_bytes (kept.Promised b)) On → (z : NodeValue K) → z.keeper ≡ y.keeper → z.base ≡ y.base → IsStuck records service past x z
-      raise_stuck h z keeper based = recorded_stuck records gives faults service past x y before mid node up (kept.Promised b) spelled tt refl refl h z keeper based
+      pub raise_stuck : Appends records faults gives x y before mid (record_bytes (kept.Promised b)) On → (z : NodeValue K) → z.keeper ≡ y.keeper → z.base ≡ y.base → IsStuck records gives faults service past prepare x z before
+      raise_stuck h z keeper based = recorded_stuck records gives faults service past x y before mid node up (kept.Promised b) spelled tt refl refl prepare (λ e. promised x.id from b first (follow x.id (effect.Promised x.id b ∷ []) e)) raises_is h (λ d. refl) z keeper based
 
       pub raise_on : Appends records faults gives x y before mid (record_bytes (kept.Promised b)) On → (z : NodeValue K) (told after : Draft) → z ≡ record (leaving y) { acceptor = promising y.acceptor b }
           → Tells mid told (effect.Promised y.id b ∷ followed y.id (role_of y.acceptor y.proposer (is_some y.acting)))
@@ -240,8 +240,8 @@ module _ {K : Type 0} (records : K → List (List ℕ)) (gives : K → List ℕ 
           → (Fell records gives faults service accept x.id x.keeper y.keeper (so_far records service past x before) (so_far records service past y mid) × (y.up ≡ false)) × IsResting records service past y
       accept_down h = recorded_down records gives faults service past x y before mid node up (kept.Accepted b i v) valued tt refl refl accept _ (accept_is true e late) h
 
-      pub accept_stuck : Appends records faults gives x y before mid (record_bytes (kept.Accepted b i v)) On → (z : NodeValue K) → z.keeper ≡ y.keeper → z.base ≡ y.base → IsStuck records service past x z
-      accept_stuck h z keeper based = recorded_stuck records gives faults service past x y before mid node up (kept.Accepted b i v) valued tt refl refl h z keeper based
+      pub accept_stuck : Appends records faults gives x y before mid (record_bytes (kept.Accepted b i v)) On → (z : NodeValue K) → z.keeper ≡ y.keeper → z.base ≡ y.base → IsStuck records gives faults service past accept x z before
+      accept_stuck h z keeper based = recorded_stuck records gives faults service past x y before mid node up (kept.Accepted b i v) valued tt refl refl accept (λ n. send (follow x.id (effect.Accepted x.id b i ∷ []) n) (answer x.id from (Voted b i))) (accept_is true e late) h (λ d. refl) z keeper based
 
       pub accept_on : Appends records faults gives x y before mid (record_bytes (kept.Accepted b i v)) On → (z : NodeValue K) (told after : Draft) → z ≡ record (leaving y) { acceptor = accepting y.acceptor (record { instance = i; ballot = b; value = v }) }
           → Tells mid told (effect.Accepted y.id b i ∷ followed y.id (role_of y.acceptor y.proposer (is_some y.acting)))

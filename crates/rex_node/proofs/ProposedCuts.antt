@@ -1,5 +1,5 @@
 -- How a node ends a call in which it has proposed a cut.
-use Rattle.std.proofs.Common.{◌≡◌, ℕ, suc, ◌+◌, ◌*◌, ◌<◌, ◌≤◌, Bool, true, false, not, List, [], ◌∷◌, ◌++◌, length, Result, Option, Some, None, Ok, Err, refl, sym, ap, subst, ◌∙◌, arith, append_assoc}
+use Rattle.std.proofs.Common.{◌≡◌, ℕ, ◌+◌, ◌*◌, ◌<◌, ◌≤◌, Bool, true, false, not, List, [], ◌∷◌, length, Result, Option, Some, None, Ok, Err, inl, inr, refl, sym, ap, subst, ◌∙◌}
 use Rattle.std.specs.Prelude.{IfOk, OnErr, is_some, option_map}
 use Rattle.std.proofs.lemmas.Bool.{false≢true}
 use Rattle.rex_ballot.specs.Limits.{most_nodes}
@@ -9,7 +9,7 @@ use Rattle.rex_paxos.specs.Proposer.{ProposerValue, is_candidate, proposed, clos
 use Rattle.rex_syntax.specs.declared.service.Declarations.{Declarations}
 use Rattle.rex_report.specs.declared.effect.Effect.{Effect}
 use Rattle.rex_report.specs.declared.effect.Effect.TheVariants as effect
-use Rattle.rex_traits.specs.Chains.{Answer, AppendsInTurn}
+use Rattle.rex_traits.specs.Chains.{Answer}
 use Rattle.rex_state.specs.Value.{StateValue}
 use Rattle.rex_safety.specs.Records.{proposal_of}
 use Rattle.rex_safety.specs.Quorum.{is_majority}
@@ -22,20 +22,16 @@ use Rattle.rex_node.specs.declared.going.Going.{Going}
 use Rattle.rex_node.specs.declared.going.Going.TheVariants.{On, Down}
 use Rattle.rex_node.specs.declared.step.Draft.{Draft}
 use Rattle.rex_node.specs.Calls.{armed_with}
-use Rattle.rex_node.specs.Going.{Comes, Ends, Fell, IsStuck, Leads as LeadsOn, later, so_far}
-use Rattle.rex_log.specs.Log.{log_of}
+use Rattle.rex_node.specs.Going.{BreaksOff, Comes, Ends, Fell, IsStuck, Leads as LeadsOn, LosesFirst, so_far}
 use Rattle.rex_node.specs.Parts.{ActingValue, NodeValue, HasGoneOn, IsKept, IsResting, IsProposer, IsSame, Proposes, here_of, lead_of, role_of}
-use Rattle.rex_node.specs.Leading.{HasLearned, HasOpened, Learns, Opens, accept_own, settling}
-use Rattle.rex_node.specs.Cutting.{IsIdle, ProposesCut, has_open}
+use Rattle.rex_node.specs.Leading.{HasLearned, HasOpened, Learns, LearnsShort, Opens, OpensShort, accept_own, settling}
+use Rattle.rex_node.specs.Cutting.{IsIdle, ProposesCut, ProposesCutShort, has_open}
 use Rattle.rex_node.proofs.GoingLemmas.{leads_fell, leads_same, leads_then}
+use Rattle.rex_node.proofs.Stuck.{breaks_after, settle_loses}
 use Rattle.rex_node.proofs.Openings.{candidate_same, from_lead, knows_at_once, lead_from, opened_role, own_majority, proposed_closed, proposed_open, settles_active, stays_open}
 
 false_or_true : (t : Bool) → t ≡ true → t ≡ false → ⊥
 false_or_true t e f = false≢true (sym f ∙ e)
-
-first_none : (xs ys : List (List ℕ)) → xs ++ ys ≡ [] → xs ≡ []
-first_none [] ys h = refl
-first_none (x ∷ xs) ys h = absurd cc
 
 -- ---- results
 
@@ -116,6 +112,20 @@ module _ {K : Type 0} (records : K → List (List ℕ)) (gives : K → List ℕ 
         fell : (p : ProposerValue) → ComesAt Down (length x.known + 1) (effect.Proposes x.id (length x.known + 1) events) (lead_of x.acceptor p (is_some x.acting)) → EndsAt mid between Down (lead_of x.acceptor p (is_some x.acting))
         fell p o = (o, down_kept x mid node same o.1)
 
+    -- ---- memory was short
+
+    abbrev BreaksAt : NodeValue K → Lead Value → Type 0
+    BreaksAt y l = BreaksOff records gives faults service past (whole_of (length x.known + 1) (effect.Proposes x.id (length x.known + 1) events) l) x y before
+
+    pub cut_short : OpensShort records gives faults service past told instance value x mid before → ProposesCutShort records gives faults service past events value x mid before
+    cut_short (inl s) = inl s
+    cut_short (inr b) =
+        inr (from_lead x (BreaksAt mid) (λ p leads.
+        subst (λ (n : ℕ). BreaksOff records gives faults service past (whole_of n (effect.Proposes x.id (length x.known + 1) events) (lead_of x.acceptor p (is_some x.acting))) x mid before) next
+        (subst (λ (t : Effect). BreaksOff records gives faults service past (whole_of instance t (lead_of x.acceptor p (is_some x.acting))) x mid before) told_is
+        (lead_from x (λ l. (k : CallHere → CallHere) → LosesFirst k → BreaksOff records gives faults service past (λ d. propose x.nodes x.id told d l instance value k) x mid before) p leads b
+        (goes (lead_of x.acceptor p (is_some x.acting))) (settle_loses (enough (lead_of x.acceptor p (is_some x.acting)).reported) x.nodes x.id sv)))))
+
     -- ---- the node goes on
 
     module _ (h : Opens records gives faults service past told instance value x mid before between On) (parts : HasOpened x mid instance value On) (p : ProposerValue) (leads : x.proposer ≡ Some p) where
@@ -129,28 +139,11 @@ module _ {K : Type 0} (records : K → List (List ℕ)) (gives : K → List ℕ 
       appended : LeadsOn records gives faults service (λ d. propose x.nodes x.id told d l instance value (λ e. e)) (led role_open) x.keeper mid.keeper (so_far records service past x before) (so_far records service past mid between)
       appended = (lead_from x (OpensAt On) p leads h (λ d. d)).0
 
-      -- the node has one record more, at least
-      grown_some : appended.written ≡ [] → ⊥
-      grown_some none =
-          let keeper : mid.keeper ≡ x.keeper = (subst (λ (ws : List (List ℕ)). AppendsInTurn gives x.keeper ws (Ok tt) mid.keeper) none appended.appends).1 in
-          let comes = subst (λ (ws : List (List ℕ)). propose x.nodes x.id told (armed_with (later ws None) (so_far records service past x before)) l instance value (λ e. e) ≡ led role_open (armed_with None (so_far records service past mid between))) none (appended.comes None) in
-          let longer : suc (length (log_of service past (records x.keeper))) ≡ length (log_of service past (records x.keeper)) =
-          ap (λ (d : CallHere). length d.node.log) comes ∙ ap (λ (k : K). length (log_of service past (records k))) keeper in
-          absurd (omega arith)
-
       pub counted_between : faults mid.keeper ≡ faults x.keeper
       counted_between = appended.counted
 
       pub kept_between : IsKept records service past mid
       kept_between = (opens_next On h p leads).1
-
-      pub stuck_after : (y : NodeValue K) → IsStuck records service past mid y → IsStuck records service past x y
-      stuck_after y s = record {
-        more = appended.written ++ s.more;
-        grown = s.grown ∙ ap (λ (r : List (List ℕ)). r ++ s.more) appended.grown ∙ append_assoc (records x.keeper) appended.written s.more;
-        same = λ none. absurd (grown_some (first_none appended.written s.more none));
-        based = s.based;
-      }
 
       proposes : Proposes x.nodes x.id x.acceptor p
       proposes = subst (IsProposer x.nodes x.id x.acceptor) leads (node.up up).proposer
@@ -252,6 +245,23 @@ module _ {K : Type 0} (records : K → List (List ℕ)) (gives : K → List ℕ 
             (leads_same records gives faults service (open_at (length x.known + 1) l) (decides x.nodes x.seed x.id (is_some x.acting) (length x.known + 1)) mid.keeper (so_far records service past mid between) (so_far records service past mid between) refl
             (λ f. knows_at_once x.nodes sv x.id l (proposal_of p.ballot (length x.known + 1) value) (armed_with f (so_far records service past mid between)) (alone ∙ majority_where true closed_now)))
 
+        -- memory was short as it learned
+        short_learned : length (records x.keeper) < length (records mid.keeper) → LearnsShort records gives faults service past instance value mid y between → BreaksAt y l
+        short_learned longer short =
+            let o = opens_next On h p leads in
+            breaks_after records gives faults service past (whole_of (length x.known + 1) (effect.Proposes x.id (length x.known + 1) events) l) (decides x.nodes x.seed x.id (is_some x.acting) (length x.known + 1)) x mid y before between to_decide longer (o.1.up o.2).base (λ d. refl) (by short)
+          where
+            by : LearnsShort records gives faults service past instance value mid y between → IsStuck records gives faults service past (decides x.nodes x.seed x.id (is_some x.acting) (length x.known + 1)) mid y between
+            by (inl s) = inl s
+            by (inr b) =
+                inr (subst (λ (i : ℕ). BreaksOff records gives faults service past (decides x.nodes x.seed x.id (is_some x.acting) i) mid y between) next
+                (subst (λ (w : Option ActingValue). BreaksOff records gives faults service past (decides x.nodes x.seed x.id (is_some w) instance) mid y between) mid_acting
+                (subst (λ (id : ℕ). BreaksOff records gives faults service past (decides x.nodes x.seed id (is_some mid.acting) instance) mid y between) same.id
+                (subst (λ (seed : ℕ). BreaksOff records gives faults service past (decides x.nodes seed mid.id (is_some mid.acting) instance) mid y between) same.seed
+                (subst (λ (n : ℕ). BreaksOff records gives faults service past (decides n mid.seed mid.id (is_some mid.acting) instance) mid y between) same.nodes
+                (lead_from mid (λ m. (k : CallHere → CallHere) → LosesFirst k → BreaksOff records gives faults service past (λ d. decide mid.nodes (service_of service mid.seed) mid.id d m instance value k) mid y between) closed_one mid_closed b
+                (settle left x.nodes sv x.id) (settle_loses left x.nodes x.id sv)))))))
+
         ends_learned : (going : Going) → Learns records gives faults service past instance value mid y between after going → HasLearned service mid y instance value going → IsSame mid y → EndsAt y after going l
         ends_learned On hl learned same_now =
             let o = learns_next On hl in (
@@ -299,3 +309,7 @@ module _ {K : Type 0} (records : K → List (List ℕ)) (gives : K → List ℕ 
         → (y : NodeValue K) (after : Draft) (going : Going) → Learns records gives faults service past instance value mid y between after going → HasLearned service mid y instance value going → IsSame mid y
         → ProposesCut records gives faults service past events value x y before after going
     cut_known h parts e same y after going hl learned same_now = from_lead x (EndsAt y after going) (λ p leads. ends_learned h parts p leads e same y after going hl learned same_now)
+
+    pub cut_stuck : Opens records gives faults service past told instance value x mid before between On → HasOpened x mid instance value On → has_open mid.proposer ≡ false → IsSame x mid
+        → (y : NodeValue K) (after : Draft) → length (records x.keeper) < length (records mid.keeper) → LearnsShort records gives faults service past instance value mid y between → ProposesCutShort records gives faults service past events value x y before
+    cut_stuck h parts e same y after longer short = inr (from_lead x (BreaksAt y) (λ p leads. short_learned h parts p leads e same y after longer short))

@@ -1,5 +1,5 @@
 -- A last part of a call that writes one record.
-use Rattle.std.proofs.Common.{◌≡◌, ℕ, ◌≤◌, true, false, List, [], ◌∷◌, ◌++◌, length, take, Option, None, sym, ap, subst, ◌∙◌}
+use Rattle.std.proofs.Common.{◌≡◌, ℕ, ◌≤◌, true, false, inl, inr, arith, List, [], ◌∷◌, ◌++◌, length, take, Option, None, sym, ap, subst, ◌∙◌}
 use Rattle.std.specs.Prelude.{map, is_some}
 use Rattle.std.proofs.lemmas.Bool.{false≢true}
 use Rattle.std.proofs.lemmas.List.{map-append}
@@ -20,11 +20,13 @@ use Rattle.rex_node.specs.declared.step.Draft.{Draft}
 use Rattle.rex_node.specs.declared.going.Going.TheVariants.{On, Down}
 use Rattle.rex_log.specs.Messages.{content_in, message_in}
 use Rattle.rex_node.specs.Calls.{armed_with}
-use Rattle.rex_node.specs.Going.{Appends, Fell, IsStuck, Leads, Sends, Tells, answering, so_far}
+use Rattle.rex_node.specs.Going.{Appends, Fell, IsStuck, Leads, LosesFirst, Sends, Tells, answering, so_far}
 use Rattle.rex_log.specs.Log.{log_of, rec_of, standing_in}
 use Rattle.rex_node.specs.Parts.{NodeValue, IsUp, IsResting, here_of, role_of, leaving}
 use Rattle.rex_node.proofs.Appended.{IsLogged, call_at, appended_log, appended_here, appended_leads, appended_fell}
 use Rattle.rex_node.proofs.GoingLemmas.{leads_same, leads_then}
+use Rattle.rex_node.proofs.Stuck.{breaks_here}
+use Rattle.rex_safety.proofs.Lists.{length_push}
 use Rattle.rex_node.proofs.Following.{EndsWell, far, within, follower_here, follower_node}
 use Rattle.rex_node.specs.Stated.{is_stated}
 
@@ -49,20 +51,6 @@ module _ {K : Type 0} (records : K → List (List ℕ)) (gives : K → List ℕ 
   u : IsUp service x (here_of records service past x)
   u = node.up up
 
-  -- the record is there when memory is short
-  pub recorded_stuck : Appends records faults gives x y before mid (record_bytes r) On → (z : NodeValue K) → z.keeper ≡ y.keeper → z.base ≡ y.base → IsStuck records service past x z
-  recorded_stuck h z keeper based = record {
-    more = record_bytes r ∷ [];
-    grown = ap records keeper ∙ h.0.records;
-    same = λ e. absurd (some e);
-    based =
-        based ∙ ap (λ (n : NodeValue K). n.base) h.0.parts ∙ u.base ∙ sym plain
-        ∙ ap base (sym (ap (λ (k : K). log_of service past (records k)) keeper ∙ appended_log records gives faults service past x y before mid r spelling due stated h));
-  }
-    where
-      some : record_bytes r ∷ [] ≡ [] → ⊥
-      some e = cc
-
   module _ (whole k : CallHere → CallHere) (is : (f : Option Failure) → whole (armed_with f (so_far records service past x before)) ≡ append f x.id one (armed_with f (so_far records service past x before)) k) where
     -- the append failed
     pub recorded_down : Appends records faults gives x y before mid (record_bytes r) Down
@@ -71,6 +59,15 @@ module _ {K : Type 0} (records : K → List (List ℕ)) (gives : K → List ℕ 
       (appended_fell records gives faults service past x y before mid r spelling due stated whole k is u.base plain h, ap (λ (n : NodeValue K). n.up) h.0.parts),
       subst (IsResting records service past) (sym h.0.parts) (record { id = node.id; few = node.few; up = λ t. absurd (false≢true t); rests = λ t. absurd (false≢true t) }),
     )
+
+    -- the record is there when memory is short
+    pub recorded_stuck : Appends records faults gives x y before mid (record_bytes r) On → LosesFirst k → (z : NodeValue K) → z.keeper ≡ y.keeper → z.base ≡ y.base → IsStuck records gives faults service past whole x z before
+    recorded_stuck h loses z keeper based =
+        inr (breaks_here records gives faults service past whole k x y z before mid (appended_leads records gives faults service past x y before mid r spelling due stated whole k is h)
+        (omega (arith, ap length h.0.records, length_push (records x.keeper) (record_bytes r)))
+        (based ∙ ap (λ (n : NodeValue K). n.base) h.0.parts ∙ u.base ∙ sym plain
+        ∙ ap base (sym (ap (λ (j : K). log_of service past (records j)) keeper ∙ appended_log records gives faults service past x y before mid r spelling due stated h)))
+        loses (ap records keeper) (ap faults keeper) (inl keeper))
 
     -- or the call ends with the record
     pub recorded_on : Appends records faults gives x y before mid (record_bytes r) On → (z : NodeValue K) (after : Draft) → z.keeper ≡ y.keeper → IsResting records service past z → z.up ≡ true

@@ -130,6 +130,7 @@ module _ {K : Type 0} (records : K → List (List ℕ)) (gives : K → List ℕ 
             caught_up = λ _. n_is;
             proposer = b.proposer;
             acting = b.acting;
+            stamped = b.stamped;
             role = b.role;
           })
 

@@ -121,6 +121,7 @@ module _ {K : Type 0} (records : K → List (List ℕ)) (service : Declarations)
       short = short_values x.promised x.accepted h.found.fits.accepted;
       proposer = tt;
       acting = tt;
+      stamped = tt;
       fits = subst (λ (vs : List Value). values_fit service vs ≡ true) (sym all_known) fit;
       numbers = record { log = said.fits; role = tt };
     }

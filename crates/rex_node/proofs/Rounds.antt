@@ -1,6 +1,6 @@
 -- A node that leads goes on, a round at a time.
 use Rattle.std.proofs.Common.{◌≡◌, ℕ, zero, suc, ◌+◌, ◌-◌, ◌*◌, ◌≤◌, Bool, true, false, cond, not, ◌||◌, ◌&&◌, List, [], ◌∷◌, ◌++◌, length, Option, Some, None, refl, sym, ap, subst, ◌∙◌, arith, le_refl}
-use Rattle.std.specs.Prelude.{map, is_some, is_none, option_map, unwrap_or, IfSome}
+use Rattle.std.specs.Prelude.{drop, map, is_some, is_none, option_map, unwrap_or, IfSome}
 use Rattle.std.proofs.lemmas.List.Elements.{All-nil}
 use Rattle.rand_pcg.specs.Lcg.{Lcg}
 use Rattle.rex_ballot.specs.declared.proposal.Proposal.{Proposal as Kept}
@@ -10,8 +10,8 @@ use Rattle.rex_paxos.specs.Proposer.{ProposerValue, is_candidate}
 use Rattle.rex_paxos.specs.Reports.{best_for}
 use Rattle.rex_syntax.specs.declared.service.Declarations.{Declarations}
 use Rattle.rex_scenario.specs.Fits.{RequestFits}
+use Rattle.rex_gate.specs.Noted.{AnswersValue, answers_at}
 use Rattle.rex_record.specs.Value.{RecorderValue, started}
-use Rattle.rex_state.specs.declared.lane.Entry.{Entry}
 use Rattle.rex_state.specs.Value.{StateValue}
 use Rattle.rex_traits.specs.Chains.{Answer}
 use Rattle.rex_report.specs.declared.effect.Effect.TheVariants as effect
@@ -31,26 +31,30 @@ use Rattle.rex_log.specs.Log.{log_of, proposal_in}
 use Rattle.rex_node.specs.Parts.{NodeValue, ActingValue, ActsFor, HasGoneOn, IsActing, IsKept, IsProposer, IsUp, OpenIsCut, Proposes, here_of, lead_of, open_of, role_of, work_of}
 use Rattle.rex_node.specs.Calls.{armed_with}
 use Rattle.rex_node.specs.Going.{MayGoOn, above, so_far}
-use Rattle.rex_node.specs.Leading.{GoesRound, IsActive, IsFree, activated, fresh, goes_on, may_lead, reported_value}
+use Rattle.rex_node.specs.Leading.{GoesRound, IsActive, IsFree, activated, fresh_answers, fresh, goes_on, may_lead, reported_value}
 use Rattle.rex_node.proofs.Appended.{beside_of, logged_of, up_of}
 use Rattle.rex_node.proofs.Adopting.{goes_parts, turn_chooses}
 use Rattle.rex_node.proofs.Bridges as bridges
 use Rattle.rex_node.proofs.GoingLemmas.{leads_same}
 use Rattle.rex_node.proofs.Opening.{logged_as}
+use Rattle.rex_node.proofs.Stamping.{entries_stay, stamped_in}
 use Rattle.rex_node.proofs.Written.{call_is}
 
 -- ---- a node that is active from here on
 
-module _ {K : Type 0} (x z : NodeValue K) (z_is : z ≡ x) (s : StateValue) (n : ℕ) (r : RecorderValue) (d : Lcg) (counts : List ℕ) (b seed : ℕ) (entries : List Entry) where
-  pub activated_is : n ≡ length x.known → r ≡ started s → b ≡ unwrap_or (option_map (λ (p : ProposerValue). p.ballot) x.proposer) 0 → seed ≡ x.seed → d ≡ dice_of seed b → counts ≡ [] → entries ≡ s.clients → record z { replayed = n; ahead = None; acting = Some (record { recorder = r; dice = d; proposed = counts; answers = entries }) } ≡ activated x s
-  activated_is n_is r_is b_is seed_is d_is counts_are entries_are =
-      ap (λ (y : NodeValue K). record y { replayed = n; ahead = None; acting = Some (record { recorder = r; dice = d; proposed = counts; answers = entries }) }) z_is
-      ∙ ap (λ (m : ℕ). record x { replayed = m; ahead = None; acting = Some (record { recorder = r; dice = d; proposed = counts; answers = entries }) }) n_is
+module _ {K : Type 0} (x z : NodeValue K) (z_is : z ≡ x) (s : StateValue) (n : ℕ) (r : RecorderValue) (d : Lcg) (counts : List ℕ) (b seed : ℕ) (answers : AnswersValue) where
+  abbrev ballot : ℕ
+  ballot = unwrap_or (option_map (λ (p : ProposerValue). p.ballot) x.proposer) 0
+
+  pub activated_is : n ≡ length x.known → r ≡ started s → b ≡ unwrap_or (option_map (λ (p : ProposerValue). p.ballot) x.proposer) 0 → seed ≡ x.seed → d ≡ dice_of seed b → counts ≡ [] → answers ≡ fresh_answers x.offset (drop x.offset x.known) s → record z { replayed = n; ahead = None; acting = Some (record { recorder = r; dice = d; proposed = counts; answers = answers }) } ≡ activated x s
+  activated_is n_is r_is b_is seed_is d_is counts_are answers_are =
+      ap (λ (y : NodeValue K). record y { replayed = n; ahead = None; acting = Some (record { recorder = r; dice = d; proposed = counts; answers = answers }) }) z_is
+      ∙ ap (λ (m : ℕ). record x { replayed = m; ahead = None; acting = Some (record { recorder = r; dice = d; proposed = counts; answers = answers }) }) n_is
       ∙ ap (λ (a : ActingValue). record x { replayed = length x.known; ahead = None; acting = Some a })
-      (ap (λ (q : RecorderValue). record { recorder = q; dice = d; proposed = counts; answers = entries }) r_is
-      ∙ ap (λ (q : Lcg). record { recorder = started s; dice = q; proposed = counts; answers = entries }) (d_is ∙ ap (λ (k : ℕ). dice_of k b) seed_is ∙ ap (dice_of x.seed) b_is)
-      ∙ ap (λ (q : List ℕ). record { recorder = started s; dice = dice_of x.seed (unwrap_or (option_map (λ (p : ProposerValue). p.ballot) x.proposer) 0); proposed = q; answers = entries }) counts_are
-      ∙ ap (λ (q : List Entry). record { recorder = started s; dice = dice_of x.seed (unwrap_or (option_map (λ (p : ProposerValue). p.ballot) x.proposer) 0); proposed = []; answers = q }) entries_are)
+      (ap (λ (q : RecorderValue). record { recorder = q; dice = d; proposed = counts; answers = answers }) r_is
+      ∙ ap (λ (q : Lcg). record { recorder = started s; dice = q; proposed = counts; answers = answers }) (d_is ∙ ap (λ (k : ℕ). dice_of k b) seed_is ∙ ap (dice_of x.seed) b_is)
+      ∙ ap (λ (q : List ℕ). record { recorder = started s; dice = dice_of x.seed ballot; proposed = q; answers = answers }) counts_are
+      ∙ ap (fresh x.seed ballot s) answers_are)
 
 -- ---- a node that goes no further
 
@@ -129,11 +133,15 @@ module _ {K : Type 0} (records : K → List (List ℕ)) (gives : K → List ℕ 
       abbrev l : Lead Value
       l = lead_of x.acceptor p (is_some x.acting)
 
+      -- what is known of the clients then
+      abbrev told : AnswersValue
+      told = fresh_answers x.offset (drop x.offset x.known) h.state
+
       abbrev z_at : NodeValue K
-      z_at = record x { replayed = length x.known; ahead = None; acting = Some (fresh x.seed p.ballot h.state) }
+      z_at = record x { replayed = length x.known; ahead = None; acting = Some (fresh x.seed p.ballot h.state told) }
 
       z_is : z ≡ z_at
-      z_is = h.is ∙ ap (λ (o : Option ProposerValue). record x { replayed = length x.known; ahead = None; acting = Some (fresh x.seed (unwrap_or (option_map (λ (q : ProposerValue). q.ballot) o) 0) h.state) }) e
+      z_is = h.is ∙ ap (λ (o : Option ProposerValue). record x { replayed = length x.known; ahead = None; acting = Some (fresh x.seed (unwrap_or (option_map (λ (q : ProposerValue). q.ballot) o) 0) h.state told) }) e
 
       none_best : (o : Option Kept) → option_map (λ (q : Kept). q.value) o ≡ None → o ≡ None
       none_best None t = refl
@@ -168,21 +176,21 @@ module _ {K : Type 0} (records : K → List (List ℕ)) (gives : K → List ℕ 
       comes : (f : Option Failure) → settles (armed_with f (so_far records service past x before)) ≡ armed_with f (so_far records service past z_at after)
       comes f =
           activates f
-          ∙ call_is (log_of service past (records x.keeper)) (log_of service past (records x.keeper)) x.up f (leading (lead_of x.acceptor p (is_some x.acting)) None [] true) (work_of (Some (fresh x.seed p.ballot h.state))) (work_of (Some (fresh x.seed p.ballot h.state)))
+          ∙ call_is (log_of service past (records x.keeper)) (log_of service past (records x.keeper)) x.up f (leading (lead_of x.acceptor p (is_some x.acting)) None [] true) (work_of (Some (fresh x.seed p.ballot h.state told))) (work_of (Some (fresh x.seed p.ballot h.state told)))
           (length (known (log_of service past (records x.keeper)))) (length x.known) (map (message_in past) before.sends.items) (map (message_in past) after.sends.items) (before.effects.items ++ effect.Active x.id p.ballot ∷ []) after.effects.items
           refl refl (ap (λ (vs : List Value). length vs) (sym u.known)) (ap (map (message_in past)) (sym sends))
           (sym (effects ∙ ap (λ (o : Option ProposerValue). before.effects.items ++ effect.Active x.id (unwrap_or (option_map (λ (q : ProposerValue). q.ballot) o) 0) ∷ []) e))
           ∙ ap (λ (r : Role Value). record (armed_with f (so_far records service past z_at after)) { node = record (armed_with f (so_far records service past z_at after)).node { role = r } }) role_is
 
-      acts : ActsFor service x.known (open_of x.acceptor p.open_instance) (fresh x.seed p.ballot h.state)
+      acts : ActsFor service x.known (open_of x.acceptor p.open_instance) (fresh x.seed p.ballot h.state told)
       acts = record {
         executes = record {
           recorder = record { sound = h.sound; runs = refl; few = omega arith; queue = tt };
           known = h.runs;
           requests = All-nil (RequestFits service);
-          answers = refl;
+          answers = entries_stay (answers_at h.state.clients x.offset) (drop x.offset x.known);
         };
-        open_is_cut = subst (λ (o : Option ℕ). OpenIsCut service x.known (fresh x.seed p.ballot h.state) (open_of x.acceptor o)) (sym none) tt;
+        open_is_cut = subst (λ (o : Option ℕ). OpenIsCut service x.known (fresh x.seed p.ballot h.state told) (open_of x.acceptor o)) (sym none) tt;
       }
 
       lead_same : (k : ℕ) (a b : Bool) → LeadFits k (lead_of x.acceptor p a) → LeadFits k (lead_of x.acceptor p b)
@@ -200,7 +208,8 @@ module _ {K : Type 0} (records : K → List (List ℕ)) (gives : K → List ℕ 
             ahead = λ t. absurd (cc);
             caught_up = λ _. refl;
             proposer = b.proposer;
-            acting = subst (λ (o : Option ProposerValue). IsActing service x.known x.acceptor o (Some (fresh x.seed p.ballot h.state))) (sym e) acts;
+            acting = subst (λ (o : Option ProposerValue). IsActing service x.known x.acceptor o (Some (fresh x.seed p.ballot h.state told))) (sym e) acts;
+            stamped = stamped_in x.offset x.known h.state h.sound.by.complete.clients (omega (arith, g.low, g.few)) (let few = g.numbers.few in let many = ap (λ (vs : List Value). length vs) g.known in omega (arith, few, many));
             role = subst (λ (o : Option ProposerValue). RoleFits (length x.known) (role_of x.acceptor o true)) (sym e)
                 (lead_same (length x.known) (is_some x.acting) true (subst (λ (o : Option ProposerValue). RoleFits (length x.known) (role_of x.acceptor o (is_some x.acting))) e b.role));
           })

@@ -182,7 +182,7 @@ module _ {K : Type 0} (records : K → List (List ℕ)) (gives : K → List ℕ 
             fits = l.fits;
             numbers = record { ballots = l.numbers.ballots; instances = l.numbers.instances; few = l.numbers.few };
           }))
-          (record { based = b.based; replayed = b.replayed; ahead = b.ahead; caught_up = b.caught_up; proposer = b.proposer; acting = b.acting; role = b.role })
+          (record { based = b.based; replayed = b.replayed; ahead = b.ahead; caught_up = b.caught_up; proposer = b.proposer; acting = b.acting; stamped = b.stamped; role = b.role })
 
       pub migrated_stays : StaysResting records service past x y
       migrated_stays = subst (StaysResting records service past x) (sym k.parts) (record {

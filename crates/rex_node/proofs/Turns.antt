@@ -1,9 +1,8 @@
 -- Rounds of going on follow one another.
-use Rattle.std.proofs.Common.{◌≡◌, ℕ, ◌+◌, ◌-◌, ◌^◌, ◌<◌, ◌≤◌, true, List, [], ◌∷◌, ◌++◌, length, refl, sym, ap, subst, ◌∙◌, arith, append_assoc, length-append}
+use Rattle.std.proofs.Common.{◌≡◌, ℕ, ◌-◌, ◌^◌, ◌<◌, ◌≤◌, true, List, length, ◌⊎◌, inl, inr, refl, sym, ap, subst, ◌∙◌, arith}
 use Rattle.std.specs.Prelude.{is_some}
 use Rattle.rex_syntax.specs.declared.service.Declarations.{Declarations}
 use Rattle.rex_traits.specs.Chains.{Answer}
-use Rattle.rex_safety.specs.Records.{base}
 use Rattle.rex_safety.specs.Calls.{settle}
 use Rattle.rex_safety.specs.Values.{service_of, Value}
 use Rattle.rex_safety.specs.Lanes.{CallHere}
@@ -12,37 +11,13 @@ use Rattle.rex_node.specs.declared.going.Going.TheVariants.{On, Down}
 use Rattle.rex_node.specs.declared.going.Round.{Round}
 use Rattle.rex_node.specs.declared.going.Round.TheVariants.{Again, Done}
 use Rattle.rex_node.specs.declared.step.Draft.{Draft}
-use Rattle.rex_log.specs.Log.{log_of}
-use Rattle.rex_node.specs.Parts.{NodeValue, IsKept, IsSame}
+use Rattle.rex_node.specs.Parts.{NodeValue, IsKept, IsSame, Stands}
 use Rattle.rex_node.specs.Going.{Comes, Ends, Fell, IsStuck, Leads, MayGoOn, RunsOn, so_far}
 use Rattle.rex_node.specs.Leading.{GoesRound, IsFree}
 use Rattle.rex_node.proofs.Adopting.{same_then}
 use Rattle.rex_node.proofs.GoingLemmas.{leads_same, leads_then, leads_fell}
 use Rattle.rex_node.proofs.Grows.{rest_runs}
-use Rattle.rex_node.proofs.Written.{stuck_same}
-
-both_empty : {A : Type 0} (xs ys : List A) → xs ++ ys ≡ [] → (xs ≡ []) × (ys ≡ [])
-both_empty [] ys e = (refl, e)
-both_empty (x ∷ xs) ys e = absurd (cc)
-
--- memory was short, once after the other
-pub stuck_then : {K : Type 0} (records : K → List (List ℕ)) (service : Declarations) (past : List Value) (x y z : NodeValue K) → IsStuck records service past x y → IsStuck records service past y z → IsStuck records service past x z
-stuck_then records service past x y z h k = record {
-  more = h.more ++ k.more;
-  grown = k.grown ∙ ap (λ (l : List (List ℕ)). l ++ k.more) h.grown ∙ append_assoc (records x.keeper) h.more k.more;
-  same = λ e. let b = both_empty h.more k.more e in k.same b.1 ∙ ap (λ (n : NodeValue _). record n { keeper = z.keeper }) (h.same b.0);
-  based = k.based;
-}
-
--- memory was short once more records were kept
-pub stuck_longer : {K : Type 0} (records : K → List (List ℕ)) (service : Declarations) (past : List Value) (x y : NodeValue K) (written : List (List ℕ)) → records y.keeper ≡ records x.keeper ++ written → length (records x.keeper) < length (records y.keeper) → y.base ≡ base (log_of service past (records y.keeper)) → IsStuck records service past x y
-stuck_longer records service past x y written grown longer based = record { more = written; grown = grown; same = λ e. absurd (none e); based = based }
-  where
-    none : written ≡ [] → ⊥
-    none e =
-        let some : length (records y.keeper) ≡ length (records x.keeper) + length written = ap (λ (l : List (List ℕ)). length l) grown ∙ length-append (records x.keeper) written in
-        let zero : length written ≡ 0 = ap (λ (l : List (List ℕ)). length l) e in
-        omega (arith, longer, some, zero)
+use Rattle.rex_node.proofs.Stuck.{breaks_after, breaks_later, settle_loses}
 
 module _ {K : Type 0} (records : K → List (List ℕ)) (gives : K → List ℕ → Answer → K → Type 0) (faults : K → ℕ) (service : Declarations) (past : List Value) where
   -- the model's turns for a node
@@ -57,7 +32,7 @@ module _ {K : Type 0} (records : K → List (List ℕ)) (gives : K → List ℕ 
     pub may : MayGoOn y left
     pub runs : RunsOn service (settles y left) (so_far records service past y after)
     pub count : faults y.keeper < 2 ^ 64 - 1
-    pub stuck : IsStuck records service past x y
+    pub moved : (y ≡ x) ⊎ (length (records x.keeper) < length (records y.keeper))
 
   pub settles_as : (x y : NodeValue K) (turns : ℕ) → IsSame x y → settles y turns ≡ settles x turns
   settles_as x y turns h =
@@ -71,7 +46,7 @@ module _ {K : Type 0} (records : K → List (List ℕ)) (gives : K → List ℕ 
     may = may;
     runs = runs;
     count = count;
-    stuck = stuck_same records service past x (kept.up up);
+    moved = inl refl;
   }
 
   module _ (turns left : ℕ) (x y : NodeValue K) (before mid : Draft) (h : GoneOn turns left x y before mid) (z : NodeValue K) (after : Draft) (same : IsSame y z) where
@@ -89,8 +64,12 @@ module _ {K : Type 0} (records : K → List (List ℕ)) (gives : K → List ℕ 
       may = k.1;
       runs = subst (λ (rest : CallHere → CallHere). RunsOn service rest (so_far records service past z after)) (sym (settles_as y z (left - 2) same)) (rest_runs records gives faults service past (settles y left) (settles y (left - 2)) y z mid after k.0.0 h.runs);
       count = subst (λ (n : ℕ). n < 2 ^ 64 - 1) (sym k.0.0.counted) h.count;
-      stuck = stuck_then records service past x y z h.stuck (stuck_longer records service past y z k.0.0.written k.0.0.grown k.4 (k.0.1.up k.0.2).base);
+      moved = inr (longer h.moved k.4);
     }
+      where
+        longer : (y ≡ x) ⊎ (length (records x.keeper) < length (records y.keeper)) → length (records y.keeper) < length (records z.keeper) → length (records x.keeper) < length (records z.keeper)
+        longer (inl e) l = subst (λ (n : NodeValue K). length (records n.keeper) < length (records z.keeper)) e l
+        longer (inr m) l = omega (arith, m, l)
 
     pub gone_less : GoesRound records gives faults service past left y z mid after Again → (left - 2 < left) × (2 ≤ left)
     gone_less k = let n : 3 ≤ left = k.3 in (omega (arith, n), omega (arith, n))
@@ -107,8 +86,13 @@ module _ {K : Type 0} (records : K → List (List ℕ)) (gives : K → List ℕ 
       k.1,
     )
 
-    pub gone_stuck : IsStuck records service past y z → IsStuck records service past x z
-    gone_stuck k = stuck_then records service past x y z h.stuck k
+    pub gone_stuck : IsStuck records gives faults service past (settles y left) y z mid → IsStuck records gives faults service past (settles x turns) x z before
+    gone_stuck k = by h.moved (subst (λ (whole : CallHere → CallHere). IsStuck records gives faults service past whole y z mid) (settles_as x y left h.same) k)
+      where
+        by : (y ≡ x) ⊎ (length (records x.keeper) < length (records y.keeper)) → IsStuck records gives faults service past (settles x left) y z mid → IsStuck records gives faults service past (settles x turns) x z before
+        by (inl e) (inl s) = inl (subst (λ (n : NodeValue K). Stands records faults gives n z) e s)
+        by (inl e) (inr b) = inr (breaks_later records gives faults service past (settles x turns) (settles x left) x y z before mid h.comes.0 b)
+        by (inr longer) s = inr (breaks_after records gives faults service past (settles x turns) (settles x left) x y z before mid h.comes.0 longer (h.comes.1.up h.comes.2).base (settle_loses left x.nodes x.id (service_of service x.seed)) s)
 
     pub gone_same : IsSame x z
     gone_same = same_then x y z h.same same

@@ -280,6 +280,7 @@ module _ {K : Type 0} (records : K → List (List ℕ)) (gives : K → List ℕ 
             caught_up = b.caught_up;
             proposer = proposes_more;
             acting = acting_more x.acting (subst (λ (o : Option ProposerValue). IsActing service x.known x.acceptor o x.acting) e b.acting);
+            stamped = b.stamped;
             role = let f : LeadFits (length x.known) (lead_of x.acceptor p (is_some x.acting)) = subst (λ (o : Option ProposerValue). RoleFits (length x.known) (role_of x.acceptor o (is_some x.acting))) e b.role in record { ballot = f.ballot; reported = f.reported; next = f.next };
           })
 

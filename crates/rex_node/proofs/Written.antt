@@ -1,7 +1,6 @@
 -- What a call comes to where a record was appended, or its append failed.
-use Rattle.std.proofs.Common.{◌≡◌, ℕ, Bool, true, false, cond, List, [], ◌∷◌, ◌++◌, Result, Ok, Err, Option, None, refl, sym, ap, subst, ◌∙◌}
+use Rattle.std.proofs.Common.{◌≡◌, ℕ, Bool, true, false, cond, inl, length, arith, List, [], ◌∷◌, ◌++◌, Result, Ok, Err, Option, None, sym, ap, subst, ◌∙◌}
 use Rattle.std.specs.Prelude.{map, OnErr}
-use Rattle.std.proofs.lemmas.List.{append-nil}
 use Rattle.rex_syntax.specs.declared.service.Declarations.{Declarations}
 use Rattle.rex_state.specs.Value.{StateValue}
 use Rattle.rex_traits.specs.Chains.{Answer}
@@ -15,34 +14,23 @@ use Rattle.rex_safety.specs.Node.{Failure, Message, Role, Work, down_node}
 use Rattle.rex_safety.specs.Calls.{append, logged}
 use Rattle.rex_safety.specs.Values.{Value}
 use Rattle.rex_safety.specs.Lanes.{Here, CallHere}
+use Rattle.rex_safety.proofs.Lists.{length_push}
 use Rattle.rex_node.specs.declared.going.Going.{Going}
 use Rattle.rex_node.specs.declared.going.Going.TheVariants.{Down}
 use Rattle.rex_node.specs.declared.step.Draft.{Draft}
 use Rattle.rex_log.specs.Messages.{message_in}
 use Rattle.rex_log.specs.Log.{log_of, rec_of, standing_in}
-use Rattle.rex_node.specs.Parts.{NodeValue, IsUp, Keeps, Falls, Stands, fallen, failed_records, here_of}
+use Rattle.rex_node.specs.Parts.{NodeValue, IsUp, Keeps, Falls, fallen, failed_records, here_of}
 use Rattle.rex_node.specs.Calls.{armed_with}
-use Rattle.rex_node.specs.Going.{Appends, IsStuck, Leads, Comes, so_far}
+use Rattle.rex_node.specs.Going.{Appends, BreaksOff, Leads, LosesFirst, Comes, so_far}
 use Rattle.rex_node.proofs.GoingLemmas.{leads_append, fell_append}
+use Rattle.rex_node.proofs.Stuck.{stops_here}
 use Rattle.rex_log.proofs.Pasts.{log_then}
 use Rattle.rex_node.specs.Stated.{is_stated}
 
 pub on_err : {T E P : Type 0} (r : Result T E) → P → OnErr r P
 on_err (Ok x) p = tt
 on_err (Err e) p = p
-
-module _ {K : Type 0} (records : K → List (List ℕ)) (service : Declarations) (past : List Value) (x : NodeValue K) (u : IsUp service x (here_of records service past x)) where
-  -- memory was short before anything was appended
-  pub stuck_same : IsStuck records service past x x
-  stuck_same = record { more = []; grown = sym (append-nil (records x.keeper)); same = λ e. refl; based = u.base }
-
-  pub stuck_stands : (y : NodeValue K) → Stands records x y → IsStuck records service past x y
-  stuck_stands y h = record {
-    more = [];
-    grown = h.records ∙ sym (append-nil (records x.keeper));
-    same = λ e. h.parts;
-    based = ap (λ (n : NodeValue K). n.base) h.parts ∙ u.base ∙ ap (λ (bytes : List (List ℕ)). base (log_of service past bytes)) (sym h.records);
-  }
 
 -- calls with the same parts are the same
 pub call_is : (log log' : List (Rec Value StateValue)) (up : Bool) (armed : Option Failure) (role : Role Value) (work work' : Work) (replayed replayed' : ℕ) (sends sends' : List (Message Value)) (effects effects' : List Effect)
@@ -71,24 +59,20 @@ module _ {K : Type 0} (records : K → List (List ℕ)) (gives : K → List ℕ 
   pub log_written : (kept : List (List ℕ)) → kept ≡ records x.keeper ++ record_bytes r ∷ [] → log_of service past kept ≡ rec_of service past r ∷ log_of service past (records x.keeper)
   log_written kept e = ap (log_of service past) e ∙ log_then service past (records x.keeper) r spelling due
 
-  -- memory was short after it
-  pub stuck_written : (y z : NodeValue K) → base (rec_of service past r ∷ log_of service past (records x.keeper)) ≡ base (log_of service past (records x.keeper)) → Keeps records faults gives x y (record_bytes r)
-      → z.keeper ≡ y.keeper → z.base ≡ y.base → IsStuck records service past x z
-  stuck_written y z same h keeper based = record {
-    more = record_bytes r ∷ [];
-    grown = grown;
-    same = λ e. absurd (cc);
-    based = based ∙ ap (λ (n : NodeValue K). n.base) h.parts ∙ u.base ∙ sym same ∙ sym (ap base (log_written (records z.keeper) grown));
-  }
-    where
-      grown : records z.keeper ≡ records x.keeper ++ record_bytes r ∷ []
-      grown = ap records keeper ∙ h.records
-
   module _ (y : NodeValue K) (before : Draft) (whole k : CallHere → CallHere)
       (is : (f : Option Failure) → whole (armed_with f (so_far records service past x before)) ≡ append f x.id (rec_of service past r) (armed_with f (so_far records service past x before)) k) where
     -- the call goes on from where the record is there
     pub written_on : Keeps records faults gives x y (record_bytes r) → Leads records gives faults service whole k x.keeper y.keeper (so_far records service past x before) (logged (rec_of service past r) None (so_far records service past x before))
     written_on h = leads_append records gives faults service whole k x.id (rec_of service past r) (so_far records service past x before) is x.keeper y.keeper (record_bytes r) stated h.answer h.records h.faults
+
+    -- memory was short once it is there
+    pub broken_written : (z : NodeValue K) → base (rec_of service past r ∷ log_of service past (records x.keeper)) ≡ base (log_of service past (records x.keeper)) → Keeps records faults gives x y (record_bytes r)
+        → z.keeper ≡ y.keeper → z.base ≡ y.base → LosesFirst k → BreaksOff records gives faults service past whole x z before
+    broken_written z same h keeper based loses = record {
+      stops = stops_here records gives faults service whole k x.keeper y.keeper z.keeper (so_far records service past x before) (logged (rec_of service past r) None (so_far records service past x before)) (log_of service past (records z.keeper))
+          (written_on h) (omega (arith, ap length h.records, length_push (records x.keeper) (record_bytes r))) loses (ap records keeper) (ap faults keeper) (inl keeper) (log_written (records z.keeper) (ap records keeper ∙ h.records));
+      based = based ∙ ap (λ (n : NodeValue K). n.base) h.parts ∙ u.base ∙ sym same ∙ sym (ap base (log_written (records z.keeper) (ap records keeper ∙ h.records)));
+    }
 
     -- or the node is down
     pub written_down : (after : Draft) → base (rec_of service past r ∷ log_of service past (records x.keeper)) ≡ base (log_of service past (records x.keeper))

@@ -27,7 +27,7 @@ use Rattle.rex_node.specs.declared.refusal.Refusal.TheVariants as why
 use Rattle.rex_node.specs.declared.step.Step.{Step}
 use Rattle.rex_log.specs.Messages.{message_in}
 use Rattle.rex_node.specs.Stated.{AreStated}
-use Rattle.rex_node.specs.Parts.{NodeValue, failed_records, here_of}
+use Rattle.rex_node.specs.Parts.{NodeValue, RunsShort, Stands, failed_records, here_of}
 
 -- ---- steps
 
@@ -162,15 +162,35 @@ RefusesThen None late (Err refusal) = late ≡ Some refusal
 
 -- ---- what an error leaves
 
--- the node is as it was; or, where memory was short after an append, it is down with the records that it has by then
-pub record IsGivenUp (before after : Here) : Type 0 where
-  pub more : List (Rec Value StateValue)
-  pub down : after ≡ down_node (more ++ before.log) None
+-- appends went well, one after the other, each state in them being spelled, and then memory was short; there are as many records more, which are those of the model's call where the next append fails and loses its record
+pub record StopsShort {K : Type 0} (records : K → List (List ℕ)) (gives : K → List ℕ → Answer → K → Type 0) (faults : K → ℕ) (service : Declarations) (call : CallHere → CallHere) (old new : K) (before : CallHere) (log : List (Rec Value StateValue)) : Type 0 where
+  pub written : List (List ℕ)
+  pub some : 0 < length written
+  pub between : K
+  pub grown : records new ≡ records old ++ written
+  pub appends : AppendsInTurn gives old written (Ok tt) between
+  pub short : RunsShort gives between new
+  pub counted : faults new ≡ faults old
+  pub stated : AreStated service written
+  pub many : length log ≡ length written + length before.node.log
+  pub is : (call (armed_with (Some (After (length written) false)) before)).node.log ≡ log
 
-abbrev pub Leaves : {A : Type 0} → Result A Refusal → Here → Here → Type 0
-Leaves (Ok x) before after = Unit {0}
-Leaves (Err why.OutOfMemory) before after = (after ≡ before) ⊎ IsGivenUp before after
-Leaves (Err refusal) before after = after ≡ before
+-- the call has stopped short after appends, and the node is down with its records
+pub record IsGivenUp {K : Type 0} (records : K → List (List ℕ)) (gives : K → List ℕ → Answer → K → Type 0) (faults : K → ℕ) (service : Declarations) (past : List Value) (call : CallHere → CallHere) (old new : NodeValue K) : Type 0 where
+  pub stops : StopsShort records gives faults service call old.keeper new.keeper (begin (here_of records service past old)) (here_of records service past new).log
+  pub down : here_of records service past new ≡ down_node (here_of records service past new).log None
+
+-- where memory was short nothing has changed, or the node has given up this call
+abbrev pub Leaves : {K A : Type 0} → (K → List (List ℕ)) → (K → List ℕ → Answer → K → Type 0) → (K → ℕ) → Declarations → List Value → (CallHere → CallHere) → Result A Refusal → NodeValue K → NodeValue K → Type 0
+Leaves records gives faults service past call (Ok x) old new = Unit {0}
+Leaves records gives faults service past call (Err why.OutOfMemory) old new = Stands records faults gives old new ⊎ IsGivenUp records gives faults service past call old new
+Leaves records gives faults service past call (Err refusal) old new = Unit {0}
+
+-- nothing has changed where memory was short in a call that makes its one append last
+abbrev pub LeavesAll : {K A : Type 0} → (K → List (List ℕ)) → (K → List ℕ → Answer → K → Type 0) → (K → ℕ) → Result A Refusal → NodeValue K → NodeValue K → Type 0
+LeavesAll records gives faults (Ok x) old new = Unit {0}
+LeavesAll records gives faults (Err why.OutOfMemory) old new = Stands records faults gives old new
+LeavesAll records gives faults (Err refusal) old new = Unit {0}
 
 -- a node that refuses, but for want of memory, is as it was
 abbrev pub IsSpared : {A B : Type 0} → Result A Refusal → B → B → Type 0

@@ -56,7 +56,7 @@ pub record FallsSaving {K : Type 0} (records : K → List (List ℕ)) (faults : 
 abbrev pub SavesOr : {K : Type 0} → (K → List (List ℕ)) → (K → ℕ) → (K → List ℕ → Answer → K → Type 0) → Version → (before after : NodeValue K) → StateValue → List ℕ → Result (Unit {0}) KeepFault → Type 0
 SavesOr records faults gives version before after s bytes (Ok x) = Saves records faults gives version before after s bytes
 SavesOr records faults gives version before after s bytes (Err Failed) = FallsSaving records faults gives before after bytes
-SavesOr records faults gives version before after s bytes (Err OutOfMemory) = Stands records before after
+SavesOr records faults gives version before after s bytes (Err OutOfMemory) = Stands records faults gives before after
 
 -- the last checkpoint is kept again, in the new version
 pub record Migrates {K : Type 0} (records : K → List (List ℕ)) (faults : K → ℕ) (gives : K → List ℕ → Answer → K → Type 0) (before after : NodeValue K) (bytes : List ℕ) : Type 0 where
@@ -68,4 +68,4 @@ pub record Migrates {K : Type 0} (records : K → List (List ℕ)) (faults : K �
 abbrev pub MigratesOr : {K : Type 0} → (K → List (List ℕ)) → (K → ℕ) → (K → List ℕ → Answer → K → Type 0) → (before after : NodeValue K) → List ℕ → Result (Unit {0}) KeepFault → Type 0
 MigratesOr records faults gives before after bytes (Ok x) = Migrates records faults gives before after bytes
 MigratesOr records faults gives before after bytes (Err Failed) = Falls records faults gives before after bytes
-MigratesOr records faults gives before after bytes (Err OutOfMemory) = Stands records before after
+MigratesOr records faults gives before after bytes (Err OutOfMemory) = Stands records faults gives before after

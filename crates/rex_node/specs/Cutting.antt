@@ -1,5 +1,5 @@
 -- What a cut of what is executed proposes.
-use Rattle.std.specs.Prelude.{◌≡◌, ℕ, ◌+◌, ◌<◌, Bool, true, false, List, [], length, is_some, Result, Ok, Err, Option, Some, None, option_map}
+use Rattle.std.specs.Prelude.{◌≡◌, ◌⊎◌, ℕ, ◌+◌, ◌<◌, Bool, true, false, List, [], length, is_some, Result, Ok, Err, Option, Some, None, option_map}
 use Rattle.rex_event.specs.Cuts.{below}
 use Rattle.rex_cut.specs.Greatest.{greatest_cut}
 use Rattle.rex_cut.specs.Delta.{delta_at}
@@ -19,9 +19,9 @@ use Rattle.rex_node.specs.declared.pieces.Piece.{Piece}
 use Rattle.rex_node.specs.declared.refusal.Refusal.{Refusal}
 use Rattle.rex_node.specs.declared.refusal.Refusal.TheVariants as why
 use Rattle.rex_node.specs.Calls.{AreLimits, CutIsSpelled}
-use Rattle.rex_node.specs.Going.{Ends}
+use Rattle.rex_node.specs.Going.{BreaksOff, Ends}
 use Rattle.rex_node.specs.Leading.{FromLead}
-use Rattle.rex_node.specs.Parts.{ActingValue, NodeValue, open_of}
+use Rattle.rex_node.specs.Parts.{ActingValue, NodeValue, Stands, open_of}
 
 -- the counts below which a cut is made: all live events, or at most so many of each lane
 abbrev pub counts_in : ActingValue → Option (List ℕ) → List ℕ
@@ -106,7 +106,20 @@ ProposesCut records gives faults service past events value old new before after 
     (λ d. propose old.nodes old.id (effect.Proposes old.id (length old.known + 1) events) d l (length old.known + 1) value (settle (enough l.reported) old.nodes (service_of service old.seed) old.id))
     old new before after going)
 
+-- memory was short as it did: nothing has changed, or the call broke off
+abbrev pub ProposesCutShort : {K : Type 0} → (K → List (List ℕ)) → (K → List ℕ → Answer → K → Type 0) → (K → ℕ) → Declarations → List Value → ℕ → Value → (old new : NodeValue K) → Draft → Type 0
+ProposesCutShort records gives faults service past events value old new before =
+    Stands records faults gives old new
+    ⊎ FromLead old (λ l.
+    BreaksOff records gives faults service past
+    (λ d. propose old.nodes old.id (effect.Proposes old.id (length old.known + 1) events) d l (length old.known + 1) value (settle (enough l.reported) old.nodes (service_of service old.seed) old.id))
+    old new before)
+
 -- the same of a cut, whose value and events are those of what is executed
 abbrev pub ProposesPiece : {K : Type 0} → (K → List (List ℕ)) → (K → List ℕ → Answer → K → Type 0) → (K → ℕ) → Declarations → List Value → List ℕ → (old new : NodeValue K) → (before after : Draft) → Going → Type 0
 ProposesPiece records gives faults service past cut old new before after going =
     FromLead old (λ l. Ends records gives faults service past (propose_cut service old.seed old.nodes old.id cut l) old new before after going)
+
+abbrev pub ProposesPieceShort : {K : Type 0} → (K → List (List ℕ)) → (K → List ℕ → Answer → K → Type 0) → (K → ℕ) → Declarations → List Value → List ℕ → (old new : NodeValue K) → Draft → Type 0
+ProposesPieceShort records gives faults service past cut old new before =
+    Stands records faults gives old new ⊎ FromLead old (λ l. BreaksOff records gives faults service past (propose_cut service old.seed old.nodes old.id cut l) old new before)

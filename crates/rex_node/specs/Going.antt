@@ -1,5 +1,5 @@
 -- What a part of a call does: it goes on to the next part, or its append fails and the node is down.
-use Rattle.std.specs.Prelude.{◌≡◌, ℕ, suc, ◌+◌, ◌*◌, ◌<◌, ◌≤◌, true, false, nat_lt, List, [], ◌∷◌, ◌++◌, length, map, Result, Ok, Err, Option, Some, None, IfSome, if◌then◌else◌}
+use Rattle.std.specs.Prelude.{◌≡◌, ◌⊎◌, ℕ, suc, ◌+◌, ◌*◌, ◌<◌, ◌≤◌, true, false, nat_lt, List, [], ◌∷◌, ◌++◌, length, map, Result, Ok, Err, Option, Some, None, IfSome, if◌then◌else◌}
 use Rattle.std.specs.declared.alloc.AllocError.{AllocError}
 use Rattle.rex_ballot.specs.declared.proposal.Proposal.{Proposal as Kept}
 use Rattle.rex_msg.specs.declared.message.Message.{Message}
@@ -26,8 +26,8 @@ use Rattle.rex_node.specs.declared.step.Step.{Step}
 use Rattle.rex_log.specs.Messages.{message_in}
 use Rattle.rex_node.specs.Stated.{AreStated}
 use Rattle.rex_log.specs.Log.{log_of}
-use Rattle.rex_node.specs.Parts.{NodeValue, IsKept, IsResting, Keeps, Falls, fallen, here_of}
-use Rattle.rex_node.specs.Calls.{armed_with, FailsAfter}
+use Rattle.rex_node.specs.Parts.{NodeValue, IsKept, IsResting, Keeps, Falls, Stands, fallen, here_of}
+use Rattle.rex_node.specs.Calls.{armed_with, FailsAfter, StopsShort}
 
 -- the call of the model that has come to this node, and has sent and reported what the draft has
 abbrev pub so_far : {K : Type 0} → (K → List (List ℕ)) → Declarations → List Value → NodeValue K → Draft → CallHere
@@ -92,12 +92,18 @@ Comes records gives faults service past whole rest old new before after Down =
 abbrev pub Ends : {K : Type 0} → (K → List (List ℕ)) → (K → List ℕ → Answer → K → Type 0) → (K → ℕ) → Declarations → List Value → (CallHere → CallHere) → (old new : NodeValue K) → (before after : Draft) → Going → Type 0
 Ends records gives faults service past whole old new before after going = Comes records gives faults service past whole (λ d. d) old new before after going × IsResting records service past new
 
--- memory was short: the keeper has its records and perhaps more, with the node's base among them, and where it has no more nothing else has changed
-pub record IsStuck {K : Type 0} (records : K → List (List ℕ)) (service : Declarations) (past : List Value) (old new : NodeValue K) : Type 0 where
-  pub more : List (List ℕ)
-  pub grown : records new.keeper ≡ records old.keeper ++ more
-  pub same : more ≡ [] → new ≡ record old { keeper = new.keeper }
+-- a part of a call has stopped short after appends, and the node's base is that of its records
+pub record BreaksOff {K : Type 0} (records : K → List (List ℕ)) (gives : K → List ℕ → Answer → K → Type 0) (faults : K → ℕ) (service : Declarations) (past : List Value) (whole : CallHere → CallHere) (old new : NodeValue K) (before : Draft) : Type 0 where
+  pub stops : StopsShort records gives faults service whole old.keeper new.keeper (so_far records service past old before) (log_of service past (records new.keeper))
   pub based : new.base ≡ base (log_of service past (records new.keeper))
+
+-- memory was short: nothing has changed, or the part has broken off after appends
+abbrev pub IsStuck : {K : Type 0} → (K → List (List ℕ)) → (K → List ℕ → Answer → K → Type 0) → (K → ℕ) → Declarations → List Value → (CallHere → CallHere) → (old new : NodeValue K) → Draft → Type 0
+IsStuck records gives faults service past whole old new before = Stands records faults gives old new ⊎ BreaksOff records gives faults service past whole old new before
+
+-- what is left of a call appends nothing where its first append fails and loses its record
+abbrev pub LosesFirst : (CallHere → CallHere) → Type 0
+LosesFirst rest = (d : CallHere) → (rest (armed_with (Some (After 0 false)) d)).node.log ≡ d.node.log
 
 -- the record is kept, and the draft is as it was; or the append failed, the node is down, the draft tells so last and sends nothing
 abbrev pub Appends : {K : Type 0} → (K → List (List ℕ)) → (K → ℕ) → (K → List ℕ → Answer → K → Type 0) → (old new : NodeValue K) → (before after : Draft) → List ℕ → Going → Type 0

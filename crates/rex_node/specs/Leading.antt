@@ -1,5 +1,5 @@
 -- What the parts of a call do by which a node that leads, or asks to, goes on.
-use Rattle.std.specs.Prelude.{◌≡◌, ℕ, ◌-◌, ◌<◌, ◌≤◌, ◌&&◌, Bool, true, false, not, List, [], ◌∷◌, ◌++◌, length, map, unwrap_or, is_some, is_none, Option, Some, None, option_map, IfSome}
+use Rattle.std.specs.Prelude.{◌≡◌, ℕ, ◌-◌, ◌<◌, ◌≤◌, ◌&&◌, Bool, true, false, not, List, [], ◌∷◌, ◌++◌, drop, length, map, unwrap_or, is_some, is_none, Option, Some, None, option_map, IfSome, ◌⊎◌}
 use Rattle.rex_ballot.specs.declared.proposal.Proposal.{Proposal as Kept}
 use Rattle.rex_paxos.specs.Reports.{best_for}
 use Rattle.rex_state.specs.Value.{StateValue}
@@ -13,7 +13,7 @@ use Rattle.rex_paxos.specs.Proposer.{ProposerValue, is_candidate, proposed, clos
 use Rattle.rex_event.specs.Cuts.{IsConsistent, below}
 use Rattle.rex_record.specs.Value.{settled, releases, started}
 use Rattle.rex_record.specs.Kept.{IsRecorder}
-use Rattle.rex_gate.specs.Noted.{noted}
+use Rattle.rex_gate.specs.Noted.{AnswersValue, answers_at, numbering, noting}
 use Rattle.rex_traits.specs.Chains.{Answer}
 use Rattle.rex_safety.specs.Records.{proposal_of}
 use Rattle.rex_safety.specs.Node.{Lead, dice_of}
@@ -25,8 +25,8 @@ use Rattle.rex_node.specs.declared.going.Going.TheVariants.{On, Down}
 use Rattle.rex_node.specs.declared.going.Round.{Round}
 use Rattle.rex_node.specs.declared.going.Round.TheVariants.{Again, Done}
 use Rattle.rex_node.specs.declared.step.Draft.{Draft}
-use Rattle.rex_node.specs.Parts.{NodeValue, ActingValue, IsCutAt, lead_of}
-use Rattle.rex_node.specs.Going.{Comes, Ends, MayGoOn}
+use Rattle.rex_node.specs.Parts.{NodeValue, ActingValue, IsCutAt, Stands, lead_of}
+use Rattle.rex_node.specs.Going.{BreaksOff, Comes, Ends, LosesFirst, MayGoOn}
 
 -- this holds of what the node leads with, where it does
 abbrev pub FromLead : {K : Type 0} → NodeValue K → (Lead Value → Type 0) → Type 0
@@ -45,6 +45,12 @@ Opens records gives faults service past told instance value old new before after
     Comes records gives faults service past (λ d. propose old.nodes old.id told d l instance value k)
     (λ d. k (led (leading l (Some (proposal_of l.ballot instance value)) (old.id ∷ []) l.active) d))
     old new before after going)
+
+-- memory was short as it did: nothing has changed, or the call broke off with the acceptance written down, whatever is left of it
+abbrev pub OpensShort : {K : Type 0} → (K → List (List ℕ)) → (K → List ℕ → Answer → K → Type 0) → (K → ℕ) → Declarations → List Value → Effect → ℕ → Value → (old new : NodeValue K) → Draft → Type 0
+OpensShort records gives faults service past told instance value old new before =
+    Stands records faults gives old new
+    ⊎ FromLead old (λ l. (k : CallHere → CallHere) → LosesFirst k → BreaksOff records gives faults service past (λ d. propose old.nodes old.id told d l instance value k) old new before)
 
 -- what the node itself accepts, where it leads
 abbrev pub accept_own : Option ProposerValue → AcceptorValue → ℕ → Value → AcceptorValue
@@ -71,9 +77,15 @@ Learns records gives faults service past instance value old new before after goi
     FromLead old (λ l. (k : CallHere → CallHere) →
     Comes records gives faults service past (λ d. decide old.nodes (service_of service old.seed) old.id d l instance value k) k old new before after going)
 
+-- memory was short as it did: nothing has changed, or the call broke off with the known value written down, whatever is left of it
+abbrev pub LearnsShort : {K : Type 0} → (K → List (List ℕ)) → (K → List ℕ → Answer → K → Type 0) → (K → ℕ) → Declarations → List Value → ℕ → Value → (old new : NodeValue K) → Draft → Type 0
+LearnsShort records gives faults service past instance value old new before =
+    Stands records faults gives old new
+    ⊎ FromLead old (λ l. (k : CallHere → CallHere) → LosesFirst k → BreaksOff records gives faults service past (λ d. decide old.nodes (service_of service old.seed) old.id d l instance value k) old new before)
+
 -- what is executed once the events below the cut are known, and what is known of the clients then
 abbrev pub settling : Declarations → ActingValue → ActingValue
-settling service a = record a { recorder = settled service a.recorder a.proposed; answers = noted a.answers (below a.proposed a.recorder.live) }
+settling service a = record a { recorder = settled service a.recorder a.proposed; answers = noting a.answers (below a.proposed a.recorder.live) }
 
 -- the recorder can settle at the cut that was proposed last, and the events below it are those of the value
 pub record CanSettle (service : Declarations) (value : Value) (a : ActingValue) : Type 0 where
@@ -120,13 +132,22 @@ abbrev pub reported_value : Option ProposerValue → ℕ → Option Value
 reported_value None instance = None
 reported_value (Some p) instance = option_map (λ (q : Kept). q.value) (best_for instance p.reported)
 
+-- once the replies of these values are numbered, one value after another
+abbrev pub numbering_values : AnswersValue → List Value → AnswersValue
+numbering_values a [] = a
+numbering_values a (v ∷ vs) = numbering_values (numbering a (events_of v)) vs
+
+-- what is known of the clients at a state: their entries are the state's, and the values that are held past the offset number their replies
+abbrev pub fresh_answers : ℕ → List Value → StateValue → AnswersValue
+fresh_answers offset held state = numbering_values (answers_at state.clients offset) held
+
 -- what a node executes that is active from here on
-abbrev pub fresh : ℕ → ℕ → StateValue → ActingValue
-fresh seed ballot state = record { recorder = started state; dice = dice_of seed ballot; proposed = []; answers = state.clients }
+abbrev pub fresh : ℕ → ℕ → StateValue → AnswersValue → ActingValue
+fresh seed ballot state answers = record { recorder = started state; dice = dice_of seed ballot; proposed = []; answers = answers }
 
 -- the node is active, with the state after all that it knows
 abbrev pub activated : {K : Type 0} → NodeValue K → StateValue → NodeValue K
-activated x state = record x { replayed = length x.known; ahead = None; acting = Some (fresh x.seed (unwrap_or (option_map (λ (p : ProposerValue). p.ballot) x.proposer) 0) state) }
+activated x state = record x { replayed = length x.known; ahead = None; acting = Some (fresh x.seed (unwrap_or (option_map (λ (p : ProposerValue). p.ballot) x.proposer) 0) state (fresh_answers x.offset (drop x.offset x.known) state)) }
 
 pub record IsActive {K : Type 0} (service : Declarations) (old new : NodeValue K) : Type 0 where
   pub state : StateValue

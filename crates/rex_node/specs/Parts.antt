@@ -1,5 +1,5 @@
 -- A node's parts, and the node of the cluster's model that they are.
-use Rattle.std.specs.Prelude.{◌≡◌, ℕ, ◌<◌, ◌≤◌, ◌||◌, not, Bool, true, false, ◌+◌, List, [], ◌∷◌, ◌++◌, length, map, take, is_some, Result, Ok, Err, Option, Some, None, option_map}
+use Rattle.std.specs.Prelude.{◌≡◌, ℕ, ◌<◌, ◌≤◌, ◌||◌, not, Bool, true, false, ◌+◌, List, [], ◌∷◌, ◌++◌, length, map, max, take, is_some, unwrap_or, Result, Ok, Err, Option, Some, None, option_map, ◌⊎◌}
 use Rattle.std.specs.List.{All}
 use Rattle.rex_ballot.specs.Limits.{most_nodes}
 use Rattle.rand_pcg.specs.Lcg.{Lcg}
@@ -7,7 +7,6 @@ use Rattle.rex_ballot.specs.declared.proposal.Proposal.{Proposal as Kept}
 use Rattle.rex_ballot.specs.Ballot.{node_of}
 use Rattle.rex_ballot.specs.Proposals.{IsValue, proposal_for}
 use Rattle.rex_syntax.specs.declared.service.Declarations.{Declarations}
-use Rattle.rex_state.specs.declared.lane.Entry.{Entry}
 use Rattle.rex_state.specs.Value.{StateValue}
 use Rattle.rex_state.specs.Counts.{counts_of}
 use Rattle.rex_state.specs.Start.{start_of}
@@ -16,6 +15,7 @@ use Rattle.rex_record.specs.Value.{RecorderValue}
 use Rattle.rex_record.specs.Kept.{IsRecorder}
 use Rattle.rex_paxos.specs.Acceptor.{AcceptorValue}
 use Rattle.rex_paxos.specs.Proposer.{ProposerValue, CountsOnce, is_candidate}
+use Rattle.rex_gate.specs.Noted.{AnswersValue, stamp_of}
 use Rattle.rex_scenario.specs.Fits.{RequestFits}
 use Rattle.rex_safety.specs.Records.{Proposal, promise, accepted, offset, known, base, has_old_base}
 use Rattle.rex_log.specs.Log.{first, log_of, proposal_in}
@@ -30,6 +30,7 @@ use Rattle.rex_traits.specs.declared.keeper.KeepFault.{KeepFault}
 use Rattle.rex_traits.specs.declared.keeper.KeepFault.TheVariants.{Failed, OutOfMemory}
 use Rattle.rex_traits.specs.Chains.{Answer}
 use Rattle.rex_safety.specs.Lanes.{Here}
+use Rattle.rex_safety.specs.Reading.{last_reply}
 
 -- ---- parts
 
@@ -38,7 +39,7 @@ pub record ActingValue : Type 0 where
   pub recorder : RecorderValue
   pub dice : Lcg
   pub proposed : List ℕ
-  pub answers : List Entry
+  pub answers : AnswersValue
 
 -- the node's number and how many there are; the seed; its keeper; whether it is up; its acceptor; of how many instances it doesn't hold the values, and the known values after those; how many values its base is after, whether its last checkpoint is in the old version, and the state at the base; how many it has replayed, and the state then where that is another one and the node isn't active; its proposer where it has asked to lead; and what it executes where it is active
 pub record NodeValue (K : Type 0) : Type 0 where
@@ -132,7 +133,7 @@ pub record Executes (service : Declarations) (values : List Value) (a : ActingVa
   pub recorder : IsRecorder service a.recorder
   pub known : run service (start_of service) (trace_of values) ≡ Some a.recorder.start
   pub requests : All (RequestFits service) a.recorder.queue
-  pub answers : a.answers ≡ a.recorder.start.clients
+  pub answers : a.answers.entries ≡ a.recorder.start.clients
 
 -- an open proposal is the delta of the live events below the cut that was proposed last, which counts none but live events
 pub record IsCutAt (service : Declarations) (values : List Value) (a : ActingValue) (value : Value) : Type 0 where
@@ -154,6 +155,16 @@ abbrev pub IsActing : Declarations → List Value → AcceptorValue → Option P
 IsActing service values acceptor proposer None = Unit {0}
 IsActing service values acceptor None (Some a) = ⊥
 IsActing service values acceptor (Some p) (Some a) = ActsFor service values (open_of acceptor p.open_instance) a
+
+-- what is known of the clients counts all that the node knows, and where a client's last reply is in a value past the offset it has that value's number
+pub record NumbersReplies (offset : ℕ) (values : List Value) (a : AnswersValue) : Type 0 where
+  pub clients : length a.numbers ≡ 257
+  pub count : a.count ≡ length values
+  pub stamps : (client : ℕ) → client ≤ 256 → max (unwrap_or (stamp_of a client) 0) offset ≡ max (last_reply client 1 values) offset
+
+abbrev pub HasStamps : ℕ → List Value → Option ActingValue → Type 0
+HasStamps offset values None = Unit {0}
+HasStamps offset values (Some a) = NumbersReplies offset values a.answers
 
 -- no value is too long to be written down
 abbrev pub AreShort : List Kept → Type 0
@@ -194,6 +205,7 @@ pub record IsUp {K : Type 0} (service : Declarations) (x : NodeValue K) (h : Her
   pub short : AreShort x.acceptor.accepted
   pub proposer : IsProposer x.nodes x.id x.acceptor x.proposer
   pub acting : IsActing service x.known x.acceptor x.proposer x.acting
+  pub stamped : HasStamps x.offset x.known x.acting
   pub fits : values_fit service x.known ≡ true
   pub numbers : NodeFits h
 
@@ -275,12 +287,18 @@ pub record Falls {K : Type 0} (records_of : K → List (List ℕ)) (faults_of : 
   pub faults : faults_of before.keeper < faults_of after.keeper
   pub answer : gives before.keeper bytes (Err Failed) after.keeper
 
+-- memory was short before an append, or the keeper answered so
+abbrev pub RunsShort : {K : Type 0} → (K → List ℕ → Answer → K → Type 0) → K → K → Type 0
+RunsShort gives old new = (new ≡ old) ⊎ ((bytes : List ℕ) × gives old bytes (Err OutOfMemory) new)
+
 -- memory was short, and nothing has changed
-pub record Stands {K : Type 0} (records_of : K → List (List ℕ)) (before after : NodeValue K) : Type 0 where
+pub record Stands {K : Type 0} (records_of : K → List (List ℕ)) (faults_of : K → ℕ) (gives : K → List ℕ → Answer → K → Type 0) (before after : NodeValue K) : Type 0 where
   pub parts : after ≡ record before { keeper = after.keeper }
   pub records : records_of after.keeper ≡ records_of before.keeper
+  pub faults : faults_of after.keeper ≡ faults_of before.keeper
+  pub short : RunsShort gives before.keeper after.keeper
 
 abbrev pub Writes : {K : Type 0} → (K → List (List ℕ)) → (K → ℕ) → (K → List ℕ → Answer → K → Type 0) → NodeValue K → NodeValue K → List ℕ → Result (Unit {0}) KeepFault → Type 0
 Writes records faults gives before after bytes (Ok x) = Keeps records faults gives before after bytes
 Writes records faults gives before after bytes (Err Failed) = Falls records faults gives before after bytes
-Writes records faults gives before after bytes (Err OutOfMemory) = Stands records before after
+Writes records faults gives before after bytes (Err OutOfMemory) = Stands records faults gives before after

@@ -1,5 +1,5 @@
 -- States that are told, or taken over, for values that a node doesn't hold.
-use Rattle.std.specs.Prelude.{◌≡◌, ℕ, ◌<◌, ◌≤◌, ◌-◌, Bool, List, [], drop, length, Result, Ok, Err, Option, Some, None, nat_le, if◌then◌else◌}
+use Rattle.std.specs.Prelude.{◌≡◌, ℕ, ◌<◌, ◌≤◌, ◌-◌, Bool, List, [], drop, length, max, unwrap_or, Result, Ok, Err, Option, Some, None, nat_le, if◌then◌else◌}
 use Rattle.std.specs.List.{All}
 use Rattle.rex_ballot.specs.Proposals.{IsValue}
 use Rattle.rex_paxos.specs.Acceptor.{forgetting}
@@ -8,6 +8,7 @@ use Rattle.rex_state.specs.Value.{StateValue}
 use Rattle.rex_state.specs.Start.{start_of}
 use Rattle.rex_state.specs.Machine.{run}
 use Rattle.rex_snapshot.specs.Reading.{state_in}
+use Rattle.rex_gate.specs.Noted.{stamp_of}
 use Rattle.rex_msg.specs.declared.message.Message.{Message}
 use Rattle.rex_msg.specs.declared.message.Content.{Content}
 use Rattle.rex_msg.specs.declared.message.Content.TheVariants as sent
@@ -17,7 +18,7 @@ use Rattle.rex_safety.specs.Lanes.{Here}
 use Rattle.rex_log.specs.Log.{first}
 use Rattle.rex_node.specs.declared.refusal.Refusal.{Refusal}
 use Rattle.rex_node.specs.declared.refusal.Refusal.TheVariants as why
-use Rattle.rex_node.specs.Parts.{NodeValue}
+use Rattle.rex_node.specs.Parts.{ActingValue, NodeValue}
 
 -- the first so many values of the past run to the state
 abbrev pub LeadTo : Declarations → List Value → ℕ → StateValue → Type 0
@@ -69,6 +70,11 @@ IsToldState service many _ told = told ≡ None
 abbrev pub RefusesContent : Declarations → ℕ → Content → Refusal → Type 0
 RefusesContent service many (sent.Snapshot k bytes) refusal = (many < k) × RefusesState (state_in service bytes) refusal
 RefusesContent service many _ refusal = ⊥
+
+-- the number of the value with a client's last reply, by what is known of the clients; the offset where that is greater
+abbrev pub stamp_in : Option ActingValue → ℕ → ℕ → ℕ
+stamp_in None offset client = offset
+stamp_in (Some a) offset client = max (unwrap_or (stamp_of a.answers client) 0) offset
 
 -- the node forgot the values up to its base, and what it accepted for their instances
 abbrev pub dropped : {K : Type 0} → NodeValue K → ℕ → NodeValue K

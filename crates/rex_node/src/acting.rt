@@ -10,15 +10,15 @@ ghost use Rattle.rex_record.specs.Take.{taken_turn};
 ghost use Rattle.rex_record.specs.Value.{turned, releases};
 ghost use Rattle.rex_safety.specs.Values as values;
 ghost use Rattle.rex_record.specs.Kept.{IsRecorder};
-ghost use Rattle.rex_gate.specs.Noted.{noted};
+ghost use Rattle.rex_gate.specs.Noted.{noting};
 ghost use Rattle.rex_scenario.specs.Fits.{RequestFits};
 ghost use Rattle.rex_node.specs.Blocks.{given_all};
 ghost use Rattle.rex_node.specs.Leading.{settling};
 ghost use Rattle.rex_node.specs.Submitting.{answer_in, given, taken};
 
 use crate::step::Draft;
+use crate::values::events_in;
 use rand_pcg::Lcg64Xsh32;
-use rex_delta::{DecodeError, decode};
 use rex_event::{Cut, Event};
 use rex_gate::{Answer, Answers};
 use rex_record::{Recorder, Release, Turn};
@@ -178,13 +178,10 @@ impl Acting {
 
 // What a value that became known says of clients is noted.
 fn note(answers: &mut Answers, alloc: Global, value: &[u8]) -> Result<(), AllocError>
-    ensures { OnOk result (answers.new ≡ noted answers.old (values.events_of value.now)) }
+    ensures { OnOk result (answers.new ≡ noting answers.old (values.events_of value.now)) }
 {
-    match decode(alloc, value) {
-        Ok(delta) => answers.note(&delta),
-        Err(DecodeError::OutOfMemory) => Err(AllocError),
-        Err(DecodeError::Bad { .. }) => Ok(()),
-    }
+    let events = events_in(alloc, value)?;
+    answers.note(events.as_slice())
 }
 
 fn release_effect(release: &Release) -> Effect

@@ -11,7 +11,7 @@ ghost use Rattle.rex_snapshot.specs.Spelling.{IsLimited};
 ghost use Rattle.rex_safety.specs.Calls as calls;
 ghost use Rattle.rex_safety.specs.Values.{service_of};
 ghost use Rattle.rex_node.specs.declared.refusal.Refusal.TheVariants as why;
-ghost use Rattle.rex_node.specs.Calls.{Does, EndsDown, IsSpared, Leaves, Refuses, refusal_of_checkpoint};
+ghost use Rattle.rex_node.specs.Calls.{Does, EndsDown, IsSpared, LeavesAll, Refuses, refusal_of_checkpoint};
 ghost use Rattle.rex_node.specs.Checkpointing.{IsCheckpoint, SavesOr, rebased, replayed_state};
 ghost use Rattle.rex_safety.specs.Records.{is_old};
 ghost use Rattle.rex_node.specs.Parts.{IsNode, StaysNode, here_of, whole};
@@ -165,7 +165,7 @@ impl<K: Keeper> Node<K> {
         ensures refused { Refuses (refusal_of_checkpoint (here_of K.records svc.now P.past self.old)) result }
         ensures told { IfOk result (Does K.records K.append_gives K.faults svc.now P.past (calls.checkpoint Two (service_of svc.now self.old.seed) self.old.id) self.old self.new) }
         ensures down { IfOk result (EndsDown self.old.id (K.faults self.old.keeper) (K.faults self.new.keeper)) }
-        ensures left { Leaves result (here_of K.records svc.now P.past self.old) (here_of K.records svc.now P.past self.new) }
+        ensures left { LeavesAll K.records K.append_gives K.faults result self.old self.new }
         ensures same { IsSpared result self.old self.new }
         ensures kept { StaysNode K.records svc.now P.past self.old self.new }
     {
@@ -180,7 +180,7 @@ impl<K: Keeper> Node<K> {
         ensures refused { Refuses (refusal_of_checkpoint (here_of K.records svc.now P.past self.old)) result }
         ensures told { IfOk result (Does K.records K.append_gives K.faults svc.now P.past (calls.checkpoint One (service_of svc.now self.old.seed) self.old.id) self.old self.new) }
         ensures down { IfOk result (EndsDown self.old.id (K.faults self.old.keeper) (K.faults self.new.keeper)) }
-        ensures left { Leaves result (here_of K.records svc.now P.past self.old) (here_of K.records svc.now P.past self.new) }
+        ensures left { LeavesAll K.records K.append_gives K.faults result self.old self.new }
         ensures same { IsSpared result self.old self.new }
         ensures kept { StaysNode K.records svc.now P.past self.old self.new }
     {
@@ -199,7 +199,7 @@ impl<K: Keeper> Node<K> {
         ensures refused { Refuses (refusal_of_checkpoint (here_of K.records svc.now P.past self.old)) result }
         ensures told { IfOk result (Does K.records K.append_gives K.faults svc.now P.past (calls.checkpoint version (service_of svc.now self.old.seed) self.old.id) self.old self.new) }
         ensures down { IfOk result (EndsDown self.old.id (K.faults self.old.keeper) (K.faults self.new.keeper)) }
-        ensures left { Leaves result (here_of K.records svc.now P.past self.old) (here_of K.records svc.now P.past self.new) }
+        ensures left { LeavesAll K.records K.append_gives K.faults result self.old self.new }
         ensures same { IsSpared result self.old self.new }
         ensures kept { StaysNode K.records svc.now P.past self.old self.new }
     {

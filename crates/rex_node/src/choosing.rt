@@ -44,7 +44,7 @@ impl<K: Keeper> Node<K> {
         requires runs { RunsOn svc.now (calls.on_chosen self.old.id instance value.now) (so_far K.records svc.now P.past self.old draft.old) }
         requires count { K.faults self.old.keeper < 2 ^ 64 - 1 }
         ensures ends { IfOk result (Ends K.records K.append_gives K.faults svc.now P.past (calls.on_chosen self.old.id instance value.now) (whole P.past self.old) (whole P.past self.new) draft.old draft.new) }
-        ensures stuck { OnErr result (IsStuck K.records svc.now P.past (whole P.past self.old) (whole P.past self.new)) }
+        ensures stuck { OnErr result (IsStuck K.records K.append_gives K.faults svc.now P.past (calls.on_chosen self.old.id instance value.now) (whole P.past self.old) (whole P.past self.new) draft.old) }
         ensures same { IsSame (whole P.past self.old) (whole P.past self.new) }
     {
         let _service = svc.declarations();
@@ -75,7 +75,7 @@ impl<K: Keeper> Node<K> {
         requires runs { RunsOn svc.now (calls.on_chosen self.old.id instance value.now) (so_far K.records svc.now P.past self.old draft.old) }
         requires count { K.faults self.old.keeper < 2 ^ 64 - 1 }
         ensures ends { IfOk result (Ends K.records K.append_gives K.faults svc.now P.past (calls.on_chosen self.old.id instance value.now) (whole P.past self.old) (whole P.past self.new) draft.old draft.new) }
-        ensures stuck { OnErr result (IsStuck K.records svc.now P.past (whole P.past self.old) (whole P.past self.new)) }
+        ensures stuck { OnErr result (IsStuck K.records K.append_gives K.faults svc.now P.past (calls.on_chosen self.old.id instance value.now) (whole P.past self.old) (whole P.past self.new) draft.old) }
         ensures same { IsSame (whole P.past self.old) (whole P.past self.new) }
     {
         let _service = svc.declarations();
@@ -122,7 +122,7 @@ impl<K: Keeper> Node<K> {
         requires node { IsNode K.records svc.now P.past self.old }
         requires up { self.old.up ≡ true }
         ensures ends { IfOk result (Ends K.records K.append_gives K.faults svc.now P.past (λ d. calls.on_nack self.old.id promised d d.node.role) (whole P.past self.old) (whole P.past self.new) draft.old draft.new) }
-        ensures stuck { OnErr result (IsStuck K.records svc.now P.past (whole P.past self.old) (whole P.past self.new)) }
+        ensures stuck { OnErr result (IsStuck K.records K.append_gives K.faults svc.now P.past (λ d. calls.on_nack self.old.id promised d d.node.role) (whole P.past self.old) (whole P.past self.new) draft.old) }
         ensures same { IsSame (whole P.past self.old) (whole P.past self.new) }
     {
         let _service = svc.declarations();
@@ -157,7 +157,7 @@ impl<K: Keeper> Node<K> {
         requires up { self.old.up ≡ true }
         requires past { Begins (records.known (here_of K.records svc.now P.past self.old).log) P.past }
         ensures ends { IfOk result (Ends K.records K.append_gives K.faults svc.now P.past (calls.on_ask self.old.id from first) (whole P.past self.old) (whole P.past self.new) draft.old draft.new) }
-        ensures stuck { OnErr result (IsStuck K.records svc.now P.past (whole P.past self.old) (whole P.past self.new)) }
+        ensures stuck { OnErr result (IsStuck K.records K.append_gives K.faults svc.now P.past (calls.on_ask self.old.id from first) (whole P.past self.old) (whole P.past self.new) draft.old) }
         ensures tells { draft.old.sends.items ≡ [] → OnOk result (AreTold svc.now P.past draft.new.sends.items) }
         ensures same { IsSame (whole P.past self.old) (whole P.past self.new) }
     {

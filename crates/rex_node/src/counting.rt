@@ -47,7 +47,7 @@ impl<K: Keeper> Node<K> {
         requires runs { RunsOn svc.now (λ d. calls.on_promise self.old.nodes (service_of svc.now self.old.seed) self.old.id from ballot (map proposal_in reported.now) d d.node.role) (so_far K.records svc.now P.past self.old draft.old) }
         requires count { K.faults self.old.keeper < 2 ^ 64 - 1 }
         ensures ends { IfOk result (Ends K.records K.append_gives K.faults svc.now P.past (λ d. calls.on_promise self.old.nodes (service_of svc.now self.old.seed) self.old.id from ballot (map proposal_in reported.now) d d.node.role) (whole P.past self.old) (whole P.past self.new) draft.old draft.new) }
-        ensures stuck { OnErr result (IsStuck K.records svc.now P.past (whole P.past self.old) (whole P.past self.new)) }
+        ensures stuck { OnErr result (IsStuck K.records K.append_gives K.faults svc.now P.past (λ d. calls.on_promise self.old.nodes (service_of svc.now self.old.seed) self.old.id from ballot (map proposal_in reported.now) d d.node.role) (whole P.past self.old) (whole P.past self.new) draft.old) }
         ensures same { IsSame (whole P.past self.old) (whole P.past self.new) }
         ensures ready { R.ready replayer.new }
     {
@@ -136,7 +136,7 @@ impl<K: Keeper> Node<K> {
         requires runs { RunsOn svc.now (λ d. calls.on_voted self.old.nodes (service_of svc.now self.old.seed) self.old.id from ballot instance d d.node.role) (so_far K.records svc.now P.past self.old draft.old) }
         requires count { K.faults self.old.keeper < 2 ^ 64 - 1 }
         ensures ends { IfOk result (Ends K.records K.append_gives K.faults svc.now P.past (λ d. calls.on_voted self.old.nodes (service_of svc.now self.old.seed) self.old.id from ballot instance d d.node.role) (whole P.past self.old) (whole P.past self.new) draft.old draft.new) }
-        ensures stuck { OnErr result (IsStuck K.records svc.now P.past (whole P.past self.old) (whole P.past self.new)) }
+        ensures stuck { OnErr result (IsStuck K.records K.append_gives K.faults svc.now P.past (λ d. calls.on_voted self.old.nodes (service_of svc.now self.old.seed) self.old.id from ballot instance d d.node.role) (whole P.past self.old) (whole P.past self.new) draft.old) }
         ensures same { IsSame (whole P.past self.old) (whole P.past self.new) }
         ensures ready { R.ready replayer.new }
     {
@@ -207,7 +207,7 @@ impl<K: Keeper> Node<K> {
         requires runs { RunsOn svc.now (λ d. calls.on_voted self.old.nodes (service_of svc.now self.old.seed) self.old.id from ballot instance d d.node.role) (so_far K.records svc.now P.past self.old draft.old) }
         requires count { K.faults self.old.keeper < 2 ^ 64 - 1 }
         ensures ends { IfOk result (Ends K.records K.append_gives K.faults svc.now P.past (λ d. calls.on_voted self.old.nodes (service_of svc.now self.old.seed) self.old.id from ballot instance d d.node.role) (whole P.past self.old) (whole P.past self.new) draft.old draft.new) }
-        ensures stuck { OnErr result (IsStuck K.records svc.now P.past (whole P.past self.old) (whole P.past self.new)) }
+        ensures stuck { OnErr result (IsStuck K.records K.append_gives K.faults svc.now P.past (λ d. calls.on_voted self.old.nodes (service_of svc.now self.old.seed) self.old.id from ballot instance d d.node.role) (whole P.past self.old) (whole P.past self.new) draft.old) }
         ensures same { IsSame (whole P.past self.old) (whole P.past self.new) }
         ensures ready { R.ready replayer.new }
     {

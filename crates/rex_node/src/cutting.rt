@@ -3,14 +3,13 @@
 ghost use Rattle.std.specs.Prelude.{◌≡◌, ◌<◌, ◌-◌, ◌++◌, ◌∷◌, ◌^◌, [], true, length, Some, None, is_some, option_map, IfSome, IsSome, IfOk, OnErr};
 ghost use Rattle.rex_ballot.specs.Proposals.{IsValue};
 ghost use Rattle.rex_safety.specs.Values.{values_fit};
-ghost use Rattle.rex_node.specs.Going.{IsStuck};
 ghost use Rattle.rex_node.specs.Leading.{IsOwnCut};
 ghost use Rattle.std.specs.Option.{option_copied};
 ghost use Rattle.rex_event.specs.Cuts.{below};
 ghost use Rattle.rex_cut.specs.Greatest.{greatest_cut};
 ghost use Rattle.rex_safety.specs.Lanes as lanes;
 ghost use Rattle.rex_record.specs.Kept.{IsRecorder};
-ghost use Rattle.rex_node.specs.Cutting.{CanMakePiece, CanPropose, HasPiece, IsIdle, MakesPieceOf, ProposesCut, ProposesPiece, cut_before, has_open, with_cut};
+ghost use Rattle.rex_node.specs.Cutting.{CanMakePiece, CanPropose, HasPiece, IsIdle, MakesPieceOf, ProposesCut, ProposesCutShort, ProposesPiece, ProposesPieceShort, cut_before, has_open, with_cut};
 ghost use Rattle.rex_log.specs.Log.{proposal_in};
 ghost use Rattle.rex_node.specs.Telling.{AreTold};
 ghost use Rattle.rex_node.specs.Parts.{ActingValue, here_of, open_of, role_of, IsNode, IsSame, StaysNode, knows, whole};
@@ -113,7 +112,7 @@ impl<K: Keeper> Node<K> {
         requires fits { values_fit svc.now (knows P.past self.old ++ value.now ∷ []) ≡ true }
         requires count { K.faults self.old.keeper < 2 ^ 64 - 1 }
         ensures ends { IfOk result (ProposesCut K.records K.append_gives K.faults svc.now P.past events value.now (whole P.past self.old) (whole P.past self.new) draft.old draft.new) }
-        ensures stuck { OnErr result (IsStuck K.records svc.now P.past (whole P.past self.old) (whole P.past self.new)) }
+        ensures stuck { OnErr result (ProposesCutShort K.records K.append_gives K.faults svc.now P.past events value.now (whole P.past self.old) (whole P.past self.new) draft.old) }
         ensures same { IsSame (whole P.past self.old) (whole P.past self.new) }
     {
         let node = self.id;
@@ -145,7 +144,7 @@ impl<K: Keeper> Node<K> {
         requires can { HasPiece svc.now (whole P.past self.old) piece }
         requires count { K.faults self.old.keeper < 2 ^ 64 - 1 }
         ensures ends { IfOk result (ProposesPiece K.records K.append_gives K.faults svc.now P.past piece.cut.counts (whole P.past self.old) (whole P.past self.new) draft.old draft.new) }
-        ensures stuck { OnErr result (IsStuck K.records svc.now P.past (whole P.past self.old) (whole P.past self.new)) }
+        ensures stuck { OnErr result (ProposesPieceShort K.records K.append_gives K.faults svc.now P.past piece.cut.counts (whole P.past self.old) (whole P.past self.new) draft.old) }
         ensures same { IsSame (whole P.past self.old) (whole P.past self.new) }
     {
         let _service = svc.declarations();
@@ -168,7 +167,7 @@ impl<K: Keeper> Node<K> {
         ensures told { IfOk result (Does K.records K.append_gives K.faults svc.now P.past (lanes.cut svc.now self.old.seed self.old.nodes self.old.id (counts_for svc.now (here_of K.records svc.now P.past self.old) (option_copied limits.entry))) self.old self.new) }
         ensures tells { IfOk result (λ step. AreTold svc.now P.past step.sends) }
         ensures down { IfOk result (EndsDown self.old.id (K.faults self.old.keeper) (K.faults self.new.keeper)) }
-        ensures left { Leaves result (here_of K.records svc.now P.past self.old) (here_of K.records svc.now P.past self.new) }
+        ensures left { Leaves K.records K.append_gives K.faults svc.now P.past (lanes.cut svc.now self.old.seed self.old.nodes self.old.id (counts_for svc.now (here_of K.records svc.now P.past self.old) (option_copied limits.entry))) result self.old self.new }
         ensures same { IsSpared result self.old self.new }
         ensures kept { StaysNode K.records svc.now P.past self.old self.new }
     {

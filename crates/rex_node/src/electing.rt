@@ -47,7 +47,7 @@ impl<K: Keeper> Node<K> {
         ensures told { IfOk result (Does K.records K.append_gives K.faults svc.now P.past (calls.elect self.old.nodes (service_of svc.now self.old.seed) self.old.id) self.old self.new) }
         ensures tells { IfOk result (λ step. AreTold svc.now P.past step.sends) }
         ensures down { IfOk result (EndsDown self.old.id (K.faults self.old.keeper) (K.faults self.new.keeper)) }
-        ensures left { Leaves result (here_of K.records svc.now P.past self.old) (here_of K.records svc.now P.past self.new) }
+        ensures left { Leaves K.records K.append_gives K.faults svc.now P.past (calls.elect self.old.nodes (service_of svc.now self.old.seed) self.old.id) result self.old self.new }
         ensures same { IsSpared result self.old self.new }
         ensures kept { StaysNode K.records svc.now P.past self.old self.new }
         ensures ready { R.ready replayer.new }
@@ -81,7 +81,7 @@ impl<K: Keeper> Node<K> {
         requires runs { RunsOn svc.now (calls.elect self.old.nodes (service_of svc.now self.old.seed) self.old.id) (so_far K.records svc.now P.past self.old draft.old) }
         requires count { K.faults self.old.keeper < 2 ^ 64 - 1 }
         ensures ends { IfOk result (Ends K.records K.append_gives K.faults svc.now P.past (calls.elect self.old.nodes (service_of svc.now self.old.seed) self.old.id) (whole P.past self.old) (whole P.past self.new) draft.old draft.new) }
-        ensures stuck { OnErr result (IsStuck K.records svc.now P.past (whole P.past self.old) (whole P.past self.new)) }
+        ensures stuck { OnErr result (IsStuck K.records K.append_gives K.faults svc.now P.past (calls.elect self.old.nodes (service_of svc.now self.old.seed) self.old.id) (whole P.past self.old) (whole P.past self.new) draft.old) }
         ensures same { IsSame (whole P.past self.old) (whole P.past self.new) }
         ensures ready { R.ready replayer.new }
     {

@@ -15,12 +15,13 @@ ghost use Rattle.rex_node.specs.Going.{Ends, IsStuck, RunsOn, so_far, MayGoOn};
 ghost use Rattle.rex_msg.specs.declared.message.Content.TheVariants as sent;
 ghost use Rattle.rex_report.specs.declared.effect.Effect.TheVariants as effect;
 ghost use Rattle.rex_node.specs.Leading as spec;
-ghost use Rattle.rex_node.specs.Leading.{CanSettle, FromLead, IsOwnCut, releases_in, Opens, HasOpened, Learns, HasLearned, IsActive, IsFree, IsLonger, GoesRound, opened, knowing, goes_on};
+ghost use Rattle.rex_node.specs.Leading.{CanSettle, FromLead, IsOwnCut, releases_in, Opens, OpensShort, HasOpened, Learns, LearnsShort, HasLearned, IsActive, IsFree, IsLonger, GoesRound, opened, knowing, goes_on};
 
 use crate::acting::Acting;
 use crate::going::{Going, Round};
 use crate::node::Node;
 use crate::step::Draft;
+use crate::values;
 use crate::values::copied;
 use rand_pcg::Lcg64Xsh32;
 use rex_ballot::Value;
@@ -35,6 +36,7 @@ use rex_paxos::Proposer;
 use rex_record::Recorder;
 use rex_replay::Replayer;
 use rex_report::Effect;
+use rex_state::state::State;
 use rex_syntax::checked::Checked;
 use rex_traits::Keeper;
 use std::alloc::{AllocError, Global};
@@ -87,7 +89,7 @@ impl<K: Keeper> Node<K> {
         ensures opens { IfOk result (Opens K.records K.append_gives K.faults svc.now P.past told instance value.now (whole P.past self.old) (whole P.past self.new) draft.old draft.new) }
         ensures parts { IfOk result (HasOpened (whole P.past self.old) (whole P.past self.new) instance value.now) }
         ensures longer { IfOk result (IsLonger K.records (whole P.past self.old) (whole P.past self.new)) }
-        ensures stuck { OnErr result (IsStuck K.records svc.now P.past (whole P.past self.old) (whole P.past self.new)) }
+        ensures stuck { OnErr result (OpensShort K.records K.append_gives K.faults svc.now P.past told instance value.now (whole P.past self.old) (whole P.past self.new) draft.old) }
         ensures same { IsSame (whole P.past self.old) (whole P.past self.new) }
     {
         let ballot = self.own_ballot().unwrap_or(0);
@@ -157,7 +159,7 @@ impl<K: Keeper> Node<K> {
         ensures learns { IfOk result (Learns K.records K.append_gives K.faults svc.now P.past instance value.now (whole P.past self.old) (whole P.past self.new) draft.old draft.new) }
         ensures parts { IfOk result (HasLearned svc.now (whole P.past self.old) (whole P.past self.new) instance value.now) }
         ensures longer { IfOk result (IsLonger K.records (whole P.past self.old) (whole P.past self.new)) }
-        ensures stuck { OnErr result (IsStuck K.records svc.now P.past (whole P.past self.old) (whole P.past self.new)) }
+        ensures stuck { OnErr result (LearnsShort K.records K.append_gives K.faults svc.now P.past instance value.now (whole P.past self.old) (whole P.past self.new) draft.old) }
         ensures same { IsSame (whole P.past self.old) (whole P.past self.new) }
     {
         let _service = svc.declarations();
@@ -251,7 +253,7 @@ impl<K: Keeper> Node<K> {
         requires runs { RunsOn svc.now (calls.settle turns self.old.nodes (service_of svc.now self.old.seed) self.old.id) (so_far K.records svc.now P.past self.old draft.old) }
         requires count { K.faults self.old.keeper < 2 ^ 64 - 1 }
         ensures goes { IfOk result (GoesRound K.records K.append_gives K.faults svc.now P.past turns (whole P.past self.old) (whole P.past self.new) draft.old draft.new) }
-        ensures stuck { OnErr result (IsStuck K.records svc.now P.past (whole P.past self.old) (whole P.past self.new)) }
+        ensures stuck { OnErr result (IsStuck K.records K.append_gives K.faults svc.now P.past (calls.settle turns self.old.nodes (service_of svc.now self.old.seed) self.old.id) (whole P.past self.old) (whole P.past self.new) draft.old) }
         ensures same { IsSame (whole P.past self.old) (whole P.past self.new) }
     {
         let _service = svc.declarations();
@@ -292,7 +294,7 @@ impl<K: Keeper> Node<K> {
         requires runs { RunsOn svc.now (calls.settle turns self.old.nodes (service_of svc.now self.old.seed) self.old.id) (so_far K.records svc.now P.past self.old draft.old) }
         requires count { K.faults self.old.keeper < 2 ^ 64 - 1 }
         ensures goes { IfOk result (GoesRound K.records K.append_gives K.faults svc.now P.past turns (whole P.past self.old) (whole P.past self.new) draft.old draft.new) }
-        ensures stuck { OnErr result (IsStuck K.records svc.now P.past (whole P.past self.old) (whole P.past self.new)) }
+        ensures stuck { OnErr result (IsStuck K.records K.append_gives K.faults svc.now P.past (calls.settle turns self.old.nodes (service_of svc.now self.old.seed) self.old.id) (whole P.past self.old) (whole P.past self.new) draft.old) }
         ensures same { IsSame (whole P.past self.old) (whole P.past self.new) }
         ensures ready { R.ready replayer.new }
     {
@@ -329,7 +331,7 @@ impl<K: Keeper> Node<K> {
         requires runs { RunsOn svc.now (calls.settle turns self.old.nodes (service_of svc.now self.old.seed) self.old.id) (so_far K.records svc.now P.past self.old draft.old) }
         requires count { K.faults self.old.keeper < 2 ^ 64 - 1 }
         ensures ends { IfOk result (Ends K.records K.append_gives K.faults svc.now P.past (calls.settle turns self.old.nodes (service_of svc.now self.old.seed) self.old.id) (whole P.past self.old) (whole P.past self.new) draft.old draft.new) }
-        ensures stuck { OnErr result (IsStuck K.records svc.now P.past (whole P.past self.old) (whole P.past self.new)) }
+        ensures stuck { OnErr result (IsStuck K.records K.append_gives K.faults svc.now P.past (calls.settle turns self.old.nodes (service_of svc.now self.old.seed) self.old.id) (whole P.past self.old) (whole P.past self.new) draft.old) }
         ensures same { IsSame (whole P.past self.old) (whole P.past self.new) }
         ensures ready { R.ready replayer.new }
     {
@@ -362,6 +364,16 @@ impl<K: Keeper> Node<K> {
         }
     }
 
+    // What is known of the clients at a state: the values that the node holds number their replies.
+    fn fresh_answers(&self, state: &State) -> Result<Answers, AllocError>
+        requires { 0 < length state.now.clients }
+        ensures { IfOk result (λ a. a ≡ spec.fresh_answers self.now.offset self.now.known state.now) }
+    {
+        let mut answers = Answers::at(self.alloc, state, self.known.offset())?;
+        number_values(self.alloc, &mut answers, self.known.values())?;
+        Ok(answers)
+    }
+
     // The node is active from here on: it replays what it knows, and executes with a generator of its ballot.
     fn activate<P: Past, R: Replayer>(
         &mut self,
@@ -385,7 +397,7 @@ impl<K: Keeper> Node<K> {
         let known = self.count::<P>();
         let ballot = self.own_ballot().unwrap_or(0);
         let state = self.replayed_state::<P, R>(svc, replayer)?;
-        let answers = Answers::at(self.alloc, &state)?;
+        let answers = self.fresh_answers(&state)?;
         let recorder = Recorder::new(self.alloc, state)?;
         draft.tell(Effect::Active { node, ballot })?;
         let dice = Lcg64Xsh32::new(self.seed as u64, ballot);
@@ -401,6 +413,17 @@ impl<K: Keeper> Node<K> {
         self.ahead = None;
         Ok(())
     }
+}
+
+// Numbers the replies of values, one value after another.
+fn number_values(alloc: Global, answers: &mut Answers, values: &[Value]) -> Result<(), AllocError>
+    ensures { OnOk result (answers.new ≡ spec.numbering_values answers.old values.now) }
+{
+    for value in values {
+        let events = values::events_in(alloc, value.as_slice())?;
+        answers.number(events.as_slice())?;
+    }
+    Ok(())
 }
 
 // Whether a node with this proposer, active or not, goes on.

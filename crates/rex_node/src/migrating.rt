@@ -4,7 +4,7 @@ ghost use Rattle.std.specs.Prelude.{◌≡◌, ◌<◌, ◌-◌, ◌^◌, true, 
 ghost use Rattle.rex_durable.specs.Spelling.{HasSpelling, record_bytes};
 ghost use Rattle.rex_safety.specs.Calls as calls;
 ghost use Rattle.rex_safety.specs.Values.{service_of};
-ghost use Rattle.rex_node.specs.Calls.{Does, EndsDown, IsSpared, Leaves, Refuses, refusal_of_migrate};
+ghost use Rattle.rex_node.specs.Calls.{Does, EndsDown, IsSpared, LeavesAll, Refuses, refusal_of_migrate};
 ghost use Rattle.rex_node.specs.Checkpointing.{MigratesOr};
 ghost use Rattle.rex_node.specs.Parts.{IsNode, StaysNode, here_of, whole};
 
@@ -57,7 +57,7 @@ impl<K: Keeper> Node<K> {
         ensures refused { Refuses (refusal_of_migrate (here_of K.records svc.now P.past self.old)) result }
         ensures told { IfOk result (Does K.records K.append_gives K.faults svc.now P.past (calls.migrate (service_of svc.now self.old.seed) self.old.id) self.old self.new) }
         ensures down { IfOk result (EndsDown self.old.id (K.faults self.old.keeper) (K.faults self.new.keeper)) }
-        ensures left { Leaves result (here_of K.records svc.now P.past self.old) (here_of K.records svc.now P.past self.new) }
+        ensures left { LeavesAll K.records K.append_gives K.faults result self.old self.new }
         ensures same { IsSpared result self.old self.new }
         ensures kept { StaysNode K.records svc.now P.past self.old self.new }
     {

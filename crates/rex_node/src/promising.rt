@@ -45,7 +45,7 @@ impl<K: Keeper> Node<K> {
         requires count { K.faults self.old.keeper < 2 ^ 64 - 1 }
         requires past { Begins (records.known (here_of K.records svc.now P.past self.old).log) P.past }
         ensures ends { IfOk result (Ends K.records K.append_gives K.faults svc.now P.past (calls.on_prepare self.old.id from ballot first) (whole P.past self.old) (whole P.past self.new) draft.old draft.new) }
-        ensures stuck { OnErr result (IsStuck K.records svc.now P.past (whole P.past self.old) (whole P.past self.new)) }
+        ensures stuck { OnErr result (IsStuck K.records K.append_gives K.faults svc.now P.past (calls.on_prepare self.old.id from ballot first) (whole P.past self.old) (whole P.past self.new) draft.old) }
         ensures tells { draft.old.sends.items ≡ [] → OnOk result (AreTold svc.now P.past draft.new.sends.items) }
         ensures same { IsSame (whole P.past self.old) (whole P.past self.new) }
     {
@@ -84,7 +84,7 @@ impl<K: Keeper> Node<K> {
         requires count { K.faults self.old.keeper < 2 ^ 64 - 1 }
         requires past { Begins (records.known (here_of K.records svc.now P.past self.old).log) P.past }
         ensures ends { IfOk result (Ends K.records K.append_gives K.faults svc.now P.past (calls.on_accept self.old.id from ballot instance value.now) (whole P.past self.old) (whole P.past self.new) draft.old draft.new) }
-        ensures stuck { OnErr result (IsStuck K.records svc.now P.past (whole P.past self.old) (whole P.past self.new)) }
+        ensures stuck { OnErr result (IsStuck K.records K.append_gives K.faults svc.now P.past (calls.on_accept self.old.id from ballot instance value.now) (whole P.past self.old) (whole P.past self.new) draft.old) }
         ensures tells { draft.old.sends.items ≡ [] → OnOk result (AreTold svc.now P.past draft.new.sends.items) }
         ensures same { IsSame (whole P.past self.old) (whole P.past self.new) }
     {
@@ -124,7 +124,7 @@ impl<K: Keeper> Node<K> {
         requires above { self.old.acceptor.promised < ballot }
         requires count { K.faults self.old.keeper < 2 ^ 64 - 1 }
         ensures ends { IfOk result (Ends K.records K.append_gives K.faults svc.now P.past (calls.on_prepare self.old.id from ballot first) (whole P.past self.old) (whole P.past self.new) draft.old draft.new) }
-        ensures stuck { OnErr result (IsStuck K.records svc.now P.past (whole P.past self.old) (whole P.past self.new)) }
+        ensures stuck { OnErr result (IsStuck K.records K.append_gives K.faults svc.now P.past (calls.on_prepare self.old.id from ballot first) (whole P.past self.old) (whole P.past self.new) draft.old) }
         ensures tells { draft.old.sends.items ≡ [] → OnOk result (AreTold svc.now P.past draft.new.sends.items) }
         ensures same { IsSame (whole P.past self.old) (whole P.past self.new) }
     {
@@ -159,7 +159,7 @@ impl<K: Keeper> Node<K> {
         requires fresh { answer_to_accept self.old.acceptor ballot instance ≡ asked.Accept true }
         requires count { K.faults self.old.keeper < 2 ^ 64 - 1 }
         ensures ends { IfOk result (Ends K.records K.append_gives K.faults svc.now P.past (calls.on_accept self.old.id from ballot instance value.now) (whole P.past self.old) (whole P.past self.new) draft.old draft.new) }
-        ensures stuck { OnErr result (IsStuck K.records svc.now P.past (whole P.past self.old) (whole P.past self.new)) }
+        ensures stuck { OnErr result (IsStuck K.records K.append_gives K.faults svc.now P.past (calls.on_accept self.old.id from ballot instance value.now) (whole P.past self.old) (whole P.past self.new) draft.old) }
         ensures tells { draft.old.sends.items ≡ [] → OnOk result (AreTold svc.now P.past draft.new.sends.items) }
         ensures same { IsSame (whole P.past self.old) (whole P.past self.new) }
     {

@@ -1,9 +1,20 @@
 //! What a node tells of itself.
 
-ghost use Rattle.std.specs.Prelude.{◌≡◌, ◌≤◌, length};
-ghost use Rattle.rex_node.specs.Parts.{state_of, shown_of, work_of};
+ghost use Rattle.std.specs.Prelude.{◌≡◌, ◌≤◌, None, true, is_some, length};
+ghost use Rattle.rex_reads.specs.Reads.{seen_after};
+ghost use Rattle.rex_safety.specs.Node.{is_active};
+ghost use Rattle.rex_safety.specs.Reading as reading;
+ghost use Rattle.rex_safety.specs.Reading.{read_at, stamp_at};
+ghost use Rattle.rex_node.specs.Parts.{IsNode, here_of, role_of, state_of, shown_of, work_of};
+ghost use Rattle.rex_node.specs.Telling as spec;
 
+use crate::acting::Acting;
 use crate::node::Node;
+use crate::replaying::ahead_of;
+use rex_log::Past;
+use rex_reads::{Read, Seen, admitted};
+use rex_state::state::State;
+use rex_syntax::checked::Checked;
 use rex_traits::Keeper;
 
 impl<K: Keeper> Node<K> {
@@ -45,6 +56,39 @@ impl<K: Keeper> Node<K> {
         }
     }
 
+    // Whether the node leads and executes.
+    fn is_active(&self) -> bool
+        ensures { result ≡ is_active (role_of self.now.acceptor self.now.proposer (is_some self.now.acting)) }
+    {
+        match &self.proposer {
+            None => false,
+            Some(_) => self.acting.is_some(),
+        }
+    }
+
+    /// What a client is told that reads a variable at the node and has seen so much: a value is that after the values that the
+    /// node has replayed, as many of which the client has seen then. It takes no memory.
+    pub fn read<P: Past>(&self, svc: &Checked, variable: u16, seen: &mut Seen) -> Read
+        requires node { IsNode K.records svc.now P.past self.now }
+        ensures answer { result ≡ read_at svc.now (here_of K.records svc.now P.past self.now) variable seen.old }
+        ensures seen { seen.new ≡ seen_after seen.old result }
+    {
+        let leads = self.is_active();
+        let value = value_in(ahead_of(&self.ahead, &self.start), variable);
+        admitted(self.up, leads, self.replayed, value, seen)
+    }
+
+    /// The number that a release of the node gives a client: that of the value with the client's last reply, or the offset,
+    /// where that is greater. It takes no memory.
+    pub fn stamp<P: Past>(&self, svc: &Checked, client: u16) -> u32
+        requires node { IsNode K.records svc.now P.past self.now }
+        requires client { client ≤ 256 }
+        ensures active { self.now.up ≡ true → is_active (here_of K.records svc.now P.past self.now).role ≡ true → result ≡ stamp_at (here_of K.records svc.now P.past self.now) client }
+        ensures idle { self.now.acting ≡ None → result ≡ self.now.offset }
+    {
+        stamp_in(&self.acting, self.known.offset(), client)
+    }
+
     /// The values of the semaphores in the same state.
     pub fn semaphores(&self) -> &[u32]
         ensures { result.now ≡ (shown_of self.now).semaphores }
@@ -56,5 +100,25 @@ impl<K: Keeper> Node<K> {
             },
             Some(acting) => acting.semaphores(),
         }
+    }
+}
+
+// The value of a variable in a state; 0 where it isn't there.
+fn value_in(state: &State, variable: u16) -> i64
+    ensures { result ≡ reading.value_in state.now variable }
+{
+    match state.variables().get(variable as usize) {
+        None => 0,
+        Some(value) => *value,
+    }
+}
+
+// The number of the value with a client's last reply, by what is known of the clients; the offset where that is greater.
+fn stamp_in(acting: &Option<Acting>, offset: u32, client: u16) -> u32
+    ensures { result ≡ spec.stamp_in acting.now offset client }
+{
+    match acting {
+        None => offset,
+        Some(acting) => acting.answers.stamp(client).unwrap_or(0).max(offset),
     }
 }

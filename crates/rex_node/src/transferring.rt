@@ -55,7 +55,7 @@ impl<K: Keeper> Node<K> {
         ensures refused { Refuses (refusal_of_drop (here_of K.records svc.now P.past self.old)) result }
         ensures told { IfOk result (Does K.records K.append_gives K.faults svc.now P.past (calls.drop_known self.old.id) self.old self.new) }
         ensures down { IfOk result (EndsDown self.old.id (K.faults self.old.keeper) (K.faults self.new.keeper)) }
-        ensures left { Leaves result (here_of K.records svc.now P.past self.old) (here_of K.records svc.now P.past self.new) }
+        ensures left { Leaves K.records K.append_gives K.faults svc.now P.past (calls.drop_known self.old.id) result self.old self.new }
         ensures same { IsSpared result self.old self.new }
         ensures kept { StaysNode K.records svc.now P.past self.old self.new }
     {
@@ -84,7 +84,7 @@ impl<K: Keeper> Node<K> {
         requires past { Begins (known (here_of K.records svc.now P.past self.old).log) P.past }
         requires count { K.faults self.old.keeper < 2 ^ 64 - 1 }
         ensures ends { IfOk result (Ends K.records K.append_gives K.faults svc.now P.past (calls.drop_known self.old.id) (whole P.past self.old) (whole P.past self.new) draft.old draft.new) }
-        ensures stuck { OnErr result (IsStuck K.records svc.now P.past (whole P.past self.old) (whole P.past self.new)) }
+        ensures stuck { OnErr result (IsStuck K.records K.append_gives K.faults svc.now P.past (calls.drop_known self.old.id) (whole P.past self.old) (whole P.past self.new) draft.old) }
         ensures same { IsSame (whole P.past self.old) (whole P.past self.new) }
     {
         let _service = svc.declarations();
@@ -150,7 +150,7 @@ impl<K: Keeper> Node<K> {
         requires runs { RunsOn svc.now (calls.on_snapshot (service_of svc.now self.old.seed) self.old.id (first deltas P.past)) (so_far K.records svc.now P.past self.old draft.old) }
         requires count { K.faults self.old.keeper < 2 ^ 64 - 1 }
         ensures ends { IfOk result (Ends K.records K.append_gives K.faults svc.now P.past (calls.on_snapshot (service_of svc.now self.old.seed) self.old.id (first deltas P.past)) (whole P.past self.old) (whole P.past self.new) draft.old draft.new) }
-        ensures stuck { OnErr result (IsStuck K.records svc.now P.past (whole P.past self.old) (whole P.past self.new)) }
+        ensures stuck { OnErr result (IsStuck K.records K.append_gives K.faults svc.now P.past (calls.on_snapshot (service_of svc.now self.old.seed) self.old.id (first deltas P.past)) (whole P.past self.old) (whole P.past self.new) draft.old) }
         ensures same { IsSame (whole P.past self.old) (whole P.past self.new) }
     {
         let _service = svc.declarations();
@@ -183,7 +183,7 @@ impl<K: Keeper> Node<K> {
         requires fits { values_fit svc.now (first deltas P.past) ≡ true }
         requires count { K.faults self.old.keeper < 2 ^ 64 - 1 }
         ensures ends { IfOk result (Ends K.records K.append_gives K.faults svc.now P.past (calls.on_snapshot (service_of svc.now self.old.seed) self.old.id (first deltas P.past)) (whole P.past self.old) (whole P.past self.new) draft.old draft.new) }
-        ensures stuck { OnErr result (IsStuck K.records svc.now P.past (whole P.past self.old) (whole P.past self.new)) }
+        ensures stuck { OnErr result (IsStuck K.records K.append_gives K.faults svc.now P.past (calls.on_snapshot (service_of svc.now self.old.seed) self.old.id (first deltas P.past)) (whole P.past self.old) (whole P.past self.new) draft.old) }
         ensures same { IsSame (whole P.past self.old) (whole P.past self.new) }
     {
         let _service = svc.declarations();

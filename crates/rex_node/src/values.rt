@@ -46,8 +46,8 @@ fn joined(alloc: Global, values: &[Value]) -> Result<Vec<Event>, AllocError>
     Ok(events)
 }
 
-// The events of the delta that a value spells; none where it spells none.
-fn events_in(alloc: Global, value: &[u8]) -> Result<List<Event>, AllocError>
+/// The events of the delta that a value spells; none where it spells none.
+pub(crate) fn events_in(alloc: Global, value: &[u8]) -> Result<List<Event>, AllocError>
     ensures events { IfOk result (λ es. es ≡ events_of value.now) }
     ensures counted { IfOk result AreCounted }
 {

@@ -38,7 +38,7 @@ impl<K: Keeper> Node<K> {
         requires count { K.faults self.old.keeper < 2 ^ 64 - 1 }
         requires spelling { HasSpelling rec.now }
         ensures appends { IfOk result (Appends K.records K.faults K.append_gives (whole P.past self.old) (whole P.past self.new) draft.old draft.new (record_bytes rec.now)) }
-        ensures stands { OnErr result (Stands K.records (whole P.past self.old) (whole P.past self.new)) }
+        ensures stands { OnErr result (Stands K.records K.faults K.append_gives (whole P.past self.old) (whole P.past self.new)) }
         ensures same { IsSame (whole P.past self.old) (whole P.past self.new) }
     {
         let node = self.id;

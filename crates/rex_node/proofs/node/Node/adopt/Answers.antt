@@ -2,7 +2,7 @@ use Rattle.std.proofs.Common.{ap, ◌∙◌}
 use Rattle.rex_node.specs.declared.going.Going.TheVariants.{On, Down}
 use Rattle.rex_node.specs.Parts.{NodeValue, whole}
 use Rattle.rex_node.proofs.Written.{on_err}
-use Rattle.rex_node.proofs.Adopting.{adopt_down, adopt_rests, alone_again, alone_count, alone_cut, alone_down, alone_fits, alone_kept, alone_leads, alone_next, alone_stuck, alone_up, chooses_of, chosen_cut, chosen_leads, chosen_short, chosen_there, known_as, learns_as, longer_as, nodes_few, nodes_many, opens_as, parts_as, same_then, told_is}
+use Rattle.rex_node.proofs.Adopting.{adopt_down, adopt_rests, adopt_stuck, alone_again, alone_count, alone_cut, alone_down, alone_fits, alone_kept, alone_leads, alone_next, alone_stuck, alone_up, chooses_of, chosen_cut, chosen_leads, chosen_short, chosen_there, known_as, learns_as, longer_as, nodes_few, nodes_many, opens_as, opens_short_as, parts_as, same_then, told_is}
 use Rattle.rex_node.proofs.node.Node.adopt.Goals as goal
 
 pub propose-requires-clause-leads : goal.propose-requires-clause-leads
@@ -121,6 +121,14 @@ pub learn-requires-clause-value : goal.learn-requires-clause-value
 learn-requires-clause-value g c =
     chosen_short g.K.Keeper.records g.K.Keeper.append_gives g.K.Keeper.faults c.args.svc.now g.P.Past.past c.declarations-service.ensures.sound c.declarations-service.ensures.checked (whole g.P.Past.past c.args.self.now) c.requires.kept c.requires.up c.args.instance c.args.value.now c.requires.next
     (chooses_of c.args.self.now.proposer c.args.self.now.acting c.args.instance c.args.value.now c.requires.goes c.requires.reported) c.args.turns c.requires.turns
+
+pub returns-in_err-propose-clause-stuck : goal.returns-in_err-propose-clause-stuck
+returns-in_err-propose-clause-stuck g c =
+    on_err c.from_residual.result
+    (adopt_stuck g.K.Keeper.records g.K.Keeper.append_gives g.K.Keeper.faults c.args.svc.now g.P.Past.past c.declarations-service.ensures.sound c.declarations-service.ensures.checked (whole g.P.Past.past c.args.self.now) c.requires.kept c.requires.up c.args.instance c.args.value.now c.requires.next
+    (chooses_of c.args.self.now.proposer c.args.self.now.acting c.args.instance c.args.value.now c.requires.goes c.requires.reported) c.args.turns c.requires.turns
+    (whole g.P.Past.past c.propose.new.self) c.args.draft.now
+    (opens_short_as g.K.Keeper.records g.K.Keeper.append_gives g.K.Keeper.faults c.args.svc.now g.P.Past.past (whole g.P.Past.past c.args.self.now) (whole g.P.Past.past c.propose.new.self) c.args.draft.now c.args.instance c.args.value.now _ _ (told_is c.self.inside.id c.args.self.now.id c.args.instance c.events_in-events.result c.args.value.now (ap (λ (n : NodeValue _). n.id) c.self.view_is) c.events_in-events.ensures) c.in_err-propose.ensures.stuck))
 
 pub returns-in_err-learn-in-On-clause-stuck : goal.returns-in_err-learn-in-On-clause-stuck
 returns-in_err-learn-in-On-clause-stuck g c =

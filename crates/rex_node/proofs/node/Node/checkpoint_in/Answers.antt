@@ -3,6 +3,7 @@ use Rattle.rex_durable.specs.Spelling.{record_bytes}
 use Rattle.rex_report.specs.declared.effect.Effect.TheVariants as effect
 use Rattle.rex_node.specs.Checkpointing.{IsCheckpoint, SavesOr}
 use Rattle.rex_node.specs.Parts.{NodeValue, whole}
+use Rattle.rex_node.proofs.Ending.{stands_own}
 use Rattle.rex_node.proofs.Saved.{fell_does, replayed_limited, replayed_sound_now, saved_does, saved_stays, spelling}
 use Rattle.rex_node.proofs.node.Node.checkpoint_in.Goals as goal
 
@@ -34,3 +35,8 @@ pub returns-in-Err-Failed-clause-told : goal.returns-in-Err-Failed-clause-told
 returns-in-Err-Failed-clause-told g c =
     fell_does g.K.Keeper.records g.K.Keeper.append_gives g.K.Keeper.faults c.args.svc.now g.P.Past.past (whole g.P.Past.past c.args.self.now) c.requires.node (sym c.checkpoint_refusal.ensures ∙ c.in_default.is) c.args.version c.in_ok-state.state (c.in_ok-state.ensures ∙ c.state_to_save.ensures) c.in_ok-rec.rec (subst (λ (n : ℕ). IsCheckpoint c.args.svc.now c.args.version n c.in_ok-state.state c.in_ok-rec.rec) (ap (λ (x : NodeValue _). x.replayed) c.self.view_is) c.in_ok-rec.ensures)
     (whole g.P.Past.past c.save.new.self) (record { effects = c.in_ok-down.down; sends = c.new-sends.result }) c.new-sends.ensures (subst (SavesOr g.K.Keeper.records g.K.Keeper.faults g.K.Keeper.append_gives c.args.version (whole g.P.Past.past c.args.self.now) (whole g.P.Past.past c.save.new.self) c.in_ok-state.state (record_bytes c.in_ok-rec.rec)) (c.in-Err-Failed.is ∙ ap Err c.in-Err-Failed.field-0-is) c.save.ensures) (c.in_ok-down.ensures ∙ ap (λ (x : NodeValue _). effect.Down x.id ∷ []) c.self.view_is)
+
+pub returns-clause-left : goal.returns-clause-left
+returns-clause-left g c =
+    stands_own g.K.Keeper.records g.K.Keeper.append_gives g.K.Keeper.faults g.P.Past.past c.args.self.now c.save.new.self
+    (subst (SavesOr g.K.Keeper.records g.K.Keeper.faults g.K.Keeper.append_gives c.args.version (whole g.P.Past.past c.args.self.now) (whole g.P.Past.past c.save.new.self) c.in_ok-state.state (record_bytes c.in_ok-rec.rec)) (c.in-Err-OutOfMemory.is ∙ ap Err c.in-Err-OutOfMemory.field-0-is) c.save.ensures)

@@ -1,7 +1,8 @@
 use Rattle.std.proofs.Common.{Some, ap, sym, ◌∙◌}
 use Rattle.rex_node.specs.declared.going.Going.TheVariants.{On, Down}
+use Rattle.rex_node.proofs.Written.{on_err}
 use Rattle.rex_node.proofs.Adopting.{known_as, learns_as, longer_as}
-use Rattle.rex_node.proofs.Majorities.{choose_cut, choose_down, choose_fits, choose_kept, choose_leads, choose_next, choose_short, choose_there, chosen_count, chosen_ends, chosen_free, chosen_kept, chosen_may, chosen_of, chosen_runs, chosen_stuck, chosen_up}
+use Rattle.rex_node.proofs.Majorities.{choose_cut, choose_down, choose_fits, choose_kept, choose_leads, choose_next, choose_short, choose_stuck, choose_there, chosen_count, chosen_ends, chosen_free, chosen_kept, chosen_may, chosen_of, chosen_runs, chosen_stuck, chosen_up}
 use Rattle.rex_node.proofs.node.Node.choose.Goals as goal
 use Rattle.rex_node.specs.Parts.{whole}
 
@@ -128,3 +129,10 @@ returns-clause-stuck g c =
     (longer_as g.K.Keeper.records (whole g.P.Past.past c.args.self.now) (whole g.P.Past.past c.learn.new.self) c.in_ok-learn.field-0 c.in-On.is c.in_ok-learn.ensures.longer)
     c.turns-turns.result c.turns-turns.ensures
     (whole g.P.Past.past c.go_on.new.self) c.go_on.result c.go_on.ensures.stuck
+
+pub returns-in_err-learn-clause-stuck : goal.returns-in_err-learn-clause-stuck
+returns-in_err-learn-clause-stuck g c =
+    on_err c.from_residual-in_err-learn.result
+    (choose_stuck g.K.Keeper.records g.K.Keeper.append_gives g.K.Keeper.faults c.args.svc.now g.P.Past.past c.declarations-service.ensures.sound c.declarations-service.ensures.checked (whole g.P.Past.past c.args.self.now) c.requires.node c.requires.up c.args.from c.args.ballot c.args.instance c.requires.from c.args.draft.now c.as_slice.result.now
+    (chosen_of (whole g.P.Past.past c.args.self.now) c.args.from c.args.ballot c.args.instance c.as_slice.result.now c.requires.vote (sym c.in_ok-value.ensures ∙ c.in-Some.is ∙ ap (λ v. Some v) (sym c.as_slice.ensures)))
+    (whole g.P.Past.past c.learn.new.self) c.in_err-learn.ensures.stuck)

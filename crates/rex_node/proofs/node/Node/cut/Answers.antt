@@ -3,11 +3,12 @@ use Rattle.std.specs.Option.{option_copied}
 use Rattle.rex_safety.specs.Lanes.{cut}
 use Rattle.rex_safety.specs.Calls.{begin}
 use Rattle.rex_node.specs.Calls.{counts_for}
-use Rattle.rex_node.specs.Cutting.{ProposesPiece}
-use Rattle.rex_node.specs.Going.{Ends}
+use Rattle.rex_node.specs.Cutting.{ProposesPiece, ProposesPieceShort}
+use Rattle.rex_node.specs.Going.{Ends, IsStuck}
 use Rattle.rex_node.specs.Parts.{NodeValue, here_of, whole}
 use Rattle.rex_node.proofs.Ending.{HasCome, told, down, left, kept}
-use Rattle.rex_node.proofs.OwnPieces.{cut_ends, if_then}
+use Rattle.rex_node.proofs.OwnPieces.{cut_ends, cut_short, if_then}
+use Rattle.rex_node.proofs.ProposedCuts.{on_error}
 use Rattle.rex_node.proofs.Quiet.{cut_well}
 use Rattle.rex_node.proofs.Told.{steps_tell}
 use Rattle.rex_node.specs.Calls.{armed_with}
@@ -34,7 +35,15 @@ come g c = record {
       (record { limits = option_copied c.args.limits; many = c.requires.limits; can = c.in_ok-piece.ensures.can }) c.declarations-service.ensures.sound
       (whole g.P.Past.past c.propose_piece-end.new.self) c.new-draft.result c.propose_piece-end.new.draft going h)
       c.propose_piece-end.ensures.ends;
-  stuck = c.propose_piece-end.ensures.stuck;
+  stuck =
+      on_error (ProposesPieceShort g.K.Keeper.records g.K.Keeper.append_gives g.K.Keeper.faults c.args.svc.now g.P.Past.past c.in_ok-piece.piece.cut.counts (whole g.P.Past.past c.args.self.now) (whole g.P.Past.past c.propose_piece-end.new.self) c.new-draft.result)
+      (IsStuck g.K.Keeper.records g.K.Keeper.append_gives g.K.Keeper.faults c.args.svc.now g.P.Past.past
+      (cut c.args.svc.now c.args.self.now.seed c.args.self.now.nodes c.args.self.now.id (counts_for c.args.svc.now (here_of g.K.Keeper.records c.args.svc.now g.P.Past.past (whole g.P.Past.past c.args.self.now)) (option_copied c.args.limits)))
+      (whole g.P.Past.past c.args.self.now) (whole g.P.Past.past c.propose_piece-end.new.self) c.new-draft.result) c.propose_piece-end.result
+      (cut_short g.K.Keeper.records g.K.Keeper.append_gives g.K.Keeper.faults c.args.svc.now g.P.Past.past (whole g.P.Past.past c.args.self.now) c.requires.node c.in_ok-piece.piece
+      (record { limits = option_copied c.args.limits; many = c.requires.limits; can = c.in_ok-piece.ensures.can }) c.declarations-service.ensures.sound
+      (whole g.P.Past.past c.propose_piece-end.new.self) c.new-draft.result)
+      c.propose_piece-end.ensures.stuck;
   same = c.propose_piece-end.ensures.same;
   finishes = c.finish.ensures;
 }
@@ -56,7 +65,7 @@ pub returns-clause-left : goal.returns-clause-left
 returns-clause-left g c =
     left g.K.Keeper.records g.K.Keeper.append_gives g.K.Keeper.faults c.args.svc.now g.P.Past.past
     (cut c.args.svc.now c.args.self.now.seed c.args.self.now.nodes c.args.self.now.id (counts_for c.args.svc.now (here_of g.K.Keeper.records c.args.svc.now g.P.Past.past (whole g.P.Past.past c.args.self.now)) (option_copied c.args.limits)))
-    (whole g.P.Past.past c.args.self.now) (whole g.P.Past.past c.propose_piece-end.new.self) (whole g.P.Past.past c.finish.new.self) c.len-before.result c.new-draft.result c.propose_piece-end.new.draft c.propose_piece-end.result c.finish.result (come g c)
+    c.args.self.now (whole g.P.Past.past c.propose_piece-end.new.self) c.finish.new.self c.len-before.result c.new-draft.result c.propose_piece-end.new.draft c.propose_piece-end.result c.finish.result (come g c)
 
 pub returns-clause-kept : goal.returns-clause-kept
 returns-clause-kept g c =

@@ -26,7 +26,7 @@ returns-clause-down g c =
 
 pub returns-clause-left : goal.returns-clause-left
 returns-clause-left g c =
-    ending.left g.K.Keeper.records g.K.Keeper.append_gives g.K.Keeper.faults c.args.svc.now g.P.Past.past (elect c.args.self.now.nodes (service_of c.args.svc.now c.args.self.now.seed) c.args.self.now.id) (whole g.P.Past.past c.args.self.now) (whole g.P.Past.past c.stand-end.new.self) (whole g.P.Past.past c.finish.new.self) c.len-before.result c.new-draft.result c.stand-end.new.draft c.stand-end.result c.finish.result
+    ending.left g.K.Keeper.records g.K.Keeper.append_gives g.K.Keeper.faults c.args.svc.now g.P.Past.past (elect c.args.self.now.nodes (service_of c.args.svc.now c.args.self.now.seed) c.args.self.now.id) c.args.self.now (whole g.P.Past.past c.stand-end.new.self) c.finish.new.self c.len-before.result c.new-draft.result c.stand-end.new.draft c.stand-end.result c.finish.result
     (elected g.K.Keeper.records g.K.Keeper.append_gives g.K.Keeper.faults c.args.svc.now g.P.Past.past (whole g.P.Past.past c.args.self.now) (whole g.P.Past.past c.stand-end.new.self) (whole g.P.Past.past c.finish.new.self) c.len-before.result c.new-draft.result c.stand-end.new.draft c.stand-end.result c.finish.result
     c.requires.node (sym c.up_refusal.ensures ∙ c.in_default.is) (c.len-before.ensures ∙ ap (λ (n : NodeValue _). length (g.K.Keeper.records n.keeper)) c.self.view_is) c.new-draft.ensures.effects c.new-draft.ensures.sends
     c.stand-end.ensures.ends c.stand-end.ensures.stuck c.stand-end.ensures.same c.finish.ensures)

@@ -6,6 +6,7 @@ use Rattle.rex_durable.specs.Spelling.{record_bytes}
 use Rattle.rex_report.specs.declared.effect.Effect.TheVariants as effect
 use Rattle.rex_node.specs.Checkpointing.{IsCheckpoint, MigratesOr}
 use Rattle.rex_node.specs.Parts.{NodeValue, whole}
+use Rattle.rex_node.proofs.Ending.{stands_own}
 use Rattle.rex_node.proofs.SavedAgain.{fell_does, fell_down, fell_stays, migrated_does, migrated_down, migrated_stays, spelling, start_limited, start_sound}
 use Rattle.rex_node.proofs.node.Node.migrate.Goals as goal
 
@@ -52,3 +53,8 @@ pub returns-in-Err-Failed-clause-kept : goal.returns-in-Err-Failed-clause-kept
 returns-in-Err-Failed-clause-kept g c =
     fell_stays g.K.Keeper.records g.K.Keeper.append_gives g.K.Keeper.faults c.args.svc.now g.P.Past.past (whole g.P.Past.past c.args.self.now) c.requires.node (sym c.migrate_refusal.ensures ∙ c.in_default.is) c.in_ok-rec.rec (subst (λ (x : NodeValue _). IsCheckpoint c.args.svc.now Two x.base x.start c.in_ok-rec.rec) c.self.view_is c.in_ok-rec.ensures)
     (whole g.P.Past.past c.save_again.new.self) (record { effects = c.in_ok-down.down; sends = c.new-sends.result }) c.new-sends.ensures (subst (MigratesOr g.K.Keeper.records g.K.Keeper.faults g.K.Keeper.append_gives (whole g.P.Past.past c.args.self.now) (whole g.P.Past.past c.save_again.new.self) (record_bytes c.in_ok-rec.rec)) (c.in-Err-Failed.is ∙ ap Err c.in-Err-Failed.field-0-is) c.save_again.ensures) (c.in_ok-down.ensures ∙ ap (λ (x : NodeValue _). effect.Down x.id ∷ []) c.self.view_is)
+
+pub returns-clause-left : goal.returns-clause-left
+returns-clause-left g c =
+    stands_own g.K.Keeper.records g.K.Keeper.append_gives g.K.Keeper.faults g.P.Past.past c.args.self.now c.save_again.new.self
+    (subst (MigratesOr g.K.Keeper.records g.K.Keeper.faults g.K.Keeper.append_gives (whole g.P.Past.past c.args.self.now) (whole g.P.Past.past c.save_again.new.self) (record_bytes c.in_ok-rec.rec)) (c.in-Err-OutOfMemory.is ∙ ap Err c.in-Err-OutOfMemory.field-0-is) c.save_again.ensures)

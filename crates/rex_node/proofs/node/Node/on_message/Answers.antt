@@ -44,7 +44,7 @@ returns-clause-down g c =
     (receive_well c.args.self.now.nodes (service_of c.args.svc.now c.args.self.now.seed) c.args.self.now.id (replies_quiet c.args.svc.now c.args.self.now.seed) c.args.message.now.from (content_in g.P.Past.past c.args.message.now.content) _ (record { armed = refl; quiet = λ id h. h })).quiet
 
 pub returns-clause-left : goal.returns-clause-left
-returns-clause-left g c = left g.K.Keeper.records g.K.Keeper.append_gives g.K.Keeper.faults c.args.svc.now g.P.Past.past (call g c) (whole g.P.Past.past c.args.self.now) (whole g.P.Past.past c.receive-end.new.self) (whole g.P.Past.past c.finish.new.self) c.len-before.result c.new-draft.result c.receive-end.new.draft c.receive-end.result c.finish.result (come g c)
+returns-clause-left g c = left g.K.Keeper.records g.K.Keeper.append_gives g.K.Keeper.faults c.args.svc.now g.P.Past.past (call g c) c.args.self.now (whole g.P.Past.past c.receive-end.new.self) c.finish.new.self c.len-before.result c.new-draft.result c.receive-end.new.draft c.receive-end.result c.finish.result (come g c)
 
 pub returns-clause-kept : goal.returns-clause-kept
 returns-clause-kept g c = kept g.K.Keeper.records g.K.Keeper.append_gives g.K.Keeper.faults c.args.svc.now g.P.Past.past (call g c) (whole g.P.Past.past c.args.self.now) (whole g.P.Past.past c.receive-end.new.self) (whole g.P.Past.past c.finish.new.self) c.len-before.result c.new-draft.result c.receive-end.new.draft c.receive-end.result c.finish.result (come g c)

@@ -1,9 +1,14 @@
-use Rattle.std.proofs.Common.{sym, subst, ◌∙◌}
+use Rattle.std.proofs.Common.{sym, subst, inl, ◌∙◌}
+use Rattle.std.specs.Prelude.{map}
 use Rattle.rex_node.proofs.Counts.{counts_many, counts_to, promise_back, promise_ends, promise_free, ignored_same, promise_have, promise_ignored, promise_kept, promise_runs, promise_stuck, promise_turns}
 use Rattle.rex_node.proofs.node.Node.on_promise.Goals as goal
 use Rattle.rex_node.specs.Going.{IsStuck}
-use Rattle.rex_node.specs.Parts.{whole}
-use Rattle.rex_node.proofs.Written.{on_err, stuck_same}
+use Rattle.rex_node.specs.Parts.{NodeValue, whole}
+use Rattle.rex_safety.specs.Calls.{on_promise}
+use Rattle.rex_safety.specs.Values.{service_of}
+use Rattle.rex_log.specs.Log.{proposal_in}
+use Rattle.rex_node.proofs.Stuck.{stands_same}
+use Rattle.rex_node.proofs.Written.{on_err}
 
 pub returns-in_ok-tell-in-Ignored-clause-ends : goal.returns-in_ok-tell-in-Ignored-clause-ends
 returns-in_ok-tell-in-Ignored-clause-ends g c =
@@ -55,13 +60,13 @@ returns-in-Ok-go_on-clause-ends g c =
 pub returns-in-Err-go_on-clause-stuck : goal.returns-in-Err-go_on-clause-stuck
 returns-in-Err-go_on-clause-stuck g c =
     let n = counts_many c.args.self.now.proposer c.args.ballot c.args.from c.in_ok-why.field-0 c.in_ok-why.ensures.vote c.in-Quorum.is in
-    promise_stuck g.K.Keeper.records g.K.Keeper.append_gives g.K.Keeper.faults c.args.svc.now g.P.Past.past (whole g.P.Past.past c.args.self.now) c.requires.node c.requires.up c.args.from c.args.ballot c.requires.from c.args.reported.now c.requires.reported c.args.draft.now n.proposer n.is n.new
-    (whole g.P.Past.past c.count_promise.new.self) (whole g.P.Past.past c.go_on.new.self) (whole g.P.Past.past c.take_back-in-Err-go_on.new.self) c.in_ok-why.ensures.counted c.in-Err-go_on.ensures.stuck c.take_back-in-Err-go_on.ensures
+    promise_stuck g.K.Keeper.records g.K.Keeper.append_gives g.K.Keeper.faults c.args.svc.now g.P.Past.past (whole g.P.Past.past c.args.self.now) c.requires.node c.requires.up c.args.from c.args.ballot c.requires.from c.args.reported.now c.requires.reported c.args.draft.now n.proposer n.is n.new n.majority
+    (whole g.P.Past.past c.count_promise.new.self) c.in_ok-why.ensures.counted c.turns-turns.result c.turns-turns.ensures (whole g.P.Past.past c.go_on.new.self) (whole g.P.Past.past c.take_back-in-Err-go_on.new.self) c.in-Err-go_on.ensures.stuck c.take_back-in-Err-go_on.ensures
 
 pub returns-in_err-tell-in-Ignored-clause-stuck : goal.returns-in_err-tell-in-Ignored-clause-stuck
 returns-in_err-tell-in-Ignored-clause-stuck g c =
     on_err c.from_residual-in_err-tell-in-Ignored.result
-    (subst (IsStuck g.K.Keeper.records c.args.svc.now g.P.Past.past (whole g.P.Past.past c.args.self.now))
+    (subst (λ (n : NodeValue _). IsStuck g.K.Keeper.records g.K.Keeper.append_gives g.K.Keeper.faults c.args.svc.now g.P.Past.past (λ d. on_promise c.args.self.now.nodes (service_of c.args.svc.now c.args.self.now.seed) c.args.self.now.id c.args.from c.args.ballot (map proposal_in c.args.reported.now) d d.node.role) (whole g.P.Past.past c.args.self.now) n c.args.draft.now)
     (sym (ignored_same g.K.Keeper.records g.K.Keeper.append_gives g.K.Keeper.faults c.args.svc.now g.P.Past.past (whole g.P.Past.past c.args.self.now) c.requires.node c.requires.up c.args.from c.args.ballot c.requires.from c.args.reported.now c.requires.reported c.args.draft.now c.in-Ignored.why (sym c.in_ok-why.ensures.vote ∙ c.in-Ignored.is)
     (whole g.P.Past.past c.count_promise.new.self) c.in_ok-why.ensures.counted))
-    (stuck_same g.K.Keeper.records c.args.svc.now g.P.Past.past (whole g.P.Past.past c.args.self.now) (c.requires.node.up c.requires.up)))
+    (inl (stands_same g.K.Keeper.records g.K.Keeper.append_gives g.K.Keeper.faults (whole g.P.Past.past c.args.self.now))))

@@ -1,7 +1,8 @@
-use Rattle.std.proofs.Common.{ap, sym, subst, ◌∙◌, IfOk}
-use Rattle.rex_node.specs.Cutting.{ProposesCut, ProposesPiece}
+use Rattle.std.proofs.Common.{ap, sym, subst, ◌∙◌, IfOk, OnErr}
+use Rattle.rex_node.specs.Cutting.{ProposesCut, ProposesCutShort, ProposesPiece, ProposesPieceShort}
 use Rattle.rex_node.specs.Parts.{NodeValue, knows, whole}
-use Rattle.rex_node.proofs.OwnPieces.{if_error, if_then, own_cut, own_fits, piece_ends}
+use Rattle.rex_node.proofs.OwnPieces.{if_error, if_then, on_ok, own_cut, own_fits, piece_ends, piece_short}
+use Rattle.rex_node.proofs.ProposedCuts.{on_error}
 use Rattle.rex_node.proofs.node.Node.propose_piece.Goals as goal
 use Rattle.rex_node.proofs.node.Node.propose_piece.Goals.{then-is_err, else-is_err}
 
@@ -25,4 +26,18 @@ returns-clause-ends g c =
           (End (whole g.P.Past.past c.propose_value-end.new.self)) c.propose_value-end.result
           (λ going h. piece_ends g.K.Keeper.records c.args.svc.now g.P.Past.past (whole g.P.Past.past c.args.self.now) c.requires.node c.args.piece c.requires.can g.K.Keeper.append_gives g.K.Keeper.faults (whole g.P.Past.past c.propose_value-end.new.self) c.args.draft.now c.propose_value-end.new.draft
           (whole g.P.Past.past c.replace_cut-before.new.self) c.replace_cut-before.ensures.replaced c.as_slice.result.now c.as_slice.ensures going h) c.propose_value-end.ensures.ends)
+    ]
+
+pub returns-clause-stuck : goal.returns-clause-stuck
+returns-clause-stuck g c =
+    let Short = λ (y : NodeValue _). ProposesPieceShort g.K.Keeper.records g.K.Keeper.append_gives g.K.Keeper.faults c.args.svc.now g.P.Past.past c.args.piece.cut.counts (whole g.P.Past.past c.args.self.now) y c.args.draft.now in
+    elim c.if-is_err.branch [
+      | then-is_err w ↦
+          subst (λ (y : NodeValue _). OnErr c.propose_value-end.result (Short (whole g.P.Past.past y))) (sym w.self-is)
+          (on_error (ProposesCutShort g.K.Keeper.records g.K.Keeper.append_gives g.K.Keeper.faults c.args.svc.now g.P.Past.past c.args.piece.events c.as_slice.result.now (whole g.P.Past.past c.replace_cut-before.new.self) (whole g.P.Past.past c.propose_value-end.new.self) c.args.draft.now)
+          (Short (whole g.P.Past.past w.replace_cut.new.self)) c.propose_value-end.result
+          (piece_short g.K.Keeper.records c.args.svc.now g.P.Past.past (whole g.P.Past.past c.args.self.now) c.requires.node c.args.piece c.requires.can g.K.Keeper.append_gives g.K.Keeper.faults (whole g.P.Past.past c.propose_value-end.new.self) c.args.draft.now c.propose_value-end.new.draft
+          (whole g.P.Past.past c.replace_cut-before.new.self) (whole g.P.Past.past w.replace_cut.new.self) c.replace_cut-before.ensures.replaced c.as_slice.result.now c.as_slice.ensures c.replace_cut-before.result.counts c.replace_cut-before.ensures.before w.replace_cut.ensures.replaced)
+          c.propose_value-end.ensures.stuck)
+      | else-is_err w ↦ on_ok (Short (whole g.P.Past.past c.if-is_err.self)) c.propose_value-end.result (sym c.is_err.ensures.value ∙ w.if-is_err.false)
     ]

@@ -1,10 +1,10 @@
 use Rattle.std.proofs.Common.{◌≡◌, ◌+◌, ◌<◌, ◌-◌, ◌^◌, ℕ, length, ap, sym, subst, ◌∙◌}
 use Rattle.rex_safety.proofs.Replies.{some_of}
-use Rattle.rex_node.specs.Cutting.{ProposesCut}
-use Rattle.rex_node.specs.Going.{IsStuck}
-use Rattle.rex_node.specs.Leading.{HasLearned, Learns}
+use Rattle.rex_node.specs.Cutting.{ProposesCut, ProposesCutShort}
+use Rattle.rex_node.specs.Leading.{HasLearned, Learns, LearnsShort}
 use Rattle.rex_node.specs.Parts.{NodeValue, whole, knows}
-use Rattle.rex_node.proofs.ProposedCuts.{cut_fell, cut_waits, cut_known, counted_between, idle_leads, if_both, kept_between, on_error, stuck_after, told_same}
+use Rattle.rex_node.proofs.ProposedCuts.{cut_fell, cut_short, cut_stuck, cut_waits, cut_known, counted_between, idle_leads, if_both, kept_between, on_error, told_same}
+use Rattle.rex_node.proofs.Written.{on_err}
 use Rattle.rex_node.proofs.node.Node.propose_value.Goals as goal
 
 pub returns-then-has_open-clause-ends : goal.returns-then-has_open-clause-ends
@@ -45,16 +45,25 @@ learn-requires-clause-count g c =
     (whole g.P.Past.past c.propose.new.self) c.args.draft.now c.propose.new.draft
     (rw c.in-On.is at c.in_ok-propose.ensures.opens) (rw c.in-On.is at c.in_ok-propose.ensures.parts) l.0 l.1)) c.requires.count
 
+pub returns-in_err-propose-clause-stuck : goal.returns-in_err-propose-clause-stuck
+returns-in_err-propose-clause-stuck g c =
+    let s = some_of c.args.self.now.acting c.requires.active in
+    let next : c.count-instance.result + 1 ≡ length (knows g.P.Past.past c.args.self.now) + 1 = ap (λ (n : ℕ). n + 1) c.count-instance.ensures.known in
+    let told = told_same c.self.inside.id c.args.self.now.id (c.count-instance.result + 1) (length (knows g.P.Past.past c.args.self.now) + 1) c.args.events (ap (λ (z : NodeValue _). z.id) c.self.view_is) next in
+    on_err c.from_residual.result
+    (cut_short g.K.Keeper.records g.K.Keeper.append_gives g.K.Keeper.faults c.args.svc.now g.P.Past.past (whole g.P.Past.past c.args.self.now) c.requires.node c.requires.up s.0 s.1 c.args.events (c.count-instance.result + 1) c.args.value.now _ told next
+    (whole g.P.Past.past c.propose.new.self) c.args.draft.now c.propose.new.draft c.in_err-propose.ensures.stuck)
+
 pub returns-else-has_open-clause-stuck : goal.returns-else-has_open-clause-stuck
 returns-else-has_open-clause-stuck g c =
     let s = some_of c.args.self.now.acting c.requires.active in
     let next : c.count-instance.result + 1 ≡ length (knows g.P.Past.past c.args.self.now) + 1 = ap (λ (n : ℕ). n + 1) c.count-instance.ensures.known in
     let told = told_same c.self.inside.id c.args.self.now.id (c.count-instance.result + 1) (length (knows g.P.Past.past c.args.self.now) + 1) c.args.events (ap (λ (z : NodeValue _). z.id) c.self.view_is) next in
-    let l = idle_leads c.args.self.now.acceptor c.args.self.now.proposer c.requires.idle in
-    on_error (IsStuck g.K.Keeper.records c.args.svc.now g.P.Past.past (whole g.P.Past.past c.propose.new.self) (whole g.P.Past.past c.learn.new.self)) (IsStuck g.K.Keeper.records c.args.svc.now g.P.Past.past (whole g.P.Past.past c.args.self.now) (whole g.P.Past.past c.learn.new.self)) c.learn.result
-    (stuck_after g.K.Keeper.records g.K.Keeper.append_gives g.K.Keeper.faults c.args.svc.now g.P.Past.past (whole g.P.Past.past c.args.self.now) c.requires.node c.requires.up s.0 s.1 c.args.events (c.count-instance.result + 1) c.args.value.now _ told next
+    on_error (LearnsShort g.K.Keeper.records g.K.Keeper.append_gives g.K.Keeper.faults c.args.svc.now g.P.Past.past (c.count-instance.result + 1) c.args.value.now (whole g.P.Past.past c.propose.new.self) (whole g.P.Past.past c.learn.new.self) c.propose.new.draft)
+    (ProposesCutShort g.K.Keeper.records g.K.Keeper.append_gives g.K.Keeper.faults c.args.svc.now g.P.Past.past c.args.events c.args.value.now (whole g.P.Past.past c.args.self.now) (whole g.P.Past.past c.learn.new.self) c.args.draft.now) c.learn.result
+    (cut_stuck g.K.Keeper.records g.K.Keeper.append_gives g.K.Keeper.faults c.args.svc.now g.P.Past.past (whole g.P.Past.past c.args.self.now) c.requires.node c.requires.up s.0 s.1 c.args.events (c.count-instance.result + 1) c.args.value.now _ told next
     (whole g.P.Past.past c.propose.new.self) c.args.draft.now c.propose.new.draft
-    (rw c.in-On.is at c.in_ok-propose.ensures.opens) (rw c.in-On.is at c.in_ok-propose.ensures.parts) l.0 l.1 (whole g.P.Past.past c.learn.new.self)) c.learn.ensures.stuck
+    (rw c.in-On.is at c.in_ok-propose.ensures.opens) (rw c.in-On.is at c.in_ok-propose.ensures.parts) (sym c.has_open.ensures ∙ c.if-has_open.false) c.propose.ensures.same (whole g.P.Past.past c.learn.new.self) c.learn.new.draft (rw c.in-On.is at c.in_ok-propose.ensures.longer)) c.learn.ensures.stuck
 
 pub returns-else-has_open-clause-ends : goal.returns-else-has_open-clause-ends
 returns-else-has_open-clause-ends g c =

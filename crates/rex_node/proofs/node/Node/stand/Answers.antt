@@ -53,4 +53,5 @@ pub returns-clause-stuck : goal.returns-clause-stuck
 returns-clause-stuck g c =
     stand_short g.K.Keeper.records g.K.Keeper.append_gives g.K.Keeper.faults c.args.svc.now g.P.Past.past (whole g.P.Past.past c.args.self.now) c.requires.node c.requires.up c.args.ballot c.requires.left c.requires.least c.args.draft.now (whole g.P.Past.past c.append.new.self) c.append.new.draft
     (appends_at g.K.Keeper.records g.K.Keeper.append_gives g.K.Keeper.faults (whole g.P.Past.past c.args.self.now) (whole g.P.Past.past c.append.new.self) c.args.draft.now c.append.new.draft (kept.Promised c.args.ballot) _ c.in_ok-append.field-0 _ refl c.in-On.is c.in_ok-append.ensures.appends)
-    (whole g.P.Past.past c.candidate.new.self) c.in_ok-turns-in-On.ensures.stands (whole g.P.Past.past c.go_on.new.self) c.go_on.result c.go_on.ensures.stuck
+    (whole g.P.Past.past c.candidate.new.self) c.in_ok-turns-in-On.ensures.stands c.in_ok-turns-in-On.turns c.in_ok-turns-in-On.ensures.turns
+    c.candidate.new.draft c.in_ok-turns-in-On.ensures.effects c.in_ok-turns-in-On.ensures.sends (whole g.P.Past.past c.go_on.new.self) c.go_on.result c.go_on.ensures.stuck

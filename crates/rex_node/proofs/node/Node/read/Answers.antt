@@ -1,0 +1,21 @@
+use Rattle.std.proofs.Common.{ℤ, SFits, w64, rules, ap, sym, ◌∙◌}
+use Rattle.std.proofs.lemmas.Int.{to_z-of_z}
+use Rattle.rex_reads.specs.declared.seen.Read.{Read}
+use Rattle.rex_reads.specs.Reads.{answered, seen_after}
+use Rattle.rex_safety.specs.Reading.{value_in}
+use Rattle.rex_node.specs.Parts.{NodeValue, state_of, whole}
+use Rattle.rex_node.proofs.Admitted.{read_is}
+use Rattle.rex_node.proofs.node.Node.read.Goals as goal
+
+pub returns-clause-answer : goal.returns-clause-answer
+returns-clause-answer g c =
+    let small : SFits w64 c.value_in-value.result = search rules in
+    c.admitted.ensures.answer
+    ∙ ap (λ (v : ℤ). answered c.self.inside.up c.is_active-leads.result c.self.inside.replayed v c.args.seen.now) (to_z-of_z w64 c.value_in-value.result small)
+    ∙ ap (λ (x : NodeValue _). answered x.up c.is_active-leads.result x.replayed c.value_in-value.result c.args.seen.now) c.self.view_is
+    ∙ read_is g.K.Keeper.records c.args.svc.now g.P.Past.past (whole g.P.Past.past c.args.self.now) c.requires.node c.args.variable c.args.seen.now c.is_active-leads.result c.value_in-value.result
+    (c.is_active-leads.ensures)
+    (c.value_in-value.ensures ∙ ap (λ s. value_in s c.args.variable) (c.ahead_of.ensures ∙ ap (λ (x : NodeValue _). state_of x) c.self.view_is))
+
+pub returns-clause-seen : goal.returns-clause-seen
+returns-clause-seen g c = c.admitted.ensures.seen ∙ ap (λ (r : Read). seen_after c.args.seen.now r) (sym c.admitted.ensures.answer)
