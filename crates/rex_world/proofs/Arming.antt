@@ -76,6 +76,7 @@ node_armed service past f x h = record {
     short = u.short;
     proposer = u.proposer;
     acting = u.acting;
+    stamped = u.stamped;
     fits = u.fits;
     numbers = u.numbers;
   };
@@ -100,9 +101,9 @@ module _ (service : Declarations) (requests : List Request) (seed n : ℕ) (w : 
   arming_told = ap (λ (ms : List (Message Value)). WillFail m kept ∷ sent_from (suc (length w.messages)) ms) (sym (drop-append_seam w.messages []))
 
   arming_row : (nodes : List Here) → nodes ≡ put w.nodes m (record (node_at w.nodes m) { armed = Some (After 0 kept) })
-      → (let v : ModelWorld = record { done = w.done + 1; nodes = nodes; messages = w.messages; handed = w.handed } in v) ≡ (row service requests seed n w (KeepFail m kept)).world
+      → (let v : ModelWorld = record { done = w.done + 1; nodes = nodes; messages = w.messages; handed = w.handed; seen = w.seen } in v) ≡ (row service requests seed n w (KeepFail m kept)).world
   arming_row nodes e =
-      same_world (w.done + 1) (w.done + 1) nodes (put w.nodes m (record (node_at w.nodes m) { armed = Some (After 0 kept) })) w.messages (w.messages ++ []) w.handed (w.handed ++ []) refl e (sym (append-nil w.messages)) (sym (append-nil w.handed))
+      same_world (w.done + 1) (w.done + 1) nodes (put w.nodes m (record (node_at w.nodes m) { armed = Some (After 0 kept) })) w.messages (w.messages ++ []) w.handed (w.handed ++ []) w.seen w.seen refl e (sym (append-nil w.messages)) (sym (append-nil w.handed)) refl
 
   -- what is agreed on stays
   pub arming_agreed : agreed (row service requests seed n w (KeepFail m kept)).world ≡ agreed w
@@ -170,6 +171,7 @@ module _ {S : Type 0} (service : Declarations) (w : World S) (h : IsRunning serv
         requests = h.requests;
         flushed = h.flushed;
         handed = h.handed;
+        clients = h.clients;
       }
 
 -- one more line is done
@@ -193,4 +195,5 @@ counted_running service w h = record {
   requests = h.requests;
   flushed = h.flushed;
   handed = h.handed;
+  clients = h.clients;
 }

@@ -15,6 +15,7 @@ use Rattle.rex_safety.specs.Node.{Message, new_node}
 use Rattle.rex_safety.specs.Values.{Value}
 use Rattle.rex_safety.specs.Lanes.{Here}
 use Rattle.rex_safety.specs.World.{World as ModelWorld, beginning}
+use Rattle.rex_safety.specs.Reading.{nothing_seen}
 use Rattle.rex_safety.specs.Agreed.{agreed, longer_of, longest}
 use Rattle.rex_safety.specs.Kept.{IsKept}
 use Rattle.rex_safety.proofs.Keeps.{beginning_kept}
@@ -64,17 +65,18 @@ both false b e = absurd cc
 pub few_nodes : (n : ℕ) → is_node_count n ≡ true → n ≤ most_nodes
 few_nodes n h = leb-true n most_nodes (both (n % 2 == 1) (nat_le n most_nodes) h).1
 
-abbrev model_of : ℕ → List Here → List (Message Value) → List Bool → ModelWorld
-model_of done nodes messages handed = record { done = done; nodes = nodes; messages = messages; handed = handed }
+abbrev model_of : ℕ → List Here → List (Message Value) → List Bool → List ℕ → ModelWorld
+model_of done nodes messages handed seen = record { done = done; nodes = nodes; messages = messages; handed = handed; seen = seen }
 
 -- the world of the model before the first line
-pub begins : {S : Type 0} → (service : Declarations) (seed n : ℕ) (w : World S) → AreNew service seed n n w.seats.items → w.agreed ≡ [] → w.net ≡ [] → w.handed.items ≡ [] → w.done ≡ 0 → world_of service w ≡ beginning n
-begins service seed n w h none net handed done =
-    ap (λ (d : ℕ). model_of d (heres service w.agreed w.seats.items) (messages_of w.agreed w.net) w.handed.items) done
-    ∙ ap (λ (vs : List Value). model_of 0 (heres service vs w.seats.items) (messages_of vs w.net) w.handed.items) none
-    ∙ ap (λ (xs : List Here). model_of 0 xs (messages_of [] w.net) w.handed.items) h.here
-    ∙ ap (λ (ms : List (List ℕ)). model_of 0 (replicate n new_node) (messages_of [] ms) w.handed.items) net
-    ∙ ap (λ (hs : List Bool). model_of 0 (replicate n new_node) [] hs) handed
+pub begins : {S : Type 0} → (service : Declarations) (seed n : ℕ) (w : World S) → AreNew service seed n n w.seats.items → w.agreed ≡ [] → w.net ≡ [] → w.handed.items ≡ [] → w.seen.items ≡ nothing_seen → w.done ≡ 0 → world_of service w ≡ beginning n
+begins service seed n w h none net handed seen done =
+    ap (λ (d : ℕ). model_of d (heres service w.agreed w.seats.items) (messages_of w.agreed w.net) w.handed.items w.seen.items) done
+    ∙ ap (λ (vs : List Value). model_of 0 (heres service vs w.seats.items) (messages_of vs w.net) w.handed.items w.seen.items) none
+    ∙ ap (λ (xs : List Here). model_of 0 xs (messages_of [] w.net) w.handed.items w.seen.items) h.here
+    ∙ ap (λ (ms : List (List ℕ)). model_of 0 (replicate n new_node) (messages_of [] ms) w.handed.items w.seen.items) net
+    ∙ ap (λ (hs : List Bool). model_of 0 (replicate n new_node) [] hs w.seen.items) handed
+    ∙ ap (model_of 0 (replicate n new_node) [] []) seen
 
 -- nothing is agreed on then
 none_agreed : (n : ℕ) → longest (replicate n new_node) ≡ []
@@ -82,16 +84,16 @@ none_agreed zero = refl
 none_agreed (suc n) = ap (longer_of []) (none_agreed n)
 
 pub new_running : {S : Type 0} → (service : Declarations) (n : ℕ) (w : World S) → n ≤ most_nodes → IsService service → IsChecked service → All (RequestFits service) w.requests → AreNew service w.seed n n w.seats.items
-    → w.agreed ≡ [] → w.net ≡ [] → w.handed.items ≡ [] → w.done ≡ 0 → w.flushed ≡ 0 → w.broken ≡ false → IsRunning service w
-new_running service n w few good checked fit h none net handed done flushed whole =
+    → w.agreed ≡ [] → w.net ≡ [] → w.handed.items ≡ [] → w.seen.items ≡ nothing_seen → w.done ≡ 0 → w.flushed ≡ 0 → w.broken ≡ false → IsRunning service w
+new_running service n w few good checked fit h none net handed seen done flushed whole =
     record {
       service_is = good;
       checked = checked;
       whole = whole;
       few = omega (arith, h.many);
-      agreed = none ∙ sym (none_agreed n) ∙ ap agreed (sym (begins service w.seed n w h none net handed done));
+      agreed = none ∙ sym (none_agreed n) ∙ ap agreed (sym (begins service w.seed n w h none net handed seen done));
       kept = subst (λ (k : ℕ). IsKept service w.seed k (world_of service w)) (sym h.many)
-          (subst (λ (x : ModelWorld). IsKept service w.seed n x) (sym (begins service w.seed n w h none net handed done)) (beginning_kept service good checked w.requests fit w.seed n few));
+          (subst (λ (x : ModelWorld). IsKept service w.seed n x) (sym (begins service w.seed n w h none net handed seen done)) (beginning_kept service good checked w.requests fit w.seed n few));
       seats = subst (λ (k : ℕ). AreSeats service w.agreed w.seed k 1 w.seats.items) (sym h.many) (subst (λ (vs : List Value). AreSeats service vs w.seed n 1 w.seats.items) (sym none) h.are);
       within = subst (λ (k : ℕ). AreWithin k w.seats.items) (sym done) h.within;
       spelled = subst (λ (ms : List (List ℕ)). All IsSpelled ms) (sym net) (All-nil IsSpelled);
@@ -99,4 +101,5 @@ new_running service n w few good checked fit h none net handed done flushed whol
       requests = fit;
       flushed = omega (arith, flushed);
       handed = subst (λ (k : ℕ). list_all (λ (b : Bool). b) (take k w.handed.items) ≡ true) (sym flushed) refl;
+      clients = ap length seen;
     }

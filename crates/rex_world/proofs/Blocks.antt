@@ -178,4 +178,5 @@ module _ {S : Type 0} (service : Declarations) (w : World S) (h : IsRunning serv
           requests = h.requests;
           flushed = h.flushed;
           handed = h.handed;
+          clients = h.clients;
         }

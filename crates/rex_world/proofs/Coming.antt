@@ -1,5 +1,5 @@
 -- What a call of a node does to a world.
-use Rattle.std.proofs.Common.{◌≡◌, ℕ, suc, ◌-◌, ◌≤◌, Bool, true, false, cond, List, [], ◌∷◌, ◌++◌, length, map, take, Result, Ok, Err, IfOk, eqb, refl, sym, ◌∙◌, ap, subst, arith, length-append}
+use Rattle.std.proofs.Common.{◌≡◌, ℕ, suc, ◌-◌, ◌≤◌, Bool, true, false, cond, List, [], ◌∷◌, ◌++◌, length, map, take, Option, None, Result, Ok, Err, IfOk, eqb, refl, sym, ◌∙◌, ap, subst, arith, length-append}
 use Rattle.std.specs.Prelude.{replicate}
 use Rattle.std.specs.Global.{Vec}
 use Rattle.std.specs.List.{All, list_all}
@@ -26,6 +26,7 @@ use Rattle.rex_safety.specs.Values.{Value, service_of}
 use Rattle.rex_safety.specs.Lanes.{Here, CallHere}
 use Rattle.rex_safety.specs.World.{World as ModelWorld, Row, node_at, put, after, only, if_up, at_node, start_if, sent_from}
 use Rattle.rex_safety.specs.Kept.{IsKept}
+use Rattle.rex_safety.specs.Reading.{released_to, seen_by_release, seen_by_releases, stamp_at}
 use Rattle.rex_safety.proofs.Migrated.{migrated_sends}
 use Rattle.rex_node.specs.declared.refusal.Refusal.{Refusal}
 use Rattle.rex_node.specs.declared.refusal.Refusal.TheVariants as why
@@ -38,9 +39,10 @@ use Rattle.rex_world.specs.declared.world.World.{World}
 use Rattle.rex_world.specs.Seats.{AreKept, AreSeats, AreWithin, heres}
 use Rattle.rex_world.specs.World.{read_message, message_of, messages_of, IsSpelled, TellsIn, TellsRightly, world_of, nodes_of}
 use Rattle.rex_world.specs.Kept.{IsRunning, IsSame}
-use Rattle.rex_world.specs.Calls.{IsDone, IsRefused, WasDown, Acts, IsWhole, Did, TellsStep, TellsRefusal, Tells, HasTold, effect_of, StartsIf, IsStarted}
+use Rattle.rex_world.specs.Calls.{IsDone, IsRefused, WasDown, Acts, IsWhole, Did, TellsStep, TellsRefusal, Tells, HasTold, effect_of, seen_by, StartsIf, IsStarted}
 use Rattle.rex_world.proofs.Sending.{sent_alike}
 use Rattle.rex_world.proofs.Silent.{none_told}
+use Rattle.rex_world.proofs.Shown.{releases_long}
 
 -- ---- messages as bytes
 
@@ -82,9 +84,9 @@ started_sends sv m x = migrated_sends (has_old_base x.log) m (restart m (begin x
 
 -- ---- worlds
 
-pub same_world : (d e : ℕ) (xs ys : List Here) (ms ns : List (Message Value)) (hs gs : List Bool) → d ≡ e → xs ≡ ys → ms ≡ ns → hs ≡ gs
-    → let a : ModelWorld = record { done = d; nodes = xs; messages = ms; handed = hs } in let b : ModelWorld = record { done = e; nodes = ys; messages = ns; handed = gs } in a ≡ b
-same_world d e xs ys ms ns hs gs p q r s = cc
+pub same_world : (d e : ℕ) (xs ys : List Here) (ms ns : List (Message Value)) (hs gs : List Bool) (ss ts : List ℕ) → d ≡ e → xs ≡ ys → ms ≡ ns → hs ≡ gs → ss ≡ ts
+    → let a : ModelWorld = record { done = d; nodes = xs; messages = ms; handed = hs; seen = ss } in let b : ModelWorld = record { done = e; nodes = ys; messages = ns; handed = gs; seen = ts } in a ≡ b
+same_world d e xs ys ms ns hs gs ss ts p q r s t = cc
 
 pub put_same : (xs : List Here) (m : ℕ) → put xs m (node_at xs m) ≡ xs
 put_same [] m = refl
@@ -94,13 +96,27 @@ put_same (x ∷ xs) m = go (eqb m 1) (put_same xs (m - 1))
     go true h = refl
     go false h = ap (λ (ys : List Here). x ∷ ys) h
 
--- a call that only says something changes nothing
-said_only : (w : ModelWorld) (m : ℕ) (call : CallHere → CallHere) (e : Effect) → (node_at w.nodes m).up ≡ true → call (begin (node_at w.nodes m)) ≡ say e (begin (node_at w.nodes m)) → at_node w m call ≡ only w e
-said_only w m call e up says =
+-- a call that only says something, and releases no reply, changes nothing
+said_only : (w : ModelWorld) (m : ℕ) (call : CallHere → CallHere) (e : Effect) → released_to e ≡ None → (node_at w.nodes m).up ≡ true → call (begin (node_at w.nodes m)) ≡ say e (begin (node_at w.nodes m)) → at_node w m call ≡ only w e
+said_only w m call e none up says =
     ap (λ (t : Bool). if_up t w m (call (begin (node_at w.nodes m)))) up
     ∙ ap (λ (d : CallHere). after w m d) says
     ∙ ap (λ (v : ModelWorld). let r : Row = record { world = v; effects = e ∷ [] } in r)
-    (same_world w.done w.done (put w.nodes m (node_at w.nodes m)) w.nodes (w.messages ++ []) w.messages (w.handed ++ []) w.handed refl (put_same w.nodes m) (append-nil w.messages) (append-nil w.handed))
+    (same_world w.done w.done (put w.nodes m (node_at w.nodes m)) w.nodes (w.messages ++ []) w.messages (w.handed ++ []) w.handed (seen_by_release (stamp_at (node_at w.nodes m)) (released_to e) w.seen) w.seen refl (put_same w.nodes m) (append-nil w.messages) (append-nil w.handed)
+    (ap (λ (o : Option ℕ). seen_by_release (stamp_at (node_at w.nodes m)) o w.seen) none))
+
+-- what is reported of a refusal is no release
+none_refused : (m : ℕ) (refusal : Refusal) → released_to (effect_of m refusal) ≡ None
+none_refused m why.Down = refl
+none_refused m (why.NotActive role) = refl
+none_refused m (why.Open i) = refl
+none_refused m why.Ended = refl
+none_refused m why.Nothing = refl
+none_refused m (why.Live events) = refl
+none_refused m why.UpToDate = refl
+none_refused m why.Spent = refl
+none_refused m (why.BadSnapshot at) = refl
+none_refused m why.OutOfMemory = refl
 
 down_only : (w : ModelWorld) (m : ℕ) (call : CallHere → CallHere) → (node_at w.nodes m).up ≡ false → at_node w m call ≡ only w (IsDown m)
 down_only w m call down = ap (λ (t : Bool). if_up t w m (call (begin (node_at w.nodes m)))) down
@@ -121,6 +137,7 @@ pub record IsUnsettled {S : Type 0} (service : Declarations) (w : World S) : Typ
   pub requests : All (RequestFits service) w.requests
   pub flushed : w.flushed ≤ length w.handed.items
   pub handed : list_all (λ (b : Bool). b) (take w.flushed w.handed.items) ≡ true
+  pub clients : length w.seen.items ≡ 257
 
 -- the world came to a row of the model, with the same values agreed as before
 pub record CameTo {S : Type 0} (service : Declarations) (before after : World S) (old new : Told) (r : Row) : Type 0 where
@@ -133,32 +150,33 @@ pub record CameTo {S : Type 0} (service : Declarations) (before after : World S)
 
 -- ---- a step that was told
 
-module _ {S : Type 0} (service : Declarations) (w w2 : World S) (seats : Vec (Seat S)) (told told2 : Told) where
+module _ {S : Type 0} (service : Declarations) (w w2 : World S) (seats : Vec (Seat S)) (seen : Vec ℕ) (told told2 : Told) where
   abbrev seated : World S
-  seated = record w { seats = seats }
+  seated = record w { seats = seats; seen = seen }
 
   -- a world that sent these messages
   abbrev sent_world : World S
-  sent_world = record w { seats = seats; net = w2.net; handed = w2.handed }
+  sent_world = record w { seats = seats; seen = seen; net = w2.net; handed = w2.handed }
 
   module _ (step : Step) (tells : TellsStep seated w2 told told2 step) where
     messages_after : messages_of w.agreed w2.net ≡ messages_of w.agreed w.net ++ map (message_in w.agreed) step.sends
     messages_after = ap (messages_of w.agreed) tells.sends.net ∙ messages_both w.agreed w.net (map spelling_of step.sends) ∙ ap (λ (ms : List (Message Value)). messages_of w.agreed w.net ++ ms) (read_again w.agreed step.sends tells.sends.spelled)
 
     -- the world is the one of the model after the call
-    pub world_after : (m : ℕ) (d : CallHere) → heres service w.agreed seats.items ≡ put (heres service w.agreed w.seats.items) m d.node → map (message_in w.agreed) step.sends ≡ d.sends
+    pub world_after : (m : ℕ) (d : CallHere) → heres service w.agreed seats.items ≡ put (heres service w.agreed w.seats.items) m d.node → map (message_in w.agreed) step.sends ≡ d.sends → seen.items ≡ seen_by_releases (stamp_at d.node) d.effects w.seen.items
         → world_of service w2 ≡ (after (world_of service w) m d).world
-    world_after m d nodes sends =
+    world_after m d nodes sends saw =
         ap (world_of service) tells.rest
-        ∙ same_world w.done w.done (heres service w.agreed seats.items) (put (heres service w.agreed w.seats.items) m d.node) (messages_of w.agreed w2.net) (messages_of w.agreed w.net ++ d.sends) w2.handed.items (w.handed.items ++ replicate (length d.sends) false)
+        ∙ same_world w.done w.done (heres service w.agreed seats.items) (put (heres service w.agreed w.seats.items) m d.node) (messages_of w.agreed w2.net) (messages_of w.agreed w.net ++ d.sends) w2.handed.items (w.handed.items ++ replicate (length d.sends) false) seen.items (seen_by_releases (stamp_at d.node) d.effects w.seen.items)
         refl nodes
         (messages_after ∙ ap (λ (ms : List (Message Value)). messages_of w.agreed w.net ++ ms) sends)
         (tells.sends.handed ∙ ap (λ (k : ℕ). w.handed.items ++ replicate k false) (sym (length-map step.sends (message_in w.agreed)) ∙ ap length sends))
+        saw
 
-    pub did_after : (m : ℕ) (d : CallHere) → heres service w.agreed seats.items ≡ put (heres service w.agreed w.seats.items) m d.node → map (message_in w.agreed) step.sends ≡ d.sends → step.effects ≡ d.effects
+    pub did_after : (m : ℕ) (d : CallHere) → heres service w.agreed seats.items ≡ put (heres service w.agreed w.seats.items) m d.node → map (message_in w.agreed) step.sends ≡ d.sends → step.effects ≡ d.effects → seen.items ≡ seen_by_releases (stamp_at d.node) d.effects w.seen.items
         → Did (world_of service w) (world_of service w2) told told2 (after (world_of service w) m d)
-    did_after m d nodes sends effects = record {
-      world = world_after m d nodes sends;
+    did_after m d nodes sends effects saw = record {
+      world = world_after m d nodes sends saw;
       effects = tells.effects ∙ ap (λ (es : List Effect). told.effects.items ++ es) effects;
       sent = tells.sends.sent ∙ ap (λ (es : List Effect). told.sent.items ++ es) (sent_alike w.agreed (suc (length w.net)) step.sends) ∙ ap (λ (es : List Effect). told.sent.items ++ es)
           (ap (λ (k : ℕ). sent_from (suc k) (map (message_in w.agreed) step.sends)) (sym (messages_many w.agreed w.net))
@@ -168,8 +186,8 @@ module _ {S : Type 0} (service : Declarations) (w w2 : World S) (seats : Vec (Se
     front_after : w.flushed ≤ length w.handed.items → take w.flushed w2.handed.items ≡ take w.flushed w.handed.items
     front_after l = ap (take w.flushed) tells.sends.handed ∙ take-append-le w.flushed w.handed.items (replicate (length step.sends) false) l
 
-    pub running_after : IsRunning service w → length seats.items ≡ nodes_of w → AreKept service w.agreed w.seed (nodes_of w) w.done seats.items → AreTold service w.agreed step.sends → IsKept service w.seed (nodes_of w) (world_of service w2) → IsUnsettled service w2
-    running_after h many all told_right kept =
+    pub running_after : IsRunning service w → length seen.items ≡ length w.seen.items → length seats.items ≡ nodes_of w → AreKept service w.agreed w.seed (nodes_of w) w.done seats.items → AreTold service w.agreed step.sends → IsKept service w.seed (nodes_of w) (world_of service w2) → IsUnsettled service w2
+    running_after h clients many all told_right kept =
         subst (IsUnsettled service) (sym tells.rest)
         (record {
           service_is = h.service_is;
@@ -184,6 +202,7 @@ module _ {S : Type 0} (service : Declarations) (w w2 : World S) (seats : Vec (Se
           requests = h.requests;
           flushed = omega (arith, ap length tells.sends.handed, length-append w.handed.items (replicate (length step.sends) false), h.flushed);
           handed = subst (λ (hs : List Bool). list_all (λ (b : Bool). b) hs ≡ true) (sym (front_after h.flushed)) h.handed;
+          clients = clients ∙ h.clients;
         })
 
     pub same_after : length seats.items ≡ nodes_of w → IsSame w w2
@@ -200,11 +219,11 @@ module _ {S : Type 0} (service : Declarations) (w w2 : World S) (seats : Vec (Se
 
   -- ---- a refusal that was told
 
-  module _ (same : w2 ≡ seated) (nodes : heres service w.agreed seats.items ≡ heres service w.agreed w.seats.items) where
+  module _ (same : w2 ≡ seated) (nodes : heres service w.agreed seats.items ≡ heres service w.agreed w.seats.items) (saw : seen.items ≡ w.seen.items) where
     world_same : world_of service w2 ≡ world_of service w
     world_same =
         ap (world_of service) same
-        ∙ same_world w.done w.done (heres service w.agreed seats.items) (heres service w.agreed w.seats.items) (messages_of w.agreed w.net) (messages_of w.agreed w.net) w.handed.items w.handed.items refl nodes refl refl
+        ∙ same_world w.done w.done (heres service w.agreed seats.items) (heres service w.agreed w.seats.items) (messages_of w.agreed w.net) (messages_of w.agreed w.net) w.handed.items w.handed.items seen.items w.seen.items refl nodes refl refl saw
 
     did_only : (e : Effect) → told2.effects.items ≡ told.effects.items ++ e ∷ [] → told2.sent.items ≡ told.sent.items → Did (world_of service w) (world_of service w2) told told2 (only (world_of service w) e)
     did_only e effects sent = record {
@@ -232,6 +251,7 @@ module _ {S : Type 0} (service : Declarations) (w w2 : World S) (seats : Vec (Se
             requests = h.requests;
             flushed = h.flushed;
             handed = h.handed;
+            clients = ap length saw ∙ h.clients;
           });
       same = record { nodes = ap nodes_of same ∙ many; requests = ap (λ (v : World S). v.requests) same; seed = ap (λ (v : World S). v.seed) same };
       done = ap (λ (v : World S). v.done) same;
@@ -249,14 +269,16 @@ module _ {S : Type 0} (service : Declarations) (w w2 : World S) (seats : Vec (Se
     there = node_at (heres service w.agreed seats.items) m
 
     -- the row of a step that was done
-    comes_after : (d : CallHere) (step : Step) → TellsStep seated w2 told told2 step → there ≡ d.node → map (message_in w.agreed) step.sends ≡ d.sends → step.effects ≡ d.effects
+    comes_after : (d : CallHere) (step : Step) → TellsStep seated w2 told told2 step → there ≡ d.node → map (message_in w.agreed) step.sends ≡ d.sends → step.effects ≡ d.effects → seen.items ≡ seen_by_releases (stamp_at there) step.effects w.seen.items
         → heres service w.agreed seats.items ≡ put (heres service w.agreed w.seats.items) m there → length seats.items ≡ nodes_of w → AreKept service w.agreed w.seed (nodes_of w) w.done seats.items
         → AreTold service w.agreed step.sends → IsKept service w.seed (nodes_of w) (after (world_of service w) m d).world → CameTo service w w2 told told2 (after (world_of service w) m d)
-    comes_after d step tells node sends effects others many all told_right kept =
+    comes_after d step tells node sends effects shown others many all told_right kept =
         let nodes : heres service w.agreed seats.items ≡ put (heres service w.agreed w.seats.items) m d.node = others ∙ ap (put (heres service w.agreed w.seats.items) m) node in
+        let saw : seen.items ≡ seen_by_releases (stamp_at d.node) d.effects w.seen.items =
+        shown ∙ ap (λ (x : Here). seen_by_releases (stamp_at x) step.effects w.seen.items) node ∙ ap (λ (es : List Effect). seen_by_releases (stamp_at d.node) es w.seen.items) effects in
         record {
-          did = did_after step tells m d nodes sends effects;
-          works = running_after step tells h many all told_right (subst (IsKept service w.seed (nodes_of w)) (sym (world_after step tells m d nodes sends)) kept);
+          did = did_after step tells m d nodes sends effects saw;
+          works = running_after step tells h (ap length shown ∙ releases_long (stamp_at there) step.effects w.seen.items) many all told_right (subst (IsKept service w.seed (nodes_of w)) (sym (world_after step tells m d nodes sends saw)) kept);
           same = same_after step tells many;
           done = done_after step tells;
           flushed = flushed_after step tells;
@@ -272,34 +294,34 @@ module _ {S : Type 0} (service : Declarations) (w w2 : World S) (seats : Vec (Se
       abbrev Row-comes : Type 0
       Row-comes = CameTo service w w2 told told2 (at_node (world_of service w) m call)
 
-      comes_done : (step : Step) → IsDone w.agreed call here there step → TellsStep seated w2 told told2 step → AreKept service w.agreed w.seed (nodes_of w) w.done seats.items → AreTold service w.agreed step.sends → Row-comes
-      comes_done step is tells all told_right =
+      comes_done : (step : Step) → IsDone w.agreed call here there step → TellsStep seated w2 told told2 step → seen.items ≡ seen_by_releases (stamp_at there) step.effects w.seen.items → AreKept service w.agreed w.seed (nodes_of w) w.done seats.items → AreTold service w.agreed step.sends → Row-comes
+      comes_done step is tells shown all told_right =
           subst (λ (t : Bool). CameTo service w w2 told told2 (if_up t (world_of service w) m (call (begin here)))) (sym is.up)
-          (comes_after (call (begin here)) step tells is.node is.sends is.effects others many all told_right
+          (comes_after (call (begin here)) step tells is.node is.sends is.effects shown others many all told_right
           (subst (λ (t : Bool). IsKept service w.seed (nodes_of w) (if_up t (world_of service w) m (call (begin here))).world) is.up kept))
 
-      comes_refused : (refusal : Refusal) → IsRefused call m here there refusal → TellsRefusal m seated w2 told told2 refusal → AreKept service w.agreed w.seed (nodes_of w) w.done seats.items → Row-comes
-      comes_refused refusal is tells all =
-          subst (CameTo service w w2 told told2) (sym (said_only (world_of service w) m call (effect_of m refusal) is.up is.says))
-          (comes_only tells.same (nodes_same others is.same) (effect_of m refusal) tells.effects tells.sent h many all)
+      comes_refused : (refusal : Refusal) → IsRefused call m here there refusal → TellsRefusal m seated w2 told told2 refusal → seen.items ≡ w.seen.items → AreKept service w.agreed w.seed (nodes_of w) w.done seats.items → Row-comes
+      comes_refused refusal is tells saw all =
+          subst (CameTo service w w2 told told2) (sym (said_only (world_of service w) m call (effect_of m refusal) (none_refused m refusal) is.up is.says))
+          (comes_only tells.same (nodes_same others is.same) saw (effect_of m refusal) tells.effects tells.sent h many all)
 
-      comes_down : WasDown here there → TellsRefusal m seated w2 told told2 why.Down → AreKept service w.agreed w.seed (nodes_of w) w.done seats.items → Row-comes
-      comes_down is tells all =
+      comes_down : WasDown here there → TellsRefusal m seated w2 told told2 why.Down → seen.items ≡ w.seen.items → AreKept service w.agreed w.seed (nodes_of w) w.done seats.items → Row-comes
+      comes_down is tells saw all =
           subst (CameTo service w w2 told told2) (sym (down_only (world_of service w) m call is.down))
-          (comes_only tells.same (nodes_same others is.same) (IsDown m) tells.effects tells.sent h many all)
+          (comes_only tells.same (nodes_same others is.same) saw (IsDown m) tells.effects tells.sent h many all)
 
-      pub comes : (outcome : Result Step Refusal) → Acts w.agreed call m here there outcome → IfOk outcome (λ (step : Step). AreTold service w.agreed step.sends) → (IsWhole outcome → AreKept service w.agreed w.seed (nodes_of w) w.done seats.items) → HasTold m seated w2 told told2 outcome → Row-comes
-      comes (Ok step) acts told_right all t = comes_done step acts t.tells (all tt) told_right
-      comes (Err why.OutOfMemory) acts told_right all t = absurd t.tells
-      comes (Err why.Down) acts told_right all t = comes_down acts t.tells (all tt)
-      comes (Err (why.NotActive role)) acts told_right all t = comes_refused (why.NotActive role) acts t.tells (all tt)
-      comes (Err (why.Open i)) acts told_right all t = comes_refused (why.Open i) acts t.tells (all tt)
-      comes (Err why.Ended) acts told_right all t = comes_refused why.Ended acts t.tells (all tt)
-      comes (Err why.Nothing) acts told_right all t = comes_refused why.Nothing acts t.tells (all tt)
-      comes (Err (why.Live events)) acts told_right all t = comes_refused (why.Live events) acts t.tells (all tt)
-      comes (Err why.UpToDate) acts told_right all t = comes_refused why.UpToDate acts t.tells (all tt)
-      comes (Err why.Spent) acts told_right all t = comes_refused why.Spent acts t.tells (all tt)
-      comes (Err (why.BadSnapshot at)) acts told_right all t = comes_refused (why.BadSnapshot at) acts t.tells (all tt)
+      pub comes : (outcome : Result Step Refusal) → Acts w.agreed call m here there outcome → IfOk outcome (λ (step : Step). AreTold service w.agreed step.sends) → (IsWhole outcome → AreKept service w.agreed w.seed (nodes_of w) w.done seats.items) → HasTold m seated w2 told told2 outcome → seen.items ≡ seen_by there outcome w.seen.items → Row-comes
+      comes (Ok step) acts told_right all t saw = comes_done step acts t.tells saw (all tt) told_right
+      comes (Err why.OutOfMemory) acts told_right all t saw = absurd t.tells
+      comes (Err why.Down) acts told_right all t saw = comes_down acts t.tells saw (all tt)
+      comes (Err (why.NotActive role)) acts told_right all t saw = comes_refused (why.NotActive role) acts t.tells saw (all tt)
+      comes (Err (why.Open i)) acts told_right all t saw = comes_refused (why.Open i) acts t.tells saw (all tt)
+      comes (Err why.Ended) acts told_right all t saw = comes_refused why.Ended acts t.tells saw (all tt)
+      comes (Err why.Nothing) acts told_right all t saw = comes_refused why.Nothing acts t.tells saw (all tt)
+      comes (Err (why.Live events)) acts told_right all t saw = comes_refused (why.Live events) acts t.tells saw (all tt)
+      comes (Err why.UpToDate) acts told_right all t saw = comes_refused why.UpToDate acts t.tells saw (all tt)
+      comes (Err why.Spent) acts told_right all t saw = comes_refused why.Spent acts t.tells saw (all tt)
+      comes (Err (why.BadSnapshot at)) acts told_right all t saw = comes_refused (why.BadSnapshot at) acts t.tells saw (all tt)
 
     -- a node that was started, or was up
     module _ (others : heres service w.agreed seats.items ≡ put (heres service w.agreed w.seats.items) m there) (many : length seats.items ≡ nodes_of w) (all : AreKept service w.agreed w.seed (nodes_of w) w.done seats.items) where
@@ -310,22 +332,22 @@ module _ {S : Type 0} (service : Declarations) (w w2 : World S) (seats : Vec (Se
       unfolding still
       still_only =
           ap (λ (v : ModelWorld). let r : Row = record { world = v; effects = IsUp m ∷ [] } in r)
-          (same_world w.done w.done (put (heres service w.agreed w.seats.items) m here) (heres service w.agreed w.seats.items) (messages_of w.agreed w.net ++ []) (messages_of w.agreed w.net) (w.handed.items ++ []) w.handed.items refl
-          (put_same (heres service w.agreed w.seats.items) m) (append-nil (messages_of w.agreed w.net)) (append-nil w.handed.items))
+          (same_world w.done w.done (put (heres service w.agreed w.seats.items) m here) (heres service w.agreed w.seats.items) (messages_of w.agreed w.net ++ []) (messages_of w.agreed w.net) (w.handed.items ++ []) w.handed.items w.seen.items w.seen.items refl
+          (put_same (heres service w.agreed w.seats.items) m) (append-nil (messages_of w.agreed w.net)) (append-nil w.handed.items) refl)
 
-      started_step : (t : Bool) (step : Step) → StartsIf (service_of service w.seed) t m here there step → IsKept service w.seed (nodes_of w) (start_if (service_of service w.seed) t (world_of service w) m).world → TellsStep seated w2 told told2 step
+      started_step : (t : Bool) (step : Step) → StartsIf (service_of service w.seed) t m here there step → IsKept service w.seed (nodes_of w) (start_if (service_of service w.seed) t (world_of service w) m).world → TellsStep seated w2 told told2 step → seen.items ≡ seen_by_releases (stamp_at there) step.effects w.seen.items
           → CameTo service w w2 told told2 (start_if (service_of service w.seed) t (world_of service w) m)
       unfolding still
-      started_step true step is kept tells =
+      started_step true step is kept tells shown =
           subst (CameTo service w w2 told told2) still_only
-          (comes_after still step tells is.same (ap (map (message_in w.agreed)) is.sends) is.effects others many all (none_told service w.agreed step.sends is.sends) (subst (λ (r : Row). IsKept service w.seed (nodes_of w) r.world) (sym still_only) kept))
-      started_step false step is kept tells = comes_after (start (service_of service w.seed) m (begin here)) step tells is.node (ap (map (message_in w.agreed)) is.sends ∙ sym (started_sends (service_of service w.seed) m here)) is.effects others many all (none_told service w.agreed step.sends is.sends) kept
+          (comes_after still step tells is.same (ap (map (message_in w.agreed)) is.sends) is.effects shown others many all (none_told service w.agreed step.sends is.sends) (subst (λ (r : Row). IsKept service w.seed (nodes_of w) r.world) (sym still_only) kept))
+      started_step false step is kept tells shown = comes_after (start (service_of service w.seed) m (begin here)) step tells is.node (ap (map (message_in w.agreed)) is.sends ∙ sym (started_sends (service_of service w.seed) m here)) is.effects shown others many all (none_told service w.agreed step.sends is.sends) kept
 
     pub comes_started : (outcome : Result Step Refusal) → IsStarted (service_of service w.seed) m here there outcome → heres service w.agreed seats.items ≡ put (heres service w.agreed w.seats.items) m there → length seats.items ≡ nodes_of w
         → (IsWhole outcome → AreKept service w.agreed w.seed (nodes_of w) w.done seats.items) → IsKept service w.seed (nodes_of w) (start_if (service_of service w.seed) here.up (world_of service w) m).world
-        → HasTold m seated w2 told told2 outcome → CameTo service w w2 told told2 (start_if (service_of service w.seed) here.up (world_of service w) m)
-    comes_started (Ok step) is others many all kept t = started_step others many (all tt) here.up step is kept t.tells
-    comes_started (Err refusal) is others many all kept t = absurd (subst (λ (why : Refusal). Tells m seated w2 told told2 (Err why)) is t.tells)
+        → HasTold m seated w2 told told2 outcome → seen.items ≡ seen_by there outcome w.seen.items → CameTo service w w2 told told2 (start_if (service_of service w.seed) here.up (world_of service w) m)
+    comes_started (Ok step) is others many all kept t shown = started_step others many (all tt) here.up step is kept t.tells shown
+    comes_started (Err refusal) is others many all kept t shown = absurd (subst (λ (why : Refusal). Tells m seated w2 told told2 (Err why)) is t.tells)
 
 -- what was started sends nothing
 pub starts_fit : (sv : Service Value StateValue) (m : ℕ) (x y : Here) (outcome : Result Step Refusal) → IsStarted sv m x y outcome → IfOk outcome (λ (step : Step). All IsMessage step.sends)

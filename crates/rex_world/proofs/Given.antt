@@ -107,7 +107,7 @@ module _ (service : Declarations) (w : ModelWorld) (m : ℕ) (e : Event) where
       → (let v : ModelWorld = record w { nodes = put w.nodes m (taken (taken_in service (node_at w.nodes m) e) (begin (node_at w.nodes m))).node } in v) ≡ take service w m e
   take_is up active =
       same_world w.done w.done (put w.nodes m (taken (taken_in service (node_at w.nodes m) e) (begin (node_at w.nodes m))).node) (put w.nodes m (taken (taken_in service (node_at w.nodes m) e) (begin (node_at w.nodes m))).node)
-      w.messages (w.messages ++ []) w.handed (w.handed ++ []) refl refl (sym (append-nil w.messages)) (sym (append-nil w.handed))
+      w.messages (w.messages ++ []) w.handed (w.handed ++ []) w.seen w.seen refl refl (sym (append-nil w.messages)) (sym (append-nil w.handed)) refl
       ∙ sym (ap (λ (t : Bool). (after w m (active_only t (begin (node_at w.nodes m)) (take_event service e (begin (node_at w.nodes m))))).world) active)
       ∙ sym (ap (λ (t : Bool). (if_up t w m (active_only (is_active (node_at w.nodes m).role) (begin (node_at w.nodes m)) (take_event service e (begin (node_at w.nodes m))))).world) up)
 
@@ -182,4 +182,5 @@ module _ {S : Type 0} (service : Declarations) (w : World S) (h : IsRunning serv
           requests = h.requests;
           flushed = h.flushed;
           handed = h.handed;
+          clients = h.clients;
         }

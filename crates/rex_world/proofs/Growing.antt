@@ -340,10 +340,10 @@ module _ {S : Type 0} (service : Declarations) (w x : World S) (h : IsRunning se
       -- the model's world is the same
       pub settled_world : world_of service x ≡ world_of service unsettled
       settled_world =
-          same_world x.done x.done (heres service x.agreed x.seats.items) nodes (messages_of x.agreed x.net) (messages_of w.agreed x.net) x.handed.items x.handed.items refl
+          same_world x.done x.done (heres service x.agreed x.seats.items) nodes (messages_of x.agreed x.net) (messages_of w.agreed x.net) x.handed.items x.handed.items x.seen.items x.seen.items refl
           (ap (λ (vs : List Value). heres service vs x.seats.items) is_all ∙ heres_grown service w.agreed all fits front x.seats.items agree)
           (ap (λ (vs : List Value). messages_of vs x.net) is_all ∙ (messages_grown service w.agreed all fits front x.net works.told).1)
-          refl
+          refl refl
 
       -- and the world runs
       pub settled_running : IsRunning service x
@@ -361,4 +361,5 @@ module _ {S : Type 0} (service : Declarations) (w x : World S) (h : IsRunning se
         requests = works.requests;
         flushed = works.flushed;
         handed = works.handed;
+        clients = works.clients;
       }

@@ -116,6 +116,7 @@ module _ {S : Type 0} (service : Declarations) (w w1 : World S) (number : ℕ) (
         requests = h.requests;
         flushed = omega (arith, ap length marked.handed, length-set w.handed.items (number - 1) true, h.flushed);
         handed = subst (λ (hs : List Bool). list_all (λ (b : Bool). b) (take w.flushed hs) ≡ true) (sym marked.handed) (all_still w.handed.items w.flushed (number - 1) h.handed);
+        clients = h.clients;
       })
 
 -- ---- a message that is handed over

@@ -20,7 +20,8 @@ use Rattle.rex_safety.proofs.Steps.{reached_ok}
 use Rattle.rex_safety.proofs.Caused.{agreed_cuts, agreed_least}
 use Rattle.rex_safety.proofs.Requests.{agreed_once}
 use Rattle.rex_safety.proofs.Moments.{replies_stand_later}
-use Rattle.rex_safety.proofs.Showing.{replies_agreed}
+use Rattle.rex_safety.proofs.Readings.{never_back, reports, tells_agreed}
+use Rattle.rex_safety.proofs.Showing.{replies_agreed, replies_show, told_shows}
 use Rattle.rex_safety.proofs.Raising.{rounds_left}
 use Rattle.rex_event.specs.Cuts.{AreNumbered, IsConsistent}
 use Rattle.rex_event.specs.Causes.{AreRight}
@@ -82,5 +83,10 @@ headline service requests seed n lines few good checked fit = record {
   stands = λ front rest is i j release lead ei ej ballot client sequence value released m later leads after.
       replies_stand_later service good checked requests fit seed n few front i j release lead ei ej ballot client sequence value released m later leads after;
   released = λ front rest is client sequence value h. replies_agreed service good checked requests fit seed n few front client sequence value h;
+  reads = λ front rest is. tells_agreed service seed n (world_after service requests seed n front) (reached_ok service requests seed n few front);
+  reported = λ front rest is. reports service n (world_after service requests seed n front);
+  forward = λ earlier later rest m client variable is l value number. never_back service requests seed n earlier later m client variable value number l;
+  shown = λ front rest is client sequence reply l h.
+      told_shows service (world_after service requests seed n front) client sequence reply (replies_show service good checked requests fit seed n few front client sequence reply h) l;
   rounds = λ short. rounds_left service requests seed n few lines short;
 }

@@ -2,6 +2,8 @@ pub mod Settling
 pub mod Growing
 pub mod Beside
 pub mod Silent
+pub mod Shown
+pub mod Answering
 pub mod Learning
 pub mod Agreeing
 pub mod Knowing

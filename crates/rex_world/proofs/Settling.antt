@@ -48,9 +48,9 @@ module _ {S : Type 0} (number : ℕ) (before after : World S) (old new : Told) w
   told_whole (Err (why.BadSnapshot at)) t = tt
 
 module _ {S : Type 0} (service : Declarations) (w x : World S) (h : IsRunning service w) (m : ℕ) (there : IsNode (nodes_of w) m) (count : ℕ) (count_is : count ≡ length (records_at w.seats.items m)) (seats : Vec (Seat S)) (told told2 : Told) (outcome : Result Step Refusal)
-    (t : IsSettled m count (record w { seats = seats }) x told told2 outcome) where
+    (t : IsSettled service m count (record w { seats = seats }) x told told2 outcome) where
   seats_are : x.seats.items ≡ seats.items
-  seats_are = told_seats m (record w { seats = seats }) (record x { agreed = w.agreed }) told told2 outcome t.told.tells
+  seats_are = told_seats m (record w { seats = seats; seen = x.seen }) (record x { agreed = w.agreed }) told told2 outcome t.told.tells
 
   pub settled : (r : Row) → CameTo service w (record x { agreed = w.agreed }) told told2 r → heres service w.agreed seats.items ≡ put (heres service w.agreed w.seats.items) m (node_at (heres service w.agreed seats.items) m)
       → length seats.items ≡ nodes_of w → (IsWhole outcome → Begins (records_at w.seats.items m) (records_at seats.items m)) → ComesTo service w x told told2 r
@@ -60,7 +60,7 @@ module _ {S : Type 0} (service : Declarations) (w x : World S) (h : IsRunning se
       let as_many : nodes_of x ≡ nodes_of w = ap length seats_are ∙ many in
       let more : Begins (records_at w.seats.items m) (records_at x.seats.items m) =
       subst (λ (ss : List (Seat S)). Begins (records_at w.seats.items m) (records_at ss m)) (sym seats_are)
-      (grown (told_whole m (record w { seats = seats }) (record x { agreed = w.agreed }) told told2 outcome t.told.tells)) in
+      (grown (told_whole m (record w { seats = seats; seen = x.seen }) (record x { agreed = w.agreed }) told told2 outcome t.told.tells)) in
       let is : x.agreed ≡ learned w.agreed (drop (length (records_at w.seats.items m)) (records_at x.seats.items m)) =
       t.agreed ∙ ap (λ (ss : List (Seat S)). learned w.agreed (drop count (records_at ss m))) (sym seats_are) ∙ ap (λ (k : ℕ). learned w.agreed (drop k (records_at x.seats.items m))) count_is in
       record {

@@ -1,11 +1,12 @@
 -- What a step of the model comes to, from a world that runs.
-use Rattle.std.proofs.Common.{◌≡◌, ℕ, ◌+◌, ◌^◌, ◌<◌, ◌≤◌, Option, Some, None, Bool, true, cond, List, length, map, Result, Ok, Err, IfOk, OnOk, eq-eqb, refl, sym, ◌∙◌, ap, subst}
+use Rattle.std.proofs.Common.{◌≡◌, ℕ, ◌+◌, ◌^◌, ◌<◌, ◌≤◌, Option, Some, None, Bool, true, false, cond, List, length, map, Result, Ok, Err, IfOk, OnOk, eq-eqb, refl, sym, ◌∙◌, ap, subst, inl, inr}
 use Rattle.std.specs.Prelude.{slice_get, slice_index_or}
 use Rattle.std.proofs.lemmas.Option.{slice_get-get_or}
 use Rattle.std.specs.List.{All}
 use Rattle.std.specs.Vec.{with_items}
 use Rattle.std.proofs.lemmas.List.{with_items_is}
 use Rattle.std.specs.declared.alloc.AllocError.{AllocError}
+use Rattle.rex_ballot.specs.Limits.{most_nodes}
 use Rattle.rex_syntax.specs.declared.request.Request.{Request}
 use Rattle.rex_syntax.specs.declared.service.Declarations.{Declarations}
 use Rattle.rex_msg.specs.Spelling.{IsMessage}
@@ -44,14 +45,15 @@ use Rattle.rex_node.specs.Telling.{AreTold}
 use Rattle.rex_world.specs.declared.seats.Seat.{Seat}
 use Rattle.rex_world.specs.declared.told.Told.{Told}
 use Rattle.rex_world.specs.declared.world.World.{World}
-use Rattle.rex_world.specs.Seats.{disarmed, heres, records_at}
+use Rattle.rex_world.specs.Seats.{AreKept, AreSeats, disarmed, heres, records_at}
 use Rattle.rex_world.specs.World.{world_of, nodes_of}
 use Rattle.rex_world.specs.Kept.{IsRunning}
-use Rattle.rex_world.specs.Calls.{Acts, IsSettled, ComesTo, step_in, Starts, cut_line}
-use Rattle.rex_world.specs.Places.{ActsAt, StartsAt}
+use Rattle.rex_world.specs.Calls.{Acts, AreReleased, CanBeTold, IsSettled, ComesTo, StartsIf, step_in, Starts, cut_line}
+use Rattle.rex_world.specs.Places.{ActsAt, IsChangedAt, StartsAt}
 use Rattle.rex_world.proofs.Seated.{many_here}
 use Rattle.rex_world.proofs.Ranges.{all_fit, is_behind}
-use Rattle.rex_world.proofs.Coming.{comes, comes_started}
+use Rattle.rex_world.proofs.Coming.{comes, comes_started, starts_fit}
+use Rattle.rex_world.proofs.Shown.{start_releases}
 use Rattle.rex_world.proofs.Settling.{settled}
 use Rattle.rex_world.proofs.Working.{room, can_be_cut, fit}
 
@@ -139,7 +141,7 @@ module _ {S : Type 0} (service : Declarations) (w : World S) (h : IsRunning serv
   pub came : (m : ℕ) (there : IsNode (nodes_of w) m) (count : ℕ) (count_is : count ≡ length (records_at w.seats.items m)) (xs : List (Seat S)) (e : xs ≡ w.seats.items) (call : List (Seat S) → CallHere → CallHere) (ws : List (Seat S))
       (outcome : Result Step Refusal) (w2 : World S) (told told2 : Told) (r : Result (Unit {0}) AllocError)
       → ActsAt service w.agreed w.seed (call xs) m xs ws outcome → IsKept service w.seed (nodes_of w) (at_node model m (call w.seats.items)).world
-      → OnOk r (IsSettled m count (record w { seats = with_items w.seats ws }) w2 told told2 outcome) → OnOk r (ComesTo service w w2 told told2 (at_node model m (call w.seats.items)))
+      → OnOk r (IsSettled service m count (record w { seats = with_items w.seats ws }) w2 told told2 outcome) → OnOk r (ComesTo service w w2 told told2 (at_node model m (call w.seats.items)))
   came m there count count_is xs e call ws outcome w2 told told2 r acts kept told-is =
       let many : length ws ≡ nodes_of w = acts.changed.many ∙ ap length e in
       let b : ActsAt service w.agreed w.seed (call w.seats.items) m w.seats.items ws outcome = subst (λ (ys : List (Seat S)). ActsAt service w.agreed w.seed (call ys) m ys ws outcome) e acts in
@@ -147,16 +149,56 @@ module _ {S : Type 0} (service : Declarations) (w : World S) (h : IsRunning serv
       subst (λ (ys : List (Seat S)). ActsAt service w.agreed w.seed (call w.seats.items) m w.seats.items ys outcome) (sym (seats_are ws many)) b in
       on_ok r
       (λ t. settled service w w2 h m there count count_is (with_items w.seats ws) told told2 outcome t (at_node model m (call w.seats.items))
-      (comes service w (record w2 { agreed = w.agreed }) (with_items w.seats ws) told told2 h m (call w.seats.items) kept a.changed.others a.changed.many outcome a.acts a.tells (λ whole. a.changed.seats whole w.done (record { seats_are = h.seats; within = h.within })) t.told)
+      (comes service w (record w2 { agreed = w.agreed }) (with_items w.seats ws) w2.seen told told2 h m (call w.seats.items) kept a.changed.others a.changed.many outcome a.acts a.tells (λ whole. a.changed.seats whole w.done (record { seats_are = h.seats; within = h.within })) t.told t.seen)
       a.changed.others a.changed.many a.changed.grown)
       told-is
 
   -- the messages of a call have their numbers in their ranges
-  pub call_fits : (m : ℕ) (xs : List (Seat S)) (e : xs ≡ w.seats.items) (call : List (Seat S) → CallHere → CallHere) (ws : List (Seat S)) (outcome : Result Step Refusal)
+  call_fits : (m : ℕ) (xs : List (Seat S)) (e : xs ≡ w.seats.items) (call : List (Seat S) → CallHere → CallHere) (ws : List (Seat S)) (outcome : Result Step Refusal)
       → ActsAt service w.agreed w.seed (call xs) m xs ws outcome → IsKept service w.seed (nodes_of w) (at_node model m (call w.seats.items)).world → IfOk outcome (λ (step : Step). All IsMessage step.sends)
   call_fits m xs e call ws outcome acts kept =
       let a : ActsAt service w.agreed w.seed (call w.seats.items) m w.seats.items ws outcome = subst (λ (ys : List (Seat S)). ActsAt service w.agreed w.seed (call ys) m ys ws outcome) e acts in
       sends_fit m (call w.seats.items) (node_at (heres service w.agreed ws) m) outcome a.acts a.tells kept
+
+  -- a step among nodes of which only one is another one can be told
+  can_be_told : (m : ℕ) (xs ws : List (Seat S)) → xs ≡ w.seats.items → (step : Step) → IsChangedAt service w.agreed w.seed m xs ws (Ok step) → All IsMessage step.sends → AreReleased (node_at (heres service w.agreed ws) m) step.effects
+      → CanBeTold service (record w { seats = with_items w.seats ws }) m step
+  can_be_told m xs ws e step changed sends releases =
+      let many : length ws ≡ nodes_of w = changed.many ∙ ap length e in
+      let items : (with_items w.seats ws).items ≡ ws = seats_are ws many in
+      let as_many : length (with_items w.seats ws).items ≡ nodes_of w = ap length items ∙ many in
+      let kept : AreKept service w.agreed w.seed (nodes_of w) w.done ws =
+      subst (λ (ys : List (Seat S)). AreKept service w.agreed w.seed (length ys) w.done ys → AreKept service w.agreed w.seed (length ys) w.done ws) e (changed.seats tt w.done) (record { seats_are = h.seats; within = h.within }) in
+      record {
+        sends = sends;
+        releases = subst (λ (ys : List (Seat S)). AreReleased (node_at (heres service w.agreed ys) m) step.effects) (sym items) releases;
+        few = subst (λ (k : ℕ). k ≤ most_nodes) (sym as_many) h.few;
+        seats = subst (λ (k : ℕ). AreSeats service w.agreed w.seed k 1 (with_items w.seats ws).items) (sym as_many) (subst (AreSeats service w.agreed w.seed (nodes_of w) 1) (sym items) kept.seats_are);
+        clients = h.clients;
+      }
+
+  -- so can a step of a call
+  pub call_tells : (m : ℕ) (xs : List (Seat S)) (e : xs ≡ w.seats.items) (call : List (Seat S) → CallHere → CallHere) (ws : List (Seat S)) (outcome : Result Step Refusal)
+      → ActsAt service w.agreed w.seed (call xs) m xs ws outcome → IsKept service w.seed (nodes_of w) (at_node model m (call w.seats.items)).world
+      → ((x : Here) → x.up ≡ true → AreReleased (call w.seats.items (begin x)).node (call w.seats.items (begin x)).effects) → IfOk outcome (CanBeTold service (record w { seats = with_items w.seats ws }) m)
+  call_tells m xs e call ws (Err refusal) acts kept releases = tt
+  call_tells m xs e call ws (Ok step) acts kept releases =
+      let a : ActsAt service w.agreed w.seed (call w.seats.items) m w.seats.items ws (Ok step) = subst (λ (ys : List (Seat S)). ActsAt service w.agreed w.seed (call ys) m ys ws (Ok step)) e acts in
+      let d : CallHere = call w.seats.items (begin (node_at model.nodes m)) in
+      can_be_told m xs ws e step acts.changed (call_fits m xs e call ws (Ok step) acts kept)
+      (subst (λ (x : Here). AreReleased x step.effects) (sym a.acts.node) (subst (AreReleased d.node) (sym a.acts.effects) (releases (node_at model.nodes m) a.acts.up)))
+
+  -- and a step of a node that was started, or was up
+  pub start_tells : (m : ℕ) (xs : List (Seat S)) (e : xs ≡ w.seats.items) (ws : List (Seat S)) (outcome : Result Step Refusal) → StartsAt service w.agreed w.seed m xs ws outcome → IfOk outcome (CanBeTold service (record w { seats = with_items w.seats ws }) m)
+  start_tells m xs e ws (Err refusal) starts = tt
+  start_tells m xs e ws (Ok step) starts =
+      can_be_told m xs ws e step starts.changed (starts_fit sv m (node_at (heres service w.agreed xs) m) (node_at (heres service w.agreed ws) m) (Ok step) starts.starts) (by (node_at (heres service w.agreed xs) m).up starts.starts)
+    where
+      by : (t : Bool) → StartsIf sv t m (node_at (heres service w.agreed xs) m) (node_at (heres service w.agreed ws) m) step → AreReleased (node_at (heres service w.agreed ws) m) step.effects
+      by true is = subst (AreReleased (node_at (heres service w.agreed ws) m)) (sym is.effects) (record { leads = λ c s x. elim [ inl y ↦ absurd (cc) | inr y ↦ absurd y ] })
+      by false is =
+          subst (AreReleased (node_at (heres service w.agreed ws) m)) (sym is.effects)
+          (start_releases service h.service_is h.checked w.seed (nodes_of w) m (node_at (heres service w.agreed xs) m) (node_at (heres service w.agreed ws) m))
 
   -- what a node knows begins what is agreed on
   pub front_known : (m : ℕ) → IsNode (nodes_of w) m → Begins (known (node_at model.nodes m).log) w.agreed
@@ -236,13 +278,13 @@ module _ {S : Type 0} (service : Declarations) (w : World S) (h : IsRunning serv
 
   pub start_came : (m : ℕ) (there : IsNode (nodes_of w) m) (count : ℕ) (count_is : count ≡ length (records_at w.seats.items m)) (xs : List (Seat S)) (e : xs ≡ w.seats.items) (ws : List (Seat S)) (outcome : Result Step Refusal) (w2 : World S) (told told2 : Told)
       (r : Result (Unit {0}) AllocError) → StartsAt service w.agreed w.seed m xs ws outcome
-      → OnOk r (IsSettled m count (record w { seats = with_items w.seats ws }) w2 told told2 outcome) → OnOk r (ComesTo service w w2 told told2 (step_in service w (line.Start m)))
+      → OnOk r (IsSettled service m count (record w { seats = with_items w.seats ws }) w2 told told2 outcome) → OnOk r (ComesTo service w w2 told told2 (step_in service w (line.Start m)))
   start_came m there count count_is xs e ws outcome w2 told told2 r starts told-is =
       let many : length ws ≡ nodes_of w = starts.changed.many ∙ ap length e in
       let b : StartsAt service w.agreed w.seed m w.seats.items ws outcome = subst (λ (ys : List (Seat S)). StartsAt service w.agreed w.seed m ys ws outcome) e starts in
       let a : StartsAt service w.agreed w.seed m w.seats.items (with_items w.seats ws).items outcome = subst (λ (ys : List (Seat S)). StartsAt service w.agreed w.seed m w.seats.items ys outcome) (sym (seats_are ws many)) b in
       on_ok r
       (λ t. settled service w w2 h m there count count_is (with_items w.seats ws) told told2 outcome t (step_in service w (line.Start m))
-      (comes_started service w (record w2 { agreed = w.agreed }) (with_items w.seats ws) told told2 h m outcome a.starts a.changed.others a.changed.many (λ whole. a.changed.seats whole w.done (record { seats_are = h.seats; within = h.within })) (kept_next (line.Start m) there) t.told)
+      (comes_started service w (record w2 { agreed = w.agreed }) (with_items w.seats ws) w2.seen told told2 h m outcome a.starts a.changed.others a.changed.many (λ whole. a.changed.seats whole w.done (record { seats_are = h.seats; within = h.within })) (kept_next (line.Start m) there) t.told t.seen)
       a.changed.others a.changed.many a.changed.grown)
       told-is

@@ -1,21 +1,24 @@
 -- What a call of a node comes to in a world.
-use Rattle.std.specs.Prelude.{◌≡◌, ℕ, suc, drop, Bool, true, false, List, [], ◌∷◌, ◌++◌, length, map, replicate, Option, Some, None, Result, Ok, Err}
+use Rattle.std.specs.Prelude.{◌≡◌, ◌≤◌, ℕ, ℤ, suc, drop, Bool, true, false, List, [], ◌∷◌, ◌++◌, length, map, replicate, Option, Some, None, Result, Ok, Err}
 use Rattle.std.specs.List.{All}
+use Rattle.rex_ballot.specs.Limits.{most_nodes}
 use Rattle.rex_syntax.specs.declared.service.Declarations.{Declarations}
 use Rattle.rex_report.specs.declared.effect.Effect.{Effect}
 use Rattle.rex_report.specs.declared.effect.Effect.TheVariants as effect
 use Rattle.rex_state.specs.Value.{StateValue}
 use Rattle.rex_safety.specs.Records.{known, promise}
-use Rattle.rex_safety.specs.Node.{Service}
+use Rattle.rex_safety.specs.Node.{Service, is_active}
 use Rattle.rex_safety.specs.Calls.{begin, migrate, say, start}
 use Rattle.rex_safety.specs.Values.{Value, values_fit}
 use Rattle.rex_safety.specs.Lanes.{Here, CallHere}
 use Rattle.rex_syntax.specs.declared.request.Request.{Request}
 use Rattle.rex_scenario.specs.declared.scenario.ScheduleLine.{ScheduleLine}
 use Rattle.rex_scenario.specs.declared.scenario.ScheduleLine.TheVariants.{Cut, CutBelow, Deliver, Flush, KeepFail}
-use Rattle.rex_safety.specs.World.{World as ModelWorld, Row, step, steps, sent_from}
+use Rattle.rex_safety.specs.World.{World as ModelWorld, Row, node_at, step, steps, sent_from}
+use Rattle.rex_safety.specs.Reading.{seen_by_releases, stamp_at}
+use Rattle.rex_safety.specs.Releases.{IsAmong}
 use Rattle.rex_msg.specs.declared.message.Message.{Message as Sent}
-use Rattle.rex_msg.specs.Spelling.{HasSpelling, spelling_of}
+use Rattle.rex_msg.specs.Spelling.{HasSpelling, IsMessage, spelling_of}
 use Rattle.rex_node.specs.declared.refusal.Refusal.{Refusal}
 use Rattle.rex_node.specs.declared.refusal.Refusal.TheVariants as why
 use Rattle.rex_node.specs.declared.step.Step.{Step}
@@ -24,7 +27,7 @@ use Rattle.rex_node.specs.Restarting.{HasForgotten, HasRightBase}
 use Rattle.rex_world.specs.declared.told.Told.{Told}
 use Rattle.rex_world.specs.declared.world.World.{World}
 use Rattle.rex_world.specs.Agreed.{learned}
-use Rattle.rex_world.specs.Seats.{records_at}
+use Rattle.rex_world.specs.Seats.{AreSeats, heres, records_at}
 use Rattle.rex_world.specs.World.{nodes_of, world_of}
 use Rattle.rex_world.specs.Kept.{IsRunning, IsSame}
 
@@ -148,9 +151,27 @@ Tells number before after old new (Err refusal) = TellsRefusal number before aft
 pub record HasTold {S : Type 0} (number : ℕ) (before after : World S) (old new : Told) (outcome : Result Step Refusal) : Type 0 where
   pub tells : Tells number before after old new outcome
 
--- so it was, and then what the node's records after so many say that it knows was agreed
-pub record IsSettled {S : Type 0} (number count : ℕ) (before after : World S) (old new : Told) (outcome : Result Step Refusal) : Type 0 where
-  pub told : HasTold number before (record after { agreed = before.agreed }) old new outcome
+-- a reply is among these effects only where the node is up and active
+pub record AreReleased (x : Here) (effects : List Effect) : Type 0 where
+  pub leads : (client sequence : ℕ) (value : ℤ) → IsAmong (effect.Released client sequence value) effects → (x.up ≡ true) × (is_active x.role ≡ true)
+
+-- a step of the node of this number can be told: its messages have numbers in their ranges, its replies were released by a node that is up and active, the nodes are kept, and there is a number for each client
+pub record CanBeTold {S : Type 0} (service : Declarations) (w : World S) (number : ℕ) (step : Step) : Type 0 where
+  pub sends : All IsMessage step.sends
+  pub releases : AreReleased (node_at (heres service w.agreed w.seats.items) number) step.effects
+  pub few : nodes_of w ≤ most_nodes
+  pub seats : AreSeats service w.agreed w.seed (nodes_of w) 1 w.seats.items
+  pub clients : length w.seen.items ≡ 257
+
+-- what clients have seen after a call of a node: the replies that it released; a call that was refused released none
+abbrev pub seen_by : Here → Result Step Refusal → List ℕ → List ℕ
+seen_by x (Ok step) seen = seen_by_releases (stamp_at x) step.effects seen
+seen_by x (Err refusal) seen = seen
+
+-- so it was, clients have seen the replies that the node released, and then what the node's records after so many say that it knows was agreed
+pub record IsSettled {S : Type 0} (service : Declarations) (number count : ℕ) (before after : World S) (old new : Told) (outcome : Result Step Refusal) : Type 0 where
+  pub told : HasTold number (record before { seen = after.seen }) (record after { agreed = before.agreed }) old new outcome
+  pub seen : after.seen.items ≡ seen_by (node_at (heres service before.agreed before.seats.items) number) outcome before.seen.items
   pub agreed : after.agreed ≡ learned before.agreed (drop count (records_at before.seats.items number))
 
 -- so it did, with the world running before and after, over the same nodes, requests and seed, and with the same counts of lines and of flushed messages

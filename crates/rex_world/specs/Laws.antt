@@ -1,5 +1,5 @@
 -- What holds of every run of a scenario.
-use Rattle.std.specs.Prelude.{◌≡◌, ◌⊎◌, ℕ, ℤ, ◌≤◌, List, ◌++◌, length, Some, slice_get, map, take}
+use Rattle.std.specs.Prelude.{◌≡◌, ◌⊎◌, ℕ, ℤ, ◌≤◌, List, ◌∷◌, ◌++◌, length, Some, slice_get, map, take}
 use Rattle.std.specs.List.{All}
 use Rattle.rex_ballot.specs.Limits.{most_nodes}
 use Rattle.rex_syntax.specs.declared.request.Request.{Request}
@@ -12,6 +12,7 @@ use Rattle.rex_state.specs.Start.{start_of}
 use Rattle.rex_state.specs.Machine.{run}
 use Rattle.rex_state.specs.Commute.{GoesFirst}
 use Rattle.rex_scenario.specs.declared.scenario.ScheduleLine.{ScheduleLine}
+use Rattle.rex_scenario.specs.declared.scenario.ScheduleLine.TheVariants.{ReadVariable}
 use Rattle.rex_scenario.specs.Fits.{RequestFits}
 use Rattle.rex_reduce.specs.Reduced.{AreLeast}
 use Rattle.rex_order.specs.Laws.{CutRunsAlike, AllowExtensions}
@@ -27,12 +28,13 @@ use Rattle.rex_safety.specs.Lanes.{node_trace}
 use Rattle.rex_safety.specs.Once.{IsOnce}
 use Rattle.rex_safety.specs.Releases.{Moment, moments, IsAmong, IsReleased, IsLeader, IsLater}
 use Rattle.rex_safety.specs.Stands.{Stands}
+use Rattle.rex_safety.specs.Seeing.{IsTold, ReportsWhatIsTold, TellsAgreed}
 
 -- a front of the schedule is the world after it
 abbrev pub AtFronts : List ScheduleLine → (List ScheduleLine → Type 0) → Type 0
 AtFronts lines P = (front rest : List ScheduleLine) → lines ≡ front ++ rest → P front
 
--- of a run of these lines with n nodes: what two nodes know, the same or different ones, each at its moment, is one list a front of the other; each front of the agreed trace runs from the start on one thread; the events below each of its consistent cuts run too, in every order that keeps what has to come first, to one state, and the others lead on from there to the state of the whole; these orders are just those that the edges of the agreed deltas allow; the causes of each of these are the least that are right; each request begins at most once and is replied to at most once in the agreed trace; each reply that was released stands in the trace of every later leader, and in the agreed trace from then on; and no election of so many lines or fewer as there are rounds lacks one
+-- of a run of these lines with n nodes: what two nodes know, the same or different ones, each at its moment, is one list a front of the other; each front of the agreed trace runs from the start on one thread; the events below each of its consistent cuts run too, in every order that keeps what has to come first, to one state, and the others lead on from there to the state of the whole; these orders are just those that the edges of the agreed deltas allow; the causes of each of these are the least that are right; each request begins at most once and is replied to at most once in the agreed trace; each reply that was released stands in the trace of every later leader, and in the agreed trace from then on; what a client that reads is told is the variable's value in the state after the first so many agreed deltas as it is told, and a line that reads reports just that; the number of deltas that a client is told never falls, at whatever nodes it reads; each reply that was released to a client stands in the trace of as many agreed deltas as it is told then; and no election of so many lines or fewer as there are rounds lacks one
 pub record Headline (service : Declarations) (requests : List Request) (seed n : ℕ) (lines : List ScheduleLine) : Type 0 where
   pub prefix : (earlier later rest : List ScheduleLine) → lines ≡ (earlier ++ later) ++ rest → (a b : ℕ) → IsNode n a → IsNode n b
       → Begins (known_at (world_after service requests seed n earlier) a) (known_at (world_after service requests seed n (earlier ++ later)) b)
@@ -52,6 +54,15 @@ pub record Headline (service : Declarations) (requests : List Request) (seed n :
       → Stands (node_trace (node_at lead.world.nodes m)) client sequence value)
   pub released : AtFronts lines (λ front. (client sequence : ℕ) (value : ℤ) → IsAmong (Released client sequence value) (effects_of service requests seed n (beginning n) front)
       → Stands (trace_of (agreed (world_after service requests seed n front))) client sequence value)
+  pub reads : AtFronts lines (λ front. TellsAgreed service n (world_after service requests seed n front))
+  pub reported : AtFronts lines (λ front. ReportsWhatIsTold service n (world_after service requests seed n front))
+  pub forward : (earlier later rest : List ScheduleLine) (m client variable : ℕ) → lines ≡ (earlier ++ ReadVariable m client variable ∷ later) ++ rest → client ≤ 256
+      → (value : ℤ) (number : ℕ) → IsTold service (world_after service requests seed n earlier) m client variable value number
+      → (m_later variable_later : ℕ) (value_later : ℤ) (number_later : ℕ)
+      → IsTold service (world_after service requests seed n (earlier ++ ReadVariable m client variable ∷ later)) m_later client variable_later value_later number_later → number ≤ number_later
+  pub shown : AtFronts lines (λ front. (client sequence : ℕ) (reply : ℤ) → client ≤ 256 → IsAmong (Released client sequence reply) (effects_of service requests seed n (beginning n) front)
+      → (m variable : ℕ) (value : ℤ) (number : ℕ) → IsTold service (world_after service requests seed n front) m client variable value number
+      → Stands (trace_at (world_after service requests seed n front) number) client sequence reply)
   pub rounds : length lines ≤ greatest_round → NoneIsSpent (effects_of service requests seed n (beginning n) lines)
 
 -- it holds for every checked service, whatever the schedule, for at most nine nodes

@@ -46,6 +46,7 @@ world_of service w = record {
   nodes = heres service w.agreed w.seats.items;
   messages = messages_of w.agreed w.net;
   handed = w.handed.items;
+  seen = w.seen.items;
 }
 
 -- so many nodes it has

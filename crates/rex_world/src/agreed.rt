@@ -1,14 +1,12 @@
 //! What the nodes of a world agreed on. The world keeps it: it grows by what the records of nodes say that they know.
 
 ghost use Rattle.std.specs.Prelude.{◌≡◌, ◌≤◌, drop, length, IfOk, OnOk};
-ghost use Rattle.std.specs.List.{All};
-ghost use Rattle.rex_msg.specs.Spelling.{IsMessage};
 ghost use Rattle.rex_scenario.specs.Fits.{IsNode};
 ghost use Rattle.rex_syntax.specs.declared.service.Declarations.{Declarations};
 ghost use Rattle.rex_safety.specs.Agreed as model;
 ghost use Rattle.rex_world.specs.Agreed as specs;
 ghost use Rattle.rex_world.specs.Agreed.{learned, learned_in};
-ghost use Rattle.rex_world.specs.Calls.{IsSettled};
+ghost use Rattle.rex_world.specs.Calls.{CanBeTold, IsSettled};
 ghost use Rattle.rex_world.specs.Kept.{IsRunning};
 ghost use Rattle.rex_world.specs.Seats.{keeper_in, records_at, records_of};
 ghost use Rattle.rex_world.specs.World.{nodes_of, world_of};
@@ -20,6 +18,7 @@ use rex_ballot::Value;
 use rex_durable::layout::{HEAD, KNOWN};
 use rex_list::List;
 use rex_node::{Refusal, Step};
+use rex_syntax::checked::Checked;
 use rex_traits::{Keeper, Obedient, Store};
 use std::alloc::{AllocError, Global};
 
@@ -104,18 +103,20 @@ impl<S: Store> World<S> {
     }
 
     /// Tells what a call of a node came to that had so many records before, sends its messages, and takes in what it has come to
-    /// know, whether it is up or down.
+    /// know, whether it is up or down. The clients to which it released replies have seen them.
     pub(crate) fn settle(
         &mut self,
+        svc: &Checked,
         told: &mut Told,
         node: u8,
         count: usize,
         outcome: Result<Step, Refusal>,
     ) -> Result<(), AllocError>
         requires there { IsNode (nodes_of self.old) node }
-        requires sends { IfOk outcome (λ step. All IsMessage step.sends) }
-        ensures { OnOk result (IsSettled node count self.old self.new told.old told.new outcome) }
+        requires step { IfOk outcome (CanBeTold svc.now self.old node) }
+        ensures { OnOk result (IsSettled svc.now node count self.old self.new told.old told.new outcome) }
     {
+        self.show(svc, node, &outcome);
         self.tell(told, node, outcome)?;
         self.learn(node, count)
     }

@@ -87,7 +87,7 @@ impl<S: Store> World<S> {
             self.seed,
             message,
         );
-        self.settle(told, message.to, count, outcome)
+        self.settle(svc, told, message.to, count, outcome)
     }
 
     /// Hands over the message of a number, if there is one.

@@ -2,7 +2,8 @@
 
 ghost use Rattle.rex_world.specs.Laws.{HeadlineHolds};
 
-/// What nodes know is one list, which runs on one thread and has every reply that was released.
+/// What nodes know is one list, which runs on one thread and has every reply that was released; and what a client reads is of a
+/// front of it that never gets shorter, and has each reply that the client got.
 pub fn headline_holds()
     ensures { HeadlineHolds }
 {}

@@ -13,6 +13,7 @@ mod places;
 mod report;
 mod run;
 mod seats;
+mod seeing;
 mod steps;
 mod summary;
 mod told;

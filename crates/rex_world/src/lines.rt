@@ -1,6 +1,6 @@
 //! What each kind of schedule line does.
 
-ghost use Rattle.std.specs.Prelude.{◌≡◌, ◌≢◌, ◌<◌, true, length, IfOk, OnOk};
+ghost use Rattle.std.specs.Prelude.{◌≡◌, ◌≢◌, ◌<◌, ◌≤◌, true, length, IfOk, OnOk};
 ghost use Rattle.std.specs.Option.{option_copied};
 ghost use Rattle.std.specs.List.{All};
 ghost use Rattle.rex_msg.specs.Spelling.{IsMessage};
@@ -13,10 +13,10 @@ ghost use Rattle.rex_world.specs.World.{nodes_of, world_of};
 ghost use Rattle.rex_world.specs.Kept.{IsRunning, IsSame};
 ghost use Rattle.rex_world.specs.Calls.{Did, Comes, IsCall, HasTold, cut_line};
 
-use crate::calls::{effect_of, send_all, tell_all};
+use crate::calls::{effect_of, read_effect, send_all, tell_all};
 use crate::places::{
-    ask_at, checkpoint_at, cut_at, drop_at, elect_at, lane_at, replay_at, start_at, stop_at,
-    submit_at,
+    ask_at, checkpoint_at, cut_at, drop_at, elect_at, lane_at, read_at, replay_at, start_at,
+    stop_at, submit_at,
 };
 use crate::told::Told;
 use crate::world::World;
@@ -83,7 +83,7 @@ impl<S: Store> World<S> {
             self.seed,
             node,
         );
-        self.settle(told, node, count, outcome)
+        self.settle(svc, told, node, count, outcome)
     }
 
     // A client hands a request to the node.
@@ -110,7 +110,7 @@ impl<S: Store> World<S> {
             node,
             request,
         );
-        self.settle(told, node, count, outcome)
+        self.settle(svc, told, node, count, outcome)
     }
 
     // A lane of the node has its turn.
@@ -131,7 +131,7 @@ impl<S: Store> World<S> {
             lane,
             self.done,
         );
-        self.settle(told, node, count, outcome)
+        self.settle(svc, told, node, count, outcome)
     }
 
     // The node proposes live events.
@@ -156,7 +156,7 @@ impl<S: Store> World<S> {
             node,
             limits,
         );
-        self.settle(told, node, count, outcome)
+        self.settle(svc, told, node, count, outcome)
     }
 
     // The node replays what it knows.
@@ -182,7 +182,7 @@ impl<S: Store> World<S> {
             self.seed,
             node,
         );
-        self.settle(told, node, count, outcome)
+        self.settle(svc, told, node, count, outcome)
     }
 
     // The node writes down the state that it has replayed, in a version.
@@ -207,7 +207,7 @@ impl<S: Store> World<S> {
             node,
             version,
         );
-        self.settle(told, node, count, outcome)
+        self.settle(svc, told, node, count, outcome)
     }
 
     // The node forgets the values up to its base.
@@ -218,7 +218,7 @@ impl<S: Store> World<S> {
     {
         let count = self.record_count(node);
         let outcome = drop_at::<Brand, S>(&mut self.seats, &self.agreed, svc, self.seed, node);
-        self.settle(told, node, count, outcome)
+        self.settle(svc, told, node, count, outcome)
     }
 
     // The node asks another one for what it doesn't know.
@@ -237,7 +237,7 @@ impl<S: Store> World<S> {
             node,
             other,
         );
-        self.settle(told, node, count, outcome)
+        self.settle(svc, told, node, count, outcome)
     }
 
     // The node is stopped.
@@ -255,7 +255,7 @@ impl<S: Store> World<S> {
             self.seed,
             node,
         );
-        self.settle(told, node, count, outcome)
+        self.settle(svc, told, node, count, outcome)
     }
 
     // The node is started.
@@ -273,7 +273,35 @@ impl<S: Store> World<S> {
             self.seed,
             node,
         );
-        self.settle(told, node, count, outcome)
+        self.settle(svc, told, node, count, outcome)
+    }
+
+    // A client reads a variable at the node.
+    fn read(
+        &mut self,
+        svc: &Checked,
+        told: &mut Told,
+        node: u8,
+        client: u16,
+        variable: u16,
+    ) -> Result<(), AllocError>
+        requires running { IsRunning svc.now self.old }
+        requires there { IsNode (nodes_of self.old) node }
+        requires client { client ≤ 256 }
+        ensures comes { OnOk result (Comes svc.now self.old self.new told.old told.new (line.ReadVariable node client variable)) }
+    {
+        let read = read_at::<Brand, S>(
+            &self.seats,
+            &self.agreed,
+            svc,
+            self.seed,
+            node,
+            variable,
+            &mut self.seen[client as usize],
+        );
+        told.effects
+            .push(read_effect(node, client, variable, read))?;
+        Ok(())
     }
 
     /// Does a line that is a call of one node.
@@ -308,6 +336,11 @@ impl<S: Store> World<S> {
                 self.checkpoint(svc, told, *node, *version)
             }
             ScheduleLine::DropKnown { node } => self.drop_known(svc, told, *node),
+            ScheduleLine::ReadVariable {
+                node,
+                client,
+                variable,
+            } => self.read(svc, told, *node, *client, *variable),
             _ => unreachable!(),
         }
     }

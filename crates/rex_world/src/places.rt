@@ -15,7 +15,10 @@ ghost use Rattle.rex_safety.specs.Records.{known};
 ghost use Rattle.rex_safety.specs.Calls as calls;
 ghost use Rattle.rex_safety.specs.Calls.{begin};
 ghost use Rattle.rex_safety.specs.Lanes as lanes;
+ghost use Rattle.rex_reads.specs.Reads.{seen_after};
 ghost use Rattle.rex_safety.specs.Ranges.{MessageFits};
+ghost use Rattle.rex_safety.specs.Reading as reading;
+ghost use Rattle.rex_safety.specs.Reading.{seen_by_releases, stamp_at};
 ghost use Rattle.rex_safety.specs.Values.{service_of};
 ghost use Rattle.rex_safety.specs.World.{node_at};
 ghost use Rattle.rex_node.specs.Calls.{AreLimits, CanBeCut, counts_for};
@@ -24,7 +27,7 @@ ghost use Rattle.rex_log.specs.Messages.{content_in, message_in};
 ghost use Rattle.rex_node.specs.Telling.{IsTold};
 ghost use Rattle.rex_world.specs.Blocks.{IsHandedBlockAt};
 ghost use Rattle.rex_world.specs.Seats.{AreSeats, disarmed, heres};
-ghost use Rattle.rex_world.specs.Calls.{Starts};
+ghost use Rattle.rex_world.specs.Calls.{AreReleased, Starts};
 ghost use Rattle.rex_world.specs.Places.{ActsAt, IsArmedAt, IsHandedAt, StartsAt};
 
 use crate::seats::Seat;
@@ -34,8 +37,10 @@ use rex_list::List;
 use rex_log::Past;
 use rex_msg::Message;
 use rex_node::{Refusal, Step};
+use rex_reads::{Read, Seen};
 use rex_record::Turn;
 use rex_replay::Replayer;
+use rex_report::Effect;
 use rex_syntax::checked::Checked;
 use rex_syntax::request::Request;
 use rex_traits::{Fate, Store};
@@ -303,6 +308,47 @@ pub(crate) fn start_at<P: Past, S: Store>(
 {
     let nodes = seats.len() as u8;
     seats[number as usize - 1].start::<P>(alloc, svc, seed, nodes, number)
+}
+
+/// What a client is told that reads a variable at the node and has seen so much.
+pub(crate) fn read_at<P: Past, S: Store>(
+    seats: &[Seat<S>],
+    _agreed: &List<Value>,
+    svc: &Checked,
+    seed: u32,
+    number: u8,
+    variable: u16,
+    seen: &mut Seen,
+) -> Read
+    requires there { IsNode (length seats.now) number }
+    requires few { length seats.now ≤ most_nodes }
+    requires seats { AreSeats svc.now P.past seed (length seats.now) 1 seats.now }
+    ensures answer { result ≡ reading.read_at svc.now (node_at (heres svc.now P.past seats.now) number) variable seen.old }
+    ensures seen { seen.new ≡ seen_after seen.old result }
+{
+    let nodes = seats.len() as u8;
+    seats[number as usize - 1].read::<P>(svc, seed, nodes, number, variable, seen)
+}
+
+/// The clients to which the node released replies by these effects have seen them.
+pub(crate) fn show_at<P: Past, S: Store>(
+    seats: &[Seat<S>],
+    _agreed: &List<Value>,
+    svc: &Checked,
+    seed: u32,
+    number: u8,
+    effects: &[Effect],
+    seen: &mut [Seen],
+)
+    requires there { IsNode (length seats.now) number }
+    requires few { length seats.now ≤ most_nodes }
+    requires seats { AreSeats svc.now P.past seed (length seats.now) 1 seats.now }
+    requires clients { length seen.old ≡ 257 }
+    requires releases { AreReleased (node_at (heres svc.now P.past seats.now) number) effects.now }
+    ensures { seen.new ≡ seen_by_releases (stamp_at (node_at (heres svc.now P.past seats.now) number)) effects.now seen.old }
+{
+    let nodes = seats.len() as u8;
+    seats[number as usize - 1].show::<P>(svc, seed, nodes, number, effects, seen);
 }
 
 /// The next append of the node's keeper will fail.

@@ -26,12 +26,14 @@ ghost use Rattle.rex_world.specs.Kept.{IsRunning, IsSame};
 use crate::calls::tell_all;
 use crate::places::{arm_at, take_at, take_block_at};
 use crate::seats::Seat;
+use crate::seeing::{CLIENTS, unseen};
 use crate::told::Told;
 use rex_ballot::Value;
 use rex_event::{Event, Kind};
 use rex_list::List;
 use rex_net::Net;
 use rex_node::{Node, Refusal, RestartFault};
+use rex_reads::Seen;
 use rex_record::Turn;
 use rex_replay::Replayer;
 use rex_report::Effect;
@@ -59,6 +61,8 @@ pub struct World<S: Store> {
     /// So many of them, the first ones, were all handed over.
     pub(crate) flushed: usize,
     pub(crate) done: u32,
+    /// For each client's number, from 0 to 256, of how many agreed values it has seen something.
+    pub(crate) seen: Vec<Seen>,
     pub(crate) broken: bool,
 }
 
@@ -188,6 +192,7 @@ impl<S: Store> World<S> {
         let _service = svc.declarations();
         let requests = copied(alloc, &scenario.requests)?;
         let seats = new_seats(alloc, svc, scenario.seed, scenario.nodes, keepers)?;
+        let seen = unseen(alloc, CLIENTS)?;
         Ok(World {
             alloc,
             seed: scenario.seed,
@@ -198,6 +203,7 @@ impl<S: Store> World<S> {
             handed: Vec::new(alloc),
             flushed: 0,
             done: 0,
+            seen,
             broken: false,
         })
     }

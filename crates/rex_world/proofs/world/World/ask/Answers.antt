@@ -2,14 +2,17 @@ use Rattle.rex_scenario.specs.declared.scenario.ScheduleLine.TheVariants as line
 use Rattle.std.proofs.Common.{List}
 use Rattle.rex_world.specs.declared.seats.Seat.{Seat}
 use Rattle.rex_safety.specs.Calls as calls
-use Rattle.rex_world.proofs.Stepping.{kept_next, call_fits, came, still_there}
+use Rattle.rex_world.specs.World.{nodes_of}
+use Rattle.rex_world.proofs.Shown.{ask_releases}
+use Rattle.rex_world.proofs.Stepping.{kept_next, call_tells, came, still_there}
 use Rattle.rex_world.proofs.world.World.ask.Goals as goal
 
-pub settle-requires-clause-sends : goal.settle-requires-clause-sends
-settle-requires-clause-sends g c =
-    call_fits c.args.svc.now c.args.self.now c.requires.running c.args.node c.deref_mut.result.now c.deref_mut.ensures.value
+pub settle-requires-clause-step : goal.settle-requires-clause-step
+settle-requires-clause-step g c =
+    call_tells c.args.svc.now c.args.self.now c.requires.running c.args.node c.deref_mut.result.now c.deref_mut.ensures.value
     (λ (ys : List (Seat _)). calls.ask c.args.node c.args.other)
     c.ask_at-outcome.new.seats c.ask_at-outcome.result c.ask_at-outcome.ensures.acts (kept_next c.args.svc.now c.args.self.now c.requires.running (line.Ask c.args.node c.args.other) (c.requires.there, c.requires.other))
+    (ask_releases c.args.svc.now c.requires.running.service_is c.requires.running.checked c.args.self.now.seed (nodes_of c.args.self.now) c.args.node c.args.other)
 
 pub returns : goal.returns
 returns g c = record {

@@ -3,14 +3,17 @@ use Rattle.std.proofs.Common.{List}
 use Rattle.rex_world.specs.declared.seats.Seat.{Seat}
 use Rattle.rex_safety.specs.Calls as calls
 use Rattle.rex_safety.specs.Values.{service_of}
-use Rattle.rex_world.proofs.Stepping.{kept_next, call_fits, came, still_there}
+use Rattle.rex_world.specs.World.{nodes_of}
+use Rattle.rex_world.proofs.Shown.{checkpoint_releases}
+use Rattle.rex_world.proofs.Stepping.{kept_next, call_tells, came, still_there}
 use Rattle.rex_world.proofs.world.World.checkpoint.Goals as goal
 
-pub settle-requires-clause-sends : goal.settle-requires-clause-sends
-settle-requires-clause-sends g c =
-    call_fits c.args.svc.now c.args.self.now c.requires.running c.args.node c.deref_mut.result.now c.deref_mut.ensures.value
+pub settle-requires-clause-step : goal.settle-requires-clause-step
+settle-requires-clause-step g c =
+    call_tells c.args.svc.now c.args.self.now c.requires.running c.args.node c.deref_mut.result.now c.deref_mut.ensures.value
     (λ (ys : List (Seat _)). calls.checkpoint c.args.version (service_of c.args.svc.now c.args.self.now.seed) c.args.node)
     c.checkpoint_at-outcome.new.seats c.checkpoint_at-outcome.result c.checkpoint_at-outcome.ensures.acts (kept_next c.args.svc.now c.args.self.now c.requires.running (line.Checkpoint c.args.node c.args.version) c.requires.there)
+    (checkpoint_releases c.args.svc.now c.requires.running.service_is c.requires.running.checked c.args.self.now.seed (nodes_of c.args.self.now) c.args.node c.args.version)
 
 pub returns : goal.returns
 returns g c = record {

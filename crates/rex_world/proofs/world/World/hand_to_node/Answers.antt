@@ -5,7 +5,9 @@ use Rattle.rex_safety.specs.Calls.{receive}
 use Rattle.rex_safety.specs.Values.{service_of}
 use Rattle.rex_log.specs.Messages.{content_in}
 use Rattle.rex_world.specs.declared.seats.Seat.{Seat}
-use Rattle.rex_world.proofs.Stepping.{on_ok, call_fits, came, still_there}
+use Rattle.rex_world.specs.World.{nodes_of}
+use Rattle.rex_world.proofs.Shown.{receive_releases}
+use Rattle.rex_world.proofs.Stepping.{on_ok, call_tells, came, still_there}
 use Rattle.rex_world.proofs.Handed.{sent_within, sent_handed, sent_on, marked_running, hand_there, hand_fits, hand_runs, hand_kept, hand_came, hand_front, hand_node, hand_told}
 use Rattle.rex_world.proofs.Sending.{kind_alike}
 use Rattle.rex_world.proofs.world.World.hand_to_node.Goals as goal
@@ -25,11 +27,12 @@ on_message_at-outcome-requires-clause-message g c = hand_fits c.args.svc.now c.m
 pub on_message_at-outcome-requires-clause-runs : goal.on_message_at-outcome-requires-clause-runs
 on_message_at-outcome-requires-clause-runs g c = hand_runs c.args.svc.now c.mark.new.self (marked_running c.args.svc.now c.args.self.now c.mark.new.self c.args.number c.mark.ensures c.requires.running) c.args.number c.args.message.now (sent_on c.args.number c.args.self.now c.mark.new.self c.args.message.now c.mark.ensures c.requires.sent) c.deref_mut.result.now c.deref_mut.ensures.value
 
-pub settle-requires-clause-sends : goal.settle-requires-clause-sends
-settle-requires-clause-sends g c =
-    call_fits c.args.svc.now c.mark.new.self (marked_running c.args.svc.now c.args.self.now c.mark.new.self c.args.number c.mark.ensures c.requires.running) c.args.message.now.to c.deref_mut.result.now c.deref_mut.ensures.value
+pub settle-requires-clause-step : goal.settle-requires-clause-step
+settle-requires-clause-step g c =
+    call_tells c.args.svc.now c.mark.new.self (marked_running c.args.svc.now c.args.self.now c.mark.new.self c.args.number c.mark.ensures c.requires.running) c.args.message.now.to c.deref_mut.result.now c.deref_mut.ensures.value
     (λ (ys : List (Seat _)). receive (length ys) (service_of c.args.svc.now c.mark.new.self.seed) c.args.message.now.to c.args.message.now.from (content_in c.mark.new.self.agreed c.args.message.now.content))
     c.on_message_at-outcome.new.seats c.on_message_at-outcome.result c.on_message_at-outcome.ensures.acts (hand_kept c.args.svc.now c.args.self.now c.requires.running c.args.number c.args.message.now c.requires.sent c.mark.new.self c.mark.ensures)
+    (receive_releases c.args.svc.now c.requires.running.service_is c.requires.running.checked c.mark.new.self.seed (nodes_of c.mark.new.self) c.args.message.now.to c.args.message.now.from (content_in c.mark.new.self.agreed c.args.message.now.content))
 
 pub returns-clause-comes : goal.returns-clause-comes
 returns-clause-comes g c =

@@ -1,0 +1,74 @@
+-- A client that reads a variable at a node.
+use Rattle.std.proofs.Common.{◌≡◌, ℕ, zero, suc, ◌≤◌, ◌<◌, List, [], ◌∷◌, ◌++◌, length, get_or, refl, sym, ◌∙◌, ap, arith, length-set}
+use Rattle.std.specs.Prelude.{slice_index_or, slice_set}
+use Rattle.std.specs.Global.{Vec}
+use Rattle.std.proofs.Math.Seq.{drop-length}
+use Rattle.std.proofs.lemmas.List.{append-nil}
+use Rattle.rex_syntax.specs.declared.service.Declarations.{Declarations}
+use Rattle.rex_reads.specs.declared.seen.Read.{Read}
+use Rattle.rex_reads.specs.Reads.{seen_after}
+use Rattle.rex_report.specs.declared.effect.Effect.{Effect}
+use Rattle.rex_scenario.specs.declared.scenario.ScheduleLine.TheVariants.{ReadVariable}
+use Rattle.rex_safety.specs.Node.{Message}
+use Rattle.rex_safety.specs.Values.{Value}
+use Rattle.rex_safety.specs.Reading.{read_at, read_effect}
+use Rattle.rex_safety.specs.World.{World as ModelWorld, node_at, sent_from}
+use Rattle.rex_world.specs.declared.seats.Seat.{Seat}
+use Rattle.rex_world.specs.declared.told.Told.{Told}
+use Rattle.rex_world.specs.declared.world.World.{World}
+use Rattle.rex_world.specs.Seats.{heres}
+use Rattle.rex_world.specs.World.{messages_of, world_of}
+use Rattle.rex_world.specs.Kept.{IsRunning}
+use Rattle.rex_world.specs.Calls.{ComesTo, step_in}
+
+-- a number that is there, whatever else there could be
+number_there : (xs : List ℕ) (i d e : ℕ) → i < length xs → get_or xs i d ≡ get_or xs i e
+number_there [] i d e l = absurd (omega (arith, l))
+number_there (x ∷ xs) zero d e l = refl
+number_there (x ∷ xs) (suc i) d e l = number_there xs i d e (omega (arith, l))
+
+module _ {S : Type 0} (service : Declarations) (w : World S) (h : IsRunning service w) where
+  -- numbers of clients don't matter for what is kept, as long as each has one
+  pub seen_running : (seen : Vec ℕ) → length seen.items ≡ length w.seen.items → IsRunning service (record w { seen = seen })
+  seen_running seen long = record {
+    service_is = h.service_is;
+    checked = h.checked;
+    whole = h.whole;
+    few = h.few;
+    kept = record {
+      world = record { many = h.kept.world.many; cluster = h.kept.world.cluster; nodes = h.kept.world.nodes };
+      acting = h.kept.acting;
+      numbers = record { nodes = h.kept.numbers.nodes; messages = h.kept.numbers.messages };
+      handed = h.kept.handed;
+    };
+    agreed = h.agreed;
+    seats = h.seats;
+    within = h.within;
+    spelled = h.spelled;
+    told = h.told;
+    requests = h.requests;
+    flushed = h.flushed;
+    handed = h.handed;
+    clients = long ∙ h.clients;
+  }
+
+  -- a read comes to its row of the model
+  pub read_came : (m client variable : ℕ) → client ≤ 256 → (xs : List (Seat S)) → xs ≡ w.seats.items → (now next : ℕ) → now ≡ slice_index_or w.seen.items client now → (answer : Read) → answer ≡ read_at service (node_at (heres service w.agreed xs) m) variable now → next ≡ seen_after now answer
+      → (seen : Vec ℕ) → seen.items ≡ slice_set w.seen.items client next → (told told2 : Told) (e : Effect) → e ≡ read_effect m client variable answer → told2.effects.items ≡ told.effects.items ++ e ∷ [] → told2.sent.items ≡ told.sent.items
+      → ComesTo service w (record w { seen = seen }) told told2 (step_in service w (ReadVariable m client variable))
+  read_came m client variable few xs xs_are now next now_is answer answer_is next_is seen saw told told2 e e_is effects sent =
+      let was : now ≡ get_or w.seen.items client 0 = now_is ∙ number_there w.seen.items client now 0 (let many = h.clients in omega (arith, few, many)) in
+      let is : answer ≡ read_at service (node_at (heres service w.agreed w.seats.items) m) variable (get_or w.seen.items client 0) =
+      answer_is ∙ ap (λ (ys : List (Seat S)). read_at service (node_at (heres service w.agreed ys) m) variable now) xs_are ∙ ap (read_at service (node_at (heres service w.agreed w.seats.items) m) variable) was in
+      record {
+        did = record {
+          world = ap (λ (ss : List ℕ). let v : ModelWorld = record (world_of service w) { seen = ss } in v)
+              (saw ∙ ap (slice_set w.seen.items client) (next_is ∙ ap (λ (k : ℕ). seen_after k answer) was ∙ ap (seen_after (get_or w.seen.items client 0)) is));
+          effects = effects ∙ ap (λ (f : Effect). told.effects.items ++ f ∷ []) (e_is ∙ ap (read_effect m client variable) is);
+          sent = sent ∙ sym (append-nil told.sent.items) ∙ ap (λ (ms : List (Message Value)). told.sent.items ++ sent_from (suc (length (messages_of w.agreed w.net))) ms) (sym (drop-length (messages_of w.agreed w.net)));
+        };
+        running = seen_running seen (ap length saw ∙ length-set w.seen.items client next);
+        same = record { nodes = refl; requests = refl; seed = refl };
+        done = refl;
+        flushed = refl;
+      }

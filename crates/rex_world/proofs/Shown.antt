@@ -1,0 +1,119 @@
+-- Replies are released by nodes that are up and active, and there stays a number for each client.
+use Rattle.std.proofs.Common.{◌≡◌, ℕ, zero, suc, ◌<◌, max, Bool, true, false, cond, List, [], ◌∷◌, length, get_or, Option, Some, None, refl, sym, subst, ◌∙◌, inl, inr, arith, length-set}
+use Rattle.std.specs.Prelude.{◌==◌, ◌||◌, nat_lt, slice_get, slice_index_or}
+use Rattle.std.specs.List.{All}
+use Rattle.std.proofs.lemmas.Bool.{false≢true}
+use Rattle.rex_syntax.specs.declared.request.Request.{Request}
+use Rattle.rex_syntax.specs.declared.service.Declarations.{Declarations}
+use Rattle.rex_syntax.specs.Service.{IsService}
+use Rattle.rex_syntax.specs.Check.{IsChecked}
+use Rattle.rex_scenario.specs.Fits.{RequestFits}
+use Rattle.rex_report.specs.declared.effect.Effect.{Effect}
+use Rattle.rex_report.specs.declared.effect.Effect.TheVariants as effect
+use Rattle.rex_state.specs.Value.{StateValue}
+use Rattle.rex_version.specs.declared.version.Version.{Version}
+use Rattle.rex_safety.specs.Records.{Rec, base, known, offset}
+use Rattle.rex_safety.specs.Node.{Content, Failure, Service, is_active}
+use Rattle.rex_safety.specs.Node.Failure.{After}
+use Rattle.rex_safety.specs.Calls.{append, ask, begin, checkpoint, drop_known, elect, receive, replay, say, start, stop}
+use Rattle.rex_safety.specs.Values.{Value, service_of}
+use Rattle.rex_safety.specs.Lanes.{Here, CallHere, active_only, cut, lane_turn, submit_request}
+use Rattle.rex_safety.specs.Reading.{released_to, seen_by_release, seen_by_releases}
+use Rattle.rex_safety.specs.Releases.{IsAmong}
+use Rattle.rex_safety.proofs.Saying.{quiet_none, start_quiet, elect_says, receive_says, replay_says, checkpoint_says, drop_says, stop_says}
+use Rattle.rex_safety.proofs.Replies.{SaysHere, StandsIn, replies_stand, quietly, submit_says, turn_says, cut_tells}
+use Rattle.rex_safety.proofs.Staying.{elect_up, receive_up, submit_up, cut_up, active_up}
+use Rattle.rex_world.specs.Calls.{AreReleased}
+
+-- ---- numbers of clients
+
+release_long : (stamp : ℕ → ℕ) (o : Option ℕ) (seen : List ℕ) → length (seen_by_release stamp o seen) ≡ length seen
+release_long stamp None seen = refl
+release_long stamp (Some client) seen = length-set seen client (max (get_or seen client 0) (stamp client))
+
+pub releases_long : (stamp : ℕ → ℕ) (es : List Effect) (seen : List ℕ) → length (seen_by_releases stamp es seen) ≡ length seen
+releases_long stamp [] seen = refl
+releases_long stamp (e ∷ es) seen = releases_long stamp es (seen_by_release stamp (released_to e) seen) ∙ release_long stamp (released_to e) seen
+
+-- ---- effects one after the other
+
+-- one among them was released as all were
+pub one_released : (x : Here) (es : List Effect) (i : ℕ) (e d : Effect) → i < length es → e ≡ slice_index_or es i d → AreReleased x es → AreReleased x (e ∷ [])
+one_released x es i e d l is h = record { leads = λ c s v. elim [ inl y ↦ h.leads c s v (subst (λ (f : Effect). IsAmong f es) (sym is ∙ y) (at es i l)) | inr y ↦ absurd y ] }
+  where
+    at : (xs : List Effect) (k : ℕ) → k < length xs → IsAmong (slice_index_or xs k d) xs
+    at [] k m = absurd (omega (arith, m))
+    at (y ∷ ys) zero m = inl refl
+    at (y ∷ ys) (suc k) m = inr (at ys k (omega (arith, m)))
+
+-- ---- calls
+
+-- where the node is active it is up
+abbrev UpIfActive : CallHere → Type 0
+UpIfActive d = is_active d.node.role ≡ true → d.node.up ≡ true
+
+-- so it is after each call of a node that is up
+if_up : (t : Bool) (d e : CallHere) → UpIfActive d → UpIfActive e → UpIfActive (cond t d e)
+if_up true d e p q = p
+if_up false d e p q = q
+
+append_up : (a : Option Failure) (me : ℕ) (r : Rec Value StateValue) (d : CallHere) (e : Effect) → d.node.up ≡ true → UpIfActive (append a me r d (say e))
+append_up None me r d e up = λ active. up
+append_up (Some (After (suc before) kept)) me r d e up = λ active. up
+append_up (Some (After zero kept)) me r d e up = λ active. absurd (false≢true active)
+
+module _ (service : Declarations) (good : IsService service) (checked : IsChecked service) (seed n me : ℕ) where
+  abbrev sv : Service Value StateValue
+  sv = service_of service seed
+
+  -- what a call says that it released was released by an active node
+  by_active : (d : CallHere) → SaysHere service good checked seed n me d → UpIfActive d → AreReleased d.node d.effects
+  by_active d says up = record { leads = λ c s x h. let active = (says.each c s x h).0 in (up active, active) }
+
+  -- each call of a node that is up releases replies where the node is up and active after it, and nowhere else
+  abbrev pub Releases : (CallHere → CallHere) → Type 0
+  Releases call = (x : Here) → x.up ≡ true → AreReleased (call (begin x)).node (call (begin x)).effects
+
+  pub elect_releases : Releases (elect n (service_of service seed) me)
+  elect_releases x up = by_active _ (elect_says n sv me (StandsIn service good checked) (replies_stand service good checked) (begin x) quiet_none) (elect_up n sv me (begin x) up).at
+
+  pub receive_releases : (from : ℕ) (content : Content Value) → Releases (receive n (service_of service seed) me from content)
+  receive_releases from content x up = by_active _ (receive_says n sv me (StandsIn service good checked) (replies_stand service good checked) from content (begin x) quiet_none) (receive_up n sv me from content (begin x) up).at
+
+  pub submit_releases : (requests : List Request) → All (RequestFits service) requests → (number : ℕ) → Releases (λ d. active_only (is_active d.node.role) d (submit_request service (slice_get requests number) d))
+  submit_releases requests fit number x up =
+      by_active _ (submit_says service good checked seed n me requests fit number (begin x) quiet_none)
+      (active_up service seed n me (is_active x.role) (begin x) (submit_request service (slice_get requests number) (begin x)) up (submit_up service seed n me (slice_get requests number) (begin x) up)).at
+
+  pub lane_releases : (done lane : ℕ) → Releases (λ d. active_only (is_active d.node.role) d (lane_turn service done lane d))
+  lane_releases done lane x up = by_active _ (turn_says service good checked seed n me done lane (begin x) quiet_none) (by (is_active x.role))
+    where
+      by : (t : Bool) → UpIfActive (active_only t (begin x) (lane_turn service done lane (begin x)))
+      by true = λ active. up
+      by false = λ active. up
+
+  pub cut_releases : (counts : List ℕ) → Releases (cut service seed n me counts)
+  cut_releases counts x up = by_active _ (cut_tells service good checked seed n me counts (begin x) quiet_none) (cut_up service seed n me counts (begin x) up).at
+
+  pub replay_releases : Releases (replay me)
+  replay_releases x up = by_active _ (replay_says n sv me (StandsIn service good checked) (replies_stand service good checked) (begin x) quiet_none) (if_up (is_active x.role || x.replayed == length (known x.log)) _ _ (λ active. up) (λ active. up))
+
+  pub checkpoint_releases : (version : Version) → Releases (checkpoint version (service_of service seed) me)
+  checkpoint_releases version x up =
+      by_active _ (checkpoint_says n sv me (StandsIn service good checked) (replies_stand service good checked) version (begin x) quiet_none)
+      (if_up (x.replayed == base x.log) _ _ (λ active. up) (if_up (nat_lt 0 (length x.work.live)) _ _ (λ active. up) (append_up x.armed me _ (begin x) (effect.Checkpointed me x.replayed) up)))
+
+  pub drop_releases : Releases (drop_known me)
+  drop_releases x up =
+      by_active _ (drop_says n sv me (StandsIn service good checked) (replies_stand service good checked) (begin x) quiet_none)
+      (if_up (base x.log == offset x.log) _ _ (λ active. up) (append_up x.armed me _ (begin x) (effect.Dropped me (base x.log)) up))
+
+  pub ask_releases : (other : ℕ) → Releases (ask me other)
+  ask_releases other x up = by_active _ (quietly service good checked seed n me (ask me other (begin x)) quiet_none) (λ active. up)
+
+  pub stop_releases : Releases (stop me)
+  stop_releases x up = by_active _ (stop_says n sv me (StandsIn service good checked) (replies_stand service good checked) (begin x) quiet_none) (λ active. absurd (false≢true active))
+
+  -- a node that is started releases none
+  pub start_releases : (x y : Here) → AreReleased y (start (service_of service seed) me (begin x)).effects
+  start_releases x y = record { leads = λ c s v h. absurd (start_quiet sv me (begin x) quiet_none c s v h) }

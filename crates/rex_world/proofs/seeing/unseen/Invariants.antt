@@ -1,0 +1,6 @@
+use Rattle.std.proofs.Common.{◌≡◌}
+use Rattle.std.specs.Prelude.{replicate}
+use Rattle.rex_world.proofs.seeing.unseen.Given as goal
+
+abbrev pub invariant-loop : goal.invariant-loop
+invariant-loop l = l.seen.items ≡ replicate l.counter 0
