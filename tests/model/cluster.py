@@ -183,7 +183,14 @@ class Node:
         """Releases the replies of the value that became known last, in its order."""
         for event in value:
             if event.kind == "reply":
-                self.say("released %d %d %d", event.client, self.sequence_of(event), event.value)
+                self.tell_reply(event.client, self.sequence_of(event), event.value)
+
+    def tell_reply(self, client, sequence, value):
+        """Releases a reply: its client has seen something of as many values as there are up to the one with its last reply, as far as
+        the node can tell."""
+        self.say("released %d %d %d", client, sequence, value)
+        replied = [place for place, delta in enumerate(self.held, self.offset + 1) for event in delta if event.kind == "reply" and event.client == client]
+        self.world.seen[client] = max([self.world.seen.get(client, 0), self.offset, *replied])
 
     def sequence_of(self, reply):
         """The sequence of the request that a reply in the value that became known last ends: that of its client's begin before it."""
@@ -310,7 +317,7 @@ class Node:
             return self.say("queued")
         is_live = any(event.kind == "reply" and event.client == client for event in self.live)
         if is_replied and not is_live:
-            return self.say("released %d %d %d", client, sequence, reply)
+            return self.tell_reply(client, sequence, reply)
         return self.say("waiting")
 
     def lane(self, lane):
@@ -365,6 +372,15 @@ class Node:
         self.append(self.write_dropped)
         return self.tell("dropped %d", self.offset)
 
+    def read(self, client, name):
+        if self.role == "active":
+            return self.say("primary")
+        seen = self.world.seen.get(client, 0)
+        if self.replayed < seen:
+            return self.say("behind %d %d", self.replayed, seen)
+        self.world.seen[client] = self.replayed
+        return self.say("read %d %s %d at %d", client, name, self.state_at(self.replayed).variables[name], self.replayed)
+
     def keepfail(self, how):
         self.armed = how
         self.tell("keepfail %s", how)
@@ -401,12 +417,12 @@ class Node:
 # ---- the cluster
 
 class World:
-    """All nodes, the messages that they sent, those of them that wait to be handed over, by number, the report so far, and the values that
-    nodes wrote down as known, by instance."""
+    """All nodes, the messages that they sent, those of them that wait to be handed over, by number, the report so far, the values that
+    nodes wrote down as known, by instance, and of how many of them each client has seen something."""
 
     def __init__(self, nodes, seed, service, requests):
         self.seed, self.service, self.requests = seed, service, requests
-        self.done, self.report, self.sent, self.waiting, self.outgoing, self.agreed = 0, [], [], {}, [], []
+        self.done, self.report, self.sent, self.waiting, self.outgoing, self.agreed, self.seen = 0, [], [], {}, [], [], {}
         self.nodes = [Node(self, number) for number in range(1, nodes + 1)]
 
     def say(self, text):
@@ -461,6 +477,8 @@ class World:
             node.send("ask", int(words[2]), first=node.known() + 1)
         elif word == "checkpoint":
             node.checkpoint(len(words) == 3)
+        elif word == "read":
+            node.read(int(words[2]), words[3])
         else:
             getattr(node, word)()
 

@@ -10,9 +10,10 @@ FOLLOWING = {
 }
 # the numbers behind each first word of a schedule line, by what they count: nodes, requests, lanes or messages
 FORMS = {
-    "elect": "n", "replay": "n", "checkpoint": "n", "drop": "n", "stop": "n", "start": "n", "keepfail": "n", "submit": "nr", "lane": "nl", "ask": "nn", "deliver": "m",
+    "elect": "n", "replay": "n", "checkpoint": "n", "drop": "n", "stop": "n", "start": "n", "keepfail": "n", "read": "n", "submit": "nr", "lane": "nl", "ask": "nn", "deliver": "m",
     "flush": "",
 }
+MOST_CLIENTS = 256
 
 
 class Scenario:
@@ -73,7 +74,7 @@ class Scenario:
     def request(self, words):
         if len(words) < 3:
             return "S5"
-        client, sequence, name, arguments = natural(words[0], 1, 256), natural(words[1], 1, 1000000), words[2], [signed(word) for word in words[3:]]
+        client, sequence, name, arguments = natural(words[0], 1, MOST_CLIENTS), natural(words[1], 1, 1000000), words[2], [signed(word) for word in words[3:]]
         if client is None or sequence is None or not is_name(name) or None in arguments:
             return "S5"
         if name not in self.service.handlers or len(self.service.handlers[name].parameters) != len(arguments):
@@ -93,7 +94,10 @@ class Scenario:
         if words[0] == "keepfail" and not is_keepfail:
             return "S8"
         is_old = words[0] == "checkpoint" and words[2:] == ["old"]
-        numbers = [natural(word) for word in (words[1:2] if is_keepfail or is_old else words[1:])]
+        is_read = words[0] == "read" and len(words) == 4 and natural(words[2], 1, MOST_CLIENTS) is not None and is_name(words[3])
+        if words[0] == "read" and not is_read:
+            return "S8"
+        numbers = [natural(word) for word in (words[1:2] if is_keepfail or is_old or is_read else words[1:])]
         is_cut = words[0] == "cut" and len(words) > 1
         if None in numbers or not (is_cut or len(FORMS.get(words[0], "-" * len(words))) == len(numbers)):
             return "S8"
@@ -105,6 +109,8 @@ class Scenario:
         if not all(1 <= number <= most[kind] for number, kind in zip(numbers, FORMS.get(words[0], "n"))):
             return "S10"
         if words[0] == "ask" and numbers[0] == numbers[1]:
+            return "S10"
+        if is_read and words[3] not in self.service.variables:
             return "S10"
         if is_cut and len(numbers) not in (1, 1 + self.service.lanes):
             return "S12"

@@ -6,19 +6,19 @@ use std::process::Abort;
 use std::test::*;
 
 /// Ballot 17 is promised.
-const PROMISED: [u8; 9] = [1, 0, 0, 0, 0, 0, 0, 0, 17];
+pub(crate) const PROMISED: [u8; 9] = [1, 0, 0, 0, 0, 0, 0, 0, 17];
 
 /// The first known value is one byte.
-const KNOWN: [u8; 10] = [3, 0, 0, 0, 1, 0, 0, 0, 1, 7];
+pub(crate) const KNOWN: [u8; 10] = [3, 0, 0, 0, 1, 0, 0, 0, 1, 7];
 
 /// The state after the first known value is no bytes.
-const CHECKPOINT: [u8; 9] = [4, 0, 0, 0, 1, 0, 0, 0, 0];
+pub(crate) const CHECKPOINT: [u8; 9] = [4, 0, 0, 0, 1, 0, 0, 0, 0];
 
 /// The node has forgotten the first known value.
-const DROPPED: [u8; 5] = [5, 0, 0, 0, 1];
+pub(crate) const DROPPED: [u8; 5] = [5, 0, 0, 0, 1];
 
 /// The node took over the state after two values, which is no bytes.
-const TRANSFERRED: [u8; 9] = [6, 0, 0, 0, 2, 0, 0, 0, 0];
+pub(crate) const TRANSFERRED: [u8; 9] = [6, 0, 0, 0, 2, 0, 0, 0, 0];
 
 /// Records, and what is recovered of them: the promise, the offset and how many known values are held past it; or the number of the
 /// first bad record and the offset of its first bad field.

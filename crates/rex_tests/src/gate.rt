@@ -94,17 +94,31 @@ fn ask_once_known(rt: &impl Abort, answers: &Answers, live: &State) {
     ask(rt, answers, live, &expected);
 }
 
+/// The numbers of the deltas with the last replies of clients 1 and 2.
+fn stamps(rt: &impl Abort, answers: &Answers, expected: [Option<u32>; 2]) {
+    assert_eq!(rt; [answers.stamp(1), answers.stamp(2)], expected);
+}
+
 fn a_reply_is_known(rt: &impl Abort, alloc: Global, svc: &Checked) {
     let mut answers = Answers::new(alloc);
     let delta = added(alloc).expect(rt, "memory");
-    answers.note(&delta).expect(rt, "memory");
+    stamps(rt, &answers, [None, None]);
+    answers.note(delta.events.as_slice()).expect(rt, "memory");
     ask_once_known(rt, &answers, &after_adding(rt, alloc, svc));
+    stamps(rt, &answers, [Some(1), None]);
 }
 
 fn a_state_is_known(rt: &impl Abort, alloc: Global, svc: &Checked) {
     let state = after_adding(rt, alloc, svc);
-    let answers = Answers::at(alloc, &state).expect(rt, "memory");
+    let mut answers = Answers::at(alloc, &state, 3).expect(rt, "memory");
     ask_once_known(rt, &answers, &state);
+    stamps(rt, &answers, [Some(0), None]);
+    // the fourth delta has no reply, the fifth one has
+    let delta = added(alloc).expect(rt, "memory");
+    answers.number(&[event_at(0)]).expect(rt, "memory");
+    stamps(rt, &answers, [Some(0), None]);
+    answers.number(delta.events.as_slice()).expect(rt, "memory");
+    stamps(rt, &answers, [Some(5), None]);
 }
 
 #[test]

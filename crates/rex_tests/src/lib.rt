@@ -51,6 +51,20 @@ mod parse;
 #[cfg(test)]
 mod paxos;
 #[cfg(test)]
+mod plain;
+#[cfg(test)]
+mod plain_deltas;
+#[cfg(test)]
+mod plain_journals;
+#[cfg(test)]
+mod plain_messages;
+#[cfg(test)]
+mod plain_records;
+#[cfg(test)]
+mod plain_snapshots;
+#[cfg(test)]
+mod reads;
+#[cfg(test)]
 mod record;
 #[cfg(test)]
 mod reduce;
@@ -82,3 +96,5 @@ mod transfer;
 mod wire;
 #[cfg(test)]
 mod words;
+#[cfg(test)]
+mod world;

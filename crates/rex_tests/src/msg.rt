@@ -6,7 +6,7 @@ use std::process::Abort;
 use std::test::*;
 
 /// Node 1 asks node 2 for a promise to ballot 17, from instance 1 on.
-const PREPARE: [u8; 16] = [1, 1, 1, 2, 0, 0, 0, 0, 0, 0, 0, 17, 0, 0, 0, 1];
+pub(crate) const PREPARE: [u8; 16] = [1, 1, 1, 2, 0, 0, 0, 0, 0, 0, 0, 17, 0, 0, 0, 1];
 
 /// Node 2 promises node 1 so, and reports proposals for instances 1 and 3.
 const PROMISE: [u8; 48] = [
@@ -15,7 +15,7 @@ const PROMISE: [u8; 48] = [
 ];
 
 /// Node 1 proposes three bytes to node 3 for instance 2.
-const ACCEPT: [u8; 23] = [
+pub(crate) const ACCEPT: [u8; 23] = [
     1, 3, 1, 3, 0, 0, 0, 0, 0, 0, 0, 17, 0, 0, 0, 2, 0, 0, 0, 3, 7, 8, 9,
 ];
 
@@ -32,9 +32,9 @@ const NACK: [u8; 20] = [1, 6, 2, 1, 0, 0, 0, 0, 0, 0, 0, 17, 0, 0, 0, 0, 0, 0, 0
 const ASK: [u8; 8] = [1, 7, 9, 8, 0, 1, 0, 0];
 
 /// Node 1 tells node 3 the state after two values, in one byte.
-const SNAPSHOT: [u8; 13] = [1, 8, 1, 3, 0, 0, 0, 2, 0, 0, 0, 1, 42];
+pub(crate) const SNAPSHOT: [u8; 13] = [1, 8, 1, 3, 0, 0, 0, 2, 0, 0, 0, 1, 42];
 
-const MESSAGES: [&[u8]; 8] = [
+pub(crate) const MESSAGES: [&[u8]; 8] = [
     &PREPARE, &PROMISE, &ACCEPT, &ACCEPTED, &CHOSEN, &NACK, &ASK, &SNAPSHOT,
 ];
 
