@@ -154,16 +154,17 @@ SCENARIO = {
     ),
     "S8": (
         "a schedule line isn't of any of its forms, a number in it is above 2^64 - 1, or a limit above 4,294,967,295. So is a `keepfail` with "
-        "another last word than `kept` or `lost`, and a `checkpoint` with another one than `old`",
-        "a misspelt word, a number too many or too few (`submit NODE REQUEST`, `lane NODE LANE`), or, for `rexlive`, any schedule line at "
-        "all",
+        "another last word than `kept` or `lost`, a `checkpoint` with another one than `old`, and a `read` whose client isn't 1 to 256 or "
+        "whose NAME isn't a name",
+        "a misspelt word, a number too many or too few (`submit NODE REQUEST`, `lane NODE LANE`, `read NODE CLIENT NAME`), or, for `rexlive`, "
+        "any schedule line at all",
     ),
     "S9": (
         "a schedule line past the 100,000th",
         "a schedule that is made up by a program",
     ),
     "S10": (
-        "a node, lane or request that isn't there, a node that asks itself, or message 0",
+        "a node, lane or request that isn't there, a name that is no variable's, a node that asks itself, or message 0",
         "node and lane or request changed over; all of them count from 1",
     ),
     "S11": (

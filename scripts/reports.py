@@ -27,6 +27,9 @@ TEXTS = [
     ("quiet", NODE + r"up to date", "up to date"),
     ("quiet", NODE + r"is (?P<how>down|up)", "is {how}"),
     ("quiet", NODE + r"spent", "no ballots left"),
+    ("read", r"read (?P<c>\d+) (?P<name>[A-Za-z]\w{0,31}) (?P<v>-?\d+) at (?P<k>\d+)", "client {c} reads {name} = {v} after delta {k}"),
+    ("read", r"behind (?P<h>\d+) (?P<s>\d+)", "is after delta {h}, and the client after {s}"),
+    ("quiet", r"primary", "leads: read there by a request"),
     ("quiet", r"have (?P<x>\d+)", "{x} so far"),
     ("quiet", r"(?P<all>ignored (?:late|(?:ballot|instance) \d+ \d+|again \d+))", "{all}"),
     ("quiet", r"(?P<all>not active (?:follower|candidate|adopting)|open \d+|ended|live \d+|no message \d+|nothing)", "{all}"),
@@ -60,6 +63,10 @@ class Step:
     def is_down(self):
         """Whether it came to a node that is down."""
         return any(mark.text.endswith(" is down") for mark in self.marks)
+
+    def is_read(self):
+        """Whether a client was told a variable's value, or that the node has run too little."""
+        return any(mark.kind == "read" for mark in self.marks)
 
     def calls_for(self, message):
         """Whether this step has what such a message is sent for."""
@@ -181,13 +188,13 @@ class Report:
 
     def place(self, schedule):
         """Gives each step a node that the report doesn't tell: by the schedule where there is one, else the leader with the greatest
-        ballot, if there is one."""
+        ballot, if there is one, but for reads, which are at nodes that don't lead."""
         leaders = {}
         for step in self.steps:
             if step.node is None and schedule is not None:
                 words = schedule[step.line - 1]
                 step.node = int(words[1]) if words[0] not in ("flush", "deliver") else None
-            elif step.node is None and leaders:
+            elif step.node is None and leaders and not step.is_read():
                 step.node = max(leaders, key=leaders.get)
             for mark in step.marks:
                 if mark.role == "active":

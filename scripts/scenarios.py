@@ -110,7 +110,7 @@ def make_requests(dice, handlers):
 
 WEIGHTS = {
     "lane": 60, "submit": 14, "cut": 5, "flush": 3, "deliver": 16, "again": 1.5, "beyond": 0.3, "elect": 0.7, "replay": 1, "ask": 1, "stop": 0.5, "start": 4,
-    "checkpoint": 1, "drop": 0.5, "keepfail": 0.5,
+    "checkpoint": 1, "drop": 0.5, "keepfail": 0.5, "read": 2,
 }
 TROUBLE = ("elect", "again", "ask", "stop", "keepfail")
 
@@ -195,6 +195,15 @@ class Schedule:
         ready = [node.number for node in self.world.nodes if node.is_up and node.base > node.offset]
         return "drop %d" % (self.dice.choice(ready) if ready and self.dice.random() < 0.8 else self.any_node())
 
+    def read(self):
+        """Mostly by a client of a request, and at a node that doesn't lead; of these mostly one that has replayed something."""
+        clients = sorted({request[0] for request in self.world.requests}) or [1]
+        others = [node for node in self.world.nodes if node.is_up and node.role != "active"]
+        ready = [node.number for node in others if node.replayed and self.dice.random() < 0.8] or [node.number for node in others]
+        node = self.dice.choice(ready) if ready and self.dice.random() < 0.8 else self.any_node()
+        client = self.dice.choice(clients) if self.dice.random() < 0.9 else self.dice.choice([1, 256])
+        return "read %d %d %s" % (node, client, self.dice.choice(sorted(self.world.service.variables)))
+
     def keepfail(self):
         node = self.leader() if self.dice.random() < 0.5 else self.any_node()
         return "keepfail %d %s" % (node, self.dice.choice(["kept", "lost"]))
@@ -219,8 +228,8 @@ class Schedule:
             return self.ask()
         if kind in ("submit", "cut"):
             return self.request() if kind == "submit" else self.cut()
-        if kind in ("checkpoint", "drop", "keepfail"):
-            return {"checkpoint": self.checkpoint, "drop": self.drop, "keepfail": self.keepfail}[kind]()
+        if kind in ("checkpoint", "drop", "keepfail", "read"):
+            return {"checkpoint": self.checkpoint, "drop": self.drop, "keepfail": self.keepfail, "read": self.read}[kind]()
         return "flush" if kind in ("ask", "flush") else "%s %d" % (kind, self.any_node())
 
     def fill(self, count):
@@ -253,7 +262,7 @@ def spoil(dice, line):
     elif change == "number":
         words[place] = dice.choice(["0", "4", "6", "257", "-1", "1000001", "4294967296", "18446744073709551615", "18446744073709551616"])
     elif change == "word":
-        words[0] = dice.choice(["checkpoint", "drop", "keepfail", "elects", "ask", "deliver", "cut", "flush", "lane"])
+        words[0] = dice.choice(["checkpoint", "drop", "keepfail", "read", "elects", "ask", "deliver", "cut", "flush", "lane"])
     return " ".join(words) + ("\x7f" if change == "byte" else "")
 
 

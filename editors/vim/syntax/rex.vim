@@ -19,7 +19,7 @@ syntax keyword rexBlock if else endif repeat endrepeat busy endtry
 syntax keyword rexReply reply
 
 " the words of schedules
-syntax keyword rexStep elect submit lane cut deliver flush replay ask stop start checkpoint drop keepfail
+syntax keyword rexStep elect submit lane cut deliver flush replay ask stop start checkpoint drop keepfail read
 syntax keyword rexWord kept lost old
 syntax match rexHeading "^\s*%\(nodes\|seed\|service\|requests\|schedule\)\>"
 
