@@ -56,6 +56,23 @@ impl Clock {
         self.lanes = self.lanes.max(other.lanes);
     }
 
+    /// Merges a clock that covers nothing: this one stays as it is.
+    pub fn merge_none(&mut self)
+        ensures { self.new ≡ spec.merged self.old spec.none }
+    {
+        // The proof takes from the counts that there is one for each lane.
+        let _ = &self.counts;
+    }
+
+    /// Covers just what another clock covers. Counts that are 0 in both aren't copied.
+    pub fn copy_from(&mut self, other: &Clock)
+        ensures { self.new ≡ other.now }
+    {
+        let used = self.lanes.max(other.lanes);
+        copy_counts(&mut self.counts, &other.counts, used);
+        self.lanes = other.lanes;
+    }
+
     /// So many of the first lanes have all that it covers.
     pub fn lanes(&self) -> u8
         ensures few { result ≤ LANES }
@@ -90,5 +107,16 @@ fn merge_counts(counts: &mut [u32; LANES], others: &[u32; LANES], lanes: u8)
 {
     for lane in 0..lanes as usize {
         counts[lane] = counts[lane].max(others[lane]);
+    }
+}
+
+/// Makes each count the other's. They are the same but for so many first ones.
+fn copy_counts(counts: &mut [u32; LANES], others: &[u32; LANES], used: u8)
+    requires few { used ≤ LANES }
+    requires beyond { (lane : ℕ) → used ≤ lane → count_at counts.old lane ≡ count_at others.now lane }
+    ensures { counts.new ≡ others.now }
+{
+    for lane in 0..used as usize {
+        counts[lane] = others[lane];
     }
 }

@@ -63,10 +63,12 @@ pub fn reduce(alloc: Global, events: &[Event]) -> Result<Vec<Causes>, AllocError
     let first = first_indices(events);
     let mut uses = Uses::new(alloc);
     let mut causes = Vec::new(alloc);
+    let mut summary = Summary::new();
     for event in events {
-        let met = uses.met(event);
-        causes.push(causes_of(alloc, &first, event.lane, &met)?)?;
-        uses.add(event, &met.next(event.lane))?;
+        uses.met(event, &mut summary);
+        causes.push(causes_of(alloc, &first, event.lane, &summary)?)?;
+        summary.next(event.lane);
+        uses.add(event, &summary)?;
     }
     Ok(causes)
 }

@@ -25,6 +25,14 @@ impl Summary {
         }
     }
 
+    /// Keeps just what another one keeps.
+    pub fn copy_from(&mut self, other: &Summary)
+        ensures { self.new ≡ other.now }
+    {
+        self.clocks.copy_from(&other.clocks);
+        self.befores.copy_from(&other.befores);
+    }
+
     /// Adds other events.
     pub fn merge(&mut self, other: &Summary)
         ensures { self.new ≡ spec.joined self.old other.now }
@@ -33,17 +41,21 @@ impl Summary {
         self.befores.merge(&other.befores);
     }
 
-    /// The summary of an event of a lane, by this one of what conflicts with it before it.
-    pub fn next(&self, lane: u8) -> Summary
-        requires lane { lane < LANES }
-        requires room { count_at self.now.clocks lane < u32.MAX }
-        ensures { result ≡ spec.next self.now lane }
+    /// Adds no events: this one stays as it is.
+    pub fn merge_nothing(&mut self)
+        ensures { self.new ≡ spec.joined self.old spec.nothing }
     {
-        let mut clocks = self.clocks;
-        clocks.tick(lane);
-        Summary {
-            clocks,
-            befores: self.clocks,
-        }
+        self.clocks.merge_none();
+        self.befores.merge_none();
+    }
+
+    /// Turns the summary of what conflicts with an event of a lane before it into that event's.
+    pub fn next(&mut self, lane: u8)
+        requires lane { lane < LANES }
+        requires room { count_at self.old.clocks lane < u32.MAX }
+        ensures { self.new ≡ spec.next self.old lane }
+    {
+        self.befores.copy_from(&self.clocks);
+        self.clocks.tick(lane);
     }
 }

@@ -8,16 +8,17 @@ use crate::summary::Summary;
 use rex_event::{Event, LANES};
 use std::alloc::AllocError;
 
-pub(crate) fn summary_at(rows: &[Summary], place: u32) -> Summary
-    ensures { result ≡ at rows.now place }
+/// Copies what stands at a place. A summary is filled and not returned: moving one would cost more than its lanes in use.
+pub(crate) fn copy_at(met: &mut Summary, rows: &[Summary], place: u32)
+    ensures { met.new ≡ at rows.now place }
 {
     match rows.get(place as usize) {
-        Some(summary) => *summary,
-        None => Summary::new(),
+        Some(summary) => met.copy_from(summary),
+        None => met.copy_from(&Summary::new()),
     }
 }
 
-/// Merges what stands at a place, if there is one. A row is merged where it stands: a copy of it would cost more than that.
+/// Merges what stands at a place, if there is one.
 pub(crate) fn merge_at(met: &mut Summary, rows: &[Summary], place: Option<u32>)
     ensures { met.new ≡ with_at met.old rows.now place }
 {
@@ -26,7 +27,7 @@ pub(crate) fn merge_at(met: &mut Summary, rows: &[Summary], place: Option<u32>)
     };
     match rows.get(place as usize) {
         Some(summary) => met.merge(summary),
-        None => met.merge(&Summary::new()),
+        None => met.merge_nothing(),
     }
 }
 
@@ -88,7 +89,7 @@ pub(crate) fn put(rows: &mut Vec<Summary>, place: u32, own: &Summary) -> Result<
     ensures { OnOk result (AreAddedAt rows.old.items (Some place) own.now rows.new.items) }
 {
     stretch(rows, place as usize + 1)?;
-    rows[place as usize] = *own;
+    rows[place as usize].copy_from(own);
     Ok(())
 }
 

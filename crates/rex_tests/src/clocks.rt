@@ -24,3 +24,16 @@ fn clocks_cover_what_they_merge(rt: HostRuntime) {
     assert_eq!(rt; first.count(2), 2);
     assert_eq!(rt; first.lanes(), 16);
 }
+
+#[test]
+fn clocks_copy_what_others_cover(rt: HostRuntime) {
+    let mut first = Clock::new();
+    let mut second = Clock::new();
+    first.tick(2);
+    second.tick(20);
+    second.copy_from(&first);
+    second.merge_none();
+    assert_eq!(rt; second.count(2), 1);
+    assert_eq!(rt; second.count(20), 0);
+    assert_eq!(rt; second.lanes(), 3);
+}

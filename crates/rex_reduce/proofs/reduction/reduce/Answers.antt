@@ -19,8 +19,8 @@ causes_of-requires c = λ lane.
     let es = c.args.events.now in
     let e = c.event-item.result in
     let t = turn es c.loop-event.event-index e c.loop-event-test.true c.event-item.is in
-    let m = turn_met es c.loop-event.event-index e c.loop-event.uses c.met-met.result c.requires.trace t c.loop-event.invariant.kept c.met-met.ensures in
-    rw c.first_indices-first.ensures (turn_room es c.loop-event.event-index e c.met-met.result lane c.requires.trace c.requires.room t m)
+    let m = turn_met es c.loop-event.event-index e c.loop-event.uses c.met.new.summary c.requires.trace t c.loop-event.invariant.kept c.met.ensures in
+    rw c.first_indices-first.ensures (turn_room es c.loop-event.event-index e c.met.new.summary lane c.requires.trace c.requires.room t m)
 
 pub next-requires-clause-lane : goal.next-requires-clause-lane
 next-requires-clause-lane c =
@@ -32,7 +32,7 @@ next-requires-clause-room c =
     let es = c.args.events.now in
     let e = c.event-item.result in
     let t = turn es c.loop-event.event-index e c.loop-event-test.true c.event-item.is in
-    turn_next es c.loop-event.event-index e c.met-met.result c.requires.trace c.requires.room t (turn_met es c.loop-event.event-index e c.loop-event.uses c.met-met.result c.requires.trace t c.loop-event.invariant.kept c.met-met.ensures)
+    turn_next es c.loop-event.event-index e c.met.new.summary c.requires.trace c.requires.room t (turn_met es c.loop-event.event-index e c.loop-event.uses c.met.new.summary c.requires.trace t c.loop-event.invariant.kept c.met.ensures)
 
 pub add-requires : goal.add-requires
 add-requires c =
@@ -40,8 +40,8 @@ add-requires c =
     let i = c.loop-event.event-index in
     let e = c.event-item.result in
     let t = turn es i e c.loop-event-test.true c.event-item.is in
-    let m = turn_met es i e c.loop-event.uses c.met-met.result c.requires.trace t c.loop-event.invariant.kept c.met-met.ensures in
-    uses_covered (reverse (take i es)) e c.next.result c.loop-event.uses (c.next.ensures ∙ ap (λ (s : Summary). next s e.lane) m) c.loop-event.invariant.kept
+    let m = turn_met es i e c.loop-event.uses c.met.new.summary c.requires.trace t c.loop-event.invariant.kept c.met.ensures in
+    uses_covered (reverse (take i es)) e c.next.new.self c.loop-event.uses (c.next.ensures ∙ ap (λ (s : Summary). next s e.lane) m) c.loop-event.invariant.kept
 
 pub loop-event-preserved : goal.loop-event-preserved
 loop-event-preserved c =
@@ -49,12 +49,12 @@ loop-event-preserved c =
     let i = c.loop-event.event-index in
     let e = c.event-item.result in
     let t = turn es i e c.loop-event-test.true c.event-item.is in
-    let m = turn_met es i e c.loop-event.uses c.met-met.result c.requires.trace t c.loop-event.invariant.kept c.met-met.ensures in
+    let m = turn_met es i e c.loop-event.uses c.met.new.summary c.requires.trace t c.loop-event.invariant.kept c.met.ensures in
     record {
       causes =
           let own = rw c.first_indices-first.ensures at c.in_ok-causes_of.ensures in
-          rw c.in_ok-push.ensures.items (turn_causes es (first_indices es) i e c.met-met.result c.loop-event.causes.items c.in_ok-causes_of.field-0 t m own ∙ c.loop-event.invariant.causes);
-      kept = turn_kept es i e c.loop-event.uses c.add.new.self c.met-met.result c.next.result t c.loop-event.invariant.kept m c.next.ensures c.in_ok-add.ensures;
+          rw c.in_ok-push.ensures.items (turn_causes es (first_indices es) i e c.met.new.summary c.loop-event.causes.items c.in_ok-causes_of.field-0 t m own ∙ c.loop-event.invariant.causes);
+      kept = turn_kept es i e c.loop-event.uses c.add.new.self c.met.new.summary c.next.new.self t c.loop-event.invariant.kept m c.next.ensures c.in_ok-add.ensures;
     }
 
 whole : (es : List Event) (i : ℕ) (causes : List (List Cause)) → length es ≤ i → causes ++ reduced_from (first_indices es) (reverse (take i es)) (drop i es) ≡ reduced es → causes ≡ reduced es

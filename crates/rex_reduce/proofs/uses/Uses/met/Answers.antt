@@ -24,8 +24,8 @@ merged u e m0 m1 m2 m3 m4 m5 m6 p0 p1 p2 p3 p4 p5 p6 =
 pub returns : goal.returns
 returns c =
     let wakes = c.merge_woken.ensures ∙ ap (λ (rows : List Summary). with_woken c.merge_at-5.new.met rows c.args.event.now.kind LANES) c.deref-7.ensures.value in
-    merged c.args.self.now c.args.event.now c.summary_at-met.result c.merge_at.new.met c.merge_at-2.new.met c.merge_at-3.new.met c.merge_at-4.new.met c.merge_at-5.new.met c.merge_woken.new.met
-    (rw (c.deref.ensures.value, c.from.ensures) at c.summary_at-met.ensures)
+    merged c.args.self.now c.args.event.now c.copy_at.new.met c.merge_at.new.met c.merge_at-2.new.met c.merge_at-3.new.met c.merge_at-4.new.met c.merge_at-5.new.met c.merge_woken.new.met
+    (rw (c.deref.ensures.value, c.from.ensures) at c.copy_at.ensures)
     (rw (c.deref-2.ensures.value, c.any_lock.ensures) at c.merge_at.ensures)
     (rw (c.deref-3.ensures.value, c.exclusive_lock.ensures) at c.merge_at-2.ensures)
     (rw (c.deref-4.ensures.value, c.client.ensures) at c.merge_at-3.ensures)
