@@ -1,4 +1,4 @@
-pub mod Longest
+pub mod Lengths
 pub mod Weighing
 pub mod Fine
 pub mod Terms

@@ -1,7 +1,8 @@
 //! Expressions, as lines have them.
 
-ghost use Rattle.std.specs.Prelude.{◌≡◌, ◌≤◌, ◌<◌, [], length, IfOk, None, Some, if◌then◌else◌};
+ghost use Rattle.std.specs.Prelude.{◌≡◌, ◌≤◌, ◌<◌, [], length, IfOk, None, Some, if◌then◌else◌, unwrap_or};
 ghost use Rattle.rex_syntax.specs.declared.expr.Operand.TheVariants as operand;
+ghost use Rattle.rex_syntax.specs.declared.expr.Operator.TheVariants as operator;
 ghost use Rattle.rex_parse.specs.After as after;
 ghost use Rattle.rex_parse.specs.Following as following;
 ghost use Rattle.rex_parse.specs.Table as table;
@@ -107,12 +108,12 @@ impl Above {
         let mut code = None;
         let mut rest = words;
         while let [operator, word, more @ ..] = rest {
+            let operator = read_operator(operator);
             let operand = self.read_operand(word);
-            let pair = least(operator_code(operator), operand.code);
+            let pair = least(operator.code, operand.code);
             code = least(code, pair);
-            let operator = operator_of(operator).unwrap_or(Operator::Add);
             terms.push(Term {
-                operator,
+                operator: operator.operator,
                 operand: operand.operand,
             })?;
             rest = more;
@@ -194,6 +195,30 @@ struct ReadTerms {
 struct ReadOperand {
     code: Option<ServiceCode>,
     operand: Operand,
+}
+
+/// What a word comes to as an operator.
+#[derive(Clone, Copy)]
+struct ReadOperator {
+    code: Option<ServiceCode>,
+    operator: Operator,
+}
+
+// A word between two operands, looked up once.
+fn read_operator(word: &[u8]) -> ReadOperator
+    ensures code { result.code ≡ table.operator_code word.now }
+    ensures operator { result.operator ≡ unwrap_or (table.operator_of word.now) operator.Add }
+{
+    match operator_of(word) {
+        Some(operator) => ReadOperator {
+            code: None,
+            operator,
+        },
+        None => ReadOperator {
+            code: Some(ServiceCode::BadExpression),
+            operator: Operator::Add,
+        },
+    }
 }
 
 // The expression of no words.

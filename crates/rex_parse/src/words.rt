@@ -1,6 +1,6 @@
 //! Names, first words and operators.
 
-ghost use Rattle.std.specs.Prelude.{◌≡◌, ◌≤◌, IfSome, unwrap_or, option_map, find};
+ghost use Rattle.std.specs.Prelude.{◌≡◌, ◌≤◌, ◌∷◌, [], IfSome, unwrap_or, option_map, find};
 ghost use Rattle.std.specs.List.{list_all, list_any};
 ghost use Rattle.std.specs.Str.{bytes_eq};
 ghost use Rattle.rex_parse.specs.Answers.{texts, rows};
@@ -25,55 +25,74 @@ fn entry_of<T: Copy>(table: &[(&[u8], T)], word: &[u8]) -> Option<T>
     None
 }
 
-const FORMS: [(&[u8], Form); 28] = [
-    (b"lanes", Form::Lanes),
-    (b"lock", Form::Lock),
-    (b"rwlock", Form::RwLock),
+// The first words of lines, by their length.
+const FORMS_OF_TWO: [(&[u8], Form); 2] = [(b"up", Form::Up), (b"if", Form::If)];
+
+const FORMS_OF_THREE: [(&[u8], Form); 5] = [
     (b"sem", Form::Sem),
-    (b"cond", Form::Cond),
     (b"var", Form::Var),
-    (b"handler", Form::Handler),
-    (b"acquire", Form::Acquire),
-    (b"share", Form::Share),
-    (b"release", Form::Release),
     (b"try", Form::Try),
-    (b"busy", Form::Busy),
-    (b"endtry", Form::EndTry),
-    (b"wait", Form::Wait),
-    (b"signal", Form::Signal),
-    (b"broadcast", Form::Broadcast),
-    (b"down", Form::Down),
-    (b"up", Form::Up),
     (b"set", Form::Set),
     (b"let", Form::Let),
-    (b"clock", Form::Clock),
-    (b"random", Form::Random),
-    (b"if", Form::If),
+];
+
+const FORMS_OF_FOUR: [(&[u8], Form); 6] = [
+    (b"lock", Form::Lock),
+    (b"cond", Form::Cond),
+    (b"busy", Form::Busy),
+    (b"wait", Form::Wait),
+    (b"down", Form::Down),
     (b"else", Form::Else),
+];
+
+const FORMS_OF_FIVE: [(&[u8], Form); 5] = [
+    (b"lanes", Form::Lanes),
+    (b"share", Form::Share),
+    (b"clock", Form::Clock),
     (b"endif", Form::EndIf),
-    (b"repeat", Form::Repeat),
-    (b"endrepeat", Form::EndRepeat),
     (b"reply", Form::Reply),
 ];
 
-/// What the first word of a line says.
+const FORMS_OF_SIX: [(&[u8], Form); 5] = [
+    (b"rwlock", Form::RwLock),
+    (b"endtry", Form::EndTry),
+    (b"signal", Form::Signal),
+    (b"random", Form::Random),
+    (b"repeat", Form::Repeat),
+];
+
+const FORMS_OF_SEVEN: [(&[u8], Form); 3] = [
+    (b"handler", Form::Handler),
+    (b"acquire", Form::Acquire),
+    (b"release", Form::Release),
+];
+
+const FORMS_OF_NINE: [(&[u8], Form); 2] = [
+    (b"broadcast", Form::Broadcast),
+    (b"endrepeat", Form::EndRepeat),
+];
+
+/// What the first word of a line says. It is compared with words of its length alone.
 pub(crate) fn form_of(word: &[u8]) -> Option<Form>
     ensures { result ≡ table.form_of word.now }
 {
-    entry_of(&FORMS, word)
+    match word.len() {
+        2 => entry_of(&FORMS_OF_TWO, word),
+        3 => entry_of(&FORMS_OF_THREE, word),
+        4 => entry_of(&FORMS_OF_FOUR, word),
+        5 => entry_of(&FORMS_OF_FIVE, word),
+        6 => entry_of(&FORMS_OF_SIX, word),
+        7 => entry_of(&FORMS_OF_SEVEN, word),
+        9 => entry_of(&FORMS_OF_NINE, word),
+        _ => None,
+    }
 }
 
-const OPERATORS: [(&[u8], Operator); 11] = [
-    (b"+", Operator::Add),
-    (b"-", Operator::Sub),
-    (b"*", Operator::Mul),
-    (b"/", Operator::Div),
-    (b"%", Operator::Rem),
+// The operators of two bytes.
+const LONG_OPERATORS: [(&[u8], Operator); 4] = [
     (b"==", Operator::Equal),
     (b"!=", Operator::NotEqual),
-    (b"<", Operator::Less),
     (b"<=", Operator::LessEqual),
-    (b">", Operator::Greater),
     (b">=", Operator::GreaterEqual),
 ];
 
@@ -81,7 +100,26 @@ const OPERATORS: [(&[u8], Operator); 11] = [
 pub(crate) fn operator_of(word: &[u8]) -> Option<Operator>
     ensures { result ≡ table.operator_of word.now }
 {
-    entry_of(&OPERATORS, word)
+    match word {
+        [byte] => short_operator(*byte),
+        _ => entry_of(&LONG_OPERATORS, word),
+    }
+}
+
+// The operator that a single byte is.
+fn short_operator(byte: u8) -> Option<Operator>
+    ensures { result ≡ table.operator_of (byte ∷ []) }
+{
+    match byte {
+        b'+' => Some(Operator::Add),
+        b'-' => Some(Operator::Sub),
+        b'*' => Some(Operator::Mul),
+        b'/' => Some(Operator::Div),
+        b'%' => Some(Operator::Rem),
+        b'<' => Some(Operator::Less),
+        b'>' => Some(Operator::Greater),
+        _ => None,
+    }
 }
 
 /// A letter, then letters, digits and `_`, at most 32 characters, and no word of the language.
@@ -134,15 +172,21 @@ fn has_name_bytes(word: &[u8]) -> bool
     !has_other
 }
 
-/// Whether a word is one of the words of the language.
+/// Whether a word is one of the words of the language. It is compared with those of its length alone.
 fn is_reserved(word: &[u8]) -> bool
     ensures { result ≡ spec.is_reserved word.now }
 {
-    word.len() <= LONGEST_RESERVED && is_among(&RESERVED, word)
+    match word.len() {
+        2 => is_among(&RESERVED_OF_TWO, word),
+        3 => is_among(&RESERVED_OF_THREE, word),
+        4 => is_among(&RESERVED_OF_FOUR, word),
+        5 => is_among(&RESERVED_OF_FIVE, word),
+        6 => is_among(&RESERVED_OF_SIX, word),
+        7 => is_among(&RESERVED_OF_SEVEN, word),
+        9 => is_among(&RESERVED_OF_NINE, word),
+        _ => false,
+    }
 }
-
-/// How long the longest words of the language are.
-const LONGEST_RESERVED: usize = 9;
 
 /// Whether a word is one of these.
 pub(crate) fn is_among(words: &[&[u8]], word: &[u8]) -> bool
@@ -156,38 +200,20 @@ pub(crate) fn is_among(words: &[&[u8]], word: &[u8]) -> bool
     false
 }
 
-const RESERVED: [&[u8]; 30] = [
-    b"lanes",
-    b"lock",
-    b"rwlock",
-    b"sem",
-    b"cond",
-    b"on",
-    b"var",
-    b"handler",
-    b"acquire",
-    b"share",
-    b"release",
-    b"try",
-    b"busy",
-    b"endtry",
-    b"wait",
-    b"while",
-    b"signal",
-    b"broadcast",
-    b"down",
-    b"up",
-    b"set",
-    b"let",
-    b"clock",
-    b"random",
-    b"if",
-    b"else",
-    b"endif",
-    b"repeat",
-    b"endrepeat",
-    b"reply",
-];
+// The words of the language, by their length.
+const RESERVED_OF_TWO: [&[u8]; 3] = [b"on", b"up", b"if"];
+
+const RESERVED_OF_THREE: [&[u8]; 5] = [b"sem", b"var", b"try", b"set", b"let"];
+
+const RESERVED_OF_FOUR: [&[u8]; 6] = [b"lock", b"cond", b"busy", b"wait", b"down", b"else"];
+
+const RESERVED_OF_FIVE: [&[u8]; 6] = [b"lanes", b"share", b"while", b"clock", b"endif", b"reply"];
+
+const RESERVED_OF_SIX: [&[u8]; 5] = [b"rwlock", b"endtry", b"signal", b"random", b"repeat"];
+
+const RESERVED_OF_SEVEN: [&[u8]; 3] = [b"handler", b"acquire", b"release"];
+
+const RESERVED_OF_NINE: [&[u8]; 2] = [b"broadcast", b"endrepeat"];
 
 /// Whether a word begins as a number does.
 pub(crate) fn begins_number(word: &[u8]) -> bool

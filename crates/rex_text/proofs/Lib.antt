@@ -1,4 +1,5 @@
 mod Buffers
+pub mod Digits
 mod Examples
 pub mod Spellings
 pub mod Splits

@@ -10,7 +10,7 @@ loop-rest-preserved c =
     record {
       code = rest_step c.args.self.now c.loop-rest.rest.now d c.loop-rest.code c.least-pair.result c.least-code.result _ c.in-len2-up.len_at_least
           (search rules) c.least-code.ensures c.loop-rest.invariant.code;
-      terms = terms_step c.args.self.now c.loop-rest.rest.now d c.loop-rest.terms c.push.new.self _ c.unwrap_or-operator.result c.read_operand-operand.result.operand c.in-len2-up.len_at_least
+      terms = terms_step c.args.self.now c.loop-rest.rest.now d c.loop-rest.terms c.push.new.self _ c.read_operator-operator.result.operator c.read_operand-operand.result.operand c.in-len2-up.len_at_least
           (search rules) c.read_operand-operand.ensures.operand c.in_ok-push.ensures.ok c.loop-rest.invariant.terms;
     }
 
