@@ -1,6 +1,5 @@
 -- What lanes recorded, once all their seats are handed back.
-use Rattle.std.specs.Prelude.{◌≡◌, ◌⊎◌, ℕ, ◌+◌, ◌-◌, ◌<◌, ◌≤◌, ◌++◌, Bool, true, false, List, [], length, nat_lt, slice_index_or, drop, take, Some}
-use Rattle.std.specs.List.{filter}
+use Rattle.std.specs.Prelude.{◌≡◌, ◌⊎◌, ℕ, ◌+◌, ◌-◌, ◌<◌, ◌≤◌, ◌++◌, false, List, [], ◌∷◌, length, slice_index_or, drop, take, Option, None, Some}
 use mathlib.Core.Option.{some}
 use lib.ListN.{get_elem?}
 use Rattle.atomic_table.specs.Seated.{TableId}
@@ -17,7 +16,7 @@ use Rattle.rex_words.specs.declared.view.Gathered.{Gathered}
 use Rattle.rex_words.specs.declared.view.Knowledge.{Knowledge}
 use Rattle.rex_words.specs.declared.view.View.{View}
 use Rattle.rex_words.specs.declared.view.Role.TheVariants.{Host}
-use Rattle.rex_words.specs.Stamps.{IsInOrder, comes_before, events_in, is_of, lane_list}
+use Rattle.rex_words.specs.Stamps.{IsInOrder, comes_before, events_in, lane_list}
 use Rattle.rex_words.specs.Alone.{service_of, AreTold, DoAlone, IsQuiet}
 use Rattle.rex_words.specs.Seats.{IsSeatOf}
 use Rattle.rex_words.specs.Turns.{IsIdle, IsFull}
@@ -71,39 +70,45 @@ pub record IsMerged (lists : List (List Stamped)) (whole : List Stamped) : Type 
   pub each : (lane : ℕ) → lane < length lists → slice_index_or lists (length lists - (lane + 1)) [] ≡ lane_list whole lane
   pub lanes : (x : Stamped) → Has x whole → x.event.lane < length lists
 
--- it is of a lane above this one
-abbrev pub is_above_lane : ℕ → Stamped → Bool
-is_above_lane lane x = nat_lt lane x.event.lane
-
--- one list has the events of the lanes above a lane, the other those of the lane
-pub record IsMergeOf (lane : ℕ) (above own whole : List Stamped) : Type 0 where
-  pub order : IsInOrder whole
-  pub above_are : above ≡ filter (is_above_lane lane) whole
-  pub own_are : own ≡ filter (is_of lane) whole
-  pub lanes : (x : Stamped) → Has x whole → lane ≤ x.event.lane
-
--- the next event is the first of the left list
-pub record IsLeft (above own : List Stamped) (i j : ℕ) : Type 0 where
-  pub there : i < length above
-  pub first : (x y : Stamped) → j < length own → comes_before (slice_index_or above i x) (slice_index_or own j y) ≡ true
-
--- or of the right list
-pub record IsRight (above own : List Stamped) (i j : ℕ) : Type 0 where
-  pub first : (x y : Stamped) → i < length above → (j < length own) × (comes_before (slice_index_or above i x) (slice_index_or own j y) ≡ false)
-
--- so many of both lists are merged, and the rest of the whole is left
-pub record IsMerging (lane : ℕ) (above own : List Stamped) (i j : ℕ) (done : List Stamped) : Type 0 where
-  pub rest : List Stamped
-  pub merge : IsMergeOf lane above own (done ++ rest)
-  pub above_left : drop i above ≡ filter (is_above_lane lane) rest
-  pub own_left : drop j own ≡ filter (is_of lane) rest
-
--- the lists above a lane are merged
-pub record AreMerged (lists : List (List Stamped)) (count : ℕ) (merged : List Stamped) : Type 0 where
+-- these are the events of such a list, without their stamps
+pub record IsMergeOf (lists : List (List Stamped)) (events : List Event) : Type 0 where
   pub whole : List Stamped
-  pub right : IsMerged lists whole
-  pub few : count ≤ length lists
-  pub same : merged ≡ filter (λ (x : Stamped). nat_lt (length lists) (x.event.lane + count + 1)) whole
+  pub merged : IsMerged lists whole
+  pub events_are : events ≡ events_in whole
+
+-- the next event of a list, from its place on
+abbrev pub next_of : List (List Stamped) → List ℕ → ℕ → Stamped → Stamped
+next_of lists places index x = slice_index_or (slice_index_or lists index []) (slice_index_or places index 0) x
+
+-- a list has a next event
+abbrev pub HasNext : List (List Stamped) → List ℕ → ℕ → Type 0
+HasNext lists places index = slice_index_or places index 0 < length (slice_index_or lists index [])
+
+-- a list has a next event, and of the first n lists none has one that comes before it
+pub record IsFirstList (lists : List (List Stamped)) (places : List ℕ) (n index : ℕ) : Type 0 where
+  pub within : index < n
+  pub there : HasNext lists places index
+  pub first : (other : ℕ) (x y : Stamped) → other < n → HasNext lists places other → comes_before (next_of lists places other x) (next_of lists places index y) ≡ false
+
+-- of the first n lists this one goes first; where there is none, all of them are at their ends
+abbrev pub IsFirstOf : List (List Stamped) → List ℕ → ℕ → Option ℕ → Type 0
+IsFirstOf lists places n (Some index) = IsFirstList lists places n index
+IsFirstOf lists places n None = (other : ℕ) → other < n → HasNext lists places other → ⊥
+
+-- these events are merged, and from their places on the lists have what is left
+pub record IsMerging (lists : List (List Stamped)) (places : List ℕ) (events : List Event) : Type 0 where
+  pub done : List Stamped
+  pub rest : List Stamped
+  pub merged : IsMerged lists (done ++ rest)
+  pub events_are : events ≡ events_in done
+  pub count : length places ≡ length lists
+  pub left : (index : ℕ) → index < length lists → drop (slice_index_or places index 0) (slice_index_or lists index []) ≡ lane_list rest (length lists - (index + 1))
+
+-- how many events the lists have from their places on
+abbrev pub left_in : List (List Stamped) → List ℕ → ℕ
+left_in [] places = 0
+left_in (list ∷ lists) [] = 0
+left_in (list ∷ lists) (place ∷ places) = length list - place + left_in lists places
 
 -- ---- the host takes in the seats
 

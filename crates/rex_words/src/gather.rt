@@ -7,7 +7,7 @@ ghost use Rattle.rex_words.specs.Seats.{IsSeatOf};
 ghost use Rattle.rex_words.specs.Tables.{IsWords, IsHosting, assignment_of, table_of};
 ghost use Rattle.rex_words.specs.Histories.{AreSeats, IsHistoryOf, IsGathering, AreGathered};
 
-use crate::merge::{events_of, merge_all};
+use crate::merge::merge_all;
 use crate::plays::Gather;
 use crate::seat::{LockWords, WordSeat};
 use crate::stamped::Stamped;
@@ -78,8 +78,7 @@ impl<'a> Words<'a> {
         let lists = collect_all(alloc, &table.shared, &mut host, seats)?;
         let closed = table.close_with(host);
         closed.free();
-        let merged = merge_all(alloc, &lists)?;
-        let events = events_of(alloc, &merged)?;
+        let events = merge_all(alloc, &lists)?;
         Ok(List::from_vec(events))
     }
 }

@@ -1,6 +1,5 @@
-use Rattle.std.proofs.Common.{arith, sym, ◌∙◌, ap, subst}
+use Rattle.std.proofs.Common.{arith, sym, ◌∙◌, subst}
 use Rattle.rex_words.specs.Histories.{AreCollected}
-use Rattle.rex_words.specs.Stamps.{events_in}
 use Rattle.rex_words.specs.Tables.{assignment_of}
 use Rattle.rex_words.proofs.Collecting.{whole_pair, history_of}
 use Rattle.rex_words.proofs.table.Words.gather.Goals as goal
@@ -19,4 +18,4 @@ returns c =
     let f = c.close_with-closed.ensures.values.2 in
     history_of (assignment_of c.args.self) f.0 f.1.0 _ _ f.1.1 c.in_ok-lists.ensures.gathering.role c.args.seats.items c.deref.result.now
     (subst (AreCollected (assignment_of c.args.self) c.collect_all.new.host.me.0.gathered 0 c.args.seats.items) (sym c.deref.ensures.value) c.in_ok-lists.ensures.lists) c.requires.seats.count
-    c.in_ok-merged.merged.items c.from_vec.result c.in_ok-merged.ensures (c.from_vec.ensures ∙ (c.in_ok-events.ensures ∙ ap events_in c.deref-2.ensures.value))
+    c.in_ok-events.ensures.whole c.from_vec.result c.in_ok-events.ensures.merged (c.from_vec.ensures ∙ c.in_ok-events.ensures.events_are)
