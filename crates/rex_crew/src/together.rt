@@ -7,15 +7,16 @@ ghost use Rattle.rex_crew.specs.Jobs.{IsJob, AllHandedBack};
 use crate::crew::Crew;
 use crate::dealing::Job;
 use rex_board::{Board, LaneSeat};
+use rex_threads::map_vec;
 use rex_traits::Gate;
-use std::alloc::AllocError;
-use std::thread;
+use std::alloc::{AllocError, Global};
 use std::thread::Threads;
 
 impl<'r, R: Threads + Sync, G: Gate + Sync> Crew<'r, R, G> {
     /// Does jobs on threads of their own, side by side. Where a thread can't be started the caller does its job.
     pub(crate) fn together(
         &self,
+        alloc: Global,
         board: &Board,
         jobs: Vec<Job>,
     ) -> Result<Vec<Vec<LaneSeat>>, AllocError>
@@ -23,8 +24,9 @@ impl<'r, R: Threads + Sync, G: Gate + Sync> Crew<'r, R, G> {
         ensures long { IfOk result (λ r. length r.items ≡ length jobs.items) }
         ensures handed { IfOk result (λ r. AllHandedBack board.now jobs.items r.items) }
     {
-        thread::map_vec(
+        map_vec(
             self.rt,
+            alloc,
             jobs,
             &|job: Job| -> Vec<LaneSeat>
                 requires { IsJob board.now job }

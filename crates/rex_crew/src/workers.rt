@@ -28,6 +28,6 @@ impl<'r, R: Threads + Sync, G: Gate + Sync> Crew<'r, R, G> {
             return Ok(self.work(board, 0, seats));
         }
         let jobs = deal(alloc, workers, seats)?;
-        gather(alloc, self.together(board, jobs)?)
+        gather(alloc, self.together(alloc, board, jobs)?)
     }
 }

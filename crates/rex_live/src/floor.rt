@@ -247,6 +247,37 @@ fn work<S: Setting, R: Wait, G: Gate>(
     mine
 }
 
+/// The last lane as a thread: the caller, which made the threads of all lanes, only waits, so that none of them has to wait for its
+/// processor.
+fn work_last<S: Setting + Send + Sync, T: Threads + Sync, R: Wait + Sync, G: Gate + Sync>(
+    rt: &T,
+    wait: &R,
+    alloc: Global,
+    svc: &Checked,
+    desk: &Mutex<CachePadded<Desk<S>>>,
+    wakers: &Wakers,
+    gate: &G,
+    lane: u8,
+    share: Share<S>,
+) -> Share<S>
+    requires service { svc.now ≡ S.service }
+    requires there { lane < S.service.lanes }
+    requires part { 0 < share.parts }
+    ensures { result.parts ≡ share.parts }
+{
+    let (mine, ()) = join(
+        rt,
+        || -> Share<S>
+            requires service { svc.now ≡ S.service }
+            requires there { lane < S.service.lanes }
+            requires part { 0 < share.parts }
+            ensures { result.parts ≡ share.parts }
+        { work(wait, alloc, svc, desk, wakers, gate, lane, share) },
+        || {},
+    );
+    mine
+}
+
 /// This lane and those above it, each as a thread.
 fn work_from<S: Setting + Send + Sync, T: Threads + Sync, R: Wait + Sync, G: Gate + Sync>(
     rt: &T,
@@ -266,7 +297,7 @@ fn work_from<S: Setting + Send + Sync, T: Threads + Sync, R: Wait + Sync, G: Gat
 {
     let lanes = svc.declarations().lanes;
     if lanes - lane <= 1 {
-        return work(wait, alloc, svc, desk, wakers, gate, lane, share);
+        return work_last(rt, wait, alloc, svc, desk, wakers, gate, lane, share);
     }
     let next = lane + 1;
     let mut others = share;

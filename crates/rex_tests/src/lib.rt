@@ -89,6 +89,8 @@ mod syntax;
 #[cfg(test)]
 mod text;
 #[cfg(test)]
+mod threads;
+#[cfg(test)]
 mod traits;
 #[cfg(test)]
 mod transfer;

@@ -13,10 +13,10 @@ use rex_event::Event;
 use rex_list::List;
 use rex_syntax::checked::Checked;
 use rex_syntax::request::Request;
+use rex_threads::map_vec;
 use rex_traits::Gate;
 use std::alloc::{AllocError, Global};
 use std::sync::Wait;
-use std::thread;
 use std::thread::Threads;
 
 /// What the thread of a lane does: it passes the gate and tries the lane's next event, until the lane is idle with no request
@@ -42,6 +42,7 @@ fn work<R: Wait, G: Gate>(wait: &R, words: &Words, gate: &G, mut seat: WordSeat)
 fn together<T: Threads + Sync, R: Wait + Sync, G: Gate + Sync>(
     rt: &T,
     wait: &R,
+    alloc: Global,
     words: &Words,
     gate: &G,
     seats: Vec<WordSeat>,
@@ -50,8 +51,9 @@ fn together<T: Threads + Sync, R: Wait + Sync, G: Gate + Sync>(
     ensures long { IfOk result (λ r. length r.items ≡ length seats.items) }
     ensures over { IfOk result (λ r. AreOver words.now seats.items r.items) }
 {
-    thread::map_vec(
+    map_vec(
         rt,
+        alloc,
         seats,
         &|seat: WordSeat| -> WordSeat
             requires { IsJob words.now seat }
@@ -78,7 +80,7 @@ pub fn run_words<T: Threads + Sync, R: Wait + Sync, G: Gate + Sync>(
     ensures { IfOk result (IsRecording svc.now requests.now seed) }
 {
     let (words, host, seats) = Words::new(alloc, svc, requests, seed)?;
-    let seats = together(rt, wait, &words, gate, seats)?;
+    let seats = together(rt, wait, alloc, &words, gate, seats)?;
     let history = words.gather(alloc, host, seats)?;
     Ok(history)
 }

@@ -1,0 +1,22 @@
+use rex_threads::map_vec;
+use std::alloc::AllocError;
+use std::sync::Barrier;
+use std::test::*;
+
+// Three jobs that wait for each other end only where each has a thread of its own.
+#[test]
+fn jobs_run_beside_each_other(rt: HostRuntime) -> Result<(), AllocError> {
+    let jobs: Vec<u64> = vec![in rt.alloc(); 30, 10, 20]?;
+    let meeting = Barrier::new(3);
+    let tenths = map_vec(
+        &rt,
+        rt.alloc(),
+        jobs,
+        &|job: u64| -> u64 {
+            meeting.wait(&rt);
+            job / 10
+        },
+    )?;
+    assert_eq!(rt; tenths.as_slice(), [3, 1, 2].as_slice());
+    Ok(())
+}
