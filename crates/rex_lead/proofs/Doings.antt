@@ -1,12 +1,10 @@
 -- One doing after the other.
-use Rattle.std.proofs.Common.{◌≡◌, ℕ, suc, ◌+◌, ◌<◌, ◌≤◌, Bool, true, false, cond, List, [], ◌∷◌, ◌++◌, length, get_or, take, Option, refl, sym, ◌∙◌, ap, subst, arith, append_assoc, append-nil}
+use Rattle.std.proofs.Common.{◌≡◌, ℕ, suc, ◌+◌, ◌≤◌, Bool, true, false, cond, List, [], ◌∷◌, ◌++◌, Option, refl, sym, ◌∙◌, ap, subst, arith, append_assoc, append-nil}
 use Rattle.std.specs.Prelude.{Some, None, Result, Ok, Err, OnOk, OnErr, if◌then◌else◌}
-use Rattle.std.proofs.lemmas.List.{take_more}
 use Rattle.std.proofs.lemmas.Bool.{ne_eqb, false≢true}
 use Rattle.rex_syntax.specs.declared.request.Request.{Request}
 use Rattle.rex_syntax.specs.declared.service.Declarations.{Declarations}
 use Rattle.rex_event.specs.declared.event.Event.{Event}
-use Rattle.rex_record.specs.declared.turns.Turn.{Turn}
 use Rattle.rex_scenario.specs.declared.scenario.ScheduleLine.TheVariants.{Replay}
 use Rattle.rex_safety.specs.Node.{Message, Role, is_active, role_name}
 use Rattle.rex_safety.specs.Node.Role.{Follower, Leads}
@@ -22,20 +20,13 @@ use Rattle.rex_node.specs.declared.refusal.Refusal.{Refusal}
 use Rattle.rex_node.specs.declared.refusal.Refusal.TheVariants as why
 use Rattle.rex_steady.specs.Schedule.{takes, agreement, agreements, replays}
 use Rattle.rex_world.specs.declared.world.World.{World}
+use Rattle.rex_world.specs.Blocks.{takes_at}
 use Rattle.rex_world.specs.Calls.{IsWhole}
 use Rattle.rex_world.specs.World.{nodes_of, world_of}
 use Rattle.rex_world.specs.Kept.{IsRunning, IsSame}
 use Rattle.rex_lead.specs.Doing.{Did}
 
 -- ---- lists of doings
-
-takes_next : (es : List Event) (e : Event) → takes (es ++ e ∷ []) ≡ takes es ++ Takes 1 e ∷ []
-takes_next [] e = refl
-takes_next (d ∷ es) e = ap (λ (xs : List Doing). Takes 1 d ∷ xs) (takes_next es e)
-
-pub takes_more : (block : List Event) (i : ℕ) (e : Event) → i < length block → e ≡ get_or block i e → takes (take (i + 1) block) ≡ takes (take i block) ++ Takes 1 e ∷ []
-takes_more block i e there is =
-    ap takes (take_more block i e there) ∙ (ap (λ (d : Event). takes (take i block ++ d ∷ [])) (sym is) ∙ takes_next (take i block) e)
 
 pub agreements_next : (blocks : List (List Event)) (block : List Event) → agreements (blocks ++ block ∷ []) ≡ agreements blocks ++ (takes block ++ agreement)
 agreements_next [] block = ap (λ (xs : List Doing). takes block ++ xs) (append-nil agreement)
@@ -52,7 +43,7 @@ replays_next k some = subst (λ (m : ℕ). replays m ≡ replays k ++ Does (Repl
 -- ---- what a world did
 
 module _ (service : Declarations) where
-  after_both : (requests : List Request) (seed n : ℕ) (w : ModelWorld) (xs ys : List Doing) → after_doings service requests seed n w (xs ++ ys) ≡ after_doings service requests seed n (after_doings service requests seed n w xs) ys
+  pub after_both : (requests : List Request) (seed n : ℕ) (w : ModelWorld) (xs ys : List Doing) → after_doings service requests seed n w (xs ++ ys) ≡ after_doings service requests seed n (after_doings service requests seed n w xs) ys
   after_both requests seed n w [] ys = refl
   after_both requests seed n w (x ∷ xs) ys = after_both requests seed n (does service requests seed n w x) xs ys
 
@@ -102,9 +93,19 @@ module _ (service : Declarations) (w : ModelWorld) (e : Event) where
   refused : (r : Refusal) → refusal_active (node_at w.nodes 1) ≡ Some r → take_in service w 1 e ≡ w
   refused r h = refused_by (node_at w.nodes 1).up (node_at w.nodes 1).role r h
 
+-- so it is after a block
+refused_all : (service : Declarations) (requests : List Request) (seed n : ℕ) (w : ModelWorld) (r : Refusal) (es : List Event) → refusal_active (node_at w.nodes 1) ≡ Some r → after_doings service requests seed n w (takes es) ≡ w
+refused_all service requests seed n w r [] h = refl
+refused_all service requests seed n w r (e ∷ es) h =
+    ap (λ (v : ModelWorld). after_doings service requests seed n v (takes es)) (refused service w e r h) ∙ refused_all service requests seed n w r es h
+
+takes_are : (es : List Event) → takes_at 1 es ≡ takes es
+takes_are [] = refl
+takes_are (e ∷ es) = ap (λ (xs : List Doing). Takes 1 e ∷ xs) (takes_are es)
+
 -- a result that isn't want of memory
-whole_of : (result : Result Turn Refusal) → (result ≡ Err why.OutOfMemory → ⊥) → IsWhole result
-whole_of (Ok turn) h = tt
+whole_of : (result : Result (Unit {0}) Refusal) → (result ≡ Err why.OutOfMemory → ⊥) → IsWhole result
+whole_of (Ok t) h = tt
 whole_of (Err why.OutOfMemory) h = h refl
 whole_of (Err why.Down) h = tt
 whole_of (Err (why.NotActive role)) h = tt
@@ -116,22 +117,30 @@ whole_of (Err why.UpToDate) h = tt
 whole_of (Err why.Spent) h = tt
 whole_of (Err (why.BadSnapshot at)) h = tt
 
--- where memory was not short the world is the one that the model's take leads to
-handed : {S : Type 0} → (service : Declarations) (before after : World S) (e : Event) (result : Result Turn Refusal) → IsWhole result → Refuses (refusal_active (node_at (world_of service before).nodes 1)) result
-    → OnOk result (world_of service after ≡ take_in service (world_of service before) 1 e) → OnErr result (world_of service after ≡ world_of service before)
-    → world_of service after ≡ take_in service (world_of service before) 1 e
-handed service before after e (Ok turn) whole refuses ok err = ok
-handed service before after e (Err r) whole refuses ok err = go (refusal_active (node_at (world_of service before).nodes 1)) refl refuses
-  where
-    go : (due : Option Refusal) → refusal_active (node_at (world_of service before).nodes 1) ≡ due → Refuses {A = Turn} due (Err r) → world_of service after ≡ take_in service (world_of service before) 1 e
-    go (Some q) h k = err ∙ sym (refused service (world_of service before) e q h)
-    go None h k = absurd (subst (λ (q : Refusal). IsWhole {A = Turn} (Err q)) k whole)
+module _ {S : Type 0} (service : Declarations) (before after : World S) (es : List Event) where
+  -- the world to which the model's takes lead
+  abbrev taken_world : ModelWorld
+  taken_world = after_doings service before.requests before.seed (nodes_of before) (world_of service before) (takes es)
 
--- a world that isn't broken took the event as the model does
-pub took : {S : Type 0} → (service : Declarations) (before after : World S) (e : Event) (result : Result Turn Refusal) → after.broken ≡ false → (result ≡ Err why.OutOfMemory → after.broken ≡ true)
-    → Refuses (refusal_active (node_at (world_of service before).nodes 1)) result
-    → OnOk result (world_of service after ≡ take_in service (world_of service before) 1 e) → OnErr result (world_of service after ≡ world_of service before)
-    → (IsWhole result → IsRunning service after) → IsSame before after → Did service before after (Takes 1 e ∷ [])
-took service before after e result sound broken refuses ok err running same =
-    let whole : IsWhole result = whole_of result (λ h. false≢true (sym sound ∙ broken h)) in
-    record { world = handed service before after e result whole refuses ok err; running = running whole; same = same }
+  -- where memory was not short it is that
+  handed : (result : Result (Unit {0}) Refusal) → IsWhole result → Refuses (refusal_active (node_at (world_of service before).nodes 1)) result
+      → OnOk result (world_of service after ≡ taken_world) → OnErr result (world_of service after ≡ world_of service before) → world_of service after ≡ taken_world
+  handed (Ok t) whole refuses ok err = ok
+  handed (Err r) whole refuses ok err = go (refusal_active (node_at (world_of service before).nodes 1)) refl refuses
+    where
+      go : (due : Option Refusal) → refusal_active (node_at (world_of service before).nodes 1) ≡ due → Refuses {A = Unit {0}} due (Err r) → world_of service after ≡ taken_world
+      go (Some q) h k = err ∙ sym (refused_all service before.requests before.seed (nodes_of before) (world_of service before) q es h)
+      go None h k = absurd (subst (λ (q : Refusal). IsWhole {A = Unit {0}} (Err q)) k whole)
+
+  -- a world that isn't broken took the events as the model does
+  pub took : (result : Result (Unit {0}) Refusal) → after.broken ≡ false → (result ≡ Err why.OutOfMemory → after.broken ≡ true)
+      → Refuses (refusal_active (node_at (world_of service before).nodes 1)) result
+      → OnOk result (world_of service after ≡ after_doings service before.requests before.seed (nodes_of before) (world_of service before) (takes_at 1 es)) → OnErr result (world_of service after ≡ world_of service before)
+      → (IsWhole result → IsRunning service after) → IsSame before after → Did service before after (takes es)
+  took result sound broken refuses ok err running same =
+      let whole : IsWhole result = whole_of result (λ h. false≢true (sym sound ∙ broken h)) in
+      record {
+        world = handed result whole refuses (subst (λ (xs : List Doing). OnOk result (world_of service after ≡ after_doings service before.requests before.seed (nodes_of before) (world_of service before) xs)) (takes_are es) ok) err;
+        running = running whole;
+        same = same;
+      }

@@ -1,3 +1,4 @@
 pub mod Doings
 pub mod Blocks
 pub mod Histories
+pub mod Next

@@ -1,5 +1,5 @@
 -- A history that is led to agreement, and what is written of it.
-use Rattle.std.specs.Prelude.{◌≡◌, ℕ, ◌≤◌, List, ◌++◌, length, Some}
+use Rattle.std.specs.Prelude.{◌≡◌, ℕ, ◌≤◌, List, ◌++◌, length, Some, IsSome}
 use Rattle.std.specs.List.{All}
 use Rattle.std.specs.Simd.{first_chunks}
 use Rattle.std.specs.Slice.Iter.{chunk_count}
@@ -27,6 +27,13 @@ use Rattle.rex_world.specs.Report.{ends_text}
 -- the history in blocks of 4,096 events, the last block being the rest
 abbrev pub blocks_of : List Event → List (List Event)
 blocks_of history = first_chunks 4096 (chunk_count (length history) 4096) history
+
+-- a history of events in their ranges that runs from the service's start, and is no longer than 65,535 blocks
+pub record CanBeLed (service : Declarations) (history : List Event) : Type 0 where
+  pub few : length history ≤ 268431360
+  pub begins : All BeginsInRange history
+  pub typed : All HasTypedKind history
+  pub runs : IsSome (run service (start_of service) history)
 
 -- the trace of what the nodes of a world agreed on, then their end lines
 abbrev pub world_text : Declarations → World → List ℕ

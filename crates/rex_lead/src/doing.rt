@@ -10,10 +10,10 @@ ghost use Rattle.rex_safety.specs.Takes.Doing.{Does, Takes};
 ghost use Rattle.rex_steady.specs.Schedule.{takes};
 ghost use Rattle.rex_world.specs.World.{nodes_of};
 ghost use Rattle.rex_world.specs.Kept.{IsRunning};
-ghost use Rattle.rex_lead.specs.Doing.{Did};
+ghost use Rattle.rex_lead.specs.Doing.{Did, IsNext};
 
 use rex_event::Event;
-use rex_replay::OneThread;
+use rex_replay::Replayer;
 use rex_scenario::ScheduleLine;
 use rex_syntax::checked::Checked;
 use rex_traits::MemKeeper;
@@ -21,63 +21,62 @@ use rex_world::World;
 use std::alloc::AllocError;
 
 /// Does a schedule line, and leaves aside what it reports.
-pub(crate) fn do_line(
+pub(crate) fn do_line<R: Replayer>(
     world: &mut World<MemKeeper>,
     svc: &Checked,
+    replayer: &mut R,
     line: &ScheduleLine,
 ) -> Result<(), AllocError>
     requires running { IsRunning svc.now world.old }
+    requires ready { R.ready replayer.old }
     requires fits { LineFits (nodes_of world.old) (length world.old.requests) svc.now.lanes line.now }
     requires form { FormFits (has_old_form svc.now) line.now }
     requires count { world.old.done + 1 < 2 ^ 32 }
     ensures did { OnOk result (Did svc.now world.old world.new (Does line.now ∷ [])) }
     ensures done { OnOk result (world.new.done ≡ world.old.done + 1) }
+    ensures ready { R.ready replayer.new }
 {
-    world.step(svc, &mut OneThread, line)?;
+    world.step(svc, replayer, line)?;
     Ok(())
 }
 
-// Hands node 1 an event.
-fn hand_event(world: &mut World<MemKeeper>, svc: &Checked, event: &Event) -> Result<(), AllocError>
+/// Hands node 1 a block of events, which run on from the state that it executes. A replayer finds the state to which they lead.
+pub(crate) fn hand_over<R: Replayer>(
+    world: &mut World<MemKeeper>,
+    svc: &Checked,
+    replayer: &mut R,
+    block: &[Event],
+) -> Result<(), AllocError>
     requires running { IsRunning svc.now world.old }
     requires there { 1 ≤ nodes_of world.old }
-    requires begins { BeginsInRange event.now }
-    ensures did { OnOk result (Did svc.now world.old world.new (Takes 1 event.now ∷ [])) }
+    requires begins { All BeginsInRange block.now }
+    requires next { IsNext svc.now world.old block.now }
+    requires ready { R.ready replayer.old }
+    ensures did { OnOk result (Did svc.now world.old world.new (takes block.now)) }
     ensures done { OnOk result (world.new.done ≡ world.old.done) }
+    ensures ready { R.ready replayer.new }
 {
     // What a node that isn't active is handed is left out, also by the model.
-    let _turn = world.take_event(svc, 1, event);
+    let _taken = world.take_block(svc, replayer, 1, block);
     if world.broken() {
         return Err(AllocError);
     }
     Ok(())
 }
 
-/// Hands node 1 the events of a block, one after the other.
-pub(crate) fn hand_over(
+/// What node 1 asks is handed to all others, and then what they answer to node 1.
+pub(crate) fn ask_others<R: Replayer>(
     world: &mut World<MemKeeper>,
     svc: &Checked,
-    block: &[Event],
+    replayer: &mut R,
 ) -> Result<(), AllocError>
     requires running { IsRunning svc.now world.old }
-    requires there { 1 ≤ nodes_of world.old }
-    requires begins { All BeginsInRange block.now }
-    ensures did { OnOk result (Did svc.now world.old world.new (takes block.now)) }
-    ensures done { OnOk result (world.new.done ≡ world.old.done) }
-{
-    for event in block {
-        hand_event(world, svc, event)?;
-    }
-    Ok(())
-}
-
-/// What node 1 asks is handed to all others, and then what they answer to node 1.
-pub(crate) fn ask_others(world: &mut World<MemKeeper>, svc: &Checked) -> Result<(), AllocError>
-    requires running { IsRunning svc.now world.old }
+    requires ready { R.ready replayer.old }
     requires count { world.old.done + 2 < 2 ^ 32 }
     ensures did { OnOk result (Did svc.now world.old world.new (Does Flush ∷ Does Flush ∷ [])) }
     ensures done { OnOk result (world.new.done ≡ world.old.done + 2) }
+    ensures ready { R.ready replayer.new }
 {
-    do_line(world, svc, &ScheduleLine::Flush)?;
-    do_line(world, svc, &ScheduleLine::Flush)
+    do_line(world, svc, replayer, &ScheduleLine::Flush)?;
+    do_line(world, svc, replayer, &ScheduleLine::Flush)
 }

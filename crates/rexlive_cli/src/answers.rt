@@ -1,6 +1,14 @@
 //! What an input is answered.
 
-ghost use Rattle.std.specs.Prelude.{◌≡◌, ◌≤◌, Some, None, IfOk, length};
+ghost use Rattle.std.specs.Prelude.{◌≡◌, ◌<◌, ◌≤◌, Some, None, IfOk, IsSome, length};
+ghost use Rattle.std.specs.List.{All};
+ghost use Rattle.rex_delta.specs.Spelling.{HasTypedKind};
+ghost use Rattle.rex_state.specs.Counts.{AreCounted};
+ghost use Rattle.rex_state.specs.Machine.{run};
+ghost use Rattle.rex_state.specs.Sound.{IsSound};
+ghost use Rattle.rex_state.specs.Start.{start_of};
+ghost use Rattle.rex_safety.specs.Takes.{BeginsInRange};
+ghost use Rattle.rex_lead.specs.Lead.{blocks_of, live_text};
 ghost use Rattle.rex_lockset.specs.Refusal.{refusal_of as refusal};
 ghost use Rattle.rex_scenario.specs.Beyond.{IsPlain, beyond_words};
 ghost use Rattle.rex_scenario.specs.Fits.{ScenarioFits};
@@ -12,16 +20,20 @@ ghost use Rattle.rexlive_cli.specs.Outcome.{played_service, unless_beyond};
 use crate::histories::history_by;
 use crate::recording::Recording;
 use rex_answer::{Answer, refused, scenario_code, unchecked};
+use rex_crew::Crew;
+use rex_event::Event;
 use rex_lead::laws::histories_are_led;
 use rex_lead::lead;
 use rex_live::laws::{events_are_told, histories_run};
+use rex_replay::ByCall;
 use rex_scenario::{Scenario, ScenarioError, read_unscheduled};
+use rex_state::state::State;
 use rex_syntax::checked::Checked;
 use rex_syntax::service::Service;
-use rex_traits::Gate;
+use rex_traits::{Gate, OpenGate};
 use std::alloc::{AllocError, Global};
 use std::sync::Wait;
-use std::thread::Threads;
+use std::thread::{Threads, available_parallelism};
 
 /// What words are answered that are no command line.
 pub(crate) fn usage(alloc: Global) -> Result<Answer, AllocError>
@@ -29,6 +41,58 @@ pub(crate) fn usage(alloc: Global) -> Result<Answer, AllocError>
 {
     let text = Vec::from_slice(alloc, b"usage: rexlive [--words]\n")?;
     Ok(Answer { status: 2, text })
+}
+
+// What nodes agree on that are led through a history, and what they came to. A crew finds to which states its events lead.
+fn lead_by_crew<R: Threads + Sync>(
+    rt: &R,
+    alloc: Global,
+    recording: Recording,
+    svc: &Checked,
+    scenario: &Scenario,
+    history: &[Event],
+) -> Result<Vec<u8>, AllocError>
+    requires fits { ScenarioFits svc.now scenario.now }
+    requires few { length history.now ≤ 268431360 }
+    requires begins { All BeginsInRange history.now }
+    requires runs { IsSome (run svc.now (start_of svc.now) history.now) }
+    ensures text { IfOk result (λ text. text.items ≡ live_text svc.now scenario.now (blocks_of history.now)) }
+    ensures typed { IfOk result (λ text. All HasTypedKind history.now) }
+{
+    let gate = OpenGate;
+    let crew = Crew::new(rt, workers_for(rt, recording, svc), &gate);
+    let call = |alloc: Global, svc: &Checked, from: &State, events: &[Event]| -> Result<
+        State,
+        AllocError,
+    >
+        requires sound { IsSound svc.now from.now }
+        requires runs { IsSome (run svc.now from.now events.now) }
+        requires counted { AreCounted events.now }
+        ensures runs { IfOk result (λ s. run svc.now from.now events.now ≡ Some s) }
+        ensures sound { IfOk result (λ s. IsSound svc.now s) }
+    { crew.replay(alloc, svc, from, events) };
+    lead(alloc, svc, scenario, &mut ByCall { call }, history)
+}
+
+// How many workers may run beside each other.
+fn processors<R: Threads>(rt: &R) -> u8
+    ensures { (0 < result) × (result ≤ 16) }
+{
+    match available_parallelism(rt) {
+        Ok(count) => count.get().min(16) as u8,
+        Err(_) => 1,
+    }
+}
+
+// So many workers replay what the lanes of a service did. On a floor most events come after one of another lane, and workers would
+// wait for each other; lanes that record by lock words seldom meet.
+fn workers_for<R: Threads>(rt: &R, recording: Recording, svc: &Checked) -> u8
+    ensures { (0 < result) × (result ≤ 16) }
+{
+    match recording {
+        Recording::Floor => 1,
+        Recording::Words => svc.declarations().lanes.min(processors(rt)),
+    }
 }
 
 // What a scenario is answered whose service is checked: its lanes record a history, which is led to agreement.
@@ -52,7 +116,7 @@ fn play_scenario<R: Threads + Sync, W: Wait + Sync, G: Gate + Sync>(
     let requests = scenario.requests.as_slice();
     let seed = scenario.seed as u64;
     let events = history_by(rt, wait, alloc, recording, svc, requests, seed, gate)?;
-    let text = lead(alloc, svc, scenario, events.as_slice())?;
+    let text = lead_by_crew(rt, alloc, recording, svc, scenario, events.as_slice())?;
     Ok(Answer { status: 0, text })
 }
 

@@ -1,13 +1,8 @@
-use Rattle.std.proofs.Common.{◌∷◌, [], take, sym, ◌∙◌}
-use Rattle.rex_safety.specs.Takes.Doing.{Takes}
-use Rattle.rex_steady.specs.Schedule.{takes}
-use Rattle.rex_lead.proofs.Doings.{did_as, did_both, takes_more}
+use Rattle.std.proofs.Common.{sym, ◌∙◌}
+use Rattle.rex_lead.proofs.Doings.{took}
 use Rattle.rex_lead.proofs.doing.hand_over.Goals as goal
 
-pub loop-event-preserved : goal.loop-event-preserved
-loop-event-preserved c = record {
-  did =
-      did_as c.args.svc.now c.args.world.now c.hand_event.new.world _ _ (sym (takes_more c.args.block.now c.loop-event.event-index c.event-item.result c.loop-event-test.true c.event-item.is))
-      (did_both c.args.svc.now c.args.world.now c.loop-event.world c.hand_event.new.world (takes (take c.loop-event.event-index c.args.block.now)) (Takes 1 c.event-item.result ∷ []) c.loop-event.invariant.did c.in_ok-hand_event.ensures.did);
-  done = c.in_ok-hand_event.ensures.done ∙ c.loop-event.invariant.done;
-}
+pub returns-clause-did : goal.returns-clause-did
+returns-clause-did g c =
+    took c.args.svc.now c.args.world.now c.take_block-taken.new.self c.args.block.now c.take_block-taken.result (sym c.broken.ensures ∙ c.if-broken.false) c.take_block-taken.ensures.broken
+    c.take_block-taken.ensures.refused c.take_block-taken.ensures.world c.take_block-taken.ensures.unchanged c.take_block-taken.ensures.running c.take_block-taken.ensures.same

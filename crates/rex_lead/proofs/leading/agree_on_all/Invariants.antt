@@ -9,10 +9,11 @@ use Rattle.rex_lead.proofs.leading.agree_on_all.Given as goal
 
 -- the blocks so far were agreed, and those of the rest are left
 abbrev pub invariant-loop-block : goal.invariant-loop-block
-invariant-loop-block l = record {
+invariant-loop-block g l = record {
   did : Did l.svc l.initial.world l.world (agreements (map (λ b. b.now) l.yielded));
   done : l.world.done ≡ l.initial.world.done + 4 * length l.yielded;
   size : chunks_size l.block-iterator ≡ 4096;
   left : map (λ b. b.now) l.yielded ++ blocks_of (chunks_rest l.block-iterator) ≡ blocks_of l.history;
   begins : All BeginsInRange (chunks_rest l.block-iterator);
+  ready : g.R.Replayer.ready l.replayer;
 }

@@ -5,7 +5,8 @@ use Rattle.rex_lead.proofs.leading.replay.Given as goal
 
 -- the nodes from 2 to this one have replayed
 abbrev pub invariant-loop-others : goal.invariant-loop-others
-invariant-loop-others l = record {
+invariant-loop-others g l = record {
   did : Did l.svc l.initial.world l.world (replays l.others);
   done : l.world.done + 1 ≡ l.initial.world.done + l.others;
+  ready : g.R.Replayer.ready l.replayer;
 }

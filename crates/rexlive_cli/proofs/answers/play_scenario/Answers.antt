@@ -1,5 +1,8 @@
 use Rattle.std.proofs.Common.{◌≡◌, List, refl, sym, subst}
+use Rattle.std.specs.Prelude.{IsSome}
 use Rattle.std.specs.List.{All}
+use Rattle.rex_state.specs.Machine.{run}
+use Rattle.rex_state.specs.Start.{start_of}
 use Rattle.rex_event.specs.declared.event.Event.{Event}
 use Rattle.rex_syntax.specs.declared.request.Request.{Request}
 use Rattle.rex_delta.specs.Spelling.{HasTypedKind}
@@ -15,19 +18,26 @@ pub history_by-requires-after_bounds : goal.history_by-requires-after_bounds
 history_by-requires-after_bounds g c lifetimes bounds words =
     subst (CanRecord c.args.svc.now) (sym c.as_slice-requests.ensures) (can_record c.args.svc.now c.args.scenario.now.requests (c.requires.plain words) c.requires.fits.requests)
 
-pub lead-requires-clause-few : goal.lead-requires-clause-few
-lead-requires-clause-few g c =
+pub lead_by_crew-requires-clause-few : goal.lead_by_crew-requires-clause-few
+lead_by_crew-requires-clause-few g c lifetimes bounds =
     let made = subst (λ (requests : List Request). IsHistoryBy c.args.recording c.args.svc.now requests c.args.scenario.now.seed c.in_ok-events.events) c.as_slice-requests.ensures c.in_ok-events.ensures in
     let led = may_be_led c.args.recording c.args.svc.now c.args.scenario.now.requests c.args.scenario.now.seed c.in_ok-events.events c.requires.fits.requests c.histories_run.ensures c.events_are_told.ensures
     c.declarations-service.ensures.sound c.declarations-service.ensures.checked made in
     rw c.as_slice.ensures led.few
 
-pub lead-requires-clause-begins : goal.lead-requires-clause-begins
-lead-requires-clause-begins g c =
+pub lead_by_crew-requires-clause-begins : goal.lead_by_crew-requires-clause-begins
+lead_by_crew-requires-clause-begins g c lifetimes bounds =
     let made = subst (λ (requests : List Request). IsHistoryBy c.args.recording c.args.svc.now requests c.args.scenario.now.seed c.in_ok-events.events) c.as_slice-requests.ensures c.in_ok-events.ensures in
     let led = may_be_led c.args.recording c.args.svc.now c.args.scenario.now.requests c.args.scenario.now.seed c.in_ok-events.events c.requires.fits.requests c.histories_run.ensures c.events_are_told.ensures
     c.declarations-service.ensures.sound c.declarations-service.ensures.checked made in
     subst (All BeginsInRange) (sym c.as_slice.ensures) led.begins
+
+pub lead_by_crew-requires-clause-runs : goal.lead_by_crew-requires-clause-runs
+lead_by_crew-requires-clause-runs g c lifetimes bounds =
+    let made = subst (λ (requests : List Request). IsHistoryBy c.args.recording c.args.svc.now requests c.args.scenario.now.seed c.in_ok-events.events) c.as_slice-requests.ensures c.in_ok-events.ensures in
+    let led = may_be_led c.args.recording c.args.svc.now c.args.scenario.now.requests c.args.scenario.now.seed c.in_ok-events.events c.requires.fits.requests c.histories_run.ensures c.events_are_told.ensures
+    c.declarations-service.ensures.sound c.declarations-service.ensures.checked made in
+    subst (λ (es : List Event). IsSome (run c.args.svc.now (start_of c.args.svc.now) es)) (sym c.as_slice.ensures) (subst IsSome (sym led.runs) refl)
 
 pub returns : goal.returns
 returns g c =
