@@ -2,7 +2,7 @@
 use Rattle.std.proofs.Common.{◌≡◌, ◌≢◌, ⊎_elim, ℕ, zero, suc, max, ◌+◌, ◌<◌, ◌≤◌, cond, List, [], ◌∷◌, length, refl, sym, subst, arith}
 use Rattle.std.specs.Prelude.{nat_eq}
 use Rattle.std.proofs.lemmas.Bool.{cases_eq, cases_lt, eq-eqb}
-use Rattle.std.proofs.lemmas.List.{ext_get_or, get_or_past, get_or-replicate, get_or-set_same, get_or-set_other, length-replicate, length-set}
+use Rattle.std.proofs.lemmas.List.{ext_get_or, get_or_past, get_or-replicate, get_or-set_same, get_or-set_other, length-set}
 use Rattle.rex_event.specs.Cuts.{count_at}
 use Rattle.rex_event.specs.declared.event.TheConstants.{LANES}
 use Rattle.rex_clocks.specs.Counts.{none, ticked, merged}
@@ -27,13 +27,6 @@ merged_long (x ∷ a) (y ∷ b) = let l = merged_long a b in omega arith
 -- counts that are the same lane by lane
 pub same_counts : (a b : List ℕ) → length a ≡ length b → ((lane : ℕ) → count_at a lane ≡ count_at b lane) → a ≡ b
 same_counts a b l h = ext_get_or 0 a b l (λ lane k. h lane)
-
--- a clock that covers nothing adds nothing
-pub merged_none : (a : List ℕ) → length a ≡ LANES → merged a none ≡ a
-merged_none a long =
-    same_counts (merged a none) a
-    (let l = merged_long a none in let n = length-replicate {A = ℕ} LANES 0 in omega arith)
-    (λ lane. let l = count_merged a none lane in let n = count_none lane in omega arith)
 
 -- ---- one more
 

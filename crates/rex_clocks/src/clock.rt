@@ -56,14 +56,6 @@ impl Clock {
         self.lanes = self.lanes.max(other.lanes);
     }
 
-    /// Merges a clock that covers nothing: this one stays as it is.
-    pub fn merge_none(&mut self)
-        ensures { self.new ≡ spec.merged self.old spec.none }
-    {
-        // The proof takes from the counts that there is one for each lane.
-        let _ = &self.counts;
-    }
-
     /// Covers just what another clock covers. Counts that are 0 in both aren't copied.
     pub fn copy_from(&mut self, other: &Clock)
         ensures { self.new ≡ other.now }

@@ -41,14 +41,6 @@ impl Summary {
         self.befores.merge(&other.befores);
     }
 
-    /// Adds no events: this one stays as it is.
-    pub fn merge_nothing(&mut self)
-        ensures { self.new ≡ spec.joined self.old spec.nothing }
-    {
-        self.clocks.merge_none();
-        self.befores.merge_none();
-    }
-
     /// Turns the summary of what conflicts with an event of a lane before it into that event's.
     pub fn next(&mut self, lane: u8)
         requires lane { lane < LANES }

@@ -27,7 +27,7 @@ pub(crate) fn merge_at(met: &mut Summary, rows: &[Summary], place: Option<u32>)
     };
     match rows.get(place as usize) {
         Some(summary) => met.merge(summary),
-        None => met.merge_nothing(),
+        None => met.merge(&Summary::new()),
     }
 }
 

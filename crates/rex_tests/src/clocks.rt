@@ -32,7 +32,6 @@ fn clocks_copy_what_others_cover(rt: HostRuntime) {
     first.tick(2);
     second.tick(20);
     second.copy_from(&first);
-    second.merge_none();
     assert_eq!(rt; second.count(2), 1);
     assert_eq!(rt; second.count(20), 0);
     assert_eq!(rt; second.lanes(), 3);

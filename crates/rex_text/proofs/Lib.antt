@@ -1,5 +1,4 @@
 mod Buffers
-pub mod Digits
 mod Examples
 pub mod Spellings
 pub mod Splits

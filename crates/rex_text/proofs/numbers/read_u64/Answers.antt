@@ -2,8 +2,8 @@ use Rattle.std.proofs.Common.{◌<◌, length, inl, inr, arith, sym, ◌∙◌}
 use Rattle.std.proofs.lemmas.Bool.{eqb-false, eqb-true}
 use Rattle.rex_text.proofs.Splits.{pos_from_ne}
 use Rattle.rex_text.proofs.Spellings.{parsed, no_utf8, not_begun}
-use Rattle.rex_text.proofs.numbers.read_any.Goals as goal
-use Rattle.rex_text.proofs.numbers.read_any.Goals.{then-is_empty-via-then-is_empty, then-is_empty-via-else-is_empty+then-word-eq43}
+use Rattle.rex_text.proofs.numbers.read_u64.Goals as goal
+use Rattle.rex_text.proofs.numbers.read_u64.Goals.{then-is_empty-via-then-is_empty, then-is_empty-via-else-is_empty+then-word-eq43}
 
 pub returns-in-Ok : goal.returns-in-Ok
 returns-in-Ok c =
