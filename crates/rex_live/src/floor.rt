@@ -6,6 +6,7 @@ ghost use Rattle.rex_live.specs.Halting.{Halts};
 ghost use Rattle.rex_live.specs.Tally.{Tally};
 
 use crate::desk::{Desk, Halt, Made};
+use crate::permits::Permits;
 use crate::segment::{Brought, Segment};
 use crate::setting::Setting;
 use crate::wakers::Wakers;
@@ -14,6 +15,7 @@ use rex_event::Event;
 use rex_list::List;
 use rex_syntax::checked::Checked;
 use rex_syntax::request::Request;
+use rex_threads::processors;
 use rex_traits::Gate;
 use std::alloc::{AllocError, Global};
 use std::hint::spin_loop;
@@ -162,6 +164,15 @@ fn tries_at<G: Gate>(gate: &G) -> u32 {
     if gate.is_open() { TRIES } else { 1 }
 }
 
+/// How many lanes run at once: no more than there are processors. Where they pass a gate that may hold them all do.
+fn lanes_at_once<T: Threads, G: Gate>(rt: &T, gate: &G, lanes: u8) -> u32 {
+    if gate.is_open() {
+        processors(rt).min(lanes as usize) as u32
+    } else {
+        lanes as u32
+    }
+}
+
 /// Makes the event of an index for a lane whose thread hasn't begun, if it is still the next one and the lane can go on, and
 /// brings back what the lane's lines led to.
 fn stand_in<S: Setting, R: Wait>(
@@ -193,15 +204,17 @@ fn stand_in<S: Setting, R: Wait>(
     }
 }
 
-/// One lane's loop: it passes the gate, takes the lock, brings back what its lines led to, and tries its next event. Where the gate is
-/// open it tries the ones after it, too, as long as there is nothing to do outside the lock. Where it can't go on it makes an event
-/// for a lane whose thread hasn't begun, or else sleeps. It ends when no lane can go on, or a lane found no memory.
+/// One lane's loop: once it may run, it passes the gate, takes the lock, brings back what its lines led to, and tries its next event.
+/// Where the gate is open it tries the ones after it, too, as long as there is nothing to do outside the lock. Where it can't go on it
+/// makes an event for a lane whose thread hasn't begun, or else sleeps and lets another one run. It ends when no lane can go on, or a
+/// lane found no memory.
 fn work<S: Setting, R: Wait, G: Gate>(
     wait: &R,
     alloc: Global,
     svc: &Checked,
     desk: &Mutex<CachePadded<Desk<S>>>,
     wakers: &Wakers,
+    permits: &Permits,
     gate: &G,
     lane: u8,
     share: Share<S>,
@@ -214,6 +227,7 @@ fn work<S: Setting, R: Wait, G: Gate>(
     let _service = svc.declarations();
     let mut mine = share;
     let tries = tries_at(gate);
+    permits.take(wait);
     let mut index = take_lock(wait, desk).begin(lane);
     let mut brought = None;
     for _ in wait.forever() {
@@ -230,7 +244,11 @@ fn work<S: Setting, R: Wait, G: Gate>(
                 wakers.wake(woken);
                 brought = run_outside(alloc, svc, lent);
             }
-            Err(Halt::Stays) => wakers.sleep(wait, lane, guard),
+            Err(Halt::Stays) => {
+                permits.give_back(wait);
+                wakers.sleep(wait, lane, guard);
+                permits.take(wait);
+            }
             Err(Halt::Absent { lane: other }) => {
                 let next = guard.done(other);
                 drop(guard);
@@ -244,6 +262,7 @@ fn work<S: Setting, R: Wait, G: Gate>(
             }
         }
     }
+    permits.give_back(wait);
     mine
 }
 
@@ -256,6 +275,7 @@ fn work_last<S: Setting + Send + Sync, T: Threads + Sync, R: Wait + Sync, G: Gat
     svc: &Checked,
     desk: &Mutex<CachePadded<Desk<S>>>,
     wakers: &Wakers,
+    permits: &Permits,
     gate: &G,
     lane: u8,
     share: Share<S>,
@@ -272,7 +292,7 @@ fn work_last<S: Setting + Send + Sync, T: Threads + Sync, R: Wait + Sync, G: Gat
             requires there { lane < S.service.lanes }
             requires part { 0 < share.parts }
             ensures { result.parts ≡ share.parts }
-        { work(wait, alloc, svc, desk, wakers, gate, lane, share) },
+        { work(wait, alloc, svc, desk, wakers, permits, gate, lane, share) },
         || {},
     );
     mine
@@ -286,6 +306,7 @@ fn work_from<S: Setting + Send + Sync, T: Threads + Sync, R: Wait + Sync, G: Gat
     svc: &Checked,
     desk: &Mutex<CachePadded<Desk<S>>>,
     wakers: &Wakers,
+    permits: &Permits,
     gate: &G,
     lane: u8,
     share: Share<S>,
@@ -297,7 +318,9 @@ fn work_from<S: Setting + Send + Sync, T: Threads + Sync, R: Wait + Sync, G: Gat
 {
     let lanes = svc.declarations().lanes;
     if lanes - lane <= 1 {
-        return work_last(rt, wait, alloc, svc, desk, wakers, gate, lane, share);
+        return work_last(
+            rt, wait, alloc, svc, desk, wakers, permits, gate, lane, share,
+        );
     }
     let next = lane + 1;
     let mut others = share;
@@ -309,13 +332,17 @@ fn work_from<S: Setting + Send + Sync, T: Threads + Sync, R: Wait + Sync, G: Gat
             requires there { lane < S.service.lanes }
             requires part { 0 < mine.parts }
             ensures { result.parts ≡ mine.parts }
-        { work(wait, alloc, svc, desk, wakers, gate, lane, mine) },
+        { work(wait, alloc, svc, desk, wakers, permits, gate, lane, mine) },
         || -> Share<S>
             requires service { svc.now ≡ S.service }
             requires there { next < S.service.lanes }
             requires parts { S.service.lanes ≤ next + others.parts }
             ensures { result.parts ≡ others.parts }
-        { work_from(rt, wait, alloc, svc, desk, wakers, gate, next, others) },
+        {
+            work_from(
+                rt, wait, alloc, svc, desk, wakers, permits, gate, next, others,
+            )
+        },
     );
     first.merge(rest);
     first
@@ -346,8 +373,11 @@ pub fn run_lanes<S: Setting + Send + Sync, T: Threads + Sync, R: Wait + Sync, G:
     let lanes = svc.declarations().lanes;
     let Floor { desk, share } = floor;
     let wakers = Wakers::new();
+    let permits = Permits::new(lanes_at_once(rt, gate, lanes));
     let theirs = share.split_off(lanes as u64, 0);
-    let theirs = work_from(rt, wait, alloc, svc, desk, &wakers, gate, 0, theirs);
+    let theirs = work_from(
+        rt, wait, alloc, svc, desk, &wakers, &permits, gate, 0, theirs,
+    );
     share.merge(theirs);
     desk.lock(wait).history(alloc, svc, share)
 }

@@ -8,6 +8,7 @@ mod floor;
 pub mod laws;
 mod lending;
 mod needs;
+mod permits;
 mod places;
 mod segment;
 mod setting;

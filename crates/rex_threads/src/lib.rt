@@ -2,5 +2,9 @@
 #![tactic(auto)]
 
 mod jobs;
+mod pair;
+mod parallelism;
 
 pub use jobs::map_vec;
+pub use pair::both;
+pub use parallelism::processors;
