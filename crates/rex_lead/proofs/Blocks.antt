@@ -39,6 +39,10 @@ module _ (history : List Event) where
   pub few_blocks : length history ≤ 268431360 → length (blocks_of history) ≤ 65535
   few_blocks l = omega (arith, l, count_blocks)
 
+  -- nothing has no blocks
+  pub no_blocks : length history ≡ 0 → blocks_of history ≡ []
+  no_blocks l = nil_from_length (blocks_of history) (omega (arith, l, count_blocks))
+
   pub joined_blocks : joined (blocks_of history) ≡ history
   joined_blocks = joined_chunks 4096 (chunk_count (length history) 4096) history (omega arith)
 

@@ -61,6 +61,10 @@ module _ (service : Declarations) where
     same = record { nodes = k.same.nodes ∙ h.same.nodes; requests = k.same.requests ∙ h.same.requests; seed = k.same.seed ∙ h.same.seed };
   }
 
+  -- a world that did nothing
+  pub did_none : {S : Type 0} → (u : World S) → IsRunning service u → Did service u u []
+  did_none u running = record { world = refl; running = running; same = record { nodes = refl; requests = refl; seed = refl } }
+
   pub did_as : {S : Type 0} → (u w : World S) (xs ys : List Doing) → xs ≡ ys → Did service u w xs → Did service u w ys
   did_as u w xs ys e h = subst (Did service u w) e h
 

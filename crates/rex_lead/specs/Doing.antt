@@ -1,7 +1,8 @@
 -- What a world does on the way.
-use Rattle.std.specs.Prelude.{◌≡◌, List, IsSome}
+use Rattle.std.specs.Prelude.{◌≡◌, List, Some}
 use Rattle.rex_syntax.specs.declared.service.Declarations.{Declarations}
 use Rattle.rex_event.specs.declared.event.Event.{Event}
+use Rattle.rex_state.specs.Value.{StateValue}
 use Rattle.rex_state.specs.Machine.{run}
 use Rattle.rex_state.specs.Counts.{AreCounted}
 use Rattle.rex_safety.specs.Lanes.{live_state}
@@ -20,10 +21,10 @@ pub record Did {S : Type 0} (service : Declarations) (before after : World S) (d
   pub same : IsSame before after
 
 -- node 1 of a world was elected, and nothing else was done
-abbrev pub IsElected : {S : Type 0} → Declarations → World S → Type 0
-IsElected service w = world_of service w ≡ world_after_doings service w.requests w.seed (nodes_of w) election
+pub record IsElected {S : Type 0} (service : Declarations) (w : World S) : Type 0 where
+  pub world : world_of service w ≡ world_after_doings service w.requests w.seed (nodes_of w) election
 
--- events run on from the state that node 1 of a world executes, and their indices leave room to count one more
-pub record IsNext {S : Type 0} (service : Declarations) (w : World S) (es : List Event) : Type 0 where
-  pub runs : IsSome (run service (live_state service (node_at (world_of service w).nodes 1)) es)
+-- events lead on from the state that node 1 of a world executes to this one, and their indices leave room to count one more
+pub record IsNext {S : Type 0} (service : Declarations) (w : World S) (es : List Event) (s : StateValue) : Type 0 where
+  pub runs : run service (live_state service (node_at (world_of service w).nodes 1)) es ≡ Some s
   pub counted : AreCounted es

@@ -13,8 +13,9 @@ ghost use Rattle.rex_world.specs.Kept.{IsRunning};
 ghost use Rattle.rex_lead.specs.Doing.{Did, IsNext};
 
 use rex_event::Event;
-use rex_replay::Replayer;
+use rex_replay::{OneThread, Replayer};
 use rex_scenario::ScheduleLine;
+use rex_state::state::State;
 use rex_syntax::checked::Checked;
 use rex_traits::MemKeeper;
 use rex_world::World;
@@ -40,24 +41,22 @@ pub(crate) fn do_line<R: Replayer>(
     Ok(())
 }
 
-/// Hands node 1 a block of events, which run on from the state that it executes. A replayer finds the state to which they lead.
-pub(crate) fn hand_over<R: Replayer>(
+/// Hands node 1 a block of events, which lead on from the state that it executes to this one.
+pub(crate) fn hand_over(
     world: &mut World<MemKeeper>,
     svc: &Checked,
-    replayer: &mut R,
     block: &[Event],
+    state: State,
 ) -> Result<(), AllocError>
     requires running { IsRunning svc.now world.old }
     requires there { 1 ≤ nodes_of world.old }
     requires begins { All BeginsInRange block.now }
-    requires next { IsNext svc.now world.old block.now }
-    requires ready { R.ready replayer.old }
+    requires next { IsNext svc.now world.old block.now state }
     ensures did { OnOk result (Did svc.now world.old world.new (takes block.now)) }
     ensures done { OnOk result (world.new.done ≡ world.old.done) }
-    ensures ready { R.ready replayer.new }
 {
     // What a node that isn't active is handed is left out, also by the model.
-    let _taken = world.take_block(svc, replayer, 1, block);
+    let _taken = world.take_block(svc, 1, block, state);
     if world.broken() {
         return Err(AllocError);
     }
@@ -65,18 +64,12 @@ pub(crate) fn hand_over<R: Replayer>(
 }
 
 /// What node 1 asks is handed to all others, and then what they answer to node 1.
-pub(crate) fn ask_others<R: Replayer>(
-    world: &mut World<MemKeeper>,
-    svc: &Checked,
-    replayer: &mut R,
-) -> Result<(), AllocError>
+pub(crate) fn ask_others(world: &mut World<MemKeeper>, svc: &Checked) -> Result<(), AllocError>
     requires running { IsRunning svc.now world.old }
-    requires ready { R.ready replayer.old }
     requires count { world.old.done + 2 < 2 ^ 32 }
     ensures did { OnOk result (Did svc.now world.old world.new (Does Flush ∷ Does Flush ∷ [])) }
     ensures done { OnOk result (world.new.done ≡ world.old.done + 2) }
-    ensures ready { R.ready replayer.new }
 {
-    do_line(world, svc, replayer, &ScheduleLine::Flush)?;
-    do_line(world, svc, replayer, &ScheduleLine::Flush)
+    do_line(world, svc, &mut OneThread, &ScheduleLine::Flush)?;
+    do_line(world, svc, &mut OneThread, &ScheduleLine::Flush)
 }

@@ -109,9 +109,9 @@ module _ (service : Declarations) (good : IsService service) (seed : ℕ) (value
   abbrev IsCut : Option ActingValue → Type 0
   IsCut w = IfSome w (λ (a : ActingValue). IsCutAt service values a v)
 
-  can_settle : (w : Option ActingValue) → IsActing service values acceptor (Some p) w → IsCut w → IfSome w (CanSettle service v)
+  can_settle : (w : Option ActingValue) → IsActing service values acceptor (Some p) w → IsCut w → IfSome w (CanSettle service)
   can_settle None h c = tt
-  can_settle (Some a) h c = record { recorder = h.executes.recorder; consistent = c.consistent; events = c.events }
+  can_settle (Some a) h c = record { recorder = h.executes.recorder; consistent = c.consistent }
 
   acting_known : (w : Option ActingValue) → IsActing service values acceptor (Some p) w → IsCut w → IsActing service (values ++ v ∷ []) acceptor (Some (closed p)) (option_map (settling service) w)
   acting_known None h c = tt
@@ -299,10 +299,10 @@ module _ {K : Type 0} (records : K → List (List ℕ)) (gives : K → List ℕ 
 module _ {K : Type 0} (records : K → List (List ℕ)) (gives : K → List ℕ → Answer → K → Type 0) (faults : K → ℕ) (service : Declarations) (past : List Value) (good : IsService service) (x : NodeValue K) (kept_so : IsKept records service past x) (up : x.up ≡ true) (leads : IsSome x.proposer)
     (i : ℕ) (v : Value) (next : i ≡ length x.known + 1) (there : ballots.IsInstance i) (short : IsValue v) (fits : values_fit service (x.known ++ v ∷ []) ≡ true) (cut : IsOwnCut service x v) where
   -- its recorder can settle
-  pub learn_settles : (y : NodeValue K) → y ≡ record x { keeper = y.keeper } → IfSome y.acting (CanSettle service v)
+  pub learn_settles : (y : NodeValue K) → y ≡ record x { keeper = y.keeper } → IfSome y.acting (CanSettle service)
   learn_settles y y_is =
       let s = some_of x.proposer leads in
-      subst (λ (n : NodeValue K). IfSome n.acting (CanSettle service v)) (sym y_is)
+      subst (λ (n : NodeValue K). IfSome n.acting (CanSettle service)) (sym y_is)
       (can_settle service good x.seed x.known x.acceptor s.0 v x.acting (subst (λ (o : Option ProposerValue). IsActing service x.known x.acceptor o x.acting) s.1 (kept_so.up up).acting) cut)
 
   module _ (w : Value) (w_is : w ≡ v) (y : NodeValue K) (before mid : Draft) (g : Going) (h : Appends records faults gives x y before mid (record_bytes (kept.Known i w)) g) where

@@ -87,11 +87,10 @@ LearnsShort records gives faults service past instance value old new before =
 abbrev pub settling : Declarations → ActingValue → ActingValue
 settling service a = record a { recorder = settled service a.recorder a.proposed; answers = noting a.answers (below a.proposed a.recorder.live) }
 
--- the recorder can settle at the cut that was proposed last, and the events below it are those of the value
-pub record CanSettle (service : Declarations) (value : Value) (a : ActingValue) : Type 0 where
+-- the recorder can settle at the cut that was proposed last
+pub record CanSettle (service : Declarations) (a : ActingValue) : Type 0 where
   pub recorder : IsRecorder service a.recorder
   pub consistent : IsConsistent a.recorder.live a.proposed
-  pub events : events_of value ≡ below a.proposed a.recorder.live
 
 -- the replies among the events below the cut that an active node proposed last
 abbrev pub releases_in : Option ActingValue → List Effect

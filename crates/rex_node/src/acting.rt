@@ -1,6 +1,6 @@
 //! What an active node executes.
 
-ghost use Rattle.std.specs.Prelude.{◌≡◌, ◌<◌, ◌≤◌, ◌+◌, ◌++◌, ◌^◌, length, map, IsSome, IfOk, OnOk, OnErr};
+ghost use Rattle.std.specs.Prelude.{◌≡◌, ◌<◌, ◌≤◌, ◌+◌, ◌++◌, ◌^◌, length, map, Some, IfOk, OnOk, OnErr};
 ghost use Rattle.rand_pcg.specs.Pcg.{pcg32};
 ghost use Rattle.rex_state.specs.Machine.{lane_of, run};
 ghost use Rattle.rex_state.specs.Counts.{AreCounted};
@@ -10,20 +10,18 @@ ghost use Rattle.rex_record.specs.Take.{taken_turn};
 ghost use Rattle.rex_record.specs.Value.{turned, releases};
 ghost use Rattle.rex_safety.specs.Values as values;
 ghost use Rattle.rex_record.specs.Kept.{IsRecorder};
-ghost use Rattle.rex_gate.specs.Noted.{noting};
 ghost use Rattle.rex_scenario.specs.Fits.{RequestFits};
 ghost use Rattle.rex_node.specs.Blocks.{given_all};
 ghost use Rattle.rex_node.specs.Leading.{settling};
 ghost use Rattle.rex_node.specs.Submitting.{answer_in, given, taken};
 
 use crate::step::Draft;
-use crate::values::events_in;
 use rand_pcg::Lcg64Xsh32;
 use rex_event::{Cut, Event};
 use rex_gate::{Answer, Answers};
-use rex_record::{Recorder, Release, Turn};
-use rex_replay::Replayer;
+use rex_record::{Recorder, Release, Turn, events_below};
 use rex_report::Effect;
+use rex_state::state::State;
 use rex_syntax::checked::Checked;
 use rex_syntax::request::Request;
 use std::alloc::{AllocError, Global};
@@ -131,57 +129,43 @@ impl Acting {
         self.recorder.take_event(svc, event)
     }
 
-    /// Takes events that were made elsewhere and run from the live state, one after the other, as far as they can be taken.
-    /// The state after them comes from the replayer.
-    pub fn take_block<R: Replayer>(
+    /// Takes events that were made elsewhere and lead from the live state to this one, one after the other, as far as they can
+    /// be taken.
+    pub fn take_block(
         &mut self,
-        alloc: Global,
         svc: &Checked,
-        replayer: &mut R,
         events: &[Event],
+        state: State,
     ) -> Result<(), AllocError>
         requires recorder { IsRecorder svc.now self.old.recorder }
-        requires runs { IsSome (run svc.now self.old.recorder.state events.now) }
+        requires runs { run svc.now self.old.recorder.state events.now ≡ Some state }
         requires counted { AreCounted events.now }
-        requires ready { R.ready replayer.old }
         ensures ok { OnOk result (self.new ≡ given_all svc.now self.old events.now) }
         ensures err { OnErr result (self.new ≡ self.old) }
         ensures kept { IsRecorder svc.now self.new.recorder }
-        ensures ready { R.ready replayer.new }
     {
-        let _service = svc.declarations();
-        let state = replayer.replay(alloc, svc, self.recorder.state(), events)?;
         self.recorder.take_block(svc, events, state)
     }
 
-    /// The live events below the cut that was proposed last, which are those of this value, are known: they are live no longer,
+    /// The live events below the cut that was proposed last are known: what they say of clients is noted, they are live no longer,
     /// and their replies are released.
     pub fn settle(
         &mut self,
         svc: &Checked,
         alloc: Global,
         draft: &mut Draft,
-        value: &[u8],
     ) -> Result<(), AllocError>
         requires recorder { IsRecorder svc.now self.old.recorder }
         requires consistent { IsConsistent self.old.recorder.live self.old.proposed }
-        requires events { values.events_of value.now ≡ below self.old.proposed self.old.recorder.live }
         ensures ok { OnOk result (self.new ≡ settling svc.now self.old) }
         ensures effects { OnOk result (draft.new.effects.items ≡ draft.old.effects.items ++ map values.release_effect (releases self.old.recorder.start.clients (below self.old.proposed self.old.recorder.live))) }
         ensures sends { OnOk result (draft.new.sends.items ≡ draft.old.sends.items) }
     {
-        note(&mut self.answers, alloc, value)?;
+        let known = events_below(alloc, &self.proposed, self.recorder.trace())?;
+        self.answers.note(&known)?;
         let released = self.recorder.settle(svc, alloc, &self.proposed)?;
         tell_releases(draft, released.as_slice())
     }
-}
-
-// What a value that became known says of clients is noted.
-fn note(answers: &mut Answers, alloc: Global, value: &[u8]) -> Result<(), AllocError>
-    ensures { OnOk result (answers.new ≡ noting answers.old (values.events_of value.now)) }
-{
-    let events = events_in(alloc, value)?;
-    answers.note(events.as_slice())
 }
 
 fn release_effect(release: &Release) -> Effect

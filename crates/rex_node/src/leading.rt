@@ -184,7 +184,7 @@ impl<K: Keeper> Node<K> {
         instance: u32,
         value: &[u8],
     ) -> Result<(), AllocError>
-        requires recorder { IfSome self.old.acting (CanSettle svc.now value.now) }
+        requires recorder { IfSome self.old.acting (CanSettle svc.now) }
         requires room { length (knows P.past self.old) < 65535 }
         ensures knows { OnOk result (whole P.past self.new ≡ knowing svc.now (whole P.past self.old) instance value.now) }
         ensures effects { OnOk result (draft.new.effects.items ≡ draft.old.effects.items ++ effect.Known self.old.id instance ∷ releases_in self.old.acting) }
@@ -196,7 +196,7 @@ impl<K: Keeper> Node<K> {
         let node = self.id;
         self.known.push(value)?;
         draft.tell(Effect::Known { node, instance })?;
-        self.settle::<P>(svc, draft, instance, value)?;
+        self.settle::<P>(svc, draft, instance)?;
         self.close::<P>();
         let value = copied(self.alloc, value)?;
         let content = Content::Chosen { instance, value };
@@ -209,9 +209,8 @@ impl<K: Keeper> Node<K> {
         svc: &Checked,
         draft: &mut Draft,
         instance: u32,
-        value: &[u8],
     ) -> Result<(), AllocError>
-        requires recorder { IfSome self.old.acting (CanSettle svc.now value.now) }
+        requires recorder { IfSome self.old.acting (CanSettle svc.now) }
         ensures settled { OnOk result (whole P.past self.new ≡ record (whole P.past self.old) { replayed = spec.replayed_to self.old.acting instance self.old.replayed; acting = option_map (spec.settling svc.now) self.old.acting }) }
         ensures effects { OnOk result (draft.new.effects.items ≡ draft.old.effects.items ++ releases_in self.old.acting) }
         ensures sends { OnOk result (draft.new.sends.items ≡ draft.old.sends.items) }
@@ -220,7 +219,7 @@ impl<K: Keeper> Node<K> {
         ensures same { IsSame (whole P.past self.old) (whole P.past self.new) }
     {
         if let Some(acting) = &mut self.acting {
-            acting.settle(svc, self.alloc, draft, value)?;
+            acting.settle(svc, self.alloc, draft)?;
             self.replayed = instance;
         }
         Ok(())

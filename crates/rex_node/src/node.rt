@@ -22,7 +22,6 @@ use rex_gate::Answer;
 use rex_log::Past;
 use rex_paxos::{Acceptor, Proposer};
 use rex_record::Turn;
-use rex_replay::Replayer;
 use rex_report::Role;
 use rex_state::state::State;
 use rex_syntax::checked::Checked;
@@ -228,35 +227,31 @@ impl<K: Keeper> Node<K> {
         Ok(turn)
     }
 
-    /// Takes events that were made elsewhere among the live ones, as if they were handed in one after the other, where they run
-    /// from the live state. The state after them comes from the replayer: where all are taken, no line of the service runs
-    /// beside those that it runs.
-    pub fn take_block<P: Past, R: Replayer>(
+    /// Takes events that were made elsewhere among the live ones, as if they were handed in one after the other, where they lead
+    /// from the live state to this one. Where all are taken, no line of the service runs.
+    pub fn take_block<P: Past>(
         &mut self,
         svc: &Checked,
-        replayer: &mut R,
         events: &[Event],
+        state: State,
     ) -> Result<(), Refusal>
         requires node { IsNode K.records svc.now P.past self.old }
-        requires runs { IsSome (run svc.now (live_state svc.now (here_of K.records svc.now P.past self.old)) events.now) }
+        requires runs { run svc.now (live_state svc.now (here_of K.records svc.now P.past self.old)) events.now ≡ Some state }
         requires counted { AreCounted events.now }
-        requires ready { R.ready replayer.old }
         ensures refused { Refuses (refusal_active (here_of K.records svc.now P.past self.old)) result }
         ensures node { OnOk result (LeadsTo (take_each svc.now events.now) (here_of K.records svc.now P.past self.old) (here_of K.records svc.now P.past self.new)) }
         ensures same { OnErr result (self.new ≡ self.old) }
         ensures keeper { self.new.keeper ≡ self.old.keeper }
         ensures kept { StaysNode K.records svc.now P.past self.old self.new }
-        ensures ready { R.ready replayer.new }
     {
         let _service = svc.declarations();
         if let Some(refusal) = self.active_refusal() {
             return Err(refusal);
         }
-        let alloc = self.alloc;
         let Some(acting) = &mut self.acting else {
             unreachable!()
         };
-        acting.take_block(alloc, svc, replayer, events)?;
+        acting.take_block(svc, events, state)?;
         Ok(())
     }
 }

@@ -1,4 +1,4 @@
-use rex_threads::map_vec;
+use rex_threads::{both, map_vec};
 use std::alloc::AllocError;
 use std::sync::Barrier;
 use std::test::*;
@@ -19,4 +19,23 @@ fn jobs_run_beside_each_other(rt: HostRuntime) -> Result<(), AllocError> {
     )?;
     assert_eq!(rt; tenths.as_slice(), [3, 1, 2].as_slice());
     Ok(())
+}
+
+// So it is of two jobs with results of two types.
+#[test]
+fn two_jobs_run_beside_each_other(rt: HostRuntime) {
+    let meeting = Barrier::new(2);
+    let (sum, is_more) = both(
+        &rt,
+        || -> u64 {
+            meeting.wait(&rt);
+            3 + 4
+        },
+        || -> bool {
+            meeting.wait(&rt);
+            7 < 8
+        },
+    );
+    assert_eq!(rt; sum, 7);
+    assert!(rt; is_more);
 }

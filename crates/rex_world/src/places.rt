@@ -1,7 +1,7 @@
 //! Calls of the node of a number, among the nodes of a world. Bytes of states are read beside the agreed values, which a call is
 //! handed for this alone: clauses name them as the past.
 
-ghost use Rattle.std.specs.Prelude.{◌≡◌, ◌<◌, ◌≤◌, ◌+◌, ◌^◌, true, length, Some, IsSome};
+ghost use Rattle.std.specs.Prelude.{◌≡◌, ◌<◌, ◌≤◌, ◌+◌, ◌^◌, true, length, Some};
 ghost use Rattle.std.specs.Option.{option_copied};
 ghost use Rattle.rex_ballot.specs.Limits.{most_nodes};
 ghost use Rattle.rex_msg.specs.Spelling.{HasSpelling};
@@ -41,6 +41,7 @@ use rex_reads::{Read, Seen};
 use rex_record::Turn;
 use rex_replay::Replayer;
 use rex_report::Effect;
+use rex_state::state::State;
 use rex_syntax::checked::Checked;
 use rex_syntax::request::Request;
 use rex_traits::{Fate, Store};
@@ -155,26 +156,24 @@ pub(crate) fn take_at<P: Past, S: Store>(
 }
 
 /// The node is handed a block of events that were made elsewhere.
-pub(crate) fn take_block_at<P: Past, S: Store, R: Replayer>(
+pub(crate) fn take_block_at<P: Past, S: Store>(
     seats: &mut [Seat<S>],
     _agreed: &List<Value>,
     svc: &Checked,
-    replayer: &mut R,
     seed: u32,
     number: u8,
     events: &[Event],
+    state: State,
 ) -> Result<(), Refusal>
     requires there { IsNode (length seats.old) number }
     requires few { length seats.old ≤ most_nodes }
     requires seats { AreSeats svc.now P.past seed (length seats.old) 1 seats.old }
-    requires runs { (node_at (heres svc.now P.past seats.old) number).up ≡ true → IsSome (run svc.now (lanes.live_state svc.now (node_at (heres svc.now P.past seats.old) number)) events.now) }
+    requires runs { (node_at (heres svc.now P.past seats.old) number).up ≡ true → run svc.now (lanes.live_state svc.now (node_at (heres svc.now P.past seats.old) number)) events.now ≡ Some state }
     requires counted { AreCounted events.now }
-    requires ready { R.ready replayer.old }
-    ensures handed { IsHandedBlockAt svc.now P.past seed number events.now seats.old seats.new result }
-    ensures ready { R.ready replayer.new }
+    ensures { IsHandedBlockAt svc.now P.past seed number events.now seats.old seats.new result }
 {
     let nodes = seats.len() as u8;
-    seats[number as usize - 1].take_block::<P, R>(svc, replayer, seed, nodes, number, events)
+    seats[number as usize - 1].take_block::<P>(svc, seed, nodes, number, events, state)
 }
 
 /// The node proposes live events: all of them, or at most so many of each lane.

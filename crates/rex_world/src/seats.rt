@@ -1,6 +1,6 @@
 //! The places of nodes: a node that was started, or the keeper of one that was stopped.
 
-ghost use Rattle.std.specs.Prelude.{◌≡◌, ◌<◌, ◌≤◌, ◌+◌, ◌^◌, ◌∷◌, ◌++◌, [], length, true, Some, IsSome, IfOk, IfErr};
+ghost use Rattle.std.specs.Prelude.{◌≡◌, ◌<◌, ◌≤◌, ◌+◌, ◌^◌, ◌∷◌, ◌++◌, [], length, true, Some, IfOk, IfErr};
 ghost use Rattle.std.specs.Option.{option_copied};
 ghost use Rattle.rex_ballot.specs.Limits.{most_nodes};
 ghost use Rattle.rex_msg.specs.Spelling.{HasSpelling};
@@ -34,6 +34,7 @@ use rex_node::{Node, Refusal, RestartFault, Step};
 use rex_record::Turn;
 use rex_replay::Replayer;
 use rex_report::Effect;
+use rex_state::state::State;
 use rex_syntax::checked::Checked;
 use rex_syntax::request::Request;
 use rex_traits::{Fate, Keeper, Obedient, Store};
@@ -255,28 +256,26 @@ impl<S: Store> Seat<S> {
     }
 
     /// The node is handed a block of events that were made elsewhere.
-    pub(crate) fn take_block<P: Past, R: Replayer>(
+    pub(crate) fn take_block<P: Past>(
         &mut self,
         svc: &Checked,
-        replayer: &mut R,
         seed: u32,
         nodes: u8,
         number: u8,
         events: &[Event],
+        state: State,
     ) -> Result<(), Refusal>
         requires seat { IsSeat svc.now P.past seed nodes number self.old }
-        requires runs { (here_in svc.now P.past self.old).up ≡ true → IsSome (run svc.now (lanes.live_state svc.now (here_in svc.now P.past self.old)) events.now) }
+        requires runs { (here_in svc.now P.past self.old).up ≡ true → run svc.now (lanes.live_state svc.now (here_in svc.now P.past self.old)) events.now ≡ Some state }
         requires counted { AreCounted events.now }
-        requires ready { R.ready replayer.old }
         ensures handed { IsHandedBlock svc.now events.now (here_in svc.now P.past self.old) (here_in svc.now P.past self.new) result }
         ensures seat { StaysSeat svc.now P.past seed nodes number self.old self.new }
-        ensures ready { R.ready replayer.new }
     {
         if !self.is_up() {
             return Err(Refusal::Down);
         }
         match self {
-            Seat::Running(node) => node.take_block::<P, R>(svc, replayer, events),
+            Seat::Running(node) => node.take_block::<P>(svc, events, state),
             Seat::Stopped(_) | Seat::Empty => Err(Refusal::Down),
         }
     }

@@ -1,6 +1,6 @@
 //! The world.
 
-ghost use Rattle.std.specs.Prelude.{◌≡◌, ◌<◌, ◌≤◌, ◌+◌, ◌^◌, [], Err, false, true, length, replicate, IsSome, IfOk, OnOk, OnErr, if◌then◌else◌};
+ghost use Rattle.std.specs.Prelude.{◌≡◌, ◌<◌, ◌≤◌, ◌+◌, ◌^◌, [], Err, false, true, length, replicate, Some, IfOk, OnOk, OnErr, if◌then◌else◌};
 ghost use Rattle.std.specs.List.{All};
 ghost use Rattle.rex_ballot.specs.Limits.{most_nodes};
 ghost use Rattle.rex_state.specs.Machine.{run};
@@ -38,6 +38,7 @@ use rex_record::Turn;
 use rex_replay::Replayer;
 use rex_report::Effect;
 use rex_scenario::{Scenario, ScheduleLine};
+use rex_state::state::State;
 use rex_syntax::checked::Checked;
 use rex_syntax::request::Request;
 use rex_traits::{Fate, MemKeeper, Obedient, Store};
@@ -316,21 +317,20 @@ impl<S: Store> World<S> {
         turn
     }
 
-    /// Hands a node a block of events that were made elsewhere and run from its live state: an active node takes them among its
-    /// live ones, one after the other, as far as they can be taken. No schedule line spells this, and none is counted.
-    pub fn take_block<R: Replayer>(
+    /// Hands a node a block of events that were made elsewhere and lead from its live state to this one: an active node takes them
+    /// among its live ones, one after the other, as far as they can be taken. No schedule line spells this, and none is counted.
+    pub fn take_block(
         &mut self,
         svc: &Checked,
-        replayer: &mut R,
         node: u8,
         events: &[Event],
+        state: State,
     ) -> Result<(), Refusal>
         requires running { IsRunning svc.now self.old }
         requires there { IsNode (nodes_of self.old) node }
         requires begins { All BeginsInRange events.now }
-        requires runs { (node_at (world_of svc.now self.old).nodes node).up ≡ true → IsSome (run svc.now (live_state svc.now (node_at (world_of svc.now self.old).nodes node)) events.now) }
+        requires runs { (node_at (world_of svc.now self.old).nodes node).up ≡ true → run svc.now (live_state svc.now (node_at (world_of svc.now self.old).nodes node)) events.now ≡ Some state }
         requires counted { AreCounted events.now }
-        requires ready { R.ready replayer.old }
         ensures refused { Refuses (refusal_active (node_at (world_of svc.now self.old).nodes node)) result }
         ensures world { OnOk result (world_of svc.now self.new ≡ after_doings svc.now self.old.requests self.old.seed (nodes_of self.old) (world_of svc.now self.old) (takes_at node events.now)) }
         ensures unchanged { OnErr result (world_of svc.now self.new ≡ world_of svc.now self.old) }
@@ -338,16 +338,15 @@ impl<S: Store> World<S> {
         ensures same { IsSame self.old self.new }
         ensures done { self.new.done ≡ self.old.done }
         ensures broken { result ≡ Err why.OutOfMemory → self.new.broken ≡ true }
-        ensures ready { R.ready replayer.new }
     {
-        let taken = take_block_at::<Brand, S, R>(
+        let taken = take_block_at::<Brand, S>(
             &mut self.seats,
             &self.agreed,
             svc,
-            replayer,
             self.seed,
             node,
             events,
+            state,
         );
         self.broken = is_short(&taken);
         taken

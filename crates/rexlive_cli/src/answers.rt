@@ -30,10 +30,11 @@ use rex_scenario::{Scenario, ScenarioError, read_unscheduled};
 use rex_state::state::State;
 use rex_syntax::checked::Checked;
 use rex_syntax::service::Service;
+use rex_threads::processors;
 use rex_traits::{Gate, OpenGate};
 use std::alloc::{AllocError, Global};
 use std::sync::Wait;
-use std::thread::{Threads, available_parallelism};
+use std::thread::Threads;
 
 /// What words are answered that are no command line.
 pub(crate) fn usage(alloc: Global) -> Result<Answer, AllocError>
@@ -71,17 +72,7 @@ fn lead_by_crew<R: Threads + Sync>(
         ensures runs { IfOk result (λ s. run svc.now from.now events.now ≡ Some s) }
         ensures sound { IfOk result (λ s. IsSound svc.now s) }
     { crew.replay(alloc, svc, from, events) };
-    lead(alloc, svc, scenario, &mut ByCall { call }, history)
-}
-
-// How many workers may run beside each other.
-fn processors<R: Threads>(rt: &R) -> u8
-    ensures { (0 < result) × (result ≤ 16) }
-{
-    match available_parallelism(rt) {
-        Ok(count) => count.get().min(16) as u8,
-        Err(_) => 1,
-    }
+    lead(rt, alloc, svc, scenario, ByCall { call }, history)
 }
 
 // So many workers replay what the lanes of a service did. On a floor most events come after one of another lane, and workers would
@@ -91,7 +82,7 @@ fn workers_for<R: Threads>(rt: &R, recording: Recording, svc: &Checked) -> u8
 {
     match recording {
         Recording::Floor => 1,
-        Recording::Words => svc.declarations().lanes.min(processors(rt)),
+        Recording::Words => svc.declarations().lanes.min(processors(rt).min(16) as u8),
     }
 }
 

@@ -1,5 +1,5 @@
 use Rattle.std.proofs.Common.{ap, sym, subst, ◌∙◌}
-use Rattle.std.specs.Prelude.{IsSome}
+use Rattle.std.specs.Prelude.{◌≡◌, Some}
 use Rattle.rex_state.specs.Value.{StateValue}
 use Rattle.rex_state.specs.Machine.{run}
 use Rattle.rex_node.proofs.Blocks.{block_leads, block_stays}
@@ -9,7 +9,7 @@ use Rattle.rex_node.specs.Parts.{NodeValue, whole}
 
 pub take_block-requires-clause-runs : goal.take_block-requires-clause-runs
 take_block-requires-clause-runs g c =
-    subst (λ (s : StateValue). IsSome (run c.args.svc.now s c.args.events.now))
+    subst (λ (s : StateValue). run c.args.svc.now s c.args.events.now ≡ Some c.args.state)
     (live_state_of g.K.Keeper.records c.args.svc.now g.P.Past.past (whole g.P.Past.past c.args.self.now) _ c.in-Some-acting.acting (ap (λ (x : NodeValue _). whole g.P.Past.past x) c.self.view_is) c.requires.node _ (sym c.active_refusal.ensures.why ∙ c.in_default.is) (sym c.in-Some-acting.is))
     c.requires.runs
 
