@@ -241,22 +241,6 @@ def held_at(text, handler, number, code):
     return None
 
 
-def bad_words(text, number, code):
-    """The first word of a service's line that has this code by itself, by tests/model, or none."""
-    from model.scenarios import Scenario
-    from model.services import Service
-    from model.texts import Refused, lines_of, words_of
-    reader, lines = Scenario() if is_scenario(text) else Service(), lines_of(text)
-    if not code.startswith("P") or not 4 <= int(code[1:]) <= 9 or not 1 <= number <= len(lines):
-        return []
-    try:
-        for at, line in enumerate(lines[:number - 1], 1):
-            reader.line(at, line) if is_scenario(text) else reader.take(at, line)
-        return (reader.service if is_scenario(text) else reader).bad_words(words_of(lines[number - 1]), int(code[1:]))[:1]
-    except (Refused, KeyError, IndexError):
-        return []
-
-
 def explanation(text, answer):
     """What may be said of an answer that refuses a text, or an empty text."""
     refused = REFUSED.fullmatch(answer)
@@ -267,10 +251,12 @@ def explanation(text, answer):
     where, often = codes[code]
     line = line_of(text, number)
     parts = [f"line {number}: {line}" if line is not None else f"line {number} is behind the last one" if number else "the whole input", f"{code}: {where}"]
-    sys.path.append(os.path.join(os.path.dirname(os.path.dirname(os.path.abspath(__file__))), "tests"))
-    held, words = held_at(text, refused[1].decode(), number, code) if refused[1] else None, bad_words(text, number, code)
+    # its readers take long to load
+    from reasons import bound_of, reasons
+    held = held_at(text, refused[1].decode(), number, code) if refused[1] else None
     parts += [f"held there: {held}"] if held else []
-    parts += [f"here: {word}" for word in words]
+    parts += [f"here: the bound is {bound_of(text, refused[1].decode()):,}"] if code == "C9" else []
+    parts += [f"here: {reason}" for reason in reasons(text, number, code)]
     parts += [f"often: {often}", f"read on: {document}, \"{heading}\""]
     width = max(40, min(shutil.get_terminal_size().columns, 120))
     return "".join(textwrap.fill(part, width, subsequent_indent="    ", break_long_words=False) + "\n" for part in parts)

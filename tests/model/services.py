@@ -149,16 +149,6 @@ class Service:
             return set() if self.kinds.get(word) in NAMED[form] and not self.is_local(word) else {8}
         return {7}
 
-    def bad_words(self, words, code):
-        """The words of a line that have this code each by itself."""
-        found = []
-        for form, word in placed((DECLARATIONS if self.within is None else HANDLER_LINES)[words[0]], words[1:]):
-            if form == "EXPRESSION":
-                found += [it for at, it in enumerate(word) if (code in self.codes_of_expression([it]) if at % 2 == 0 else code == 6 and it not in OPERATORS)]
-            elif code in self.codes_of_word(form, word):
-                found.append(word)
-        return found
-
     def is_local(self, word):
         return self.within is not None and word in self.within.locals
 
