@@ -1,4 +1,5 @@
 """Reports of `rex run`, read for the scripts that draw them: what happened at which node, line by line of the schedule."""
+import collections
 import re
 import signal
 import sys
@@ -40,6 +41,33 @@ TEXTS = [
 # no number of a report has more than twenty digits
 TEXTS = [(kind, re.compile(form.replace(r"\d+", r"\d{1,20}")), label) for kind, form, label in TEXTS]
 MINOR = ("event", "idle", "submit")
+# The texts of a report that say that nothing came of a line, each with its form, a name, and why that is.
+NOTHING = [
+    (r"not active (?:follower|candidate|adopting)", "not active", "the node doesn't lead"),
+    (r"lane \d+ idle", "lane idle", "no request is queued for it"),
+    (r"lane \d+ held by \d+", "lane held", "another lane has the lock"),
+    (r"lane \d+ unsignalled", "lane unsignalled", "it waits for a signal"),
+    (r"lane \d+ at zero \w+", "lane at zero", "its semaphore's value is 0"),
+    (r"lane \d+ full", "lane full", "4,096 events are live: cut first"),
+    (r"waiting", "waiting", "the request is queued or begun already, and its reply isn't agreed yet"),
+    (r"old \d+", "old", "the client has sent a later request"),
+    (r"gap \d+", "gap", "the client's request before it is missing or not replied to"),
+    (r"primary", "primary", "the node leads, so it is read there by a request"),
+    (r"open \d+", "open", "the node's last proposal isn't agreed yet"),
+    (r"ended", "ended", "65,535 deltas are known, and there can be no more"),
+    (r"live \d+", "live", "the leader has events that aren't agreed: cut first"),
+    (r"nothing", "nothing", "there was nothing to hand over, cut, tell, keep or drop"),
+    (r"no message \d+", "no message", "fewer were sent"),
+    (r"ignored ballot \d+ \d+", "ignored ballot", "the message is of another ballot than the node's own"),
+    (r"ignored late", "ignored late", "the node doesn't ask for promises any more"),
+    (r"ignored instance \d+ \d+", "ignored instance", "the message is of another delta than the one due"),
+    (r"ignored again \d+", "ignored again", "its sender is counted already"),
+    (r"node \d up to date", "up to date", "the node leads, or has run all that it knows"),
+    (r"node \d is down", "is down", "the node is down"),
+    (r"node \d is up", "is up", "the node runs already"),
+    (r"node \d spent", "spent", "the node has no ballot left"),
+]
+NOTHING = [(re.compile(form), name, why) for form, name, why in NOTHING]
 MESSAGE = re.compile(r"(sent|message) ([1-9]\d{0,19}) (prepare|promise|accept|accepted|chosen|nack|ask|snapshot) ([1-9]) ([1-9])")
 LINE = re.compile(r"([1-9]\d{0,5}) (.+)")
 END = re.compile(r"end node ([1-9]) (down|(?:active|follower|candidate|adopting) promised \d+ known \d+ (?:live|replayed) \d+(?: \w+=-?\d+)*)")
@@ -203,6 +231,29 @@ class Report:
                     leaders.pop(step.node, None)
 
 
+def idle_lines(text):
+    """How many schedule lines a report tells of, and of how many of them nothing came, by the name of the first text that says so."""
+    came, last, counts = {}, 0, collections.Counter()
+    for line in text.split("\n"):
+        parts = LINE.fullmatch(line)
+        if parts and not parts[2].startswith("message "):
+            last = int(parts[1])
+            name = next((name for form, name, _ in NOTHING if form.fullmatch(parts[2])), None)
+            came[last] = name and came.get(last, name)
+    counts.update(name for name in came.values() if name)
+    return last, counts
+
+
+def idle_note(text):
+    """A line for each reason for which nothing came of schedule lines, the most frequent first, below one that counts them; else none."""
+    last, counts = idle_lines(text)
+    if not counts:
+        return ""
+    whys = {name: why for _, name, why in NOTHING}
+    head = f"nothing came of {sum(counts.values())} of {last} schedule lines:"
+    return "\n".join([head, *(f"    {count} `{name}`: {whys[name]}" for name, count in counts.most_common())]) + "\n"
+
+
 def read_schedule(path):
     """The words of the schedule lines of a scenario."""
     with open(path, encoding="ascii", errors="replace") as it:
@@ -218,6 +269,8 @@ def read_report(name, files):
     report, number = Report(), None
     # who reads the output may stop before its end
     signal.signal(signal.SIGPIPE, signal.SIG_DFL)
+    if not files and sys.stdin is not None and sys.stdin.isatty():
+        print(f"{name}: reading from the terminal; Ctrl-D on a line of its own ends the input", file=sys.stderr)
     try:
         with open(files[0] if files else 0, encoding="ascii", errors="replace") as it:
             for number, line in enumerate(it.read().removesuffix("\n").split("\n"), 1):

@@ -240,6 +240,13 @@ class Schedule:
         if self.dice.random() < 0.3:
             self.settle()
 
+    def start_all(self):
+        """Starts each node that is down, and answers how many there were."""
+        down = [node.number for node in self.world.nodes if not node.is_up]
+        for node in down:
+            self.add("start %d" % node)
+        return len(down)
+
     def settle(self):
         """Hands over what waits, and has each node replay."""
         for _ in range(6):

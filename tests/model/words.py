@@ -23,14 +23,22 @@ def number(word, least, most):
 
 def taken(words):
     """The command and its numbers that the words behind the program's name ask for, or None."""
-    if not words or words[0] not in COMMANDS:
-        return None
+    asked, _ = looked_at(words)
+    return asked
+
+
+def looked_at(words):
+    """The same, and where there is none what is wrong with the words."""
+    if not words:
+        return None, "a command is due"
+    if words[0] not in COMMANDS:
+        return None, "no command is called `%s`" % words[0]
     options, ranges = COMMANDS[words[0]]
-    numbers, workers, journals, rest = [], [], 0, list(words[1:])
+    numbers, workers, journals, rest, options_over = [], [], 0, list(words[1:]), False
     while rest:
         word = rest.pop(0)
         if word == "--":
-            numbers, rest = numbers + rest, []
+            numbers, rest, options_over = numbers + rest, [], True
         elif "--workers" in options and word == "--workers" and rest:
             workers.append(rest.pop(0))
         elif "--workers" in options and word.startswith("--workers="):
@@ -39,10 +47,30 @@ def taken(words):
             journals += 1
         else:
             numbers.append(word)
-    if len(workers) > 1 or journals > 1 or len(numbers) != len(ranges) or any(number(word, *WORKERS) is None for word in workers):
-        return None
+    bad_workers = [word for word in workers if number(word, *WORKERS) is None]
+    if bad_workers:
+        return None, "`%s` isn't a number of workers, 1 to 16" % bad_workers[0]
+    if len(workers) > 1 or journals > 1:
+        return None, "`%s` is there twice" % ("--workers" if len(workers) > 1 else "--journal")
     values = [number(word, *limits) for word, limits in zip(numbers, ranges)]
-    return None if None in values else (words[0], values)
+    if len(numbers) != len(ranges) or None in values:
+        return None, number_fault(words[0], ranges, numbers, options_over)
+    return (words[0], values), None
+
+
+def number_fault(command, ranges, numbers, options_over):
+    """What is wrong with the words of a command that are no options of it."""
+    option = next((word for word in numbers if word.startswith("-") and not options_over), None)
+    if option == "--workers" and "--workers" in COMMANDS[command][0]:
+        return "a number of workers, 1 to 16, is due behind `--workers`"
+    if option is not None:
+        return "`%s` takes no `%s`" % (command, option)
+    if not ranges:
+        return "`%s` reads standard input, and takes no `%s`; a file is handed in as `< FILE`" % (command, numbers[0])
+    if len(numbers) != len(ranges):
+        return "`%s` takes two numbers, N and SIZE, and there %s %d" % (command, "is" if len(numbers) == 1 else "are", len(numbers))
+    word, limits, name = next((word, limits, name) for word, limits, name in zip(numbers, ranges, ("N", "SIZE")) if number(word, *limits) is None)
+    return "`%s` isn't %s, %d to %d" % (word, name, *limits)
 
 
 def answer(words, source):
