@@ -47,10 +47,10 @@ ROLES = {"candidate": "candidate", "adopts": "adopting", "active": "active", "fo
 
 
 class Mark:
-    """A text of a step: its kind, its short label, what it was, and the role that it gives its node, if any."""
+    """A text of a step: its kind, its short label, what it was, its parts by their names, and the role that it gives its node, if any."""
 
-    def __init__(self, kind, label, text, role):
-        self.kind, self.label, self.text, self.role = kind, label, text, role
+    def __init__(self, kind, label, text, parts):
+        self.kind, self.label, self.text, self.parts, self.role = kind, label, text, parts, ROLES.get(parts.get("role"))
 
 
 class Step:
@@ -91,12 +91,13 @@ class Bad(Exception):
 
 
 class Report:
-    """The steps, the messages by number, and the end lines of the nodes."""
+    """The lines, the steps, the messages by number, and the end lines of the nodes."""
 
     def __init__(self):
-        self.steps, self.messages, self.ends, self.here = [], [], [], []
+        self.lines, self.steps, self.messages, self.ends, self.here = [], [], [], [], []
 
     def take(self, line):
+        self.lines.append(line)
         end = END.fullmatch(line)
         if end:
             if int(end[1]) != len(self.ends) + 1:
@@ -162,7 +163,7 @@ class Report:
             step.node = node
         if node not in (step.node, None):
             raise Bad(f"this line is node {step.node}'s")
-        step.marks.append(Mark(kind, label.format(**parts), text, ROLES.get(parts.get("role"))))
+        step.marks.append(Mark(kind, label.format(**parts), text, parts))
 
     def check(self, schedule):
         """Whether all of it fits together, and with the schedule, if there is one, each line of which is told of."""
