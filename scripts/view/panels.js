@@ -19,10 +19,10 @@ function listed(items, most, shownAs, word) {
 function drawState() {
   const look = lookAt(cursor), node = chosen || leaderOf(look);
   fill("state",
-    theLine(), heading("Nodes"), nodeTable(look), theNode(look),
+    theLine(), heading("Nodes"), nodeTable(look), theNode(look), heading(node ? `Lanes of ${whoseState(look, node)}` : "Lanes"), lanesOf(look, node),
     make("div", { class: "two" },
-      make("div", {}, heading(node ? `Service: ${whoseState(look, node)}` : "Service"), theService(look, node)),
-      make("div", {}, lanesOf(look, node), heading("Variables and semaphores"), theStores(look))),
+      make("div", {}, heading("Service"), theService(look, node)),
+      make("div", {}, queueOf(look, node), heading("Variables and semaphores"), theStores(look))),
     heading("Clients"), theClients(look), theMessages());
 }
 
@@ -50,24 +50,23 @@ function roleOf(role) {
   return make("span", { class: `role ${role}` }, role);
 }
 
-// Which nodes have promised or accepted so far, of the majority that is needed.
+// How many nodes have promised or accepted so far, of the majority that is needed, and which.
 function countOf(look, node) {
   const who = look.of(node, "counted"), open = look.of(node, "open");
   if (!who || (look.of(node, "role") !== "candidate" && !open)) return "";
-  return `${open ? `delta ${open[0]} (${counted(open[1], "event")}): accepted by` : "promised by"} ${who.join(", ")}; needs ${Math.floor(data.nodes / 2) + 1}`;
+  return `${open ? `delta ${open[0]} of ${counted(open[1], "event")} accepted` : "promised"} by ${who.length} of ${Math.floor(data.nodes / 2) + 1}: ${who.join(" ")}`;
 }
 
 function nodeTable(look) {
   const cell = (node, names, text, style = "number") => make("td", { class: `${style}${names.some((name) => look.isNew(`${node} ${name}`)) ? " new" : ""}` }, text ?? "");
   const plain = (node, name) => cell(node, [name], look.of(node, name) === null ? "" : `${look.of(node, name)}`);
-  return table(["node", "role", "ballot", "promised", "known", "replayed", "base", "offset", "live", "counts", "its keeper"], nodes.map((node) => {
-    const fails = look.of(node, "fails"), accepted = look.of(node, "accepted");
-    const keeper = [fails ? `fails next, ${fails}` : "", accepted ? `accepted ${look.of(node, "known") + 1} of ballot ${accepted[0]}` : "", look.of(node, "old") ? "old checkpoint" : ""].filter(Boolean).join("; ");
-    return make("tr", { class: chosen === node ? "chosen-node" : "" },
-      make("td", {}, make("button", { class: "link", "aria-pressed": `${chosen === node}`, onclick: () => choose(node, false, true) }, `${node}`)), cell(node, ["role"], roleOf(look.of(node, "role")), ""),
-      ...["ballot", "promised", "known", "replayed", "base", "offset", "live"].map((name) => plain(node, name)),
-      cell(node, ["counted", "open"], countOf(look, node), countOf(look, node) ? "long" : ""), cell(node, ["fails", "accepted", "old"], keeper, ""));
-  }));
+  const acceptedOf = (node) => (look.of(node, "accepted") ? `delta ${look.of(node, "known") + 1}, ballot ${look.of(node, "accepted")[0]}` : "");
+  const keeperOf = (node) => [look.of(node, "fails") ? `fails next, ${look.of(node, "fails")}` : "", look.of(node, "old") ? "old checkpoint" : ""].filter(Boolean).join("; ");
+  // columns that are only shown where they have something
+  const more = [["counts", ["counted", "open"], countOf], ["accepted", ["accepted"], (_, node) => acceptedOf(node)], ["its keeper", ["fails", "old"], (_, node) => keeperOf(node)]].filter(([, , text]) => nodes.some((node) => text(look, node)));
+  return table(["node", "role", "ballot", "promised", "known", "replayed", "base", "offset", "live", ...more.map(([head]) => head)], nodes.map((node) => make("tr", { class: chosen === node ? "chosen-node" : "" },
+    make("td", {}, make("button", { class: "link", "aria-pressed": `${chosen === node}`, onclick: () => choose(node, false, true) }, `${node}`)), cell(node, ["role"], roleOf(look.of(node, "role")), ""),
+    ...["ballot", "promised", "known", "replayed", "base", "offset", "live"].map((name) => plain(node, name)), ...more.map(([, names, text]) => cell(node, names, text(look, node), "long")))));
 }
 
 function theNode(look) {
@@ -83,8 +82,8 @@ function nextOf(node, way) {
 
 function whoseState(look, node) {
   const role = look.of(node, "role");
-  if (role === "down") return `node ${node} is down`;
-  return role === "active" ? `lanes of node ${node}, which leads` : `lanes of node ${node}, after delta ${look.of(node, "replayed")}`;
+  if (role === "down") return `node ${node}, which is down`;
+  return role === "active" ? `node ${node}, which leads` : `node ${node}, after delta ${look.of(node, "replayed")}`;
 }
 
 // The busy lanes of a node: their numbers, and what they are at.
@@ -103,15 +102,18 @@ function theService(look, node) {
 }
 
 function lanesOf(look, node) {
-  if (!node) return [heading("Lanes"), nothing(chosen ? "" : "No node leads. Choose a node to see the lanes of its state.")];
-  const busy = busyLanes(look, node), queue = look.of(node, "queue"), isActive = look.of(node, "role") === "active", idle = data.lanes - busy.length;
+  if (!node) return nothing("No node leads. Choose a node to see the lanes of its state.");
+  const busy = busyLanes(look, node), idle = data.lanes - busy.length;
   const rows = busy.map(([lane, it]) => make("tr", { class: look.isNew(`${node} lane ${lane}`) ? "new" : "" },
     make("td", {}, `${lane}`), make("td", {}, requestOf(it.request)), make("td", {}, `${it.line} ${data.scenario[it.line - 1].trim()}`), make("td", {}, it.held.join(", ")), make("td", {}, it.hindered ?? ""),
     make("td", {}, Object.entries(it.locals).map(([name, value]) => `${name}=${value}`).join(" "))));
-  return [
-    heading(`Lanes of node ${node}`), busy.length ? table(["lane", "request", "stands at", "holds", "waits", "locals"], rows) : null, idle ? nothing(`${busy.length ? "and " : ""}${counted(idle, "idle lane")}`) : null,
-    ...(isActive ? [heading(`Queue of node ${node}`), queue ? make("ul", { class: "plain" }, listed(queue, MOST_LISTED, (it) => make("li", {}, requestOf(it)), "request")) : nothing("no request waits")] : []),
-  ];
+  return [busy.length ? table(["lane", "request", "stands at", "holds", "waits", "locals"], rows) : null, idle ? nothing(look.of(node, "role") === "down" ? "none" : `${busy.length ? "and " : ""}${counted(idle, "idle lane")}`) : null];
+}
+
+function queueOf(look, node) {
+  if (!node || look.of(node, "role") !== "active") return null;
+  const queue = look.of(node, "queue");
+  return [heading("Requests that wait for a lane"), queue ? make("ul", { class: "plain" }, listed(queue, MOST_LISTED, (it) => make("li", {}, requestOf(it)), "request")) : nothing("none")];
 }
 
 function theStores(look) {
@@ -129,13 +131,13 @@ function theClients(look) {
     const asked = look.value(`client ${client} asked`), released = look.value(`client ${client} released`), seen = look.value(`client ${client} seen`);
     if (!asked && !released && seen === null) continue;
     const isOut = asked && released && requestOf(asked[0]).split(/\s+/)[1] === `${released[0]}`;
-    rows.push(make("tr", {}, make("td", {}, `${client}`),
-      make("td", { class: look.isNew(`client ${client} asked`) ? "new" : "" }, asked ? [`${requestOf(asked[0])} at node ${asked[1]}, `, link(asked[2], `line ${placeName(asked[2])}`), `: ${steps[asked[2]].marks[0]?.[1] ?? ""}`] : ""),
-      make("td", { class: look.isNew(`client ${client} released`) ? "new" : "" }, released ? [`request ${released[0]}: ${released[1]}, `, link(released[2], `line ${placeName(released[2])}`)] : ""),
-      make("td", {}, asked ? (isOut ? "released" : "not released") : ""), make("td", { class: "number" }, seen === null ? "" : `${seen}`)));
+    rows.push(make("tr", {}, make("td", {}, `${client}`), make("td", {}, asked ? requestOf(asked[0]) : ""),
+      make("td", { class: look.isNew(`client ${client} asked`) ? "new" : "" }, asked ? [`node ${asked[1]}, `, link(asked[2], `line ${placeName(asked[2])}`), `: ${steps[asked[2]].marks[0]?.[1] ?? ""}`] : ""),
+      make("td", { class: look.isNew(`client ${client} released`) ? "new" : "" }, released ? [`${isOut ? "" : `of request ${released[0]}: `}${released[1]}, `, link(released[2], `line ${placeName(released[2])}`)] : asked ? "not released" : ""),
+      make("td", { class: "number" }, seen === null ? "" : `${seen}`)));
   }
   if (!rows.length) return nothing("no client has asked for anything");
-  return make("div", {}, table(["client", "last request handed in", "last reply released", "", "seen"], rows.slice(0, MOST_LISTED)), rows.length > MOST_LISTED ? nothing(`and ${counted(rows.length - MOST_LISTED, "more client")}`) : null);
+  return make("div", {}, table(["client", "its last request", "handed in", "reply released", "seen"], rows.slice(0, MOST_LISTED)), rows.length > MOST_LISTED ? nothing(`and ${counted(rows.length - MOST_LISTED, "more client")}`) : null);
 }
 
 function theMessages() {

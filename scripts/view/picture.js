@@ -1,6 +1,6 @@
 // The space-time picture: a row for each step that is shown, a bar for each node, and the ways of messages. What is in sight is drawn.
 
-const ROW = 22, BAR = 5, ABOVE = 6, MOST_WAYS = 600;
+const ROW = 22, BAR = 5, ABOVE = 6, MOST_WAYS = 600, MOST_PASSING = 60;
 const SIGNS = {
   role: ["M-5 0a5 5 0 1 0 10 0a5 5 0 1 0-10 0z", "--text"], vote: ["M-4 0a4 4 0 1 0 8 0a4 4 0 1 0-8 0z", "--offer"], known: ["M-5-5h10v10h-10z", "--chosen"],
   released: ["M0-6l6 6l-6 6l-6-6z", "--reply"], keep: ["M-5-4h10v8h-10z", "--ask"], stop: ["M-5-5h10v10h-10z", "--stop"], read: ["M0-6l6 6l-6 6l-6-6z", "--vote"],
@@ -63,13 +63,13 @@ function drawPicture() {
   byId("rows").replaceChildren(...rows);
   byId("texts").replaceChildren(...texts);
   byId("ways").innerHTML = barsIn(top, bottom) + waysIn(top, bottom) + signsIn(top, bottom) + `<path class="cursor" d="M0 ${(rowOf[cursor] - top + 1) * ROW - 0.5}H${widths.full}"/>`;
-  picture.setAttribute("aria-activedescendant", `step${shown[rowOf[cursor]]}`);
+  byId("rows").setAttribute("aria-activedescendant", `step${shown[rowOf[cursor]]}`);
 }
 
 function rowOfStep(place, row, y) {
   const style = ["row", place && steps[place].line % 2 ? "odd" : "", row === rowOf[cursor] ? "here" : "", found[place] ? "found" : "", place > cursor ? "after" : ""].join(" ");
   const isFirst = !place || place === firstPlace[steps[place].line];
-  return make("div", { class: style, id: `step${place}`, role: "option", "aria-selected": `${row === rowOf[cursor]}`, "aria-label": toldOf(place), style: `top:${y}px`, onclick: () => go(place), title: toldOf(place) },
+  return make("div", { class: style, id: `step${place}`, role: "option", "aria-setsize": shown.length, "aria-posinset": row + 1, "aria-selected": `${row === rowOf[cursor]}`, "aria-label": toldOf(place), style: `top:${y}px`, onclick: () => go(place), title: toldOf(place) },
     make("span", { class: "number" }, isFirst ? (place ? `${steps[place].line}` : "0") : ""), make("span", { class: "words quiet", style: `width:${widths.gutter - 8 - 46}px` }, isFirst ? wordsOf(place) : ""));
 }
 
@@ -113,28 +113,32 @@ function barsIn(top, bottom) {
   return parts.join("");
 }
 
+// The ways with an end in sight, and some of those that pass by: there may be thousands of messages that are handed over much later.
 function waysIn(top, bottom) {
-  const parts = [];
-  for (let at = 0, drawn = 0; at < ways.length && drawn < MOST_WAYS; at++) {
+  const near = [], passing = [], isIn = (row) => row >= top && row <= bottom;
+  for (let at = 0; at < ways.length; at++) {
     const from = rowOf[wayStarts[at]], to = rowOf[wayEnds[at]];
-    if (from > bottom || to < top) continue;
-    parts.push(ways[at].lost ? lostWay(ways[at], (from - top + 0.5) * ROW) : way(ways[at], (from - top + 0.5) * ROW, (to - top + 0.5) * ROW, (rowOf[cursor] - top + 1) * ROW));
-    drawn++;
+    if (from <= bottom && to >= top) (isIn(from) || isIn(to) ? near : passing).push([at, from, to]);
   }
-  return parts.join("");
+  const drawn = [...passing.slice(0, MOST_PASSING), ...near.slice(0, MOST_WAYS)], left = near.length + passing.length - drawn.length;
+  byId("left").textContent = left ? `${counted(left, "way")} of messages that pass by here not drawn` : "";
+  const limits = [-2 * ROW, (bottom - top + 3) * ROW], now = (rowOf[cursor] - top + 1) * ROW;
+  return drawn.map(([at, from, to]) => (ways[at].lost ? lostWay(ways[at], (from - top + 0.5) * ROW) : way(ways[at], (from - top + 0.5) * ROW, (to - top + 0.5) * ROW, now, limits))).join("");
 }
 
 function cross(x, y, kind, late) {
   return `<path class="cross ${kind}${late}" d="M${x - 4} ${y - 4}l8 8m0-8l-8 8"/>`;
 }
 
-function way({ message, start, end, again }, y, toY, now) {
+function way({ message, start, end, again }, y, toY, now, [least, most]) {
   const { kind, sender, receiver } = message, side = receiver > sender ? 1 : -1, isLost = isDown(end), isUnder = start <= cursor && cursor < end && !again;
   const x = widths.x[sender] + side * BAR, toX = widths.x[receiver] - side * (BAR + (isLost ? 6 : 1)), late = dim(start);
   const long = Math.hypot(toX - x, toY - y) || 1, dx = (toX - x) / long, dy = (toY - y) / long;
   const tip = isLost ? cross(toX, toY, kind, late) : `<path class="tip ${kind}${late}" d="M${toX} ${toY}L${toX - 8 * dx + 3.5 * dy} ${toY - 8 * dy - 3.5 * dx}L${toX - 8 * dx - 3.5 * dy} ${toY - 8 * dy + 3.5 * dx}z"/>`;
   const part = (now - y) / (toY - y || 1), dot = isUnder && part >= 0 && part <= 1 ? `<circle class="tip ${kind}" r="5" cx="${x + part * (toX - x)}" cy="${now}"/>` : "";
-  const path = `M${x} ${y}L${toX} ${toY}`, title = `${wayOf(message)}: ${message.detail}${again ? "; handed over again" : ""}${isLost ? "; the node is down" : ""}`;
+  // a long way is cut where it leaves sight: dashes of a million pixels take seconds
+  const at = (wanted) => [x + ((toX - x) * (wanted - y)) / (toY - y), wanted], [startAt, endAt] = [y < least ? at(least) : [x, y], toY > most ? at(most) : [toX, toY]];
+  const path = `M${startAt}L${endAt}`, title = `${wayOf(message)}: ${message.detail}${again ? "; handed over again" : ""}${isLost ? "; the node is down" : ""}`;
   return `<path class="way ${kind}${again ? " again" : ""}${isUnder ? " under" : ""}${late}" d="${path}"/>${tip}${dot}<path class="hit" data-start="${start}" data-end="${end}" d="${path}"><title>${title}</title></path>`;
 }
 

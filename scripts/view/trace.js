@@ -29,7 +29,7 @@ function drawTrace() {
   const near = new Set(mine === undefined ? [] : [...events[mine].causes, ...wires.filter((wire) => wire.from === mine).map((wire) => wire.to)]);
   for (let at = top; at <= bottom; at++) parts.push(lines[at].event === undefined ? headOf(look, lines[at], at * LINE) : boxOf(look, lines[at].event, at * LINE, mine, near));
   const svg = make("span", {});
-  svg.innerHTML = `<svg width="${width}" height="${lines.length * LINE}" aria-hidden="true">${wiresIn(look, top, bottom, mine)}</svg>`;
+  svg.innerHTML = `<svg width="${width}" height="${(bottom - top + 1) * LINE}" viewBox="0 ${top * LINE} ${width} ${(bottom - top + 1) * LINE}" style="top:${top * LINE}px" aria-hidden="true">${wiresIn(look, top, bottom, mine)}</svg>`;
   board.replaceChildren(svg, ...parts);
   return undefined;
 }
