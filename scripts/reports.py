@@ -73,7 +73,7 @@ class Step:
     def calls_for(self, message):
         """Whether this step has what such a message is sent for."""
         came = self.message
-        if any(mark.role == "down" or mark.text.endswith(" is down") for mark in self.marks):
+        if any(mark.role == "down" or mark.text.endswith(" is down") or mark.text == "nothing" for mark in self.marks):
             return False
         if message.kind in ANSWERS:
             return came is not None and came.kind in ANSWERS[message.kind] and came.sender == message.receiver

@@ -54,19 +54,25 @@ function roleOf(role) {
 function countOf(look, node) {
   const who = look.of(node, "counted"), open = look.of(node, "open");
   if (!who || (look.of(node, "role") !== "candidate" && !open)) return "";
-  return `${open ? `delta ${open[0]} of ${counted(open[1], "event")} accepted` : "promised"} by ${who.length} of ${Math.floor(data.nodes / 2) + 1}: ${who.join(" ")}`;
+  return `${open ? `delta ${open[0]} (${counted(open[1], "event")}) is accepted` : "is promised"} by ${who.join(" ")}, ${who.length} of ${Math.floor(data.nodes / 2) + 1}`;
 }
 
 function nodeTable(look) {
   const cell = (node, names, text, style = "number") => make("td", { class: `${style}${names.some((name) => look.isNew(`${node} ${name}`)) ? " new" : ""}` }, text ?? "");
   const plain = (node, name) => cell(node, [name], look.of(node, name) === null ? "" : `${look.of(node, name)}`);
-  const acceptedOf = (node) => (look.of(node, "accepted") ? `delta ${look.of(node, "known") + 1}, ballot ${look.of(node, "accepted")[0]}` : "");
-  const keeperOf = (node) => [look.of(node, "fails") ? `fails next, ${look.of(node, "fails")}` : "", look.of(node, "old") ? "old checkpoint" : ""].filter(Boolean).join("; ");
-  // columns that are only shown where they have something
-  const more = [["counts", ["counted", "open"], countOf], ["accepted", ["accepted"], (_, node) => acceptedOf(node)], ["its keeper", ["fails", "old"], (_, node) => keeperOf(node)]].filter(([, , text]) => nodes.some((node) => text(look, node)));
-  return table(["node", "role", "ballot", "promised", "known", "replayed", "base", "offset", "live", ...more.map(([head]) => head)], nodes.map((node) => make("tr", { class: chosen === node ? "chosen-node" : "" },
+  return [table(["node", "role", "ballot", "promised", "known", "replayed", "base", "offset", "live"], nodes.map((node) => make("tr", { class: chosen === node ? "chosen-node" : "" },
     make("td", {}, make("button", { class: "link", "aria-pressed": `${chosen === node}`, onclick: () => choose(node, false, true) }, `${node}`)), cell(node, ["role"], roleOf(look.of(node, "role")), ""),
-    ...["ballot", "promised", "known", "replayed", "base", "offset", "live"].map((name) => plain(node, name)), ...more.map(([, names, text]) => cell(node, names, text(look, node), "long")))));
+    ...["ballot", "promised", "known", "replayed", "base", "offset", "live"].map((name) => plain(node, name))))), make("ul", { class: "plain" }, nodes.flatMap((node) => more(look, node)))];
+}
+
+// What else there is of a node: what it counts, what it accepted and doesn't know, its keeper.
+function more(look, node) {
+  const accepted = look.of(node, "accepted"), fails = look.of(node, "fails");
+  const lines = [
+    [countOf(look, node), ["counted", "open"]], [accepted ? `has accepted delta ${look.of(node, "known") + 1} of ballot ${accepted[0]}, and doesn't know it` : "", ["accepted"]],
+    [fails ? `its next record fails, and is ${fails}` : "", ["fails"]], [look.of(node, "old") ? "its last checkpoint is of version 1" : "", ["old"]],
+  ];
+  return lines.filter(([text]) => text).map(([text, names]) => make("li", { class: names.some((name) => look.isNew(`${node} ${name}`)) ? "new" : "" }, `node ${node}: ${text}`));
 }
 
 function theNode(look) {

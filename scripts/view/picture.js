@@ -70,7 +70,7 @@ function rowOfStep(place, row, y) {
   const style = ["row", place && steps[place].line % 2 ? "odd" : "", row === rowOf[cursor] ? "here" : "", found[place] ? "found" : "", place > cursor ? "after" : ""].join(" ");
   const isFirst = !place || place === firstPlace[steps[place].line];
   return make("div", { class: style, id: `step${place}`, role: "option", "aria-setsize": shown.length, "aria-posinset": row + 1, "aria-selected": `${row === rowOf[cursor]}`, "aria-label": toldOf(place), style: `top:${y}px`, onclick: () => go(place), title: toldOf(place) },
-    make("span", { class: "number" }, isFirst ? (place ? `${steps[place].line}` : "0") : ""), make("span", { class: "words quiet", style: `width:${widths.gutter - 8 - 46}px` }, isFirst ? wordsOf(place) : ""));
+    make("span", { class: "number" }, isFirst ? (place ? `${steps[place].line}` : "0") : ""), make("span", { class: "words quiet", style: `width:${widths.gutter - 8 - 46}px` }, `${isFirst ? wordsOf(place) : ""}${place && !steps[place].node ? `: ${steps[place].marks.map(([, label]) => label).join("; ")}` : ""}`));
 }
 
 // What happened in a step, in words.
@@ -81,7 +81,7 @@ function toldOf(place) {
 }
 
 function toldAt(place, y) {
-  if (!place) return null;
+  if (!place || !steps[place].node) return null;
   const { node, message, marks } = steps[place], isRight = textIsRight(node), parts = [];
   const lane = wordsOf(place).split(/\s+/);
   if (message) parts.push(make("span", { class: `kind ${messages[message].kind}` }, `${messages[message].kind} of ${messages[message].sender}`));
@@ -92,7 +92,7 @@ function toldAt(place, y) {
   const lost = sendsOf[place].filter((it) => !it.handed.length), lostKinds = [...new Set(lost.map((it) => it.kind))];
   if (lost.length) parts.push(make("span", { class: "quiet" }, `lost: ${lostKinds.map((kind) => `${kind} to ${lost.filter((it) => it.kind === kind).map((it) => it.receiver).join(" ")}`).join(", ")}`));
   const joined = parts.flatMap((part, index) => (index ? ["; ", part] : [part]));
-  const x = node ? widths.x[node] : widths.gutter - 130, room = isRight ? `left:${x + 20}px;max-width:${widths.full - x - 24}px` : `right:${widths.full - x + 20}px;max-width:${x - widths.gutter - 26}px`;
+  const x = widths.x[node], room = isRight ? `left:${x + 20}px;max-width:${widths.full - x - 24}px` : `right:${widths.full - x + 20}px;max-width:${x - widths.gutter - 26}px`;
   return make("div", { class: `told${isRight ? "" : " right"}${place > cursor ? " later" : ""}`, style: `top:${y}px;${room}` }, make("span", {}, joined));
 }
 
