@@ -1,6 +1,6 @@
 // The space-time picture: a row for each step that is shown, a bar for each node, and the ways of messages. What is in sight is drawn.
 
-const ROW = 22, BAR = 5, ABOVE = 6, MOST_WAYS = 600, MOST_PASSING = 60;
+const ROW = 22, BAR = 5, ABOVE = 6, MOST_WAYS = 600, MOST_PASSING = 12;
 const SIGNS = {
   role: ["M-5 0a5 5 0 1 0 10 0a5 5 0 1 0-10 0z", "--text"], vote: ["M-4 0a4 4 0 1 0 8 0a4 4 0 1 0-8 0z", "--offer"], known: ["M-5-5h10v10h-10z", "--chosen"],
   released: ["M0-6l6 6l-6 6l-6-6z", "--reply"], keep: ["M-5-4h10v8h-10z", "--ask"], stop: ["M-5-5h10v10h-10z", "--stop"], read: ["M0-6l6 6l-6 6l-6-6z", "--vote"],
@@ -120,6 +120,7 @@ function waysIn(top, bottom) {
     const from = rowOf[wayStarts[at]], to = rowOf[wayEnds[at]];
     if (from <= bottom && to >= top) (isIn(from) || isIn(to) ? near : passing).push([at, from, to]);
   }
+  passing.sort(([one], [other]) => ways[one].again - ways[other].again);
   const drawn = [...passing.slice(0, MOST_PASSING), ...near.slice(0, MOST_WAYS)], left = near.length + passing.length - drawn.length;
   byId("left").textContent = left ? `${counted(left, "way")} of messages that pass by here not drawn` : "";
   const limits = [-2 * ROW, (bottom - top + 3) * ROW], now = (rowOf[cursor] - top + 1) * ROW;
