@@ -71,14 +71,16 @@ NOTHING = [(re.compile(form), name, why) for form, name, why in NOTHING]
 MESSAGE = re.compile(r"(sent|message) ([1-9]\d{0,19}) (prepare|promise|accept|accepted|chosen|nack|ask|snapshot) ([1-9]) ([1-9])")
 LINE = re.compile(r"([1-9]\d{0,5}) (.+)")
 END = re.compile(r"end node ([1-9]) (down|(?:active|follower|candidate|adopting) promised \d+ known \d+ (?:live|replayed) \d+(?: \w+=-?\d+)*)")
+# the kinds of messages that answer one message each, and the kinds that they answer
+ANSWERS = {"promise": ["prepare"], "accepted": ["accept"], "nack": ["prepare", "accept"], "snapshot": ["prepare", "accept", "ask"]}
 ROLES = {"candidate": "candidate", "adopts": "adopting", "active": "active", "follower": "follower", "stopped": "down", "down": "down", "started": "follower"}
 
 
 class Mark:
-    """A text of a step: its kind, its short label, what it was, and the role that it gives its node, if any."""
+    """A text of a step: its kind, its short label, what it was, its parts by their names, and the role that it gives its node, if any."""
 
-    def __init__(self, kind, label, text, role):
-        self.kind, self.label, self.text, self.role = kind, label, text, role
+    def __init__(self, kind, label, text, parts):
+        self.kind, self.label, self.text, self.parts, self.role = kind, label, text, parts, ROLES.get(parts.get("role"))
 
 
 class Step:
@@ -98,13 +100,19 @@ class Step:
 
     def calls_for(self, message):
         """Whether this step has what such a message is sent for."""
-        came, answers = self.message, {"promise": ["prepare"], "accepted": ["accept"], "nack": ["prepare", "accept"], "snapshot": ["prepare", "accept", "ask"]}
-        if message.kind in answers:
-            return came is not None and came.kind in answers[message.kind] and came.sender == message.receiver
+        came = self.message
+        if any(mark.role == "down" or mark.text.endswith(" is down") or mark.text == "nothing" for mark in self.marks):
+            return False
+        if message.kind in ANSWERS:
+            return came is not None and came.kind in ANSWERS[message.kind] and came.sender == message.receiver
         if message.kind == "chosen":
-            is_known = any(mark.kind == "known" for mark in self.marks) and (came is None or came.kind != "chosen")
+            is_known = any(mark.kind == "known" and " known " in mark.text for mark in self.marks) and (came is None or came.kind != "chosen")
             return is_known or (came is not None and came.kind == "ask" and came.sender == message.receiver)
         return message.kind != "accept" or any("proposes" in mark.text or "adopts" in mark.text for mark in self.marks)
+
+    def has_sent(self, message):
+        """Whether it has sent such a message to the same node, or the one message that it answers with."""
+        return bool(self.sends) if message.kind in ANSWERS else any((it.kind, it.receiver) == (message.kind, message.receiver) for it in self.sends)
 
 
 class Message:
@@ -119,12 +127,13 @@ class Bad(Exception):
 
 
 class Report:
-    """The steps, the messages by number, and the end lines of the nodes."""
+    """The lines, the steps, the messages by number, and the end lines of the nodes."""
 
     def __init__(self):
-        self.steps, self.messages, self.ends, self.here = [], [], [], []
+        self.lines, self.steps, self.messages, self.ends, self.here = [], [], [], [], []
 
     def take(self, line):
+        self.lines.append(line)
         end = END.fullmatch(line)
         if end:
             if int(end[1]) != len(self.ends) + 1:
@@ -172,11 +181,13 @@ class Report:
         message.handed_over.append(self.step(line, receiver, message))
 
     def origin(self, message):
-        """The step of this line that sent a message. A report tells what was sent behind all else that a line did: so it is the first
-        step of the sender that calls for such a message and sent none to the same node, or the last one."""
-        mine = [step for step in self.here if step.node in (message.sender, None)]
+        """The step of this line that sent a message. A report tells what was sent behind all else that a line did, in the order of the
+        steps that sent it: so it is the first step of the sender, from the last one on that sent something, that calls for such a message
+        and didn't send it yet, or the last one."""
+        since = max((at for at, step in enumerate(self.here) if step.sends), default=0)
+        mine = [step for step in self.here[since:] if step.node in (message.sender, None)]
         calling = [step for step in mine if step.calls_for(message)]
-        fresh = [step for step in calling if all((it.kind, it.receiver) != (message.kind, message.receiver) for it in step.sends)]
+        fresh = [step for step in calling if not step.has_sent(message)]
         return (fresh[:1] or calling[-1:] or mine[-1:] or [None])[0]
 
     def take_text(self, line, text):
@@ -190,7 +201,7 @@ class Report:
             step.node = node
         if node not in (step.node, None):
             raise Bad(f"this line is node {step.node}'s")
-        step.marks.append(Mark(kind, label.format(**parts), text, ROLES.get(parts.get("role"))))
+        step.marks.append(Mark(kind, label.format(**parts), text, parts))
 
     def check(self, schedule):
         """Whether all of it fits together, and with the schedule, if there is one, each line of which is told of."""

@@ -189,8 +189,9 @@ class Node:
         """Releases a reply: its client has seen something of as many values as there are up to the one with its last reply, as far as
         the node can tell."""
         self.say("released %d %d %d", client, sequence, value)
-        replied = [place for place, delta in enumerate(self.held, self.offset + 1) for event in delta if event.kind == "reply" and event.client == client]
-        self.world.seen[client] = max([self.world.seen.get(client, 0), self.offset, *replied])
+        has_reply = (any(event.kind == "reply" and event.client == client for event in delta) for delta in reversed(self.held))
+        last = next((self.known() - back for back, is_there in enumerate(has_reply) if is_there), self.offset)
+        self.world.seen[client] = max(self.world.seen.get(client, 0), last)
 
     def sequence_of(self, reply):
         """The sequence of the request that a reply in the value that became known last ends: that of its client's begin before it."""
