@@ -67,7 +67,7 @@ NOTHING = [
     (r"node \d is up", "is up", "the node runs already"),
     (r"node \d spent", "spent", "the node has no ballot left"),
 ]
-NOTHING = [(re.compile(form), name, why) for form, name, why in NOTHING]
+ANY_NOTHING = re.compile("|".join(f"(?P<n{at}>{form})" for at, (form, _, _) in enumerate(NOTHING)))
 MESSAGE = re.compile(r"(sent|message) ([1-9]\d{0,19}) (prepare|promise|accept|accepted|chosen|nack|ask|snapshot) ([1-9]) ([1-9])")
 LINE = re.compile(r"([1-9]\d{0,5}) (.+)")
 END = re.compile(r"end node ([1-9]) (down|(?:active|follower|candidate|adopting) promised \d+ known \d+ (?:live|replayed) \d+(?: \w+=-?\d+)*)")
@@ -249,7 +249,8 @@ def idle_lines(text):
         parts = LINE.fullmatch(line)
         if parts and not parts[2].startswith("message "):
             last = int(parts[1])
-            name = next((name for form, name, _ in NOTHING if form.fullmatch(parts[2])), None)
+            found = ANY_NOTHING.fullmatch(parts[2])
+            name = NOTHING[int(found.lastgroup[1:])][1] if found else None
             came[last] = name and came.get(last, name)
     counts.update(name for name in came.values() if name)
     return last, counts
