@@ -8,7 +8,7 @@ ghost use Rattle.rex_record.specs.Turn.{turn_of, does_draw, dice_after};
 ghost use Rattle.rex_event.specs.Cuts.{below, IsConsistent};
 ghost use Rattle.rex_record.specs.Take.{taken_turn};
 ghost use Rattle.rex_record.specs.Value.{turned, releases};
-ghost use Rattle.rex_safety.specs.Values as values;
+ghost use Rattle.rex_cluster.specs.Values as values;
 ghost use Rattle.rex_record.specs.Kept.{IsRecorder};
 ghost use Rattle.rex_scenario.specs.Fits.{RequestFits};
 ghost use Rattle.rex_node.specs.Blocks.{given_all};

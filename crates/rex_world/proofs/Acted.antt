@@ -5,15 +5,15 @@ use Rattle.rex_syntax.specs.declared.service.Declarations.{Declarations}
 use Rattle.rex_event.specs.declared.event.Event.{Event}
 use Rattle.rex_report.specs.declared.effect.Effect.TheVariants as effect
 use Rattle.rex_traits.specs.Keeping.{KeeperValue}
-use Rattle.rex_safety.specs.Records.{Rec, Proposal, base, offset, promise, known}
-use Rattle.rex_safety.specs.Quorum.{ballot_above, round_of}
-use Rattle.rex_safety.specs.Node.{Failure, Lead, Role, Service, is_active, role_name}
-use Rattle.rex_safety.specs.Node.Role.{Follower, Leads}
+use Rattle.rex_cluster.specs.Records.{Rec, Proposal, base, offset, promise, known}
+use Rattle.rex_cluster.specs.Quorum.{ballot_above, round_of}
+use Rattle.rex_cluster.specs.Node.{Failure, Lead, Role, Service, is_active, role_name}
+use Rattle.rex_cluster.specs.Node.Role.{Follower, Leads}
 use Rattle.rex_version.specs.declared.version.Version.{Version}
-use Rattle.rex_safety.specs.Invariant.{Begins}
-use Rattle.rex_safety.specs.Calls.{begin, say, checkpoint, drop_known, elect, receive, replay}
-use Rattle.rex_safety.specs.Values.{Value, service_of, values_fit}
-use Rattle.rex_safety.specs.Lanes.{Here, CallHere, active_only, cut, cut_role, cut_lead, cut_live}
+use Rattle.rex_cluster.specs.Invariant.{Begins}
+use Rattle.rex_cluster.specs.Calls.{begin, say, checkpoint, drop_known, elect, receive, replay}
+use Rattle.rex_cluster.specs.Values.{Value, service_of, values_fit}
+use Rattle.rex_cluster.specs.Lanes.{Here, CallHere, active_only, cut, cut_role, cut_lead, cut_live}
 use Rattle.rex_state.specs.Value.{StateValue}
 use Rattle.rex_node.specs.declared.refusal.Refusal.{Refusal}
 use Rattle.rex_node.specs.declared.refusal.Refusal.TheVariants as why

@@ -10,14 +10,14 @@ use Rattle.rex_traits.specs.Chains.{Answer, AppendsInTurn}
 use Rattle.rex_traits.specs.Keeping.{KeeperValue, FollowsArming, appended_as, with_record}
 use Rattle.rex_traits.specs.declared.mem_keeper.Fate.{Fate}
 use Rattle.rex_traits.specs.declared.mem_keeper.Fate.TheVariants.{Kept, Lost}
-use Rattle.rex_safety.specs.Node.{Failure}
-use Rattle.rex_safety.specs.Node.Failure.{After}
-use Rattle.rex_safety.specs.Calls.{begin}
-use Rattle.rex_safety.specs.Lanes.{Here, CallHere}
+use Rattle.rex_cluster.specs.Node.{Failure}
+use Rattle.rex_cluster.specs.Node.Failure.{After}
+use Rattle.rex_cluster.specs.Calls.{begin}
+use Rattle.rex_cluster.specs.Lanes.{Here, CallHere}
 use Rattle.rex_node.specs.declared.step.Step.{Step}
 use Rattle.rex_node.specs.Parts.{NodeValue, failed_records, here_of}
-use Rattle.rex_safety.specs.Values.{Value}
-use Rattle.rex_safety.specs.Invariant.{Begins}
+use Rattle.rex_cluster.specs.Values.{Value}
+use Rattle.rex_cluster.specs.Invariant.{Begins}
 use Rattle.rex_log.specs.Log.{AreRead}
 use Rattle.rex_node.specs.Stated.{AreStated, is_stated}
 use Rattle.rex_node.specs.Calls.{Does, FailsAfter, GoesWell, call_of, failed_many}

@@ -7,7 +7,7 @@ use Rattle.rex_syntax.specs.declared.service.Declarations.{Declarations}
 use Rattle.rex_report.specs.declared.effect.Effect.{Effect}
 use Rattle.rex_scenario.specs.declared.scenario.Scenario.{Scenario}
 use Rattle.rex_scenario.specs.declared.scenario.ScheduleLine.{ScheduleLine}
-use Rattle.rex_safety.specs.World.{World as ModelWorld, effects_of, row}
+use Rattle.rex_cluster.specs.World.{World as ModelWorld, effects_of, row}
 use Rattle.rex_world.specs.declared.world.World.{World}
 use Rattle.rex_world.specs.Kept.{IsOf}
 use Rattle.rex_world.specs.Summaries.{is_release, releases_from}

@@ -11,14 +11,14 @@ use Rattle.rex_scenario.specs.Fits.{FormFits}
 use Rattle.rex_report.specs.declared.effect.Effect.{Effect}
 use Rattle.rex_report.specs.declared.effect.Effect.TheVariants as effect
 use Rattle.rex_traits.specs.Keeping.{KeeperValue}
-use Rattle.rex_safety.specs.Records.{Rec, base, known, promise, has_old_base}
-use Rattle.rex_safety.specs.Records.Rec.{Checkpoint}
-use Rattle.rex_safety.specs.Node.{Failure, Service, down_node}
-use Rattle.rex_safety.specs.Node.Failure.{After}
-use Rattle.rex_safety.specs.Calls.{append, begin, migrate, restart, say}
-use Rattle.rex_safety.specs.Lanes.{Here, CallHere}
-use Rattle.rex_safety.specs.Values.{Value, service_of}
-use Rattle.rex_safety.proofs.Migrated.{migrated_sends}
+use Rattle.rex_cluster.specs.Records.{Rec, base, known, promise, has_old_base}
+use Rattle.rex_cluster.specs.Records.Rec.{Checkpoint}
+use Rattle.rex_cluster.specs.Node.{Failure, Service, down_node}
+use Rattle.rex_cluster.specs.Node.Failure.{After}
+use Rattle.rex_cluster.specs.Calls.{append, begin, migrate, restart, say}
+use Rattle.rex_cluster.specs.Lanes.{Here, CallHere}
+use Rattle.rex_cluster.specs.Values.{Value, service_of}
+use Rattle.rex_cluster.proofs.Migrated.{migrated_sends}
 use Rattle.rex_msg.specs.declared.message.Message.{Message as Sent}
 use Rattle.rex_node.specs.declared.refusal.Refusal.{Refusal}
 use Rattle.rex_node.specs.declared.refusal.Refusal.TheVariants as why

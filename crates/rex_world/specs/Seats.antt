@@ -5,11 +5,11 @@ use Rattle.rex_traits.specs.Keeping.{KeeperValue, armed_to, unused_keeper}
 use Rattle.rex_traits.specs.Stores.{StoreValue, fresh_store}
 use Rattle.rex_traits.specs.declared.mem_keeper.Fate.{Fate}
 use Rattle.rex_traits.specs.declared.mem_keeper.Fate.TheVariants.{Kept, Lost}
-use Rattle.rex_safety.specs.Node.{Failure, down_node}
-use Rattle.rex_safety.specs.Node.Failure.{After}
-use Rattle.rex_safety.specs.Invariant.{Begins}
-use Rattle.rex_safety.specs.Lanes.{Here}
-use Rattle.rex_safety.specs.Values.{Value}
+use Rattle.rex_cluster.specs.Node.{Failure, down_node}
+use Rattle.rex_cluster.specs.Node.Failure.{After}
+use Rattle.rex_cluster.specs.Invariant.{Begins}
+use Rattle.rex_cluster.specs.Lanes.{Here}
+use Rattle.rex_cluster.specs.Values.{Value}
 use Rattle.rex_log.specs.Log.{AreRead, log_of}
 use Rattle.rex_node.specs.Parts.{NodeValue, IsNode, here_of}
 use Rattle.rex_node.specs.Stated.{AreStated}

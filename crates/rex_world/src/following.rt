@@ -2,7 +2,7 @@
 
 ghost use Rattle.std.specs.Prelude.{◌≡◌, ◌<◌, ◌+◌, ◌^◌, ◌++◌, filter, length, IfOk, OnOk};
 ghost use Rattle.rex_scenario.specs.Fits.{ScenarioFits};
-ghost use Rattle.rex_safety.specs.World.{after_lines};
+ghost use Rattle.rex_cluster.specs.World.{after_lines};
 ghost use Rattle.rex_world.specs.Kept.{IsOf, IsRunning};
 ghost use Rattle.rex_world.specs.Summaries as spec;
 ghost use Rattle.rex_world.specs.World.{world_of};

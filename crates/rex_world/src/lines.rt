@@ -6,7 +6,7 @@ ghost use Rattle.std.specs.List.{All};
 ghost use Rattle.rex_msg.specs.Spelling.{IsMessage};
 ghost use Rattle.rex_version.specs.Versions.{has_old_form, has_version};
 ghost use Rattle.rex_scenario.specs.Fits.{FormFits, IsNode, LineFits};
-ghost use Rattle.rex_safety.specs.World as model;
+ghost use Rattle.rex_cluster.specs.World as model;
 ghost use Rattle.rex_scenario.specs.declared.scenario.ScheduleLine.TheVariants as line;
 ghost use Rattle.rex_node.specs.Calls.{AreLimits};
 ghost use Rattle.rex_world.specs.World.{nodes_of, world_of};

@@ -7,7 +7,7 @@ ghost use Rattle.rex_traits.specs.Causes.{Rose, TellsAlike};
 ghost use Rattle.rex_streams.specs.Front.{AppendsFront};
 ghost use Rattle.rex_version.specs.Versions.{has_old_form};
 ghost use Rattle.rex_scenario.specs.Fits.{FormFits, LineFits, ScenarioFits};
-ghost use Rattle.rex_safety.specs.World.{row};
+ghost use Rattle.rex_cluster.specs.World.{row};
 ghost use Rattle.rex_world.specs.declared.run.RunFault.TheVariants as fault;
 ghost use Rattle.rex_world.specs.Kept.{IsOf, IsRunning, IsSame};
 ghost use Rattle.rex_world.specs.Runs.{DidLines};

@@ -10,10 +10,10 @@ ghost use Rattle.rex_scenario.specs.Fits.{FormFits, IsNode, LineFits, ScenarioFi
 ghost use Rattle.rex_traits.specs.StoreLaws.{memory_value};
 ghost use Rattle.rex_traits.specs.Stores.{value_by};
 ghost use Rattle.rex_traits.specs.declared.mem_keeper.Fate.TheVariants as fate;
-ghost use Rattle.rex_safety.specs.Node.{new_node};
-ghost use Rattle.rex_safety.specs.World.{beginning, node_at, row, steps_of};
-ghost use Rattle.rex_safety.specs.Lanes.{live_state};
-ghost use Rattle.rex_safety.specs.Takes.{BeginsInRange, after_doings, take, taken_in};
+ghost use Rattle.rex_cluster.specs.Node.{new_node};
+ghost use Rattle.rex_cluster.specs.World.{beginning, node_at, row, steps_of};
+ghost use Rattle.rex_cluster.specs.Lanes.{live_state};
+ghost use Rattle.rex_cluster.specs.Takes.{BeginsInRange, after_doings, take, taken_in};
 ghost use Rattle.rex_node.specs.Calls.{Refuses, refusal_active};
 ghost use Rattle.rex_node.specs.declared.refusal.Refusal.TheVariants as why;
 ghost use Rattle.rex_scenario.specs.declared.scenario.ScheduleLine.TheVariants as line;

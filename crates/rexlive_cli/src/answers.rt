@@ -7,7 +7,7 @@ ghost use Rattle.rex_state.specs.Counts.{AreCounted};
 ghost use Rattle.rex_state.specs.Machine.{run};
 ghost use Rattle.rex_state.specs.Sound.{IsSound};
 ghost use Rattle.rex_state.specs.Start.{start_of};
-ghost use Rattle.rex_safety.specs.Takes.{BeginsInRange};
+ghost use Rattle.rex_cluster.specs.Takes.{BeginsInRange};
 ghost use Rattle.rex_lead.specs.Lead.{blocks_of, live_text};
 ghost use Rattle.rex_lockset.specs.Refusal.{refusal_of as refusal};
 ghost use Rattle.rex_scenario.specs.Beyond.{IsPlain, beyond_words};
