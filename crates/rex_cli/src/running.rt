@@ -8,7 +8,7 @@ ghost use Rattle.rex_command.specs.declared.commands.Command.TheVariants as comm
 ghost use Rattle.rex_cli.specs.Commands as inputs;
 ghost use Rattle.rex_cli.specs.Due as due;
 ghost use Rattle.rex_cli.specs.Causes.{JudgesFor, IsCaused};
-ghost use Rattle.rex_scenario.specs.Fits.{ScenarioFits};
+ghost use Rattle.rex_schedule.specs.Fits.{ScenarioFits};
 ghost use Rattle.rex_cluster.specs.World.{beginning};
 ghost use Rattle.rex_world.specs.Kept.{IsOf, IsRunning};
 ghost use Rattle.rex_world.specs.Report.{report_of};

@@ -40,7 +40,7 @@ use Rattle.rex_gate.specs.Answer.{answer_to}
 use Rattle.rex_record.specs.Kept.{IsRecorder, AreQueued}
 use Rattle.rex_record.specs.Laws.{GoesOn as LaneGoesOn}
 use Rattle.rex_record.proofs.Goes.{turn_goes_on}
-use Rattle.rex_scenario.specs.Fits.{RequestFits}
+use Rattle.rex_schedule.specs.Fits.{RequestFits}
 use Rattle.rex_cluster.specs.Records.{Proposal}
 use Rattle.rex_cluster.specs.Node.{Work}
 use Rattle.rex_cluster.specs.Calls.{work_known}

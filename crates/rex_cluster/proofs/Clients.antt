@@ -28,7 +28,7 @@ use Rattle.rex_record.specs.Turn.{begin_of, event_at, idle_turn, lane_turn, turn
 use Rattle.rex_record.specs.Value.{RecorderValue}
 use Rattle.rex_record.specs.Kept.{IsRecorder}
 use Rattle.rex_record.proofs.Goes.{not_full, turn_goes_on}
-use Rattle.rex_scenario.specs.Fits.{RequestFits}
+use Rattle.rex_schedule.specs.Fits.{RequestFits}
 use Rattle.rex_cluster.specs.Values.{Value, delta_of, events_of, trace_of, spells}
 use Rattle.rex_cluster.specs.Clients.{KindHasClient, HasClient, IsUnused}
 use Rattle.rex_cluster.specs.Takes.{KindBeginsInRange, BeginsInRange}

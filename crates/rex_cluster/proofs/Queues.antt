@@ -15,8 +15,8 @@ use Rattle.rex_gate.specs.declared.answer.Answer.TheVariants.{Queued}
 use Rattle.rex_gate.specs.Answer.{answer_to}
 use Rattle.rex_gate.specs.Laws.{IsDue}
 use Rattle.rex_gate.proofs.Due.{queued_due}
-use Rattle.rex_scenario.specs.Requests.{takes_so_many}
-use Rattle.rex_scenario.specs.Fits.{RequestFits}
+use Rattle.rex_schedule.specs.Counts.{takes_so_many}
+use Rattle.rex_schedule.specs.Fits.{RequestFits}
 use Rattle.rex_cluster.specs.Lanes.{queue_with}
 
 -- ---- what it takes to begin

@@ -31,7 +31,7 @@ use Rattle.rex_state.proofs.Run.{run-append}
 use Rattle.rex_state.proofs.Sounds.{run_keeps, start_keeps}
 use Rattle.rex_record.specs.declared.turns.Turn.TheVariants as turn
 use Rattle.rex_record.specs.Value.{queued_in, releases}
-use Rattle.rex_scenario.specs.Fits.{RequestFits}
+use Rattle.rex_schedule.specs.Fits.{RequestFits}
 use Rattle.rex_gate.specs.Answer.{answer_to}
 use Rattle.rex_cluster.specs.Values.{spells, runs, trace_of, events_of, state_after, values_fit, replies_of, release_effect}
 use Rattle.rex_cluster.specs.Lanes.{known_state, live_state, turn_effect, turn_in}

@@ -7,9 +7,9 @@ use Rattle.rex_state.specs.Value.{StateValue}
 use Rattle.rex_state.specs.Start.{start_of}
 use Rattle.rex_state.specs.Machine.{run}
 use Rattle.rex_record.specs.Kept.{IsRecorder}
-use Rattle.rex_scenario.specs.Fits.{RequestFits}
-use Rattle.rex_scenario.specs.declared.scenario.ScheduleLine.{ScheduleLine}
-use Rattle.rex_scenario.specs.declared.scenario.ScheduleLine.TheVariants.{Lane, CutBelow}
+use Rattle.rex_schedule.specs.Fits.{RequestFits}
+use Rattle.rex_schedule.specs.declared.scenario.ScheduleLine.{ScheduleLine}
+use Rattle.rex_schedule.specs.declared.scenario.ScheduleLine.TheVariants.{Lane, CutBelow}
 use Rattle.rex_cluster.specs.Records.{Proposal}
 use Rattle.rex_cluster.specs.Node.{Work}
 use Rattle.rex_cluster.specs.Clients.{HasClient, IsUnused}

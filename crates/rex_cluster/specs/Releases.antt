@@ -4,8 +4,8 @@ use Rattle.rex_syntax.specs.declared.request.Request.{Request}
 use Rattle.rex_syntax.specs.declared.service.Declarations.{Declarations}
 use Rattle.rex_report.specs.declared.effect.Effect.{Effect}
 use Rattle.rex_report.specs.declared.effect.Effect.TheVariants.{Released}
-use Rattle.rex_scenario.specs.declared.scenario.ScheduleLine.{ScheduleLine}
-use Rattle.rex_scenario.specs.declared.scenario.ScheduleLine.TheVariants.{Elect, Submit, Lane, Cut, CutBelow, Deliver, Flush, Replay, Ask, Stop, Start, Checkpoint, DropKnown, KeepFail, ReadVariable}
+use Rattle.rex_schedule.specs.declared.scenario.ScheduleLine.{ScheduleLine}
+use Rattle.rex_schedule.specs.declared.scenario.ScheduleLine.TheVariants.{Elect, Submit, Lane, Cut, CutBelow, Deliver, Flush, Replay, Ask, Stop, Start, Checkpoint, DropKnown, KeepFail, ReadVariable}
 use Rattle.rex_cluster.specs.Node.{Message, Lead, own_ballot}
 use Rattle.rex_cluster.specs.Node.Role.{Leads}
 use Rattle.rex_cluster.specs.Values.{Value}

@@ -5,7 +5,7 @@ use Rattle.std.proofs.lemmas.Bool.{ne_eqb, false≢true}
 use Rattle.rex_syntax.specs.declared.request.Request.{Request}
 use Rattle.rex_syntax.specs.declared.service.Declarations.{Declarations}
 use Rattle.rex_event.specs.declared.event.Event.{Event}
-use Rattle.rex_scenario.specs.declared.scenario.ScheduleLine.TheVariants.{Replay}
+use Rattle.rex_schedule.specs.declared.scenario.ScheduleLine.TheVariants.{Replay}
 use Rattle.rex_cluster.specs.Node.{Message, Role, is_active, role_name}
 use Rattle.rex_cluster.specs.Node.Role.{Follower, Leads}
 use Rattle.rex_cluster.specs.Calls.{begin}

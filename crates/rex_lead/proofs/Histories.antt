@@ -13,9 +13,9 @@ use Rattle.rex_delta.specs.Spelling.{HasTypedKind}
 use Rattle.rex_state.specs.Value.{StateValue}
 use Rattle.rex_state.specs.Start.{start_of}
 use Rattle.rex_state.specs.Machine.{run}
-use Rattle.rex_scenario.specs.Fits.{ScenarioFits}
-use Rattle.rex_scenario.specs.Headings.{is_node_count}
-use Rattle.rex_scenario.specs.declared.scenario.Scenario.{Scenario}
+use Rattle.rex_schedule.specs.Fits.{ScenarioFits}
+use Rattle.rex_schedule.specs.Counts.{is_node_count}
+use Rattle.rex_schedule.specs.declared.scenario.Scenario.{Scenario}
 use Rattle.rex_cluster.specs.Values.{Value, values_fit, service_of}
 use Rattle.rex_cluster.specs.Records.{known}
 use Rattle.rex_cluster.specs.Lanes.{Here}

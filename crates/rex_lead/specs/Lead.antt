@@ -12,8 +12,8 @@ use Rattle.rex_reduce.specs.Reduced.{AreLeast}
 use Rattle.rex_state.specs.Value.{StateValue}
 use Rattle.rex_state.specs.Start.{start_of}
 use Rattle.rex_state.specs.Machine.{run}
-use Rattle.rex_scenario.specs.Fits.{ScenarioFits}
-use Rattle.rex_scenario.specs.declared.scenario.Scenario.{Scenario}
+use Rattle.rex_schedule.specs.Fits.{ScenarioFits}
+use Rattle.rex_schedule.specs.declared.scenario.Scenario.{Scenario}
 use Rattle.rex_cluster.specs.Values.{Value, delta_of}
 use Rattle.rex_cluster.specs.Invariant.{IsIn}
 use Rattle.rex_cluster.specs.Agreed.{agreed}

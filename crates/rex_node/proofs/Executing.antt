@@ -28,7 +28,7 @@ use Rattle.rex_gate.specs.declared.answer.Answer.TheVariants.{Queued}
 use Rattle.rex_gate.specs.Answer.{answer_to}
 use Rattle.rex_gate.specs.Laws.{IsDue}
 use Rattle.rex_gate.proofs.Due.{queued_due}
-use Rattle.rex_scenario.specs.Fits.{RequestFits}
+use Rattle.rex_schedule.specs.Fits.{RequestFits}
 use Rattle.rex_cluster.specs.Records.{Proposal, known}
 use Rattle.rex_cluster.specs.Values.{Value, trace_of, state_after}
 use Rattle.rex_cluster.specs.Ranges.{RoleFits}

@@ -9,7 +9,7 @@ use Rattle.rex_paxos.specs.Counting.{AreCounted}
 use Rattle.rex_paxos.specs.Proposer.{ProposerValue, is_candidate}
 use Rattle.rex_paxos.specs.Reports.{best_for}
 use Rattle.rex_syntax.specs.declared.service.Declarations.{Declarations}
-use Rattle.rex_scenario.specs.Fits.{RequestFits}
+use Rattle.rex_schedule.specs.Fits.{RequestFits}
 use Rattle.rex_gate.specs.Noted.{AnswersValue, answers_at}
 use Rattle.rex_record.specs.Value.{RecorderValue, started}
 use Rattle.rex_state.specs.Value.{StateValue}

@@ -16,7 +16,7 @@ use Rattle.rex_record.specs.Kept.{IsRecorder}
 use Rattle.rex_paxos.specs.Acceptor.{AcceptorValue}
 use Rattle.rex_paxos.specs.Proposer.{ProposerValue, CountsOnce, is_candidate}
 use Rattle.rex_gate.specs.Noted.{AnswersValue, stamp_of}
-use Rattle.rex_scenario.specs.Fits.{RequestFits}
+use Rattle.rex_schedule.specs.Fits.{RequestFits}
 use Rattle.rex_cluster.specs.Records.{Proposal, promise, accepted, offset, known, base, has_old_base}
 use Rattle.rex_log.specs.Log.{first, log_of, proposal_in}
 use Rattle.rex_cluster.specs.Node.{Lead, Role, Work, no_work}

@@ -10,7 +10,7 @@ ghost use Rattle.rex_record.specs.Take.{taken_turn};
 ghost use Rattle.rex_record.specs.Value.{turned, releases};
 ghost use Rattle.rex_cluster.specs.Values as values;
 ghost use Rattle.rex_record.specs.Kept.{IsRecorder};
-ghost use Rattle.rex_scenario.specs.Fits.{RequestFits};
+ghost use Rattle.rex_schedule.specs.Fits.{RequestFits};
 ghost use Rattle.rex_node.specs.Blocks.{given_all};
 ghost use Rattle.rex_node.specs.Leading.{settling};
 ghost use Rattle.rex_node.specs.Submitting.{answer_in, given, taken};

@@ -8,8 +8,8 @@ use Rattle.rex_event.specs.declared.event.Event.{Event}
 use Rattle.rex_event.specs.Cuts.{below}
 use Rattle.rex_cut.specs.Greatest.{greatest_cut}
 use Rattle.rex_state.specs.Value.{StateValue}
-use Rattle.rex_scenario.specs.declared.scenario.ScheduleLine.{ScheduleLine}
-use Rattle.rex_scenario.specs.declared.scenario.ScheduleLine.TheVariants as line
+use Rattle.rex_schedule.specs.declared.scenario.ScheduleLine.{ScheduleLine}
+use Rattle.rex_schedule.specs.declared.scenario.ScheduleLine.TheVariants as line
 use Rattle.rex_cluster.specs.Records.{Proposal, known}
 use Rattle.rex_cluster.specs.Quorum.{IsNode}
 use Rattle.rex_cluster.specs.Node.{Service, Lead, Role, is_active}
@@ -27,7 +27,7 @@ use Rattle.rex_syntax.specs.Check.{IsChecked}
 use Rattle.rex_event.specs.Cuts.{count_at}
 use Rattle.rex_cut.specs.Greatest.{IsCutOf}
 use Rattle.rex_state.specs.Counts.{counts_of}
-use Rattle.rex_scenario.specs.Fits.{RequestFits}
+use Rattle.rex_schedule.specs.Fits.{RequestFits}
 use Rattle.rex_cluster.specs.Records.{proposal_of}
 use Rattle.rex_cluster.specs.Lanes.{is_faithful, known_state, limits_between, turn_in}
 use Rattle.rex_cluster.specs.Acting.{IsActing, HasLane}

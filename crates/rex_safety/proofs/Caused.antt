@@ -25,7 +25,7 @@ use Rattle.rex_state.specs.Sound.{IsSound}
 use Rattle.rex_state.specs.Counts.{counts_of, done_of}
 use Rattle.rex_state.proofs.Counts.{runs_count_on}
 use Rattle.rex_state.proofs.Sounds.{run_keeps, start_keeps}
-use Rattle.rex_scenario.specs.declared.scenario.ScheduleLine.{ScheduleLine}
+use Rattle.rex_schedule.specs.declared.scenario.ScheduleLine.{ScheduleLine}
 use Rattle.rex_cluster.specs.Invariant.{IsIn}
 use Rattle.rex_cluster.specs.Values.{Value, read_delta, delta_of, events_of, trace_of, is_piece, may_be_value, spells, runs, values_fit, service_of}
 use Rattle.rex_cluster.specs.Agreed.{world_after, agreed, trace_at}

@@ -24,9 +24,9 @@ use Rattle.rex_record.specs.declared.turns.Turn.TheVariants as turn
 use Rattle.rex_record.specs.Take.{is_fit}
 use Rattle.rex_gate.specs.declared.answer.Answer.{Answer}
 use Rattle.rex_gate.specs.declared.answer.Answer.TheVariants as answer
-use Rattle.rex_scenario.specs.Fits.{RequestFits, LineFits}
-use Rattle.rex_scenario.specs.declared.scenario.ScheduleLine.{ScheduleLine}
-use Rattle.rex_scenario.specs.declared.scenario.ScheduleLine.TheVariants as line
+use Rattle.rex_schedule.specs.Fits.{RequestFits, LineFits}
+use Rattle.rex_schedule.specs.declared.scenario.ScheduleLine.{ScheduleLine}
+use Rattle.rex_schedule.specs.declared.scenario.ScheduleLine.TheVariants as line
 use Rattle.rex_cluster.specs.Records.{Proposal, known}
 use Rattle.rex_cluster.specs.Node.{Service, Lead, Role, Work, is_active}
 use Rattle.rex_cluster.specs.Node.Role.{Follower, Leads}

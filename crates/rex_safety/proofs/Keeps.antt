@@ -10,9 +10,9 @@ use Rattle.rex_syntax.specs.declared.service.Declarations.{Declarations}
 use Rattle.rex_syntax.specs.Service.{IsService}
 use Rattle.rex_syntax.specs.Check.{IsChecked}
 use Rattle.rex_state.specs.Value.{StateValue}
-use Rattle.rex_scenario.specs.declared.scenario.ScheduleLine.{ScheduleLine}
-use Rattle.rex_scenario.specs.declared.scenario.ScheduleLine.TheVariants as line
-use Rattle.rex_scenario.specs.Fits.{RequestFits, LineFits}
+use Rattle.rex_schedule.specs.declared.scenario.ScheduleLine.{ScheduleLine}
+use Rattle.rex_schedule.specs.declared.scenario.ScheduleLine.TheVariants as line
+use Rattle.rex_schedule.specs.Fits.{RequestFits, LineFits}
 use Rattle.rex_cluster.specs.Node.{Service, Message, Lead}
 use Rattle.rex_cluster.specs.Node.Role.{Leads}
 use Rattle.rex_cluster.specs.Calls.{begin, start, arm}

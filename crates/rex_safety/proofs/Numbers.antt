@@ -9,8 +9,8 @@ use Rattle.rex_event.specs.declared.event.Event.{Event}
 use Rattle.rex_event.specs.Cuts.{below}
 use Rattle.rex_cut.specs.Greatest.{greatest_cut}
 use Rattle.rex_state.specs.Value.{StateValue}
-use Rattle.rex_scenario.specs.declared.scenario.ScheduleLine.{ScheduleLine}
-use Rattle.rex_scenario.specs.declared.scenario.ScheduleLine.TheVariants as line
+use Rattle.rex_schedule.specs.declared.scenario.ScheduleLine.{ScheduleLine}
+use Rattle.rex_schedule.specs.declared.scenario.ScheduleLine.TheVariants as line
 use Rattle.rex_cluster.specs.Records.{Proposal, known, base, has_old_base}
 use Rattle.rex_cluster.specs.Quorum.{IsNode}
 use Rattle.rex_cluster.specs.Node.{Service, Message, Lead, Role, is_active}
@@ -23,7 +23,7 @@ use Rattle.rex_cluster.specs.Invariant.{IsIn}
 use Rattle.std.proofs.Common.{leb-false}
 use Rattle.std.specs.List.{All}
 use Rattle.std.proofs.lemmas.List.Elements.{All-head, All-tail}
-use Rattle.rex_scenario.specs.Fits.{LineFits}
+use Rattle.rex_schedule.specs.Fits.{LineFits}
 use Rattle.rex_cluster.specs.Lanes.{is_faithful}
 use Rattle.rex_cluster.specs.Agreed.{world_after}
 use Rattle.rex_cluster.specs.Ranges.{MessageFits, LogFits, LeadFits, RoleFits, NodeFits}

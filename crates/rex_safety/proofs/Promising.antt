@@ -10,8 +10,8 @@ use Rattle.rex_event.specs.Cuts.{below}
 use Rattle.rex_cut.specs.Greatest.{greatest_cut}
 use Rattle.rex_state.specs.Value.{StateValue}
 use Rattle.rex_report.specs.declared.effect.Effect.TheVariants as effect
-use Rattle.rex_scenario.specs.declared.scenario.ScheduleLine.{ScheduleLine}
-use Rattle.rex_scenario.specs.declared.scenario.ScheduleLine.TheVariants as line
+use Rattle.rex_schedule.specs.declared.scenario.ScheduleLine.{ScheduleLine}
+use Rattle.rex_schedule.specs.declared.scenario.ScheduleLine.TheVariants as line
 use Rattle.rex_cluster.specs.Records.{Proposal, accepted, from_on, known, has_old_base, base, HasAccepted}
 use Rattle.rex_cluster.specs.Quorum.{IsNode, Logs, is_in}
 use Rattle.rex_cluster.specs.Node.{Service, Content, Message, Lead, Role, is_active}

@@ -18,8 +18,8 @@ use Rattle.rex_gate.specs.declared.answer.Answer.TheVariants as answer
 use Rattle.rex_gate.specs.Answer.{answer_to}
 use Rattle.rex_report.specs.declared.effect.Effect.{Effect}
 use Rattle.rex_report.specs.declared.effect.Effect.TheVariants as effect
-use Rattle.rex_scenario.specs.declared.scenario.ScheduleLine.{ScheduleLine}
-use Rattle.rex_scenario.specs.declared.scenario.ScheduleLine.TheVariants as line
+use Rattle.rex_schedule.specs.declared.scenario.ScheduleLine.{ScheduleLine}
+use Rattle.rex_schedule.specs.declared.scenario.ScheduleLine.TheVariants as line
 use Rattle.rex_cluster.specs.Records.{Proposal, promise, known}
 use Rattle.rex_cluster.specs.Quorum.{IsNode, round_of, ballot_above, node_of}
 use Rattle.rex_cluster.specs.Node.{Service, Content, Message, Lead, Role, is_active, role_name, own_ballot, kind_of}

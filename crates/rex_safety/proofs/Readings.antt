@@ -10,8 +10,8 @@ use Rattle.rex_report.specs.declared.effect.Effect.TheVariants as effect
 use Rattle.rex_reads.specs.declared.seen.Read.{Read as Answer}
 use Rattle.rex_reads.specs.declared.seen.Read.TheVariants as answer
 use Rattle.rex_reads.specs.Reads.{seen_after}
-use Rattle.rex_scenario.specs.declared.scenario.ScheduleLine.{ScheduleLine}
-use Rattle.rex_scenario.specs.declared.scenario.ScheduleLine.TheVariants as line
+use Rattle.rex_schedule.specs.declared.scenario.ScheduleLine.{ScheduleLine}
+use Rattle.rex_schedule.specs.declared.scenario.ScheduleLine.TheVariants as line
 use Rattle.rex_cluster.specs.Quorum.{IsNode}
 use Rattle.rex_cluster.specs.Node.{Message, is_active}
 use Rattle.rex_cluster.specs.Values.{Value, trace_of, state_after, service_of}

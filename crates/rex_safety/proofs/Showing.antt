@@ -12,8 +12,8 @@ use Rattle.rex_event.specs.declared.event.Event.{Event}
 use Rattle.rex_state.specs.Value.{StateValue}
 use Rattle.rex_report.specs.declared.effect.Effect.{Effect}
 use Rattle.rex_report.specs.declared.effect.Effect.TheVariants as effect
-use Rattle.rex_scenario.specs.declared.scenario.ScheduleLine.{ScheduleLine}
-use Rattle.rex_scenario.specs.Fits.{RequestFits}
+use Rattle.rex_schedule.specs.declared.scenario.ScheduleLine.{ScheduleLine}
+use Rattle.rex_schedule.specs.Fits.{RequestFits}
 use Rattle.rex_cluster.specs.Quorum.{IsNode}
 use Rattle.rex_cluster.specs.Node.{Service, Message}
 use Rattle.rex_cluster.specs.Values.{Value, trace_of, service_of}

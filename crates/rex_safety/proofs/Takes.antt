@@ -23,7 +23,7 @@ use Rattle.rex_record.specs.Value.{RecorderValue, live_after}
 use Rattle.rex_record.specs.Take.{is_fit, taken_turn}
 use Rattle.rex_record.proofs.Follows.{state_sound}
 use Rattle.rex_record.proofs.Takes.{CanTake, can_take, done_fits}
-use Rattle.rex_scenario.specs.Fits.{RequestFits}
+use Rattle.rex_schedule.specs.Fits.{RequestFits}
 use Rattle.rex_cluster.specs.Records.{Proposal, known}
 use Rattle.rex_cluster.specs.Quorum.{IsNode}
 use Rattle.rex_cluster.specs.Node.{Work, is_active}

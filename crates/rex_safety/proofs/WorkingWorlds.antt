@@ -4,8 +4,8 @@ use Rattle.rand_pcg.specs.Lcg.{Lcg}
 use Rattle.rex_syntax.specs.declared.request.Request.{Request}
 use Rattle.rex_syntax.specs.declared.service.Declarations.{Declarations}
 use Rattle.rex_state.specs.Value.{StateValue}
-use Rattle.rex_scenario.specs.declared.scenario.ScheduleLine.{ScheduleLine}
-use Rattle.rex_scenario.specs.declared.scenario.ScheduleLine.TheVariants as line
+use Rattle.rex_schedule.specs.declared.scenario.ScheduleLine.{ScheduleLine}
+use Rattle.rex_schedule.specs.declared.scenario.ScheduleLine.TheVariants as line
 use Rattle.rex_cluster.specs.Records.{Proposal}
 use Rattle.rex_cluster.specs.Quorum.{IsNode}
 use Rattle.rex_cluster.specs.Node.{Service, Message, Work}

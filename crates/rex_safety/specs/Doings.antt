@@ -8,8 +8,8 @@ use Rattle.rex_syntax.specs.Service.{IsService}
 use Rattle.rex_syntax.specs.Check.{IsChecked}
 use Rattle.rex_event.specs.declared.event.Event.{Event}
 use Rattle.rex_report.specs.declared.effect.Effect.TheVariants.{Released}
-use Rattle.rex_scenario.specs.declared.scenario.ScheduleLine.TheVariants.{ReadVariable}
-use Rattle.rex_scenario.specs.Fits.{IsNode, RequestFits}
+use Rattle.rex_schedule.specs.declared.scenario.ScheduleLine.TheVariants.{ReadVariable}
+use Rattle.rex_schedule.specs.Fits.{IsNode, RequestFits}
 use Rattle.rex_cluster.specs.World.{World, node_at, beginning, steps_of}
 use Rattle.rex_cluster.specs.Agreed.{agreed, trace_at}
 use Rattle.rex_cluster.specs.Values.{Value, trace_of, service_of}

@@ -11,8 +11,8 @@ use Rattle.rex_cut.specs.Greatest.{greatest_cut, IsCutOf}
 use Rattle.rex_cut.specs.Delta.{delta_at}
 use Rattle.rex_delta.specs.Spelling.{IsDelta, HasTypedKind}
 use Rattle.rex_state.specs.Machine.{lane_of}
-use Rattle.rex_scenario.specs.declared.scenario.ScheduleLine.{ScheduleLine}
-use Rattle.rex_scenario.specs.Fits.{RequestFits, LineFits}
+use Rattle.rex_schedule.specs.declared.scenario.ScheduleLine.{ScheduleLine}
+use Rattle.rex_schedule.specs.Fits.{RequestFits, LineFits}
 use Rattle.rex_cluster.specs.Node.{Lead}
 use Rattle.rex_cluster.specs.Node.Role.{Leads}
 use Rattle.rex_cluster.specs.Records.{known}

@@ -11,8 +11,8 @@ use Rattle.rex_state.specs.Commute.{GoesFirst}
 use Rattle.rex_syntax.specs.Service.{IsService}
 use Rattle.rex_syntax.specs.Check.{IsChecked}
 use Rattle.rex_state.specs.Value.{StateValue}
-use Rattle.rex_scenario.specs.declared.scenario.ScheduleLine.{ScheduleLine}
-use Rattle.rex_scenario.specs.Fits.{RequestFits, LineFits}
+use Rattle.rex_schedule.specs.declared.scenario.ScheduleLine.{ScheduleLine}
+use Rattle.rex_schedule.specs.Fits.{RequestFits, LineFits}
 use Rattle.rex_reduce.specs.Reduced.{AreLeast}
 use Rattle.rex_cut.specs.Greatest.{greatest_cut, IsCutOf}
 use Rattle.rex_cut.specs.Delta.{delta_at}

@@ -5,7 +5,7 @@ use Rattle.rex_syntax.specs.declared.request.Request.{Request}
 use Rattle.rex_syntax.specs.declared.service.Declarations.{Declarations}
 use Rattle.rex_report.specs.declared.effect.Effect.{Effect}
 use Rattle.rex_report.specs.declared.effect.Effect.TheVariants.{Spent}
-use Rattle.rex_scenario.specs.declared.scenario.ScheduleLine.{ScheduleLine}
+use Rattle.rex_schedule.specs.declared.scenario.ScheduleLine.{ScheduleLine}
 use Rattle.rex_cluster.specs.Records.{promise}
 use Rattle.rex_cluster.specs.Quorum.{IsNode, round_of, ballot_above}
 use Rattle.rex_cluster.specs.Node.{own_ballot}

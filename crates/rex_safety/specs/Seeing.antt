@@ -8,9 +8,9 @@ use Rattle.rex_syntax.specs.Service.{IsService}
 use Rattle.rex_syntax.specs.Check.{IsChecked}
 use Rattle.rex_report.specs.declared.effect.Effect.TheVariants.{Released, Read}
 use Rattle.rex_reads.specs.declared.seen.Read.TheVariants as answer
-use Rattle.rex_scenario.specs.declared.scenario.ScheduleLine.{ScheduleLine}
-use Rattle.rex_scenario.specs.declared.scenario.ScheduleLine.TheVariants.{ReadVariable}
-use Rattle.rex_scenario.specs.Fits.{RequestFits}
+use Rattle.rex_schedule.specs.declared.scenario.ScheduleLine.{ScheduleLine}
+use Rattle.rex_schedule.specs.declared.scenario.ScheduleLine.TheVariants.{ReadVariable}
+use Rattle.rex_schedule.specs.Fits.{RequestFits}
 use Rattle.rex_cluster.specs.Values.{state_after}
 use Rattle.rex_cluster.specs.World.{World, node_at, beginning, row, effects_of}
 use Rattle.rex_cluster.specs.Reading.{read_at, value_in}

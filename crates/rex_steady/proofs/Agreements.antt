@@ -17,9 +17,9 @@ use Rattle.rex_state.specs.Start.{start_of}
 use Rattle.rex_state.specs.Machine.{run}
 use Rattle.rex_state.specs.Counts.{counts_of}
 use Rattle.rex_report.specs.declared.effect.Effect.TheVariants.{Proposes, Ended, Nothing}
-use Rattle.rex_scenario.specs.Fits.{RequestFits, LineFits}
-use Rattle.rex_scenario.specs.declared.scenario.ScheduleLine.{ScheduleLine}
-use Rattle.rex_scenario.specs.declared.scenario.ScheduleLine.TheVariants.{Cut, Flush}
+use Rattle.rex_schedule.specs.Fits.{RequestFits, LineFits}
+use Rattle.rex_schedule.specs.declared.scenario.ScheduleLine.{ScheduleLine}
+use Rattle.rex_schedule.specs.declared.scenario.ScheduleLine.TheVariants.{Cut, Flush}
 use Rattle.rex_cluster.specs.Records.{Proposal, proposal_of, placed, last_accepted, accepted, from_on, offset, known}
 use Rattle.rex_cluster.specs.Records.Rec.{Accepted, Known}
 use Rattle.rex_cluster.specs.Node.{Message}

@@ -14,7 +14,7 @@ use Rattle.rex_state.specs.Value.{StateValue}
 use Rattle.rex_state.specs.Start.{start_of}
 use Rattle.rex_state.specs.Machine.{run}
 use Rattle.rex_state.specs.Counts.{counts_of}
-use Rattle.rex_scenario.specs.Fits.{RequestFits}
+use Rattle.rex_schedule.specs.Fits.{RequestFits}
 use Rattle.rex_cluster.specs.Values.{Value, events_of, trace_of, state_after}
 use Rattle.rex_cluster.specs.Lanes.{value_at}
 use Rattle.rex_cluster.specs.World.{World}

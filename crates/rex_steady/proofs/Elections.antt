@@ -8,7 +8,7 @@ use Rattle.rex_syntax.specs.declared.request.Request.{Request}
 use Rattle.rex_syntax.specs.declared.service.Declarations.{Declarations}
 use Rattle.rex_event.specs.declared.event.Event.{Event}
 use Rattle.rex_state.specs.Value.{StateValue}
-use Rattle.rex_scenario.specs.declared.scenario.ScheduleLine.TheVariants.{Elect, Flush}
+use Rattle.rex_schedule.specs.declared.scenario.ScheduleLine.TheVariants.{Elect, Flush}
 use Rattle.rex_cluster.specs.Records.{promise, last_accepted, offset, known}
 use Rattle.rex_cluster.specs.Records.Rec.{Promised}
 use Rattle.rex_cluster.specs.Node.{Message, new_node, dice_of}

@@ -13,9 +13,9 @@ use Rattle.rex_event.specs.declared.event.Event.{Event}
 use Rattle.rex_state.specs.Value.{StateValue}
 use Rattle.rex_state.specs.Start.{start_of}
 use Rattle.rex_state.specs.Machine.{run}
-use Rattle.rex_scenario.specs.Fits.{IsNode, RequestFits, LineFits}
-use Rattle.rex_scenario.specs.declared.scenario.ScheduleLine.{ScheduleLine}
-use Rattle.rex_scenario.specs.declared.scenario.ScheduleLine.TheVariants.{Elect, Flush}
+use Rattle.rex_schedule.specs.Fits.{IsNode, RequestFits, LineFits}
+use Rattle.rex_schedule.specs.declared.scenario.ScheduleLine.{ScheduleLine}
+use Rattle.rex_schedule.specs.declared.scenario.ScheduleLine.TheVariants.{Elect, Flush}
 use Rattle.rex_cluster.specs.Records.{known}
 use Rattle.rex_cluster.specs.Node.{Message}
 use Rattle.rex_cluster.specs.Values.{Value, events_of, trace_of, state_after}

@@ -4,7 +4,7 @@ use Rattle.std.specs.Prelude.{◌+◌, ◌-◌, Option, Some, map, replicate, sl
 use Rattle.std.proofs.Math.Seq.{set-append_seam}
 use Rattle.rex_syntax.specs.declared.request.Request.{Request}
 use Rattle.rex_syntax.specs.declared.service.Declarations.{Declarations}
-use Rattle.rex_scenario.specs.declared.scenario.ScheduleLine.TheVariants.{Deliver, Flush}
+use Rattle.rex_schedule.specs.declared.scenario.ScheduleLine.TheVariants.{Deliver, Flush}
 use Rattle.rex_cluster.specs.Node.{Message}
 use Rattle.rex_cluster.specs.Calls.{begin, receive}
 use Rattle.rex_cluster.specs.Values.{Value, service_of}

@@ -3,7 +3,7 @@ use Rattle.std.proofs.Common.{◌≡◌, ℕ, zero, suc, ◌<◌, ◌≤◌, Boo
 use Rattle.std.proofs.lemmas.Bool.{cases_eq, ne_eqb}
 use Rattle.rex_syntax.specs.declared.request.Request.{Request}
 use Rattle.rex_syntax.specs.declared.service.Declarations.{Declarations}
-use Rattle.rex_scenario.specs.declared.scenario.ScheduleLine.TheVariants.{Flush}
+use Rattle.rex_schedule.specs.declared.scenario.ScheduleLine.TheVariants.{Flush}
 use Rattle.rex_cluster.specs.Quorum.{IsNode}
 use Rattle.rex_cluster.specs.Node.{Message, Content}
 use Rattle.rex_cluster.specs.Calls.{begin, others, receive}

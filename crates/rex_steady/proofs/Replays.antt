@@ -5,7 +5,7 @@ use Rattle.std.proofs.lemmas.Bool.{ne_eqb}
 use Rattle.rex_syntax.specs.declared.request.Request.{Request}
 use Rattle.rex_syntax.specs.declared.service.Declarations.{Declarations}
 use Rattle.rex_report.specs.declared.effect.Effect.TheVariants.{UpToDate, Replayed}
-use Rattle.rex_scenario.specs.declared.scenario.ScheduleLine.TheVariants.{Replay}
+use Rattle.rex_schedule.specs.declared.scenario.ScheduleLine.TheVariants.{Replay}
 use Rattle.rex_cluster.specs.Records.{known}
 use Rattle.rex_cluster.specs.Node.{no_work}
 use Rattle.rex_cluster.specs.Node.Role.{Follower}

@@ -1,7 +1,7 @@
 -- What a leader that nothing disturbs is made to do.
 use Rattle.std.specs.Prelude.{ℕ, zero, suc, ◌==◌, List, [], ◌∷◌, ◌++◌, if◌then◌else◌}
 use Rattle.rex_event.specs.declared.event.Event.{Event}
-use Rattle.rex_scenario.specs.declared.scenario.ScheduleLine.TheVariants.{Elect, Cut, Flush, Replay}
+use Rattle.rex_schedule.specs.declared.scenario.ScheduleLine.TheVariants.{Elect, Cut, Flush, Replay}
 use Rattle.rex_cluster.specs.Takes.{Doing}
 use Rattle.rex_cluster.specs.Takes.Doing.{Does, Takes}
 

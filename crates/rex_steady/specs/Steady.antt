@@ -11,7 +11,7 @@ use Rattle.rex_state.specs.Value.{StateValue}
 use Rattle.rex_state.specs.Start.{start_of}
 use Rattle.rex_state.specs.Machine.{run}
 use Rattle.rex_record.specs.declared.turns.Turn.TheVariants.{Done}
-use Rattle.rex_scenario.specs.Fits.{IsNode, RequestFits}
+use Rattle.rex_schedule.specs.Fits.{IsNode, RequestFits}
 use Rattle.rex_cluster.specs.Values.{events_of, trace_of, state_after}
 use Rattle.rex_cluster.specs.Agreed.{known_at}
 use Rattle.rex_cluster.specs.World.{World, node_at, beginning}

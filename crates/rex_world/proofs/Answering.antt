@@ -8,7 +8,7 @@ use Rattle.rex_syntax.specs.declared.service.Declarations.{Declarations}
 use Rattle.rex_reads.specs.declared.seen.Read.{Read}
 use Rattle.rex_reads.specs.Reads.{seen_after}
 use Rattle.rex_report.specs.declared.effect.Effect.{Effect}
-use Rattle.rex_scenario.specs.declared.scenario.ScheduleLine.TheVariants.{ReadVariable}
+use Rattle.rex_schedule.specs.declared.scenario.ScheduleLine.TheVariants.{ReadVariable}
 use Rattle.rex_cluster.specs.Node.{Message}
 use Rattle.rex_cluster.specs.Values.{Value}
 use Rattle.rex_cluster.specs.Reading.{read_at, read_effect}

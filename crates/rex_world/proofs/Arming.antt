@@ -13,8 +13,8 @@ use Rattle.rex_traits.specs.declared.mem_keeper.Fate.{Fate}
 use Rattle.rex_traits.specs.declared.mem_keeper.Fate.TheVariants as fate
 use Rattle.rex_traits.specs.Keeping.{KeeperValue, armed_to}
 use Rattle.rex_report.specs.declared.effect.Effect.TheVariants.{WillFail}
-use Rattle.rex_scenario.specs.declared.scenario.ScheduleLine.TheVariants.{KeepFail}
-use Rattle.rex_scenario.specs.Fits.{IsNode}
+use Rattle.rex_schedule.specs.declared.scenario.ScheduleLine.TheVariants.{KeepFail}
+use Rattle.rex_schedule.specs.Fits.{IsNode}
 use Rattle.rex_cluster.specs.Node.{Message}
 use Rattle.rex_cluster.specs.Node.Failure.{After}
 use Rattle.rex_cluster.specs.Values.{Value}

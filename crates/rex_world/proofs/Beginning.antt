@@ -9,8 +9,8 @@ use Rattle.rex_ballot.specs.Limits.{most_nodes}
 use Rattle.rex_syntax.specs.declared.service.Declarations.{Declarations}
 use Rattle.rex_syntax.specs.Service.{IsService}
 use Rattle.rex_syntax.specs.Check.{IsChecked}
-use Rattle.rex_scenario.specs.Headings.{is_node_count}
-use Rattle.rex_scenario.specs.Fits.{RequestFits}
+use Rattle.rex_schedule.specs.Counts.{is_node_count}
+use Rattle.rex_schedule.specs.Fits.{RequestFits}
 use Rattle.rex_cluster.specs.Node.{Message, new_node}
 use Rattle.rex_cluster.specs.Values.{Value}
 use Rattle.rex_cluster.specs.Lanes.{Here}

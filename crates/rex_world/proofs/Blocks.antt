@@ -12,7 +12,7 @@ use Rattle.rex_syntax.specs.declared.service.Declarations.{Declarations}
 use Rattle.rex_syntax.specs.Service.{IsService}
 use Rattle.rex_syntax.specs.Check.{IsChecked}
 use Rattle.rex_event.specs.declared.event.Event.{Event}
-use Rattle.rex_scenario.specs.Fits.{IsNode, RequestFits}
+use Rattle.rex_schedule.specs.Fits.{IsNode, RequestFits}
 use Rattle.rex_traits.specs.Keeping.{KeeperValue}
 use Rattle.rex_cluster.specs.Node.{Failure, is_active}
 use Rattle.rex_cluster.specs.Calls.{begin}

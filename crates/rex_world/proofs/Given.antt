@@ -9,7 +9,7 @@ use Rattle.rex_ballot.specs.Limits.{most_nodes}
 use Rattle.rex_syntax.specs.declared.service.Declarations.{Declarations}
 use Rattle.rex_event.specs.declared.event.Event.{Event}
 use Rattle.rex_record.specs.declared.turns.Turn.{Turn}
-use Rattle.rex_scenario.specs.Fits.{IsNode, RequestFits}
+use Rattle.rex_schedule.specs.Fits.{IsNode, RequestFits}
 use Rattle.rex_traits.specs.Keeping.{KeeperValue}
 use Rattle.rex_cluster.specs.Node.{Failure, Lead, Role, is_active, role_name}
 use Rattle.rex_cluster.specs.Node.Role.{Follower, Leads}

@@ -14,8 +14,8 @@ use Rattle.rex_msg.specs.declared.message.Message.{Message as Said}
 use Rattle.rex_msg.specs.Spelling.{spelling_of}
 use Rattle.rex_msg.proofs.MessageAgain.{message_read}
 use Rattle.rex_net.specs.Net as net
-use Rattle.rex_scenario.specs.Fits.{IsNode}
-use Rattle.rex_scenario.specs.declared.scenario.ScheduleLine.TheVariants as line
+use Rattle.rex_schedule.specs.Fits.{IsNode}
+use Rattle.rex_schedule.specs.declared.scenario.ScheduleLine.TheVariants as line
 use Rattle.rex_cluster.specs.Node.{Message, kind_of}
 use Rattle.rex_cluster.specs.Values.{Value, service_of}
 use Rattle.rex_cluster.specs.World.{World as ModelWorld, Row, node_at, logs, at_node, only, first_told, deliver_found, sent_from, message_at, with_handed}

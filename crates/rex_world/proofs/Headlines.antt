@@ -11,8 +11,8 @@ use Rattle.rex_syntax.specs.Check.{IsChecked}
 use Rattle.rex_state.specs.Value.{StateValue}
 use Rattle.rex_state.specs.Start.{start_of}
 use Rattle.rex_state.specs.Machine.{run}
-use Rattle.rex_scenario.specs.declared.scenario.ScheduleLine.{ScheduleLine}
-use Rattle.rex_scenario.specs.Fits.{RequestFits}
+use Rattle.rex_schedule.specs.declared.scenario.ScheduleLine.{ScheduleLine}
+use Rattle.rex_schedule.specs.Fits.{RequestFits}
 use Rattle.rex_cluster.specs.Values.{Value, spells, runs, trace_of, values_fit, service_of}
 use Rattle.rex_cluster.specs.Agreed.{world_after, agreed}
 use Rattle.rex_safety.proofs.Agreeing.{agreed_fits, is_one_list}

@@ -4,7 +4,7 @@ use Rattle.std.specs.Prelude.{IfOk, Result, slice_index_or, slice_set}
 use Rattle.std.proofs.lemmas.Bool.{ne_eqb}
 use Rattle.std.proofs.lemmas.List.{get_or-set_same}
 use Rattle.rex_syntax.specs.declared.service.Declarations.{Declarations}
-use Rattle.rex_scenario.specs.Fits.{IsNode}
+use Rattle.rex_schedule.specs.Fits.{IsNode}
 use Rattle.rex_cluster.specs.Invariant.{Begins}
 use Rattle.rex_cluster.specs.Lanes.{Here, CallHere}
 use Rattle.rex_cluster.specs.Values.{Value, service_of}

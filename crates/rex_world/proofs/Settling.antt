@@ -2,7 +2,7 @@
 use Rattle.std.proofs.Common.{◌≡◌, ℕ, List, length, drop, Result, Ok, Err, sym, ap, subst, ◌∙◌}
 use Rattle.std.specs.Global.{Vec}
 use Rattle.rex_syntax.specs.declared.service.Declarations.{Declarations}
-use Rattle.rex_scenario.specs.Fits.{IsNode}
+use Rattle.rex_schedule.specs.Fits.{IsNode}
 use Rattle.rex_cluster.specs.Invariant.{Begins}
 use Rattle.rex_cluster.specs.World.{Row, node_at, put}
 use Rattle.rex_node.specs.declared.refusal.Refusal.{Refusal}

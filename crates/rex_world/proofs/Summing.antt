@@ -6,7 +6,7 @@ use Rattle.rex_state.specs.Value.{StateValue}
 use Rattle.rex_state.specs.Start.{start_of}
 use Rattle.rex_state.specs.Machine.{run}
 use Rattle.rex_report.specs.declared.effect.Effect.{Effect}
-use Rattle.rex_scenario.specs.declared.scenario.Scenario.{Scenario}
+use Rattle.rex_schedule.specs.declared.scenario.Scenario.{Scenario}
 use Rattle.rex_cluster.specs.Values.{Value, trace_of, state_after, values_fit}
 use Rattle.rex_cluster.specs.Agreed.{agreed}
 use Rattle.rex_cluster.specs.Quorum.{IsNode}

@@ -8,7 +8,7 @@ use Rattle.rex_syntax.specs.declared.service.Declarations.{Declarations}
 use Rattle.rex_event.specs.declared.event.Event.{Event}
 use Rattle.rex_event.specs.Cuts.{below}
 use Rattle.rex_cut.specs.Greatest.{greatest_cut}
-use Rattle.rex_scenario.specs.Fits.{IsNode}
+use Rattle.rex_schedule.specs.Fits.{IsNode}
 use Rattle.rex_paxos.specs.Acceptor.{AcceptorValue}
 use Rattle.rex_paxos.specs.Proposer.{ProposerValue}
 use Rattle.rex_state.specs.Value.{StateValue}

@@ -12,8 +12,8 @@ use Rattle.rex_cluster.specs.Calls.{begin, migrate, say, start}
 use Rattle.rex_cluster.specs.Values.{Value, values_fit}
 use Rattle.rex_cluster.specs.Lanes.{Here, CallHere}
 use Rattle.rex_syntax.specs.declared.request.Request.{Request}
-use Rattle.rex_scenario.specs.declared.scenario.ScheduleLine.{ScheduleLine}
-use Rattle.rex_scenario.specs.declared.scenario.ScheduleLine.TheVariants.{Cut, CutBelow, Deliver, Flush, KeepFail}
+use Rattle.rex_schedule.specs.declared.scenario.ScheduleLine.{ScheduleLine}
+use Rattle.rex_schedule.specs.declared.scenario.ScheduleLine.TheVariants.{Cut, CutBelow, Deliver, Flush, KeepFail}
 use Rattle.rex_cluster.specs.World.{World as ModelWorld, Row, node_at, step, steps, sent_from}
 use Rattle.rex_cluster.specs.Reading.{seen_by_releases, stamp_at}
 use Rattle.rex_cluster.specs.Releases.{IsAmong}

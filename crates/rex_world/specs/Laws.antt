@@ -11,9 +11,9 @@ use Rattle.rex_state.specs.Value.{StateValue}
 use Rattle.rex_state.specs.Start.{start_of}
 use Rattle.rex_state.specs.Machine.{run}
 use Rattle.rex_state.specs.Commute.{GoesFirst}
-use Rattle.rex_scenario.specs.declared.scenario.ScheduleLine.{ScheduleLine}
-use Rattle.rex_scenario.specs.declared.scenario.ScheduleLine.TheVariants.{ReadVariable}
-use Rattle.rex_scenario.specs.Fits.{RequestFits}
+use Rattle.rex_schedule.specs.declared.scenario.ScheduleLine.{ScheduleLine}
+use Rattle.rex_schedule.specs.declared.scenario.ScheduleLine.TheVariants.{ReadVariable}
+use Rattle.rex_schedule.specs.Fits.{RequestFits}
 use Rattle.rex_reduce.specs.Reduced.{AreLeast}
 use Rattle.rex_order.specs.Laws.{CutRunsAlike, AllowExtensions}
 use Rattle.rex_order.specs.Edges.{HasEdge}

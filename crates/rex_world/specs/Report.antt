@@ -8,8 +8,8 @@ use Rattle.rex_report.specs.declared.ends.End.TheVariants.{Up, Down}
 use Rattle.rex_report.specs.declared.ends.UpEnd.{UpEnd}
 use Rattle.rex_report.specs.Rows.{row_text}
 use Rattle.rex_report.specs.Ends.{end_text}
-use Rattle.rex_scenario.specs.declared.scenario.Scenario.{Scenario}
-use Rattle.rex_scenario.specs.declared.scenario.ScheduleLine.{ScheduleLine}
+use Rattle.rex_schedule.specs.declared.scenario.Scenario.{Scenario}
+use Rattle.rex_schedule.specs.declared.scenario.ScheduleLine.{ScheduleLine}
 use Rattle.rex_cluster.specs.Records.{promise, known}
 use Rattle.rex_cluster.specs.Node.{role_name, is_active}
 use Rattle.rex_cluster.specs.Values.{Value, trace_of, state_after}

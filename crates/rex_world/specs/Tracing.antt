@@ -2,7 +2,7 @@
 use Rattle.std.specs.Prelude.{ℕ, suc, List, [], ◌∷◌, ◌++◌}
 use Rattle.rex_syntax.specs.declared.service.Declarations.{Declarations}
 use Rattle.rex_report.specs.Trace.{delta_text}
-use Rattle.rex_scenario.specs.declared.scenario.Scenario.{Scenario}
+use Rattle.rex_schedule.specs.declared.scenario.Scenario.{Scenario}
 use Rattle.rex_cluster.specs.Values.{Value, delta_of}
 use Rattle.rex_cluster.specs.Agreed.{agreed, world_after}
 

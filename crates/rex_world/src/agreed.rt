@@ -1,7 +1,7 @@
 //! What the nodes of a world agreed on. The world keeps it: it grows by what the records of nodes say that they know.
 
 ghost use Rattle.std.specs.Prelude.{◌≡◌, ◌≤◌, drop, length, IfOk, OnOk};
-ghost use Rattle.rex_scenario.specs.Fits.{IsNode};
+ghost use Rattle.rex_schedule.specs.Fits.{IsNode};
 ghost use Rattle.rex_syntax.specs.declared.service.Declarations.{Declarations};
 ghost use Rattle.rex_cluster.specs.Agreed as model;
 ghost use Rattle.rex_world.specs.Agreed as specs;

@@ -6,7 +6,7 @@ ghost use Rattle.std.specs.Option.{option_copied};
 ghost use Rattle.rex_ballot.specs.Limits.{most_nodes};
 ghost use Rattle.rex_msg.specs.Spelling.{HasSpelling};
 ghost use Rattle.rex_version.specs.Versions.{has_version};
-ghost use Rattle.rex_scenario.specs.Fits.{IsNode, RequestFits};
+ghost use Rattle.rex_schedule.specs.Fits.{IsNode, RequestFits};
 ghost use Rattle.rex_state.specs.Machine.{lane_of, run};
 ghost use Rattle.rex_state.specs.Counts.{AreCounted};
 ghost use Rattle.rex_cluster.specs.Node.{is_active};

@@ -11,7 +11,7 @@ ghost use Rattle.rex_cluster.specs.Takes.{BeginsInRange};
 ghost use Rattle.rex_lead.specs.Lead.{blocks_of, live_text};
 ghost use Rattle.rex_lockset.specs.Refusal.{refusal_of as refusal};
 ghost use Rattle.rex_scenario.specs.Beyond.{IsPlain, beyond_words};
-ghost use Rattle.rex_scenario.specs.Fits.{ScenarioFits};
+ghost use Rattle.rex_schedule.specs.Fits.{ScenarioFits};
 ghost use Rattle.rex_answer.specs.Causes.{Judges};
 ghost use Rattle.rexlive_cli.specs.declared.recording.Recording.TheVariants.{Words};
 ghost use Rattle.rexlive_cli.specs.Due as due;

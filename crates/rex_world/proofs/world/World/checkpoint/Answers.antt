@@ -1,4 +1,4 @@
-use Rattle.rex_scenario.specs.declared.scenario.ScheduleLine.TheVariants as line
+use Rattle.rex_schedule.specs.declared.scenario.ScheduleLine.TheVariants as line
 use Rattle.std.proofs.Common.{List}
 use Rattle.rex_world.specs.declared.seats.Seat.{Seat}
 use Rattle.rex_cluster.specs.Calls as calls

@@ -5,11 +5,10 @@ use Rattle.rex_syntax.specs.declared.request.Request.{Request}
 use Rattle.rex_syntax.specs.declared.service.Declarations.{Declarations}
 use Rattle.rex_version.specs.declared.version.Version.TheVariants.{One}
 use Rattle.rex_version.specs.Versions.{has_old_form}
-use Rattle.rex_scenario.specs.Headings.{is_node_count}
-use Rattle.rex_scenario.specs.Requests.{takes_so_many}
-use Rattle.rex_scenario.specs.declared.scenario.Scenario.{Scenario}
-use Rattle.rex_scenario.specs.declared.scenario.ScheduleLine.{ScheduleLine}
-use Rattle.rex_scenario.specs.declared.scenario.ScheduleLine.TheVariants.{Elect, Submit, Lane, Cut, CutBelow, Deliver, Flush, Replay, Ask, Stop, Start, Checkpoint, DropKnown, KeepFail, ReadVariable}
+use Rattle.rex_schedule.specs.Counts.{is_node_count, takes_so_many}
+use Rattle.rex_schedule.specs.declared.scenario.Scenario.{Scenario}
+use Rattle.rex_schedule.specs.declared.scenario.ScheduleLine.{ScheduleLine}
+use Rattle.rex_schedule.specs.declared.scenario.ScheduleLine.TheVariants.{Elect, Submit, Lane, Cut, CutBelow, Deliver, Flush, Replay, Ask, Stop, Start, Checkpoint, DropKnown, KeepFail, ReadVariable}
 
 -- client and sequence are in their ranges, and the handler is there and takes the arguments
 pub record RequestFits (service : Declarations) (r : Request) : Type 0 where
