@@ -3,7 +3,7 @@
 use rex_list::List;
 use rex_parse::{Above, ServiceCode};
 use rex_syntax::request::Request;
-use rex_schedule::ScheduleLine;
+pub use rex_schedule::{Scenario, ScheduleLine};
 use std::alloc::AllocError;
 
 /// Why a line of a scenario is refused.
