@@ -31,7 +31,7 @@ use Rattle.rex_node.specs.Parts.{NodeValue, StaysNode, count_of, here_of}
 use Rattle.rex_world.specs.declared.seats.Seat.{Seat}
 use Rattle.rex_world.specs.declared.seats.Seat.TheVariants.{Running, Stopped, Empty}
 use Rattle.rex_world.specs.Calls.{CameBack, HasStarted, IsDone, IsWhole, StartsIf}
-use Rattle.rex_world.specs.Seats.{IsRunner, StaysRunner, StaysSeat, armed_of, faults_of, here_at, here_in, is_up_in, keeper_in, records_of}
+use Rattle.rex_world.specs.Seats.{IsRunner, StaysRunner, StaysSeat, armed_of, faults_of, here_at, here_in, is_up_in, keeper_in, records_of, reopened}
 use Rattle.rex_world.proofs.Acted.{done_if, none_grown, stays_whole}
 use Rattle.rex_world.proofs.Failing.{follows}
 use Rattle.rex_world.proofs.Knowing.{count_known}
@@ -178,7 +178,7 @@ log_in_seat service past Empty = refl
 abbrev restarted : List (Rec Value StateValue) → Option Failure → Here
 restarted log armed = record (down_node log armed) { up = true }
 
-module _ {S : Type 0} (service : Declarations) (past : List Value) (seed nodes number : ℕ) (seat : Seat S) (node : NodeValue KeeperValue) (up : CameUp records_of service past number nodes seed (keeper_in seat) node) where
+module _ {S : Type 0} (service : Declarations) (past : List Value) (seed nodes number : ℕ) (seat : Seat S) (node : NodeValue KeeperValue) (up : CameUp records_of service past number nodes seed (reopened (keeper_in seat)) node) where
   pub comes_up_up : node.up ≡ true
   comes_up_up = ap (λ (h : Here). h.up) up.node
 
