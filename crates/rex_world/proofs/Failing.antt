@@ -86,6 +86,25 @@ unarmed_then : (fate : Fate) (old new : KeeperValue) (bytes : List ℕ) → new 
 unarmed_then Kept old new bytes is = (ap (λ (k : KeeperValue). k.armed) is, ap faults_of is ∙ let e : old.faults + 1 + 0 ≡ old.faults + 1 = omega arith in e)
 unarmed_then Lost old new bytes is = (ap (λ (k : KeeperValue). k.armed) is, ap faults_of is ∙ let e : old.faults + 1 + 0 ≡ old.faults + 1 = omega arith in e)
 
+-- appends that go well leave it to be reopened, or not, as before
+same_broken : (armed : Option Fate) (bytes : List ℕ) (old : KeeperValue) → (appended_as armed bytes old).broken ≡ old.broken
+same_broken None bytes old = refl
+same_broken (Some Kept) bytes old = refl
+same_broken (Some Lost) bytes old = refl
+
+pub stays_broken : (old new : KeeperValue) (written : List (List ℕ)) → AppendsInTurn follows old written done new → new.broken ≡ old.broken
+stays_broken old new [] h = ap (λ (k : KeeperValue). k.broken) h.1
+stays_broken old new (bytes ∷ later) h = by h.0 h.1 h.2 (λ k chain. stays_broken k new later chain) h.3
+  where
+    by : (answer : Answer) (k : KeeperValue) → follows old bytes answer k → ((j : KeeperValue) → AppendsInTurn follows j later done new → new.broken ≡ j.broken) → MatchResult answer (λ _. AppendsInTurn follows k later done new) (λ e. (done ≡ Err e) × (new ≡ k)) → new.broken ≡ old.broken
+    by (Ok x) k g next chain = next k chain ∙ (ap (λ (j : KeeperValue). j.broken) g.1 ∙ same_broken old.armed bytes old)
+    by (Err e) k g next end = absurd (let no : done ≡ fault_of e = end.0 in cc)
+
+-- where an append failed, it was the first one
+pub none_before : (armed : Option Fate) (old between : KeeperValue) (written : List (List ℕ)) → old.armed ≡ armed → AppendsInTurn follows old written done between → IsSome between.armed → written ≡ []
+none_before None old between written e chain some = absurd (armed_not between.armed (stays old between written e chain) some)
+none_before (Some fate) old between written e chain some = (none_written fate old between written e chain).0
+
 -- ---- a node's step is the model's call
 
 module _ (service : Declarations) (past : List Value) (call : CallHere → CallHere) (goes : (f : Option Failure) → Goes f call) (old new : NodeValue KeeperValue) (step : Step) where
