@@ -52,6 +52,10 @@ keeper_in (Running node) = node.keeper
 keeper_in (Stopped keeper) = keeper
 keeper_in Empty = unused_keeper
 
+-- the same keeper, which needn't be reopened
+abbrev pub reopened : KeeperValue → KeeperValue
+reopened k = record k { broken = false }
+
 -- the records of the node of this number
 abbrev pub records_at : {S : Type 0} → List (Seat S) → ℕ → List (List ℕ)
 records_at seats number = records_of (keeper_in (slice_index_or seats (number - 1) Empty))
