@@ -2,8 +2,8 @@
 
 use rex_list::List;
 use rex_parse::{Above, ServiceCode};
-use rex_syntax::request::Request;
 pub use rex_schedule::{Scenario, ScheduleLine};
+use rex_syntax::request::Request;
 use std::alloc::AllocError;
 
 /// Why a line of a scenario is refused.
