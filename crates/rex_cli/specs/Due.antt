@@ -7,7 +7,7 @@ use Rattle.rex_parse.specs.After.{service_of}
 use Rattle.rex_parse.specs.declared.language.Above.{Above}
 use Rattle.rex_parse.specs.declared.language.ServiceCode.{ServiceCode}
 use Rattle.rex_scenario.specs.Reading.{answer_of as scenario_answer, scenario_of}
-use Rattle.rex_scenario.specs.declared.scenario.Scenario.{Scenario}
+use Rattle.rex_schedule.specs.declared.scenario.Scenario.{Scenario}
 use Rattle.rex_scenario.specs.declared.scenario.ScenarioCode.{ScenarioCode}
 use Rattle.rex_scenario.specs.declared.scenario.ScenarioCode.TheVariants.{TooLong}
 use Rattle.rex_scenario.specs.declared.scenario.Sections.{Sections}

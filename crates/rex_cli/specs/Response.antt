@@ -1,5 +1,5 @@
 -- What is due for a response.
-use Rattle.rex_scenario.specs.Fits.{ScenarioFits}
+use Rattle.rex_schedule.specs.Fits.{ScenarioFits}
 use Rattle.rex_world.specs.Report.{report_of}
 use Rattle.rex_answer.specs.Due.{Due}
 use Rattle.rex_cli.specs.declared.answers.Response.{Response}

@@ -2,7 +2,7 @@
 
 ghost use Rattle.std.specs.Prelude.{◌≡◌, IfOk};
 ghost use Rattle.rex_lockset.specs.Refusal.{refusal_of as refusal};
-ghost use Rattle.rex_scenario.specs.Fits.{ScenarioFits};
+ghost use Rattle.rex_schedule.specs.Fits.{ScenarioFits};
 ghost use Rattle.rex_scenario.specs.Reading.{answer_of as scenario_answer};
 ghost use Rattle.rex_gen.specs.Scenario.{scenario_text};
 ghost use Rattle.rex_command.specs.Laws.{IsScenario};

@@ -3,8 +3,8 @@
 ghost use Rattle.std.specs.Prelude.{◌≡◌, IfOk, length};
 ghost use Rattle.std.specs.List.{All};
 ghost use Rattle.rex_journal.specs.Storing.{journal_value};
-ghost use Rattle.rex_scenario.specs.Fits.{ScenarioFits};
-ghost use Rattle.rex_safety.specs.World.{beginning};
+ghost use Rattle.rex_schedule.specs.Fits.{ScenarioFits};
+ghost use Rattle.rex_cluster.specs.World.{beginning};
 ghost use Rattle.rex_world.specs.Kept.{IsOf, IsRunning};
 ghost use Rattle.rex_world.specs.Seats.{IsFresh};
 ghost use Rattle.rex_world.specs.World.{world_of};

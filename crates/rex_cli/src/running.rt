@@ -1,4 +1,4 @@
-ghost use Rattle.std.specs.Prelude.{◌≡◌, ◌≤◌, ◌<◌, ◌⊎◌, ℕ, Bool, [], true, false, Some, None, IsSome, map, IfOk, IfSome, IsErrOf, string_bytes};
+ghost use Rattle.std.specs.Prelude.{◌≡◌, ◌≤◌, ◌<◌, ◌+◌, ◌⊎◌, ℕ, Bool, [], true, false, Some, None, IsSome, map, IfOk, IfSome, IsErrOf, string_bytes};
 ghost use Rattle.std.specs.Io.KnownBytes.{IsAtEnd};
 ghost use Rattle.rex_traits.specs.Causes.{Rose};
 ghost use Rattle.rex_answer.specs.Outcome.{Gives, Ends};
@@ -8,8 +8,8 @@ ghost use Rattle.rex_command.specs.declared.commands.Command.TheVariants as comm
 ghost use Rattle.rex_cli.specs.Commands as inputs;
 ghost use Rattle.rex_cli.specs.Due as due;
 ghost use Rattle.rex_cli.specs.Causes.{JudgesFor, IsCaused};
-ghost use Rattle.rex_scenario.specs.Fits.{ScenarioFits};
-ghost use Rattle.rex_safety.specs.World.{beginning};
+ghost use Rattle.rex_schedule.specs.Fits.{ScenarioFits};
+ghost use Rattle.rex_cluster.specs.World.{beginning};
 ghost use Rattle.rex_world.specs.Kept.{IsOf, IsRunning};
 ghost use Rattle.rex_world.specs.Report.{report_of};
 ghost use Rattle.rex_world.specs.World.{world_of};
@@ -64,6 +64,7 @@ fn read_and_respond<R: Replayer, S: Source>(
     ensures low { IfOk result (λ r. (due_of r).status < 4) }
     ensures fits { IfOk result MayRun }
     ensures later { S.faults source.old ≤ S.faults source.new }
+    ensures reads { S.calls source.new ≤ S.calls source.old + 4194305 }
     ensures failed { IsErrOf result fault.Failed → Rose (S.faults source.old) (S.faults source.new) }
     ensures ready { R.ready replayer.new }
 {
@@ -93,6 +94,7 @@ fn respond<R: Replayer, S: Source>(
     ensures low { IfOk result (λ r. (due_of r).status < 4) }
     ensures fits { IfOk result MayRun }
     ensures later { S.faults source.old ≤ S.faults source.new }
+    ensures reads { S.calls source.new ≤ S.calls source.old + 4194305 }
     ensures failed { IsErrOf result fault.Failed → Rose (S.faults source.old) (S.faults source.new) }
     ensures ready { R.ready replayer.new }
 {
@@ -209,6 +211,7 @@ fn obey<R: Replayer, S: Source, K: Sink>(
     ensures causes { result < 4 → IfSome (inputs.input_for command (S.left source.old)) (λ input. IsCaused command input result) }
     ensures whole { inputs.reads command ≡ true → result ≡ 0 → IsAtEnd (S.left source.new) }
     ensures unread { inputs.reads command ≡ false → (source.new ≡ source.old) × (result ≡ 4 → ⊥) }
+    ensures reads { S.calls source.new ≤ S.calls source.old + 4194305 }
     ensures read_fault { result ≡ 4 → Rose (S.faults source.old) (S.faults source.new) }
     ensures write_fault { result ≡ 5 → Rose (K.faults sink.old) (K.faults sink.new) }
     ensures known { result ≤ 6 }
@@ -270,6 +273,9 @@ pub fn rex_main<R: Threads + Sync, S: Source, K: Sink, G: Gate + Sync>(
 
     // Where none is read, the source stays as it was, and no read fails.
     ensures unread { inputs.reads (spec.command_of (map string_bytes words.now)) ≡ false → (source.new ≡ source.old) × (result ≡ 4 → ⊥) }
+
+    // At most 4,194,305 reads are made.
+    ensures reads { S.calls source.new ≤ S.calls source.old + 4194305 }
 
     // A fault is answered only where it was counted.
     ensures read_fault { result ≡ 4 → Rose (S.faults source.old) (S.faults source.new) }

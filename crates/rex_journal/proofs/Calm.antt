@@ -6,6 +6,7 @@ use Rattle.rex_disk.specs.Calls.{Call, CallsInTurn}
 use Rattle.rex_disk.specs.Calls.Call.{Reads, Writes, Syncs, Reserves}
 use Rattle.rex_disk.specs.Memory.{DiskValue, DoesCall, plan_after_sync, plan_after_write, sync_fails, write_fails}
 use Rattle.rex_journal.specs.Giving.{Ends, IsOfDevice}
+use Rattle.rex_journal.proofs.Making.{ends_calls}
 
 -- no call is named, and none is planned to fail
 pub record IsCalm (d : DiskValue) : Type 0 where
@@ -34,4 +35,4 @@ never_fails (Reserves calls bytes) old new of c f = of
 
 -- so no calls end in one that fails
 pub no_end : (old new : DiskValue) → IsCalm old → Ends DoesCall old new → ⊥
-no_end old new c h = never_fails h.1 h.3.between new h.2 (goes_calm h.0 old h.3.between c h.3.before) h.3.fails
+no_end old new c h = let e = ends_calls DoesCall old new h in never_fails e.1 e.3.between new e.2 (goes_calm e.0 old e.3.between c e.3.before) e.3.fails

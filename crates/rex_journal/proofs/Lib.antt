@@ -6,6 +6,7 @@ mod Committing
 mod Empty
 mod Examples
 mod Making
+mod Refusing
 mod Moments
 mod Reopening
 mod Same

@@ -1,9 +1,10 @@
 -- How calls of a disk follow one another.
-use Rattle.std.proofs.Common.{◌≡◌, Bool, true, false, List, [], ◌∷◌, ◌++◌, Result, refl}
+use Rattle.std.proofs.Common.{◌≡◌, inl, inr, ℕ, Bool, true, false, List, [], ◌∷◌, ◌++◌, Result, Ok, Err, IfErr, refl, sym}
 use Rattle.std.specs.Prelude.{IsErrAnd}
 use Rattle.std.proofs.lemmas.Result.{err_from_is_err_and}
-use Rattle.rex_disk.specs.Calls.{Call, CallsInTurn}
-use Rattle.rex_journal.specs.Giving.{Ends, Goes, IsOfDevice, Opens}
+use Rattle.rex_disk.specs.Calls.{Call, CallsInTurn, FailsInTurn}
+use Rattle.rex_disk.specs.Calls.Call.{Writes, Syncs}
+use Rattle.rex_journal.specs.Giving.{AreLooks, Ends, Goes, IsLook, IsOfDevice, Looks, LooksInto, Opens, WriteFails}
 use Rattle.rex_journal.specs.declared.fault.OpenFault.{OpenFault}
 use Rattle.rex_journal.specs.declared.fault.OpenFault.TheVariants as open_fault
 
@@ -18,20 +19,40 @@ module _ {D : Type 0} (gives : D → Call → Bool → D → Type 0) where
   pub goes_then : (old mid new : D) → Goes gives old mid → Goes gives mid new → Goes gives old new
   goes_then old mid new first second = (first.0 ++ second.0, calls_then first.0 second.0 old mid new first.1 second.1)
 
-  pub ends_one : (call : Call) (old new : D) → IsOfDevice call → gives old call true new → Ends gives old new
-  ends_one call old new of h = ([], call, of, record { between = old; before = refl; fails = h })
+  looks_append : (xs ys : List Call) → AreLooks xs → AreLooks ys → AreLooks (xs ++ ys)
+  looks_append [] ys first second = second
+  looks_append (x ∷ xs) ys first second = (first.0, looks_append xs ys first.1 second)
 
-  pub goes_ends : (old mid new : D) → Goes gives old mid → Ends gives mid new → Ends gives old new
-  goes_ends old mid new first second = (
-    first.0 ++ second.0,
-    second.1,
-    second.2,
-    record {
-      between = second.3.between;
-      before = calls_then first.0 second.0 old mid second.3.between first.1 second.3.before;
-      fails = second.3.fails;
-    },
-  )
+  pub looks_one : (call : Call) (old new : D) → IsLook call → gives old call false new → Looks gives old new
+  looks_one call old new look h = (call ∷ [], (look, tt), (new, h, refl))
+
+  pub looks_then : (old mid new : D) → Looks gives old mid → Looks gives mid new → Looks gives old new
+  looks_then old mid new first second = (first.0 ++ second.0, looks_append first.0 second.0 first.1 second.1, calls_then first.0 second.0 old mid new first.2 second.2)
+
+  pub looks_go : (old new : D) → Looks gives old new → Goes gives old new
+  looks_go old new looks = (looks.0, looks.2)
+
+  pub look_ends : (call : Call) (old mid new : D) → Looks gives old mid → IsLook call → IsOfDevice call → gives mid call true new → Ends gives old new
+  look_ends call old mid new looks look of h = (mid, looks, inl (call, look, of, h))
+
+  pub write_ends : (gate : ℕ) (old mid new : D) → Looks gives old mid → WriteFails gives gate (0 ∷ []) mid new → Ends gives old new
+  write_ends gate old mid new looks h = (mid, looks, inr (gate, h))
+
+  pub looks_failed : {T : Type 0} (old new : D) (r : Result T OpenFault) → IsErrAnd r (λ e. e ≡ open_fault.Failed) → Ends gives old new → LooksInto gives old new r
+  looks_failed old new r h ends = let p = err_from_is_err_and r h in rw (p.1, p.2) ends
+
+  -- the calls that were made, and the one that failed
+  pub ends_calls : (old new : D) → Ends gives old new → (calls : List Call) × (call : Call) × IsOfDevice call × FailsInTurn gives old calls call new
+  ends_calls old new (mid, looks, inl (call, look, of, h)) = (looks.0, call, of, record { between = mid; before = looks.2; fails = h })
+  ends_calls old new (mid, looks, inr (gate, inl f)) = (looks.0 ++ [], Writes gate (0 ∷ []), tt, record { between = f.between; before = calls_then looks.0 [] old mid f.between looks.2 f.before; fails = f.fails })
+  ends_calls old new (mid, looks, inr (gate, inr f)) = (looks.0 ++ Writes gate (0 ∷ []) ∷ [], Syncs, tt, record { between = f.between; before = calls_then looks.0 (Writes gate (0 ∷ []) ∷ []) old mid f.between looks.2 f.before; fails = f.fails })
+
+  -- an answer that says nothing of a failed disk
+  pub opens_looking : {T : Type 0} (old new : D) (r : Result T OpenFault) → IsErrAnd r (λ e. (e ≡ open_fault.Failed) → ⊥) → Looks gives old new → Opens gives old new r
+  opens_looking old new (Ok x) h looks = looks_go old new looks
+  opens_looking old new (Err open_fault.Failed) h looks = absurd (h refl)
+  opens_looking old new (Err (open_fault.BadJournal at)) h looks = looks
+  opens_looking old new (Err open_fault.OutOfMemory) h looks = tt
 
   pub opens_failed : {T : Type 0} (old new : D) (r : Result T OpenFault) → IsErrAnd r (λ e. e ≡ open_fault.Failed) → Ends gives old new → Opens gives old new r
   opens_failed old new r h ends = let p = err_from_is_err_and r h in rw (p.1, p.2) ends

@@ -22,29 +22,58 @@ IsOfDevice (Reserves calls bytes) = ⊥
 abbrev pub Goes : {D : Type 0} → (D → Call → Bool → D → Type 0) → D → D → Type 0
 Goes gives old new = (calls : List Call) × CallsInTurn gives old calls new
 
--- calls were made that didn't fail, and then one that did
+-- a call that writes nothing
+abbrev pub IsLook : Call → Type 0
+IsLook (Reads at n) = Unit {0}
+IsLook (Writes at bytes) = ⊥
+IsLook Syncs = Unit {0}
+IsLook (Reserves calls bytes) = Unit {0}
+
+-- none of these calls writes
+abbrev pub AreLooks : List Call → Type 0
+AreLooks [] = Unit {0}
+AreLooks (call ∷ calls) = IsLook call × AreLooks calls
+
+-- calls were made that wrote nothing, and none failed
+abbrev pub Looks : {D : Type 0} → (D → Call → Bool → D → Type 0) → D → D → Type 0
+Looks gives old new = (calls : List Call) × AreLooks calls × CallsInTurn gives old calls new
+
+-- a call failed that writes nothing, and is one of the disk itself
+abbrev pub LookFails : {D : Type 0} → (D → Call → Bool → D → Type 0) → D → D → Type 0
+LookFails gives old new = (call : Call) × IsLook call × IsOfDevice call × gives old call true new
+
+-- a write of these bytes failed, or it was made and the sync behind it failed
+abbrev pub WriteFails : {D : Type 0} → (D → Call → Bool → D → Type 0) → ℕ → List ℕ → D → D → Type 0
+WriteFails gives at bytes old new = FailsInTurn gives old [] (Writes at bytes) new ⊎ FailsInTurn gives old (Writes at bytes ∷ []) Syncs new
+
+-- calls were made that wrote nothing, and then one failed: nothing was written but maybe the byte 0 at one place, and that right before
 abbrev pub Ends : {D : Type 0} → (D → Call → Bool → D → Type 0) → D → D → Type 0
-Ends gives old new = (calls : List Call) × (call : Call) × IsOfDevice call × FailsInTurn gives old calls call new
+Ends {D} gives old new = (mid : D) × Looks gives old mid × (LookFails gives mid new ⊎ ((gate : ℕ) × WriteFails gives gate (0 ∷ []) mid new))
 
--- none of the calls failed, or the last one did
-abbrev pub Makes : {D T E : Type 0} → (D → Call → Bool → D → Type 0) → D → D → Result T E → Type 0
-Makes gives old new (Ok x) = Goes gives old new
-Makes gives old new (Err e) = Ends gives old new
+-- a gate was closed by calls that didn't fail, or by a write of 0 and a sync of which one failed
+abbrev pub Closes : {D T E : Type 0} → (D → Call → Bool → D → Type 0) → ℕ → D → D → Result T E → Type 0
+Closes gives gate old new (Ok x) = Goes gives old new
+Closes gives gate old new (Err e) = WriteFails gives gate (0 ∷ []) old new
 
--- the same of opening a journal, which may be refused for other causes
+-- how the calls of opening a journal end where it is refused: nothing was written where the journal is called bad
 abbrev pub EndsAs : {D : Type 0} → (D → Call → Bool → D → Type 0) → D → D → OpenFault → Type 0
 EndsAs gives old new open_fault.Failed = Ends gives old new
-EndsAs gives old new (open_fault.BadJournal at) = Unit {0}
+EndsAs gives old new (open_fault.BadJournal at) = Looks gives old new
 EndsAs gives old new open_fault.OutOfMemory = Unit {0}
 
 abbrev pub Opens : {D T : Type 0} → (D → Call → Bool → D → Type 0) → D → D → Result T OpenFault → Type 0
 Opens gives old new (Ok x) = Goes gives old new
 Opens gives old new (Err fault) = EndsAs gives old new fault
 
+-- the same where nothing is written before the answer
+abbrev pub LooksInto : {D T : Type 0} → (D → Call → Bool → D → Type 0) → D → D → Result T OpenFault → Type 0
+LooksInto gives old new (Ok x) = Looks gives old new
+LooksInto gives old new (Err fault) = EndsAs gives old new fault
+
 -- a write of these bytes and a sync: both were made, or the one or the other failed
 abbrev pub WritesThrough : {D T E : Type 0} → (D → Call → Bool → D → Type 0) → ℕ → List ℕ → D → D → Result T E → Type 0
 WritesThrough gives at bytes old new (Ok x) = CallsInTurn gives old (Writes at bytes ∷ Syncs ∷ []) new
-WritesThrough gives at bytes old new (Err e) = FailsInTurn gives old [] (Writes at bytes) new ⊎ FailsInTurn gives old (Writes at bytes ∷ []) Syncs new
+WritesThrough gives at bytes old new (Err e) = WriteFails gives at bytes old new
 
 -- the same of a gate, which is left unknown where its write failed, and open where its sync did
 abbrev pub OpensGate : {D T : Type 0} → (D → Call → Bool → D → Type 0) → ℕ → D → D → Result T GateLeft → Type 0

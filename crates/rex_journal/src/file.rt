@@ -3,8 +3,8 @@ ghost use Rattle.rex_disk.specs.Calls.{Counts, HasRoom, Reaches, UsesRoom};
 ghost use Rattle.rex_disk.specs.Stops.{LeavesOnly, Only, Torn, overwritten};
 ghost use Rattle.rex_journal.specs.Journal.{AllShort, Holds, StandsFor, entry};
 ghost use Rattle.rex_journal.specs.Keeping.{AllStandFor, IsSettled};
-ghost use Rattle.rex_journal.specs.Opening.{CountsFailed, IsCauseIn, IsClosing};
-ghost use Rattle.rex_journal.specs.Giving.{Commits, Makes, Opened, Opens, OpensGate, WritesThrough};
+ghost use Rattle.rex_journal.specs.Opening.{CountsFailed, IsCauseIn, IsClosing, Leaves};
+ghost use Rattle.rex_journal.specs.Giving.{Closes, Commits, LooksInto, Opened, Opens, OpensGate, WritesThrough};
 ghost use Rattle.rex_journal.specs.Keeping.{IsFront, LeavesFront};
 
 use crate::OpenFault;
@@ -94,6 +94,7 @@ pub(crate) fn recover<D: Disk>(alloc: Global, disk: &mut D) -> Result<Found, Ope
     ensures holds { IsTrue (D.meets disk.old) → IfOk result (λ f. Holds (D.seen disk.old) f.records.items) }
     ensures settled { IfOk result (λ f. IsSettled D.meets D.seen D.may_leave disk.new f.records.items f.gate) }
     ensures bad { IsTrue (D.meets disk.old) → IfErr result (IsCauseIn (D.seen disk.old)) }
+    ensures unread { IsTrue (D.meets disk.old) → IfErr result (Leaves (D.seen disk.old) (D.seen disk.new)) }
     ensures any_moment { (records : List (List ℕ)) (pending : Option (List ℕ)) → IsTrue (D.meets disk.old) → AllShort records → AllStandFor (D.may_leave disk.old) records pending → LeavesOnly D.moment D.left_since disk.old disk.new (StandsFor records pending) }
     ensures calls { Opens D.gives disk.old disk.new result }
     ensures cause { CountsFailed (D.faults disk.old) (D.faults disk.new) result }
@@ -115,7 +116,7 @@ fn close_gate<D: Disk>(disk: &mut D, bytes: &[u8], gate: usize) -> Result<(), Fa
     ensures durable { IsTrue (D.meets disk.old) → Only (D.seen disk.old) (D.may_leave disk.old) → OnOk result (Only (D.seen disk.new) (D.may_leave disk.new)) }
     ensures any_moment { IsTrue (D.meets disk.old) → bytes.now ≡ D.seen disk.old → Only (D.seen disk.old) (D.may_leave disk.old) → LeavesOnly D.moment D.left_since disk.old disk.new (IsClosing gate (D.seen disk.old)) }
     ensures within { OnOk result (gate < length (D.seen disk.new)) }
-    ensures calls { Makes D.gives disk.old disk.new result }
+    ensures calls { Closes D.gives gate disk.old disk.new result }
     ensures cause { Counts (D.faults disk.old) (D.faults disk.new) result }
     ensures model { D.meets disk.new ≡ D.meets disk.old }
 {
@@ -135,7 +136,7 @@ fn read_synced<D: Disk>(alloc: Global, disk: &mut D) -> Result<Vec<u8>, OpenFaul
     ensures any_moment { IsTrue (D.meets disk.old) → LeavesOnly D.moment D.left_since disk.old disk.new (D.may_leave disk.old) }
     ensures len { IfOk result (λ b. length b.items ≡ length (D.seen disk.new)) }
     ensures room { OnOk result (HasRoom 2 1 (D.calls_left disk.new) (D.bytes_left disk.new) (length (D.seen disk.new))) }
-    ensures calls { Opens D.gives disk.old disk.new result }
+    ensures calls { LooksInto D.gives disk.old disk.new result }
     ensures cause { CountsFailed (D.faults disk.old) (D.faults disk.new) result }
     ensures good { IfErr result (IsCauseIn (D.seen disk.old)) }
     ensures model { D.meets disk.new ≡ D.meets disk.old }

@@ -6,7 +6,7 @@ ghost use Rattle.rex_disk.specs.Stops.{LeavesOnly, Rests};
 ghost use Rattle.rex_journal.specs.Journal.{AllShort, Holds, StandsFor, entry};
 ghost use Rattle.rex_journal.specs.Giving.{Appends, EndsAs, Goes, gate_left, records_cut, unsure_left};
 ghost use Rattle.rex_journal.specs.Keeping.{AllStandFor, Breaks, CountsAppend, KeepsRecords};
-ghost use Rattle.rex_journal.specs.Opening.{CountsAs, IsCauseIn};
+ghost use Rattle.rex_journal.specs.Opening.{CountsAs, IsCauseIn, Leaves};
 ghost use Rattle.rex_disk.specs.Calls.Call.{Reserves};
 
 use crate::Refused;
@@ -43,13 +43,14 @@ impl<D: Disk> JournalKeeper<D> {
     /// Opens the journal on a disk, as a stop may have left it, and closes the gate behind its records where that isn't 0.
     /// A disk of fewer than two bytes has no records.
     ///
-    /// A refusal hands the disk back.
+    /// A refusal hands the disk back. A journal that is called bad is left as it was.
     pub fn open(alloc: Global, disk: D) -> Result<JournalKeeper<D>, Refused<D>>
         requires count { D.faults disk < 2 ^ 64 - 1 }
         ensures holds { IsTrue (D.meets disk) → IfOk result (λ k. Holds (D.seen disk) k.records) }
         ensures whole { IfOk result (λ k. (k.broken ≡ false) × (k.unsure ≡ false) × (k.refused ≡ 0)) }
         ensures safe { IfOk result (λ k. IsTrue (D.meets k.disk) → AllStandFor (D.may_leave k.disk) k.records None) }
         ensures bad { IsTrue (D.meets disk) → IfErr result (λ r. IsCauseIn (D.seen disk) r.fault) }
+        ensures unread { IsTrue (D.meets disk) → IfErr result (λ r. Leaves (D.seen disk) (D.seen r.disk) r.fault) }
         ensures any_moment { (records : Items (Items ℕ)) (pending : Option (Items ℕ)) → IsTrue (D.meets disk) → AllShort records → AllStandFor (D.may_leave disk) records pending → MatchResult result (λ k. LeavesOnly D.moment D.left_since disk k.disk (StandsFor records pending)) (λ r. LeavesOnly D.moment D.left_since disk r.disk (StandsFor records pending)) }
         ensures calls { MatchResult result (λ k. Goes D.gives disk k.disk) (λ r. EndsAs D.gives disk r.disk r.fault) }
         ensures cause { MatchResult result (λ k. D.faults k.disk ≡ D.faults disk) (λ r. CountsAs r.fault (D.faults disk) (D.faults r.disk)) }
@@ -60,13 +61,14 @@ impl<D: Disk> JournalKeeper<D> {
 
     /// Opens the journal on a keeper's disk again, after which it is no longer broken. Its count of faults stays.
     ///
-    /// A refusal hands the disk back.
+    /// A refusal hands the disk back. A journal that is called bad is left as it was.
     pub fn reopen(self) -> Result<JournalKeeper<D>, Refused<D>>
         requires count { D.faults self.disk < 2 ^ 64 - 1 }
         ensures holds { IsTrue (D.meets self.disk) → IfOk result (λ k. Holds (D.seen self.disk) k.records) }
         ensures whole { IfOk result (λ k. (k.broken ≡ false) × (k.unsure ≡ false) × (k.refused ≡ self.refused)) }
         ensures safe { IfOk result (λ k. IsTrue (D.meets k.disk) → AllStandFor (D.may_leave k.disk) k.records None) }
         ensures bad { IsTrue (D.meets self.disk) → IfErr result (λ r. IsCauseIn (D.seen self.disk) r.fault) }
+        ensures unread { IsTrue (D.meets self.disk) → IfErr result (λ r. Leaves (D.seen self.disk) (D.seen r.disk) r.fault) }
         ensures any_moment { (records : Items (Items ℕ)) (pending : Option (Items ℕ)) → IsTrue (D.meets self.disk) → AllShort records → AllStandFor (D.may_leave self.disk) records pending → MatchResult result (λ k. LeavesOnly D.moment D.left_since self.disk k.disk (StandsFor records pending)) (λ r. LeavesOnly D.moment D.left_since self.disk r.disk (StandsFor records pending)) }
         ensures calls { MatchResult result (λ k. Goes D.gives self.disk k.disk) (λ r. EndsAs D.gives self.disk r.disk r.fault) }
         ensures cause { MatchResult result (λ k. D.faults k.disk ≡ D.faults self.disk) (λ r. CountsAs r.fault (D.faults self.disk) (D.faults r.disk)) }
@@ -86,6 +88,7 @@ impl<D: Disk> JournalKeeper<D> {
         ensures whole { IfOk result (λ k. (k.broken ≡ false) × (k.unsure ≡ false) × (k.refused ≡ refused)) }
         ensures safe { IfOk result (λ k. IsTrue (D.meets k.disk) → AllStandFor (D.may_leave k.disk) k.records None) }
         ensures bad { IsTrue (D.meets disk) → IfErr result (λ r. IsCauseIn (D.seen disk) r.fault) }
+        ensures unread { IsTrue (D.meets disk) → IfErr result (λ r. Leaves (D.seen disk) (D.seen r.disk) r.fault) }
         ensures any_moment { (records : Items (Items ℕ)) (pending : Option (Items ℕ)) → IsTrue (D.meets disk) → AllShort records → AllStandFor (D.may_leave disk) records pending → MatchResult result (λ k. LeavesOnly D.moment D.left_since disk k.disk (StandsFor records pending)) (λ r. LeavesOnly D.moment D.left_since disk r.disk (StandsFor records pending)) }
         ensures calls { MatchResult result (λ k. Goes D.gives disk k.disk) (λ r. EndsAs D.gives disk r.disk r.fault) }
         ensures cause { MatchResult result (λ k. D.faults k.disk ≡ D.faults disk) (λ r. CountsAs r.fault (D.faults disk) (D.faults r.disk)) }

@@ -8,7 +8,7 @@ use Rattle.std.proofs.lemmas.List.{length-take, take-append-drop, take-append-le
 use Rattle.std.proofs.lemmas.List.Elements.{All-nil, All-cons, All-take, All-drop}
 use Rattle.rex_event.specs.declared.event.Event.{Event}
 use Rattle.rex_delta.specs.Spelling.{HasTypedKind}
-use Rattle.rex_safety.specs.Takes.{BeginsInRange}
+use Rattle.rex_cluster.specs.Takes.{BeginsInRange}
 use Rattle.rex_steady.specs.Blocks.{joined, IsBlock}
 use Rattle.rex_lead.specs.Lead.{blocks_of}
 

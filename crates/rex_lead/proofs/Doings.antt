@@ -5,15 +5,15 @@ use Rattle.std.proofs.lemmas.Bool.{ne_eqb, false≢true}
 use Rattle.rex_syntax.specs.declared.request.Request.{Request}
 use Rattle.rex_syntax.specs.declared.service.Declarations.{Declarations}
 use Rattle.rex_event.specs.declared.event.Event.{Event}
-use Rattle.rex_scenario.specs.declared.scenario.ScheduleLine.TheVariants.{Replay}
-use Rattle.rex_safety.specs.Node.{Message, Role, is_active, role_name}
-use Rattle.rex_safety.specs.Node.Role.{Follower, Leads}
-use Rattle.rex_safety.specs.Calls.{begin}
-use Rattle.rex_safety.specs.Values.{Value}
-use Rattle.rex_safety.specs.Lanes.{Here, active_only}
-use Rattle.rex_safety.specs.World.{World as ModelWorld, node_at, put, if_up}
-use Rattle.rex_safety.specs.Takes.{Doing, take_event, take as take_in, does, after_doings}
-use Rattle.rex_safety.specs.Takes.Doing.{Does, Takes}
+use Rattle.rex_schedule.specs.declared.scenario.ScheduleLine.TheVariants.{Replay}
+use Rattle.rex_cluster.specs.Node.{Message, Role, is_active, role_name}
+use Rattle.rex_cluster.specs.Node.Role.{Follower, Leads}
+use Rattle.rex_cluster.specs.Calls.{begin}
+use Rattle.rex_cluster.specs.Values.{Value}
+use Rattle.rex_cluster.specs.Lanes.{Here, active_only}
+use Rattle.rex_cluster.specs.World.{World as ModelWorld, node_at, put, if_up}
+use Rattle.rex_cluster.specs.Takes.{Doing, take_event, take as take_in, does, after_doings}
+use Rattle.rex_cluster.specs.Takes.Doing.{Does, Takes}
 use Rattle.rex_node.specs.Calls as calls
 use Rattle.rex_node.specs.Calls.{Refuses, refusal_active, if_active}
 use Rattle.rex_node.specs.declared.refusal.Refusal.{Refusal}

@@ -13,15 +13,15 @@ use Rattle.rex_delta.specs.Spelling.{HasTypedKind}
 use Rattle.rex_state.specs.Value.{StateValue}
 use Rattle.rex_state.specs.Start.{start_of}
 use Rattle.rex_state.specs.Machine.{run}
-use Rattle.rex_scenario.specs.Fits.{ScenarioFits}
-use Rattle.rex_scenario.specs.Headings.{is_node_count}
-use Rattle.rex_scenario.specs.declared.scenario.Scenario.{Scenario}
-use Rattle.rex_safety.specs.Values.{Value, values_fit, service_of}
-use Rattle.rex_safety.specs.Records.{known}
-use Rattle.rex_safety.specs.Lanes.{Here}
-use Rattle.rex_safety.specs.World.{World, node_at}
-use Rattle.rex_safety.specs.Agreed.{known_at, longer_of, longest, agreed}
-use Rattle.rex_safety.specs.Takes.{BeginsInRange}
+use Rattle.rex_schedule.specs.Fits.{ScenarioFits}
+use Rattle.rex_schedule.specs.Counts.{is_node_count}
+use Rattle.rex_schedule.specs.declared.scenario.Scenario.{Scenario}
+use Rattle.rex_cluster.specs.Values.{Value, values_fit, service_of}
+use Rattle.rex_cluster.specs.Records.{known}
+use Rattle.rex_cluster.specs.Lanes.{Here}
+use Rattle.rex_cluster.specs.World.{World, node_at}
+use Rattle.rex_cluster.specs.Agreed.{known_at, longer_of, longest, agreed}
+use Rattle.rex_cluster.specs.Takes.{BeginsInRange}
 use Rattle.rex_safety.proofs.Agreeing.{known_fits}
 use Rattle.rex_safety.proofs.Caused.{values_least}
 use Rattle.rex_safety.proofs.Doings.{doings_reached}

@@ -14,11 +14,11 @@ use Rattle.rex_state.specs.Machine.{no_lane, run}
 use Rattle.rex_state.specs.Counts.{AreCounted, RunsCountOn, counts_of}
 use Rattle.rex_state.proofs.Counts.{count_is, counted_rise}
 use Rattle.rex_state.proofs.Run.{run-then}
-use Rattle.rex_safety.specs.Values.{Value, trace_of, state_after}
-use Rattle.rex_safety.specs.Lanes.{live_state}
-use Rattle.rex_safety.specs.World.{World as ModelWorld, node_at, beginning}
-use Rattle.rex_safety.specs.Takes.{after_doings}
-use Rattle.rex_safety.proofs.Replies.{run_split, state_is}
+use Rattle.rex_cluster.specs.Values.{Value, trace_of, state_after}
+use Rattle.rex_cluster.specs.Lanes.{live_state}
+use Rattle.rex_cluster.specs.World.{World as ModelWorld, node_at, beginning}
+use Rattle.rex_cluster.specs.Takes.{after_doings}
+use Rattle.rex_cluster.proofs.Replies.{run_split, state_is}
 use Rattle.rex_steady.specs.Schedule.{agreement, agreements, election, live_doings, takes}
 use Rattle.rex_steady.specs.Blocks.{IsBlock, joined, values_of}
 use Rattle.rex_steady.specs.Steady.{IsSteady, LeadersAreSteady, agreed_world, live_world}

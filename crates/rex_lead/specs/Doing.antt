@@ -5,9 +5,9 @@ use Rattle.rex_event.specs.declared.event.Event.{Event}
 use Rattle.rex_state.specs.Value.{StateValue}
 use Rattle.rex_state.specs.Machine.{run}
 use Rattle.rex_state.specs.Counts.{AreCounted}
-use Rattle.rex_safety.specs.Lanes.{live_state}
-use Rattle.rex_safety.specs.World.{node_at}
-use Rattle.rex_safety.specs.Takes.{Doing, after_doings}
+use Rattle.rex_cluster.specs.Lanes.{live_state}
+use Rattle.rex_cluster.specs.World.{node_at}
+use Rattle.rex_cluster.specs.Takes.{Doing, after_doings}
 use Rattle.rex_safety.specs.Doings.{world_after_doings}
 use Rattle.rex_steady.specs.Schedule.{election}
 use Rattle.rex_world.specs.declared.world.World.{World}

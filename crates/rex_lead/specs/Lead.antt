@@ -12,13 +12,13 @@ use Rattle.rex_reduce.specs.Reduced.{AreLeast}
 use Rattle.rex_state.specs.Value.{StateValue}
 use Rattle.rex_state.specs.Start.{start_of}
 use Rattle.rex_state.specs.Machine.{run}
-use Rattle.rex_scenario.specs.Fits.{ScenarioFits}
-use Rattle.rex_scenario.specs.declared.scenario.Scenario.{Scenario}
-use Rattle.rex_safety.specs.Values.{Value, delta_of}
-use Rattle.rex_safety.specs.Invariant.{IsIn}
-use Rattle.rex_safety.specs.Agreed.{agreed}
-use Rattle.rex_safety.specs.Takes.{BeginsInRange}
-use Rattle.rex_safety.specs.World.{World}
+use Rattle.rex_schedule.specs.Fits.{ScenarioFits}
+use Rattle.rex_schedule.specs.declared.scenario.Scenario.{Scenario}
+use Rattle.rex_cluster.specs.Values.{Value, delta_of}
+use Rattle.rex_cluster.specs.Invariant.{IsIn}
+use Rattle.rex_cluster.specs.Agreed.{agreed}
+use Rattle.rex_cluster.specs.Takes.{BeginsInRange}
+use Rattle.rex_cluster.specs.World.{World}
 use Rattle.rex_steady.specs.Blocks.{values_of}
 use Rattle.rex_steady.specs.Steady.{IsSteady, live_world}
 use Rattle.rex_world.specs.Tracing.{values_text}

@@ -3,10 +3,10 @@
 ghost use Rattle.std.specs.Prelude.{◌≡◌, ◌<◌, ◌≤◌, ◌+◌, ◌^◌, [], ◌∷◌, length, OnOk};
 ghost use Rattle.std.specs.List.{All};
 ghost use Rattle.rex_version.specs.Versions.{has_old_form};
-ghost use Rattle.rex_scenario.specs.Fits.{LineFits, FormFits};
-ghost use Rattle.rex_scenario.specs.declared.scenario.ScheduleLine.TheVariants.{Flush};
-ghost use Rattle.rex_safety.specs.Takes.{BeginsInRange};
-ghost use Rattle.rex_safety.specs.Takes.Doing.{Does, Takes};
+ghost use Rattle.rex_schedule.specs.Fits.{LineFits, FormFits};
+ghost use Rattle.rex_schedule.specs.declared.scenario.ScheduleLine.TheVariants.{Flush};
+ghost use Rattle.rex_cluster.specs.Takes.{BeginsInRange};
+ghost use Rattle.rex_cluster.specs.Takes.Doing.{Does, Takes};
 ghost use Rattle.rex_steady.specs.Schedule.{takes};
 ghost use Rattle.rex_world.specs.World.{nodes_of};
 ghost use Rattle.rex_world.specs.Kept.{IsRunning};
@@ -14,7 +14,7 @@ ghost use Rattle.rex_lead.specs.Doing.{Did, IsNext};
 
 use rex_event::Event;
 use rex_replay::{OneThread, Replayer};
-use rex_scenario::ScheduleLine;
+use rex_schedule::ScheduleLine;
 use rex_state::state::State;
 use rex_syntax::checked::Checked;
 use rex_traits::MemKeeper;

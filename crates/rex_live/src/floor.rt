@@ -144,13 +144,15 @@ fn try_on<S: Setting>(
 ) -> Result<Made<S>, Halt>
     requires service { svc.now ≡ S.service }
     requires there { lane < S.service.lanes }
+    requires tries { 0 < tries }
     requires part { 0 < mine.old.parts }
     ensures parts { mine.new.parts ≡ mine.old.parts }
+    ensures few { mine.new.amount ≤ mine.old.amount + tries }
     ensures begun { desk.new.begun ≡ desk.old.begun }
     ensures halts { IfErr result (Halts S.service S.requests desk.new) }
 {
     let mut turn = desk.step(alloc, svc, lane, mine);
-    for _ in 1..tries {
+    for made in 1..tries {
         if !leaves_nothing(&turn) {
             return turn;
         }
@@ -160,12 +162,17 @@ fn try_on<S: Setting>(
 }
 
 /// How many tries a lane makes before it gives the lock up: one, where it passes the gate before each.
-fn tries_at<G: Gate>(gate: &G) -> u32 {
+fn tries_at<G: Gate>(gate: &G) -> u32
+    ensures some { 0 < result }
+    ensures few { result ≤ 16 }
+{
     if gate.is_open() { TRIES } else { 1 }
 }
 
 /// How many lanes run at once: no more than there are processors. Where they pass a gate that may hold them all do.
-fn lanes_at_once<T: Threads, G: Gate>(rt: &T, gate: &G, lanes: u8) -> u32 {
+fn lanes_at_once<T: Threads, G: Gate>(rt: &T, gate: &G, lanes: u8) -> u32
+    ensures { result ≤ lanes }
+{
     if gate.is_open() {
         processors(rt).min(lanes as usize) as u32
     } else {

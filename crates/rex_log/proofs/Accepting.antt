@@ -5,8 +5,8 @@ use Rattle.std.proofs.lemmas.Bool.{ltb-true, ltb-false, leb-true, leb-false, eqb
 use Rattle.rex_ballot.specs.declared.proposal.Proposal.{Proposal as Kept}
 use Rattle.rex_ballot.specs.Proposals.{AreRising, above, below, with_proposal}
 use Rattle.rex_ballot.proofs.Lists.{below_none, rising_with}
-use Rattle.rex_safety.specs.Records.{Proposal, from_on, placed}
-use Rattle.rex_safety.specs.Values.{Value}
+use Rattle.rex_cluster.specs.Records.{Proposal, from_on, placed}
+use Rattle.rex_cluster.specs.Values.{Value}
 use Rattle.rex_log.specs.Log.{proposal_in}
 
 -- those above an instance are those from the next one on

@@ -1,6 +1,6 @@
 -- The first values of the past.
 use Rattle.std.proofs.Common.{◌≡◌, ℕ, zero, suc, ◌≤◌, List, [], ◌∷◌, ◌++◌, length, take, refl, ap, arith}
-use Rattle.rex_safety.specs.Values.{Value}
+use Rattle.rex_cluster.specs.Values.{Value}
 use Rattle.rex_log.specs.Log.{first}
 
 pub first_length : (k : ℕ) (past : List Value) → length (first k past) ≡ k

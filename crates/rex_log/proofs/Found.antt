@@ -10,8 +10,8 @@ use Rattle.rex_durable.specs.Reading.{record_in}
 use Rattle.rex_durable.specs.Spelling.{AreRecords, Follows, IsDue, Spells, record_bytes}
 use Rattle.rex_durable.proofs.OneMore.{counts_all, no_records, records_more}
 use Rattle.rex_durable.proofs.ReadBehind.{record_found}
-use Rattle.rex_safety.specs.Records.{Rec}
-use Rattle.rex_safety.specs.Values.{Value}
+use Rattle.rex_cluster.specs.Records.{Rec}
+use Rattle.rex_cluster.specs.Values.{Value}
 use Rattle.rex_log.specs.Log.{AreRead, log_behind, log_of, log_with, rec_of, standing_in}
 use Rattle.rex_log.specs.Laws.{AreBytes, AreSpelled}
 use Rattle.rex_log.proofs.Saying.{Front, front_none, front_more, log_front, stands_there}

@@ -12,13 +12,13 @@ use Rattle.rex_durable.proofs.RecordsAgain.{record_read}
 use Rattle.rex_msg.specs.declared.message.Message.{Message}
 use Rattle.rex_msg.specs.declared.message.Content.{Content}
 use Rattle.rex_msg.specs.declared.message.Content.TheVariants as sent
-use Rattle.rex_safety.specs.Node.{Message as ModelMessage}
+use Rattle.rex_cluster.specs.Node.{Message as ModelMessage}
 use Rattle.rex_snapshot.specs.Reading.{state_in}
-use Rattle.rex_safety.specs.Node.Content.{Snapshot}
-use Rattle.rex_safety.specs.Records.{Rec, known, offset, base, HasTransferred}
-use Rattle.rex_safety.specs.Records.Rec.{Transferred}
-use Rattle.rex_safety.specs.Invariant.{Begins}
-use Rattle.rex_safety.specs.Values.{Value}
+use Rattle.rex_cluster.specs.Node.Content.{Snapshot}
+use Rattle.rex_cluster.specs.Records.{Rec, known, offset, base, HasTransferred}
+use Rattle.rex_cluster.specs.Records.Rec.{Transferred}
+use Rattle.rex_cluster.specs.Invariant.{Begins}
+use Rattle.rex_cluster.specs.Values.{Value}
 use Rattle.rex_log.specs.Log.{first, read_state, rec_of, log_with, standing_in, log_behind, log_of}
 use Rattle.rex_log.specs.Messages.{content_in, message_in, IsTold}
 use Rattle.rex_log.specs.Laws.{AreAlike, AreInPast}

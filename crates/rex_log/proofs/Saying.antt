@@ -17,10 +17,10 @@ use Rattle.rex_durable.specs.Recovery.{recovered, after, standing, standing_of, 
 use Rattle.rex_durable.specs.Spelling.{AreRecords, Follows, HasSpelling, IsDue, record_bytes}
 use Rattle.rex_durable.proofs.OneMore.{Counts, counts_all, counts_front, one_more, standing_is, take_one_more, more_some, more_none}
 use Rattle.rex_durable.proofs.OneMore as more
-use Rattle.rex_safety.specs.Records.{Rec, Proposal, promise, last_accepted, from_on, known, offset, base, placed, HasAccepted, HasBallot}
-use Rattle.rex_safety.specs.Ranges.{IsBallot, IsInstance}
-use Rattle.rex_safety.specs.Agreed.{base_state}
-use Rattle.rex_safety.specs.Values.{Value}
+use Rattle.rex_cluster.specs.Records.{Rec, Proposal, promise, last_accepted, from_on, known, offset, base, placed, HasAccepted, HasBallot}
+use Rattle.rex_cluster.specs.Ranges.{IsBallot, IsInstance}
+use Rattle.rex_cluster.specs.Agreed.{base_state}
+use Rattle.rex_cluster.specs.Values.{Value}
 use Rattle.rex_snapshot.specs.Reading.{state_in}
 use Rattle.rex_log.specs.Log.{AreRead, first, log_of, proposal_in, read_state, rec_of, standing_in}
 use Rattle.rex_log.specs.Laws.{Says}

@@ -4,17 +4,17 @@ use Rattle.rex_syntax.specs.declared.service.Declarations.{Declarations}
 use Rattle.rex_state.specs.Value.{StateValue}
 use Rattle.rex_msg.specs.declared.message.Message.{Message}
 use Rattle.rex_msg.specs.declared.message.Content.TheVariants as sent
-use Rattle.rex_safety.specs.Node.Content.{Snapshot}
+use Rattle.rex_cluster.specs.Node.Content.{Snapshot}
 use Rattle.rex_durable.specs.declared.records.Rec.{Rec as KeptRec}
 use Rattle.rex_durable.specs.declared.recovery.Recovered.{Recovered}
 use Rattle.rex_durable.specs.Recovery.{recovered}
 use Rattle.rex_durable.specs.Kept.{Spell}
 use Rattle.rex_durable.specs.Spelling.{AreRecords, HasSpelling, IsDue, record_bytes}
-use Rattle.rex_safety.specs.Records.{Rec, promise, accepted, known, offset, base, HasTransferred}
-use Rattle.rex_safety.specs.Agreed.{base_state}
-use Rattle.rex_safety.specs.Invariant.{Begins}
-use Rattle.rex_safety.specs.Ranges.{LogFits}
-use Rattle.rex_safety.specs.Values.{Value}
+use Rattle.rex_cluster.specs.Records.{Rec, promise, accepted, known, offset, base, HasTransferred}
+use Rattle.rex_cluster.specs.Agreed.{base_state}
+use Rattle.rex_cluster.specs.Invariant.{Begins}
+use Rattle.rex_cluster.specs.Ranges.{LogFits}
+use Rattle.rex_cluster.specs.Values.{Value}
 use Rattle.rex_snapshot.specs.Reading.{state_in}
 use Rattle.rex_log.specs.Log.{AreRead, log_of, proposal_in, read_state, rec_of, standing_in}
 use Rattle.rex_log.specs.Messages.{IsTold, content_in, message_in}

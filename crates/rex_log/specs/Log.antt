@@ -10,9 +10,9 @@ use Rattle.rex_durable.specs.declared.records.Standing.{Standing}
 use Rattle.rex_durable.specs.Reading.{record_in}
 use Rattle.rex_snapshot.specs.Allowed.{version_in}
 use Rattle.rex_snapshot.specs.Reading.{state_in}
-use Rattle.rex_safety.specs.Records.{Rec, Proposal, proposal_of, known, offset, base}
-use Rattle.rex_safety.specs.Records.Rec.{Promised, Accepted, Known, Checkpoint, Dropped, Transferred}
-use Rattle.rex_safety.specs.Values.{Value}
+use Rattle.rex_cluster.specs.Records.{Rec, Proposal, proposal_of, known, offset, base}
+use Rattle.rex_cluster.specs.Records.Rec.{Promised, Accepted, Known, Checkpoint, Dropped, Transferred}
+use Rattle.rex_cluster.specs.Values.{Value}
 
 -- so many first values of a list; those past its end are empty
 abbrev pub first : ℕ → List Value → List Value

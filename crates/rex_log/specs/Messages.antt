@@ -3,9 +3,9 @@ use Rattle.std.specs.Prelude.{◌≤◌, List, length, map}
 use Rattle.rex_msg.specs.declared.message.Message.{Message}
 use Rattle.rex_msg.specs.declared.message.Content.{Content}
 use Rattle.rex_msg.specs.declared.message.Content.TheVariants as sent
-use Rattle.rex_safety.specs.Node as model
-use Rattle.rex_safety.specs.Node.Content.{Prepare, Promise, Accept, Accepted, Chosen, Nack, Ask, Snapshot}
-use Rattle.rex_safety.specs.Values.{Value}
+use Rattle.rex_cluster.specs.Node as model
+use Rattle.rex_cluster.specs.Node.Content.{Prepare, Promise, Accept, Accepted, Chosen, Nack, Ask, Snapshot}
+use Rattle.rex_cluster.specs.Values.{Value}
 use Rattle.rex_log.specs.Log.{first, proposal_in}
 
 -- a state is told as the one after the first values of the past

@@ -1,7 +1,7 @@
 //! A list of values beside bytes, as clauses see it.
 
 ghost use Rattle.std.specs.Prelude.{[], List};
-ghost use Rattle.rex_safety.specs.Values.{Value};
+ghost use Rattle.rex_cluster.specs.Values.{Value};
 
 use std::marker::Brand;
 

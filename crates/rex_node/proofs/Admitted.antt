@@ -5,11 +5,11 @@ use Rattle.std.proofs.lemmas.Bool.{false≢true}
 use Rattle.rex_syntax.specs.declared.service.Declarations.{Declarations}
 use Rattle.rex_state.specs.Value.{StateValue}
 use Rattle.rex_reads.specs.Reads.{answered}
-use Rattle.rex_safety.specs.Records.{known}
-use Rattle.rex_safety.specs.Node.{is_active}
-use Rattle.rex_safety.specs.Values.{Value, state_after, trace_of}
-use Rattle.rex_safety.specs.Reading.{last_reply, read_at, stamp_at, value_in}
-use Rattle.rex_safety.proofs.Replies.{state_is}
+use Rattle.rex_cluster.specs.Records.{known}
+use Rattle.rex_cluster.specs.Node.{is_active}
+use Rattle.rex_cluster.specs.Values.{Value, state_after, trace_of}
+use Rattle.rex_cluster.specs.Reading.{last_reply, read_at, stamp_at, value_in}
+use Rattle.rex_cluster.proofs.Replies.{state_is}
 use Rattle.rex_node.specs.Parts.{ActingValue, HasStamps, IsResting, NodeValue, here_of, state_of}
 use Rattle.rex_node.specs.Telling.{stamp_in}
 use Rattle.rex_node.proofs.Leaving.{role_active}

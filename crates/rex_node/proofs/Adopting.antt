@@ -23,20 +23,20 @@ use Rattle.rex_state.specs.Value.{StateValue}
 use Rattle.rex_traits.specs.Chains.{Answer}
 use Rattle.rex_report.specs.declared.effect.Effect.{Effect}
 use Rattle.rex_report.specs.declared.effect.Effect.TheVariants as effect
-use Rattle.rex_safety.specs.Records.{Rec, Proposal, proposal_of, known}
-use Rattle.rex_safety.specs.Node.{Failure, Lead, Role, Service}
-use Rattle.rex_safety.specs.Node.Failure.{After}
-use Rattle.rex_safety.specs.Node.Role.{Leads as Leading}
-use Rattle.rex_safety.specs.Quorum.{is_majority}
-use Rattle.rex_safety.specs.Ranges as ranges
-use Rattle.rex_safety.specs.Ranges.{LeadFits, RoleFits}
-use Rattle.rex_safety.proofs.Lists.{BestOk, best_ok, length_push}
-use Rattle.rex_safety.specs.Calls.{Call, append, best, choose, decide, lead, leading, learned, led, logged, others, propose, send, settle, turn}
-use Rattle.rex_safety.specs.Node.Content.{Chosen as Chose}
-use Rattle.rex_safety.specs.Records.Rec.{Known}
-use Rattle.rex_safety.specs.Values.{Value, events_of, service_of, values_fit}
-use Rattle.rex_safety.specs.Lanes.{CallHere}
-use Rattle.rex_safety.proofs.Stopping as stopping
+use Rattle.rex_cluster.specs.Records.{Rec, Proposal, proposal_of, known}
+use Rattle.rex_cluster.specs.Node.{Failure, Lead, Role, Service}
+use Rattle.rex_cluster.specs.Node.Failure.{After}
+use Rattle.rex_cluster.specs.Node.Role.{Leads as Leading}
+use Rattle.rex_cluster.specs.Quorum.{is_majority}
+use Rattle.rex_cluster.specs.Ranges as ranges
+use Rattle.rex_cluster.specs.Ranges.{LeadFits, RoleFits}
+use Rattle.rex_cluster.proofs.Lists.{BestOk, best_ok, length_push}
+use Rattle.rex_cluster.specs.Calls.{Call, append, best, choose, decide, lead, leading, learned, led, logged, others, propose, send, settle, turn}
+use Rattle.rex_cluster.specs.Node.Content.{Chosen as Chose}
+use Rattle.rex_cluster.specs.Records.Rec.{Known}
+use Rattle.rex_cluster.specs.Values.{Value, events_of, service_of, values_fit}
+use Rattle.rex_cluster.specs.Lanes.{CallHere}
+use Rattle.rex_cluster.proofs.Stopping as stopping
 use Rattle.rex_node.specs.declared.going.Going.{Going}
 use Rattle.rex_node.specs.declared.going.Going.TheVariants.{On, Down}
 use Rattle.rex_node.specs.declared.going.Round.TheVariants.{Again, Done}

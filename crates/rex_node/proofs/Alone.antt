@@ -3,7 +3,7 @@ use Rattle.std.proofs.Common.{◌≡◌, ℕ, List, Result, Ok, Err}
 use Rattle.rex_event.specs.declared.delta.Delta.{Delta}
 use Rattle.rex_event.specs.declared.event.Event.{Event}
 use Rattle.rex_delta.specs.Alone.{events_of}
-use Rattle.rex_safety.specs.Values.{read_delta}
+use Rattle.rex_cluster.specs.Values.{read_delta}
 
 pub read_events : (r : Result Delta ℕ) (es : List Event) → events_of r ≡ Ok es → es ≡ (read_delta r).events
 read_events (Ok d) es e = cc

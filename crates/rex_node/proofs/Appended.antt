@@ -17,15 +17,15 @@ use Rattle.rex_durable.specs.Spelling.{HasSpelling, IsDue, record_bytes}
 use Rattle.rex_report.specs.declared.effect.Effect.{Effect}
 use Rattle.rex_report.specs.declared.effect.Effect.TheVariants as effect
 use Rattle.rex_traits.specs.Chains.{Answer}
-use Rattle.rex_safety.specs.Records.{Rec, placed, promise, last_accepted, accepted, offset, known, base, has_old_base}
-use Rattle.rex_safety.specs.Records.Rec.{Promised, Accepted, Known}
-use Rattle.rex_safety.specs.Ranges.{IsBallot, IsInstance, AreRising, LogFits, RoleFits}
-use Rattle.rex_safety.specs.Node.{Message, Failure, down_node}
-use Rattle.rex_safety.specs.Calls.{append, logged}
-use Rattle.rex_safety.specs.Lanes.{Here, CallHere}
-use Rattle.rex_safety.specs.Values.{Value, trace_of, values_fit}
-use Rattle.rex_safety.proofs.Lists.{length_push}
-use Rattle.rex_safety.proofs.Ranged.{accepted_rising, log_promised, log_accepted, log_known}
+use Rattle.rex_cluster.specs.Records.{Rec, placed, promise, last_accepted, accepted, offset, known, base, has_old_base}
+use Rattle.rex_cluster.specs.Records.Rec.{Promised, Accepted, Known}
+use Rattle.rex_cluster.specs.Ranges.{IsBallot, IsInstance, AreRising, LogFits, RoleFits}
+use Rattle.rex_cluster.specs.Node.{Message, Failure, down_node}
+use Rattle.rex_cluster.specs.Calls.{append, logged}
+use Rattle.rex_cluster.specs.Lanes.{Here, CallHere}
+use Rattle.rex_cluster.specs.Values.{Value, trace_of, values_fit}
+use Rattle.rex_cluster.proofs.Lists.{length_push}
+use Rattle.rex_cluster.proofs.Ranged.{accepted_rising, log_promised, log_accepted, log_known}
 use Rattle.rex_node.specs.declared.step.Draft.{Draft}
 use Rattle.rex_node.specs.declared.going.Going.TheVariants.{On, Down}
 use Rattle.rex_log.specs.Messages.{message_in}

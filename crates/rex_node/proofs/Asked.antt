@@ -10,14 +10,14 @@ use Rattle.std.proofs.lemmas.List.Elements.{All-append, All-cons, All-nil}
 use Rattle.rex_syntax.specs.declared.service.Declarations.{Declarations}
 use Rattle.rex_msg.specs.declared.message.Message.{Message as Sent}
 use Rattle.rex_msg.specs.declared.message.Content.TheVariants as sent
-use Rattle.rex_safety.specs.Values.{Value}
+use Rattle.rex_cluster.specs.Values.{Value}
 use Rattle.rex_node.specs.declared.step.Draft.{Draft}
 use Rattle.rex_log.specs.Messages.{message_in}
 use Rattle.rex_node.specs.Going.{Sends, answering}
 use Rattle.rex_node.specs.Telling.{AreTold, IsTold}
-use Rattle.rex_safety.specs.Node.{Message}
-use Rattle.rex_safety.specs.Node.Content.{Chosen}
-use Rattle.rex_safety.specs.Calls.{tell}
+use Rattle.rex_cluster.specs.Node.{Message}
+use Rattle.rex_cluster.specs.Node.Content.{Chosen}
+use Rattle.rex_cluster.specs.Calls.{tell}
 
 take_none : {A : Type 0} (xs : List A) → take zero xs ≡ []
 take_none [] = refl

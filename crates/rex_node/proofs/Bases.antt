@@ -13,12 +13,12 @@ use Rattle.rex_msg.specs.declared.message.Content.{Content}
 use Rattle.rex_state.specs.Start.{start_of}
 use Rattle.rex_state.specs.Machine.{run}
 use Rattle.rex_msg.specs.declared.message.Content.TheVariants as sent
-use Rattle.rex_safety.specs.Records.{base, known}
-use Rattle.rex_safety.specs.Node as model
-use Rattle.rex_safety.specs.Node.Content.{Snapshot}
-use Rattle.rex_safety.specs.Calls.{answer, answer_base, send}
-use Rattle.rex_safety.specs.Invariant.{Begins}
-use Rattle.rex_safety.specs.Values.{Value, trace_of}
+use Rattle.rex_cluster.specs.Records.{base, known}
+use Rattle.rex_cluster.specs.Node as model
+use Rattle.rex_cluster.specs.Node.Content.{Snapshot}
+use Rattle.rex_cluster.specs.Calls.{answer, answer_base, send}
+use Rattle.rex_cluster.specs.Invariant.{Begins}
+use Rattle.rex_cluster.specs.Values.{Value, trace_of}
 use Rattle.rex_log.specs.Log.{first}
 use Rattle.rex_log.specs.Messages.{content_in}
 use Rattle.rex_log.proofs.Firsts.{first_take}

@@ -6,16 +6,16 @@ use Rattle.rex_event.specs.declared.event.Event.{Event}
 use Rattle.rex_record.specs.declared.turns.Turn.{Turn}
 use Rattle.rex_record.specs.Take.{taken_turn}
 use Rattle.rex_record.proofs.Takes.{taken_keeps}
-use Rattle.rex_safety.specs.Calls.{begin}
-use Rattle.rex_safety.specs.Lanes.{Here}
-use Rattle.rex_safety.specs.Takes as takes
+use Rattle.rex_cluster.specs.Calls.{begin}
+use Rattle.rex_cluster.specs.Lanes.{Here}
+use Rattle.rex_cluster.specs.Takes as takes
 use Rattle.rex_node.specs.declared.refusal.Refusal.{Refusal}
 use Rattle.rex_node.specs.Blocks.{take_each, given_all}
 use Rattle.rex_node.specs.Calls.{LeadsTo, if_up}
 use Rattle.rex_node.specs.Parts.{ActingValue, NodeValue, IsResting, StaysResting, here_of}
 use Rattle.rex_node.specs.Submitting.{given}
 use Rattle.rex_node.proofs.Executing.{has, given_of_node, given_leads, given_stays}
-use Rattle.rex_safety.specs.Values.{Value}
+use Rattle.rex_cluster.specs.Values.{Value}
 
 -- what is executed after one event that is handed in
 abbrev next_work : Declarations → ActingValue → Event → ActingValue

@@ -14,10 +14,10 @@ use Rattle.rex_paxos.specs.Counting as counting
 use Rattle.rex_paxos.specs.Counting.{IsOneOf, AreCounted, is_counted}
 use Rattle.rex_paxos.specs.Reports.{IsBest, HasNone, best_for}
 use Rattle.rex_paxos.proofs.Reports.{best_reports}
-use Rattle.rex_safety.specs.Records.{Proposal}
-use Rattle.rex_safety.specs.Quorum.{count, is_in, is_majority, ballot_above, round_of}
-use Rattle.rex_safety.specs.Calls.{better, best}
-use Rattle.rex_safety.specs.Values.{Value}
+use Rattle.rex_cluster.specs.Records.{Proposal}
+use Rattle.rex_cluster.specs.Quorum.{count, is_in, is_majority, ballot_above, round_of}
+use Rattle.rex_cluster.specs.Calls.{better, best}
+use Rattle.rex_cluster.specs.Values.{Value}
 use Rattle.rex_log.specs.Log.{proposal_in}
 
 -- ---- counting

@@ -22,18 +22,18 @@ use Rattle.rex_durable.specs.Spelling.{HasSpelling, record_bytes}
 use Rattle.rex_report.specs.declared.effect.Effect.{Effect}
 use Rattle.rex_report.specs.declared.effect.Effect.TheVariants as effect
 use Rattle.rex_traits.specs.Chains.{Answer}
-use Rattle.rex_safety.specs.Records.{Rec, Proposal, promise, accepted, from_on, known}
-use Rattle.rex_safety.specs.Records.Rec.{Promised}
-use Rattle.rex_safety.specs.Quorum.{ballot_above, round_of}
-use Rattle.rex_safety.specs.Node.{Failure, Lead}
-use Rattle.rex_safety.specs.Node.Role.{Follower, Leads as Leading}
-use Rattle.rex_safety.specs.Node.Content.{Prepare}
-use Rattle.rex_safety.specs.Ranges.{LeadFits}
-use Rattle.rex_safety.specs.Calls.{append, begin, candidacy, elect, enough, logged, others, own_reports, say, send, settle, stand, with_role}
-use Rattle.rex_safety.specs.Values.{Value, service_of, trace_of}
-use Rattle.rex_safety.specs.Lanes.{Here, CallHere}
-use Rattle.rex_safety.proofs.Lists.{in_from_on, length_push}
-use Rattle.rex_safety.proofs.Ranged.{accepted_fit}
+use Rattle.rex_cluster.specs.Records.{Rec, Proposal, promise, accepted, from_on, known}
+use Rattle.rex_cluster.specs.Records.Rec.{Promised}
+use Rattle.rex_cluster.specs.Quorum.{ballot_above, round_of}
+use Rattle.rex_cluster.specs.Node.{Failure, Lead}
+use Rattle.rex_cluster.specs.Node.Role.{Follower, Leads as Leading}
+use Rattle.rex_cluster.specs.Node.Content.{Prepare}
+use Rattle.rex_cluster.specs.Ranges.{LeadFits}
+use Rattle.rex_cluster.specs.Calls.{append, begin, candidacy, elect, enough, logged, others, own_reports, say, send, settle, stand, with_role}
+use Rattle.rex_cluster.specs.Values.{Value, service_of, trace_of}
+use Rattle.rex_cluster.specs.Lanes.{Here, CallHere}
+use Rattle.rex_cluster.proofs.Lists.{in_from_on, length_push}
+use Rattle.rex_cluster.proofs.Ranged.{accepted_fit}
 use Rattle.rex_node.specs.declared.going.Going.{Going}
 use Rattle.rex_node.specs.declared.going.Going.TheVariants.{On, Down}
 use Rattle.rex_node.specs.declared.step.Draft.{Draft}

@@ -10,14 +10,14 @@ use Rattle.rex_durable.specs.declared.records.Rec.TheVariants as kept
 use Rattle.rex_durable.specs.Spelling.{HasSpelling, IsDue, record_bytes}
 use Rattle.rex_report.specs.declared.effect.Effect.TheVariants as effect
 use Rattle.rex_traits.specs.Chains.{Answer}
-use Rattle.rex_safety.specs.Records.{known, offset}
-use Rattle.rex_safety.specs.Records.Rec.{Known}
-use Rattle.rex_safety.specs.Node.{Failure}
-use Rattle.rex_safety.specs.Calls.{answer_base, append, follow, followed, on_ask, on_chosen, say, send, tell}
-use Rattle.rex_safety.specs.Invariant.{Begins}
-use Rattle.rex_safety.specs.Values.{Value, values_fit}
-use Rattle.rex_safety.specs.Lanes.{CallHere}
-use Rattle.rex_safety.proofs.Lists.{length_push}
+use Rattle.rex_cluster.specs.Records.{known, offset}
+use Rattle.rex_cluster.specs.Records.Rec.{Known}
+use Rattle.rex_cluster.specs.Node.{Failure}
+use Rattle.rex_cluster.specs.Calls.{answer_base, append, follow, followed, on_ask, on_chosen, say, send, tell}
+use Rattle.rex_cluster.specs.Invariant.{Begins}
+use Rattle.rex_cluster.specs.Values.{Value, values_fit}
+use Rattle.rex_cluster.specs.Lanes.{CallHere}
+use Rattle.rex_cluster.proofs.Lists.{length_push}
 use Rattle.rex_node.specs.declared.step.Draft.{Draft}
 use Rattle.rex_node.specs.declared.going.Going.TheVariants.{On, Down}
 use Rattle.rex_log.specs.Messages.{message_in}

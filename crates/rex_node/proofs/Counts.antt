@@ -24,16 +24,16 @@ use Rattle.rex_state.specs.Value.{StateValue}
 use Rattle.rex_report.specs.declared.effect.Effect.{Effect}
 use Rattle.rex_report.specs.declared.effect.Effect.TheVariants as effect
 use Rattle.rex_traits.specs.Chains.{Answer}
-use Rattle.rex_safety.specs.Records.{Proposal}
-use Rattle.rex_safety.specs.Quorum.{is_in, is_majority}
-use Rattle.rex_safety.specs.Node.{Failure, Lead, Service}
-use Rattle.rex_safety.specs.Node.Role.{Leads as Leading}
-use Rattle.rex_safety.specs.Invariant.{IsIn}
-use Rattle.rex_safety.specs.Ranges.{LeadFits, ProposalFits, RoleFits}
-use Rattle.rex_safety.specs.Calls.{enough, hear, heard, led, on_own_promise, on_promise, say, settle}
-use Rattle.rex_safety.specs.Values.{Value, service_of}
-use Rattle.rex_safety.specs.Lanes.{CallHere}
-use Rattle.rex_safety.proofs.Lists.{in_cases}
+use Rattle.rex_cluster.specs.Records.{Proposal}
+use Rattle.rex_cluster.specs.Quorum.{is_in, is_majority}
+use Rattle.rex_cluster.specs.Node.{Failure, Lead, Service}
+use Rattle.rex_cluster.specs.Node.Role.{Leads as Leading}
+use Rattle.rex_cluster.specs.Invariant.{IsIn}
+use Rattle.rex_cluster.specs.Ranges.{LeadFits, ProposalFits, RoleFits}
+use Rattle.rex_cluster.specs.Calls.{enough, hear, heard, led, on_own_promise, on_promise, say, settle}
+use Rattle.rex_cluster.specs.Values.{Value, service_of}
+use Rattle.rex_cluster.specs.Lanes.{CallHere}
+use Rattle.rex_cluster.proofs.Lists.{in_cases}
 use Rattle.rex_node.specs.declared.going.Going.{Going}
 use Rattle.rex_node.specs.declared.step.Draft.{Draft}
 use Rattle.rex_log.specs.Messages.{message_in}

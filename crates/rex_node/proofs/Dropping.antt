@@ -16,15 +16,15 @@ use Rattle.rex_durable.specs.Spelling.{HasSpelling, IsDue, record_bytes}
 use Rattle.rex_report.specs.declared.effect.Effect.{Effect}
 use Rattle.rex_report.specs.declared.effect.Effect.TheVariants as effect
 use Rattle.rex_traits.specs.Chains.{Answer}
-use Rattle.rex_safety.specs.Records.{Rec, Proposal, base, from_on, known, last_accepted, offset}
-use Rattle.rex_safety.specs.Records.Rec.{Dropped}
-use Rattle.rex_safety.specs.Node.{Failure, Role}
-use Rattle.rex_safety.specs.Node.Role.{Leads}
-use Rattle.rex_safety.specs.Ranges.{RoleFits}
-use Rattle.rex_safety.specs.Calls.{append, drop_known, say}
-use Rattle.rex_safety.specs.Invariant.{Begins}
-use Rattle.rex_safety.specs.Values.{Value}
-use Rattle.rex_safety.specs.Lanes.{CallHere, Here}
+use Rattle.rex_cluster.specs.Records.{Rec, Proposal, base, from_on, known, last_accepted, offset}
+use Rattle.rex_cluster.specs.Records.Rec.{Dropped}
+use Rattle.rex_cluster.specs.Node.{Failure, Role}
+use Rattle.rex_cluster.specs.Node.Role.{Leads}
+use Rattle.rex_cluster.specs.Ranges.{RoleFits}
+use Rattle.rex_cluster.specs.Calls.{append, drop_known, say}
+use Rattle.rex_cluster.specs.Invariant.{Begins}
+use Rattle.rex_cluster.specs.Values.{Value}
+use Rattle.rex_cluster.specs.Lanes.{CallHere, Here}
 use Rattle.rex_log.specs.Log.{log_of, proposal_in, standing_in}
 use Rattle.rex_log.specs.Messages.{message_in}
 use Rattle.rex_log.proofs.Accepting.{above_from}

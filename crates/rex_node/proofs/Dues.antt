@@ -7,9 +7,9 @@ use Rattle.rex_event.specs.Cuts.{below}
 use Rattle.rex_cut.specs.Greatest.{greatest_cut}
 use Rattle.rex_state.specs.Value.{StateValue}
 use Rattle.rex_state.specs.Counts.{counts_of}
-use Rattle.rex_safety.specs.Records.{known}
-use Rattle.rex_safety.specs.Values.{Value, trace_of, state_after}
-use Rattle.rex_safety.specs.Lanes.{limits_between}
+use Rattle.rex_cluster.specs.Records.{known}
+use Rattle.rex_cluster.specs.Values.{Value, trace_of, state_after}
+use Rattle.rex_cluster.specs.Lanes.{limits_between}
 use Rattle.rex_node.specs.declared.pieces.Piece.{Piece}
 use Rattle.rex_node.specs.declared.refusal.Refusal.{Refusal}
 use Rattle.rex_node.specs.declared.refusal.Refusal.TheVariants as why

@@ -28,19 +28,19 @@ use Rattle.rex_gate.specs.declared.answer.Answer.TheVariants.{Queued}
 use Rattle.rex_gate.specs.Answer.{answer_to}
 use Rattle.rex_gate.specs.Laws.{IsDue}
 use Rattle.rex_gate.proofs.Due.{queued_due}
-use Rattle.rex_scenario.specs.Fits.{RequestFits}
-use Rattle.rex_safety.specs.Records.{Proposal, known}
-use Rattle.rex_safety.specs.Values.{Value, trace_of, state_after}
-use Rattle.rex_safety.specs.Ranges.{RoleFits}
-use Rattle.rex_safety.specs.Calls.{begin}
-use Rattle.rex_safety.specs.Lanes as lanes
-use Rattle.rex_safety.specs.Takes as takes
-use Rattle.rex_safety.specs.Lanes.{queue_with, submit_request, live_state, known_state}
+use Rattle.rex_schedule.specs.Fits.{RequestFits}
+use Rattle.rex_cluster.specs.Records.{Proposal, known}
+use Rattle.rex_cluster.specs.Values.{Value, trace_of, state_after}
+use Rattle.rex_cluster.specs.Ranges.{RoleFits}
+use Rattle.rex_cluster.specs.Calls.{begin}
+use Rattle.rex_cluster.specs.Lanes as lanes
+use Rattle.rex_cluster.specs.Takes as takes
+use Rattle.rex_cluster.specs.Lanes.{queue_with, submit_request, live_state, known_state}
 use Rattle.rex_node.specs.declared.refusal.Refusal.{Refusal}
 use Rattle.rex_node.specs.Calls.{LeadsTo, if_up, turn_at}
 use Rattle.rex_node.specs.Parts.{StaysResting}
-use Rattle.rex_safety.proofs.Replies.{state_is}
-use Rattle.rex_safety.proofs.Queues.{queued_positive, due_begins, queue_after_answer}
+use Rattle.rex_cluster.proofs.Replies.{state_is}
+use Rattle.rex_cluster.proofs.Queues.{queued_positive, due_begins, queue_after_answer}
 use Rattle.rex_node.specs.Parts.{ActingValue, NodeValue, Executes, ActsFor, OpenIsCut, NumbersReplies, IsActing, HasStamps, IsUp, IsResting, HasGoneOn, here_of, open_of, role_of, work_of}
 use Rattle.rex_node.proofs.Proposed.{open_turned}
 use Rattle.rex_node.specs.Submitting.{answer_in, taken, given}

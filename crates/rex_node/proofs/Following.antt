@@ -13,13 +13,13 @@ use Rattle.rex_report.specs.declared.effect.Effect.{Effect}
 use Rattle.rex_report.specs.declared.effect.Effect.TheVariants as effect
 use Rattle.rex_report.specs.declared.effect.Effect.TheVariants.{IgnoredBallot, IgnoredInstance}
 use Rattle.rex_traits.specs.Chains.{Answer}
-use Rattle.rex_safety.specs.Records.{Rec, base, known}
-use Rattle.rex_safety.specs.Records.Rec.{Known}
-use Rattle.rex_safety.specs.Node.{Failure, Message, Work, no_work}
-use Rattle.rex_safety.specs.Node.Role.{Follower}
-use Rattle.rex_safety.specs.Calls.{say, follow, followed, logged, work_left, replayed_left, with_role, append, on_chosen, on_nack}
-use Rattle.rex_safety.specs.Values.{Value, trace_of}
-use Rattle.rex_safety.specs.Lanes.{Here, CallHere}
+use Rattle.rex_cluster.specs.Records.{Rec, base, known}
+use Rattle.rex_cluster.specs.Records.Rec.{Known}
+use Rattle.rex_cluster.specs.Node.{Failure, Message, Work, no_work}
+use Rattle.rex_cluster.specs.Node.Role.{Follower}
+use Rattle.rex_cluster.specs.Calls.{say, follow, followed, logged, work_left, replayed_left, with_role, append, on_chosen, on_nack}
+use Rattle.rex_cluster.specs.Values.{Value, trace_of}
+use Rattle.rex_cluster.specs.Lanes.{Here, CallHere}
 use Rattle.rex_node.specs.declared.step.Draft.{Draft}
 use Rattle.rex_log.specs.Messages.{message_in}
 use Rattle.rex_node.specs.Calls.{armed_with}

@@ -9,12 +9,12 @@ use Rattle.rex_traits.specs.declared.keeper.KeepFault.TheVariants.{Failed}
 use Rattle.rex_traits.proofs.Chained.{chained}
 use Rattle.rex_state.specs.Value.{StateValue}
 use Rattle.rex_report.specs.declared.effect.Effect.TheVariants as effect
-use Rattle.rex_safety.specs.Records.{Rec}
-use Rattle.rex_safety.specs.Node.{Failure, down_node}
-use Rattle.rex_safety.specs.Node.Failure.{After}
-use Rattle.rex_safety.specs.Calls.{append, logged}
-use Rattle.rex_safety.specs.Values.{Value}
-use Rattle.rex_safety.specs.Lanes.{CallHere}
+use Rattle.rex_cluster.specs.Records.{Rec}
+use Rattle.rex_cluster.specs.Node.{Failure, down_node}
+use Rattle.rex_cluster.specs.Node.Failure.{After}
+use Rattle.rex_cluster.specs.Calls.{append, logged}
+use Rattle.rex_cluster.specs.Values.{Value}
+use Rattle.rex_cluster.specs.Lanes.{CallHere}
 use Rattle.rex_node.specs.Calls.{armed_with, failed_many}
 use Rattle.rex_node.specs.Parts.{failed_records}
 use Rattle.rex_node.specs.Stated.{AreStated, is_stated}

@@ -6,18 +6,18 @@ use Rattle.rex_syntax.specs.declared.service.Declarations.{Declarations}
 use Rattle.rex_syntax.specs.Service.{IsService}
 use Rattle.rex_syntax.specs.Check.{IsChecked}
 use Rattle.rex_traits.specs.Chains.{Answer}
-use Rattle.rex_safety.specs.Records.{Rec, Proposal, known}
-use Rattle.rex_safety.specs.Records.Rec.{Promised, Accepted, Known, Checkpoint, Dropped, Transferred}
-use Rattle.rex_safety.specs.Quorum.{is_majority}
-use Rattle.rex_safety.specs.Node.{Service, Lead, Role, Failure}
-use Rattle.rex_safety.specs.Node.Failure.{After}
-use Rattle.rex_safety.specs.Node.Role.{Follower, Leads}
-use Rattle.rex_safety.specs.Invariant.{Begins}
-use Rattle.rex_safety.specs.Values.{Value, values_fit}
-use Rattle.rex_safety.specs.Lanes.{CallHere}
-use Rattle.rex_safety.specs.Calls.{Call, append, logged, propose, decide, best, choose, lead, turn, settle}
-use Rattle.rex_safety.proofs.Grow.{begins_trans, begins_same}
-use Rattle.rex_safety.proofs.Acting.{fits_front}
+use Rattle.rex_cluster.specs.Records.{Rec, Proposal, known}
+use Rattle.rex_cluster.specs.Records.Rec.{Promised, Accepted, Known, Checkpoint, Dropped, Transferred}
+use Rattle.rex_cluster.specs.Quorum.{is_majority}
+use Rattle.rex_cluster.specs.Node.{Service, Lead, Role, Failure}
+use Rattle.rex_cluster.specs.Node.Failure.{After}
+use Rattle.rex_cluster.specs.Node.Role.{Follower, Leads}
+use Rattle.rex_cluster.specs.Invariant.{Begins}
+use Rattle.rex_cluster.specs.Values.{Value, values_fit}
+use Rattle.rex_cluster.specs.Lanes.{CallHere}
+use Rattle.rex_cluster.specs.Calls.{Call, append, logged, propose, decide, best, choose, lead, turn, settle}
+use Rattle.rex_cluster.proofs.Grow.{begins_trans, begins_same}
+use Rattle.rex_cluster.proofs.Acting.{fits_front}
 use Rattle.rex_node.specs.declared.step.Draft.{Draft}
 use Rattle.rex_node.specs.Parts.{NodeValue}
 use Rattle.rex_node.specs.Going.{Leads as LeadsOn, RunsOn, later, one_later, so_far}

@@ -6,10 +6,10 @@ use Rattle.rex_ballot.specs.declared.proposal.Proposal.{Proposal as Kept}
 use Rattle.rex_ballot.specs.Proposals.{AreRising, below, above, from_instance, proposal_for, with_proposal}
 use Rattle.rex_ballot.proofs.Lists.{rising_less, below_none}
 use Rattle.rex_paxos.specs.Acceptor.{is_of_ballot}
-use Rattle.rex_safety.specs.Records.{Proposal, placed, from_on}
-use Rattle.rex_safety.specs.Ranges as ranges
-use Rattle.rex_safety.specs.Calls.{has_last}
-use Rattle.rex_safety.specs.Values.{Value}
+use Rattle.rex_cluster.specs.Records.{Proposal, placed, from_on}
+use Rattle.rex_cluster.specs.Ranges as ranges
+use Rattle.rex_cluster.specs.Calls.{has_last}
+use Rattle.rex_cluster.specs.Values.{Value}
 use Rattle.rex_log.specs.Log.{proposal_in}
 
 -- instances that rise in the model rise at an acceptor

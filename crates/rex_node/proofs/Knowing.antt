@@ -34,16 +34,16 @@ use Rattle.rex_report.specs.declared.effect.Effect.{Effect}
 use Rattle.rex_report.specs.declared.effect.Effect.TheVariants as effect
 use Rattle.rex_msg.specs.declared.message.Message.{Message as Sent}
 use Rattle.rex_msg.specs.declared.message.Content.TheVariants as sent
-use Rattle.rex_safety.specs.Records.{Rec, Proposal, known}
-use Rattle.rex_safety.specs.Records.Rec.{Known}
-use Rattle.rex_safety.specs.Node.{Failure, Lead, Work}
-use Rattle.rex_safety.specs.Node.Content.{Chosen as Chose}
-use Rattle.rex_safety.specs.Ranges.{LeadFits, RoleFits}
-use Rattle.rex_safety.specs.Calls.{decide, learned, leading, logged, others, released, replayed_known, send, work_known}
-use Rattle.rex_safety.specs.Values.{Value, events_of, release_effect, service_of, trace_of, values_fit}
-use Rattle.rex_safety.specs.Lanes.{CallHere}
-use Rattle.rex_safety.proofs.Replies.{trace_push}
-use Rattle.rex_safety.proofs.Lists.{length_push}
+use Rattle.rex_cluster.specs.Records.{Rec, Proposal, known}
+use Rattle.rex_cluster.specs.Records.Rec.{Known}
+use Rattle.rex_cluster.specs.Node.{Failure, Lead, Work}
+use Rattle.rex_cluster.specs.Node.Content.{Chosen as Chose}
+use Rattle.rex_cluster.specs.Ranges.{LeadFits, RoleFits}
+use Rattle.rex_cluster.specs.Calls.{decide, learned, leading, logged, others, released, replayed_known, send, work_known}
+use Rattle.rex_cluster.specs.Values.{Value, events_of, release_effect, service_of, trace_of, values_fit}
+use Rattle.rex_cluster.specs.Lanes.{CallHere}
+use Rattle.rex_cluster.proofs.Replies.{trace_push}
+use Rattle.rex_cluster.proofs.Lists.{length_push}
 use Rattle.rex_node.specs.declared.going.Going.{Going}
 use Rattle.rex_node.specs.declared.going.Going.TheVariants.{On, Down}
 use Rattle.rex_node.specs.declared.step.Draft.{Draft}

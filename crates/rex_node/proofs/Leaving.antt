@@ -8,12 +8,12 @@ use Rattle.rex_state.specs.Start.{start_of}
 use Rattle.rex_state.specs.Machine.{run}
 use Rattle.rex_paxos.specs.Acceptor.{AcceptorValue}
 use Rattle.rex_paxos.specs.Proposer.{ProposerValue}
-use Rattle.rex_safety.specs.Records.{known, base}
-use Rattle.rex_safety.specs.Node.{Work, no_work, is_active}
-use Rattle.rex_safety.specs.Node.Role.{Follower}
-use Rattle.rex_safety.specs.Calls.{begin, work_left, replayed_left, with_role}
-use Rattle.rex_safety.specs.Values.{Value, trace_of}
-use Rattle.rex_safety.specs.Lanes.{Here}
+use Rattle.rex_cluster.specs.Records.{known, base}
+use Rattle.rex_cluster.specs.Node.{Work, no_work, is_active}
+use Rattle.rex_cluster.specs.Node.Role.{Follower}
+use Rattle.rex_cluster.specs.Calls.{begin, work_left, replayed_left, with_role}
+use Rattle.rex_cluster.specs.Values.{Value, trace_of}
+use Rattle.rex_cluster.specs.Lanes.{Here}
 use Rattle.rex_node.specs.Parts.{ActingValue, NodeValue, IsActing, IsUp, IsResting, here_of, role_of, work_of, ahead_of, ahead_left, leaving}
 
 pub role_active : (service : Declarations) (values : List Value) (a : AcceptorValue) (o : Option ProposerValue) (w : Option ActingValue) → IsActing service values a o w → is_active (role_of a o (is_some w)) ≡ is_some w

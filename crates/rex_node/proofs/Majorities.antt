@@ -20,17 +20,17 @@ use Rattle.rex_syntax.specs.Service.{IsService}
 use Rattle.rex_syntax.specs.Check.{IsChecked}
 use Rattle.rex_state.specs.Value.{StateValue}
 use Rattle.rex_traits.specs.Chains.{Answer}
-use Rattle.rex_safety.specs.Records.{Proposal, known}
-use Rattle.rex_safety.specs.Records.Rec.{Known}
-use Rattle.rex_safety.specs.Node.{Lead, Service}
-use Rattle.rex_safety.specs.Node.Role.{Leads as Leading}
-use Rattle.rex_safety.specs.Node.Content.{Chosen as Chose}
-use Rattle.rex_safety.specs.Quorum.{IsNode as IsNodeOf, is_majority}
-use Rattle.rex_safety.specs.Ranges as ranges
-use Rattle.rex_safety.specs.Ranges.{LeadFits, RoleFits}
-use Rattle.rex_safety.specs.Calls.{decide, enough, lead as lead_on, learned, led, logged, on_voted, others, send, settle}
-use Rattle.rex_safety.specs.Values.{Value, service_of, values_fit}
-use Rattle.rex_safety.specs.Lanes.{CallHere}
+use Rattle.rex_cluster.specs.Records.{Proposal, known}
+use Rattle.rex_cluster.specs.Records.Rec.{Known}
+use Rattle.rex_cluster.specs.Node.{Lead, Service}
+use Rattle.rex_cluster.specs.Node.Role.{Leads as Leading}
+use Rattle.rex_cluster.specs.Node.Content.{Chosen as Chose}
+use Rattle.rex_cluster.specs.Quorum.{IsNode as IsNodeOf, is_majority}
+use Rattle.rex_cluster.specs.Ranges as ranges
+use Rattle.rex_cluster.specs.Ranges.{LeadFits, RoleFits}
+use Rattle.rex_cluster.specs.Calls.{decide, enough, lead as lead_on, learned, led, logged, on_voted, others, send, settle}
+use Rattle.rex_cluster.specs.Values.{Value, service_of, values_fit}
+use Rattle.rex_cluster.specs.Lanes.{CallHere}
 use Rattle.rex_node.specs.declared.going.Going.{Going}
 use Rattle.rex_node.specs.declared.going.Going.TheVariants.{On, Down}
 use Rattle.rex_node.specs.declared.step.Draft.{Draft}

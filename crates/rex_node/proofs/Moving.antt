@@ -20,14 +20,14 @@ use Rattle.rex_durable.specs.declared.records.Rec.TheVariants as kept
 use Rattle.rex_durable.specs.Spelling.{HasSpelling, IsDue, record_bytes}
 use Rattle.rex_report.specs.declared.effect.Effect.{Effect}
 use Rattle.rex_report.specs.declared.effect.Effect.TheVariants as effect
-use Rattle.rex_safety.specs.Records.{Rec, Proposal, base, known, last_accepted, offset, from_on}
-use Rattle.rex_safety.specs.Records.Rec.{Transferred}
-use Rattle.rex_safety.specs.Node.{Failure, Message, Work, down_node, is_active, no_work}
-use Rattle.rex_safety.specs.Calls.{append, follow, followed, logged, on_snapshot, replayed_left, say, with_replayed, work_left}
-use Rattle.rex_safety.specs.Values.{Value, service_of, trace_of, values_fit}
-use Rattle.rex_safety.specs.Lanes.{CallHere}
-use Rattle.rex_safety.proofs.Replies.{state_is}
-use Rattle.rex_safety.proofs.Lists.{length_push}
+use Rattle.rex_cluster.specs.Records.{Rec, Proposal, base, known, last_accepted, offset, from_on}
+use Rattle.rex_cluster.specs.Records.Rec.{Transferred}
+use Rattle.rex_cluster.specs.Node.{Failure, Message, Work, down_node, is_active, no_work}
+use Rattle.rex_cluster.specs.Calls.{append, follow, followed, logged, on_snapshot, replayed_left, say, with_replayed, work_left}
+use Rattle.rex_cluster.specs.Values.{Value, service_of, trace_of, values_fit}
+use Rattle.rex_cluster.specs.Lanes.{CallHere}
+use Rattle.rex_cluster.proofs.Replies.{state_is}
+use Rattle.rex_cluster.proofs.Lists.{length_push}
 use Rattle.rex_log.specs.Log.{first, log_of, proposal_in, read_state, rec_of, standing_in}
 use Rattle.rex_log.specs.Messages.{message_in}
 use Rattle.rex_log.proofs.Accepting.{above_from}

@@ -15,8 +15,8 @@ use Rattle.rex_durable.specs.declared.records.Rec.{Rec as KeptRec}
 use Rattle.rex_durable.specs.declared.records.Rec.TheVariants as rec
 use Rattle.rex_durable.specs.Reading.{promised_at, accepted_at, known_at, checkpoint_at, dropped_at, transferred_at, content_at, record_at, record_in}
 use Rattle.rex_durable.specs.declared.records.Standing.{Standing}
-use Rattle.rex_safety.specs.Records.{Rec, base, has_old_base}
-use Rattle.rex_safety.specs.Values.{Value}
+use Rattle.rex_cluster.specs.Records.{Rec, base, has_old_base}
+use Rattle.rex_cluster.specs.Values.{Value}
 use Rattle.rex_log.specs.Log.{log_of, log_with, rec_of, standing_in}
 use Rattle.rex_log.proofs.Firsts.{first_length}
 

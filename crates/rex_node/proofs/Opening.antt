@@ -22,15 +22,15 @@ use Rattle.rex_report.specs.declared.effect.Effect.{Effect}
 use Rattle.rex_report.specs.declared.effect.Effect.TheVariants as effect
 use Rattle.rex_msg.specs.declared.message.Message.{Message as Sent}
 use Rattle.rex_msg.specs.declared.message.Content.TheVariants as sent
-use Rattle.rex_safety.specs.Records.{Rec, Proposal, proposal_of, offset, known}
-use Rattle.rex_safety.specs.Records.Rec.{Accepted}
-use Rattle.rex_safety.specs.Node.{Failure}
-use Rattle.rex_safety.specs.Node.Role.{Leads as Leading}
-use Rattle.rex_safety.specs.Node.Content.{Accept}
-use Rattle.rex_safety.specs.Ranges.{IsInstance, LeadFits, RoleFits}
-use Rattle.rex_safety.specs.Calls.{logged, leading, led, others, propose, say, send}
-use Rattle.rex_safety.specs.Values.{Value, trace_of, values_fit}
-use Rattle.rex_safety.specs.Lanes.{CallHere}
+use Rattle.rex_cluster.specs.Records.{Rec, Proposal, proposal_of, offset, known}
+use Rattle.rex_cluster.specs.Records.Rec.{Accepted}
+use Rattle.rex_cluster.specs.Node.{Failure}
+use Rattle.rex_cluster.specs.Node.Role.{Leads as Leading}
+use Rattle.rex_cluster.specs.Node.Content.{Accept}
+use Rattle.rex_cluster.specs.Ranges.{IsInstance, LeadFits, RoleFits}
+use Rattle.rex_cluster.specs.Calls.{logged, leading, led, others, propose, say, send}
+use Rattle.rex_cluster.specs.Values.{Value, trace_of, values_fit}
+use Rattle.rex_cluster.specs.Lanes.{CallHere}
 use Rattle.std.proofs.lemmas.Option.{same_Some}
 use Rattle.rex_node.specs.declared.going.Going.{Going}
 use Rattle.rex_node.specs.declared.going.Going.TheVariants.{On, Down}

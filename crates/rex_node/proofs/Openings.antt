@@ -8,14 +8,14 @@ use Rattle.rex_paxos.specs.Acceptor.{AcceptorValue, accepting}
 use Rattle.rex_paxos.specs.Counting as counting
 use Rattle.rex_paxos.specs.Proposer.{ProposerValue, is_candidate, proposed}
 use Rattle.rex_paxos.proofs.Counted.{counted_none, counted_push}
-use Rattle.rex_safety.specs.Records.{Proposal, proposal_of}
-use Rattle.rex_safety.specs.Quorum.{is_majority}
-use Rattle.rex_safety.specs.Node.{Service, Lead, Role, Failure}
-use Rattle.rex_safety.specs.Node.Failure.{After}
-use Rattle.rex_safety.specs.Node.Role.{Leads}
-use Rattle.rex_safety.specs.Calls.{leading, led, decide, lead, turn, settle, enough}
-use Rattle.rex_safety.specs.Values.{Value}
-use Rattle.rex_safety.specs.Lanes.{CallHere}
+use Rattle.rex_cluster.specs.Records.{Proposal, proposal_of}
+use Rattle.rex_cluster.specs.Quorum.{is_majority}
+use Rattle.rex_cluster.specs.Node.{Service, Lead, Role, Failure}
+use Rattle.rex_cluster.specs.Node.Failure.{After}
+use Rattle.rex_cluster.specs.Node.Role.{Leads}
+use Rattle.rex_cluster.specs.Calls.{leading, led, decide, lead, turn, settle, enough}
+use Rattle.rex_cluster.specs.Values.{Value}
+use Rattle.rex_cluster.specs.Lanes.{CallHere}
 use Rattle.rex_state.specs.Value.{StateValue}
 use Rattle.rex_node.specs.Calls.{armed_with}
 use Rattle.rex_log.specs.Log.{proposal_in}

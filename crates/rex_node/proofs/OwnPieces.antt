@@ -10,12 +10,12 @@ use Rattle.rex_cut.specs.Greatest.{greatest_cut}
 use Rattle.rex_paxos.specs.Proposer.{ProposerValue}
 use Rattle.rex_report.specs.declared.effect.Effect.TheVariants as effect
 use Rattle.rex_traits.specs.Chains.{Answer}
-use Rattle.rex_safety.specs.Records.{Proposal, known}
-use Rattle.rex_safety.specs.Node.{Lead, Failure}
-use Rattle.rex_safety.specs.Calls.{enough, propose, say, settle}
-use Rattle.rex_safety.specs.Values.{Value, service_of, values_fit}
-use Rattle.rex_safety.specs.Lanes as lanes
-use Rattle.rex_safety.specs.Lanes.{CallHere, Here, active_only, cut_lead, cut_live, cut_role, is_faithful, propose_cut, value_at}
+use Rattle.rex_cluster.specs.Records.{Proposal, known}
+use Rattle.rex_cluster.specs.Node.{Lead, Failure}
+use Rattle.rex_cluster.specs.Calls.{enough, propose, say, settle}
+use Rattle.rex_cluster.specs.Values.{Value, service_of, values_fit}
+use Rattle.rex_cluster.specs.Lanes as lanes
+use Rattle.rex_cluster.specs.Lanes.{CallHere, Here, active_only, cut_lead, cut_live, cut_role, is_faithful, propose_cut, value_at}
 use Rattle.rex_node.specs.declared.going.Going.{Going}
 use Rattle.rex_node.specs.declared.going.Going.TheVariants.{On, Down}
 use Rattle.rex_node.specs.declared.pieces.Piece.{Piece}

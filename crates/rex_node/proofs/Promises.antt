@@ -13,16 +13,16 @@ use Rattle.rex_durable.specs.declared.records.Rec.TheVariants as kept
 use Rattle.rex_durable.specs.Spelling.{HasSpelling, record_bytes}
 use Rattle.rex_report.specs.declared.effect.Effect.TheVariants as effect
 use Rattle.rex_traits.specs.Chains.{Answer}
-use Rattle.rex_safety.specs.Records.{Proposal, promise, accepted, offset, known, from_on}
-use Rattle.rex_safety.specs.Records.Rec.{Promised, Accepted}
-use Rattle.rex_safety.specs.Node.{Failure}
-use Rattle.rex_safety.specs.Node.Content.{Promise, Accepted as Voted, Nack}
-use Rattle.rex_safety.specs.Calls.{answer, answer_base, append, follow, followed, has_last, logged, on_accept, on_prepare, promised, send}
-use Rattle.rex_safety.specs.Values.{Value}
-use Rattle.rex_safety.specs.Lanes.{CallHere}
-use Rattle.rex_safety.specs.Invariant.{Begins}
-use Rattle.rex_safety.specs.Ranges.{AreRising}
-use Rattle.rex_safety.proofs.Ranged.{accepted_rising}
+use Rattle.rex_cluster.specs.Records.{Proposal, promise, accepted, offset, known, from_on}
+use Rattle.rex_cluster.specs.Records.Rec.{Promised, Accepted}
+use Rattle.rex_cluster.specs.Node.{Failure}
+use Rattle.rex_cluster.specs.Node.Content.{Promise, Accepted as Voted, Nack}
+use Rattle.rex_cluster.specs.Calls.{answer, answer_base, append, follow, followed, has_last, logged, on_accept, on_prepare, promised, send}
+use Rattle.rex_cluster.specs.Values.{Value}
+use Rattle.rex_cluster.specs.Lanes.{CallHere}
+use Rattle.rex_cluster.specs.Invariant.{Begins}
+use Rattle.rex_cluster.specs.Ranges.{AreRising}
+use Rattle.rex_cluster.proofs.Ranged.{accepted_rising}
 use Rattle.rex_node.specs.declared.step.Draft.{Draft}
 use Rattle.rex_node.specs.declared.going.Going.{Going}
 use Rattle.rex_node.specs.declared.going.Going.TheVariants.{On, Down}

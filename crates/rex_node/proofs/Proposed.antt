@@ -24,9 +24,9 @@ use Rattle.rex_record.specs.declared.turns.Turn.TheVariants as turn
 use Rattle.rex_record.specs.Value.{live_after}
 use Rattle.rex_record.specs.Value as recorders
 use Rattle.rex_record.specs.Kept.{IsRecorder}
-use Rattle.rex_safety.specs.Records.{Proposal}
-use Rattle.rex_safety.specs.Values.{Value, events_of, trace_of, state_after}
-use Rattle.rex_safety.proofs.Replies.{state_is, trace_push}
+use Rattle.rex_cluster.specs.Records.{Proposal}
+use Rattle.rex_cluster.specs.Values.{Value, events_of, trace_of, state_after}
+use Rattle.rex_cluster.proofs.Replies.{state_is, trace_push}
 use Rattle.rex_node.specs.Parts.{ActingValue, Executes, IsCutAt, OpenIsCut}
 
 -- ---- consistent cuts

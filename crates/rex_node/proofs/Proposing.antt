@@ -21,13 +21,13 @@ use Rattle.rex_state.proofs.Counts.{RiseBy, runs_count_on, runs_rise}
 use Rattle.rex_state.proofs.Cuts.{cuts_go_first}
 use Rattle.rex_state.proofs.Run.{run-then}
 use Rattle.rex_record.specs.Kept.{IsRecorder}
-use Rattle.rex_safety.specs.Lanes.{value_at, is_faithful}
-use Rattle.rex_safety.specs.Same.{same_events}
-use Rattle.rex_safety.specs.Values.{Value, read_delta, events_of, trace_of, state_after, values_fit, still_live}
-use Rattle.rex_safety.proofs.Acting.{IsLiveCut, beyond_same}
-use Rattle.rex_safety.proofs.Actives.{between_long, between_from, between_to}
-use Rattle.rex_safety.proofs.Faithful.{faithful_at}
-use Rattle.rex_safety.proofs.Replies.{trace_push, state_is}
+use Rattle.rex_cluster.specs.Lanes.{value_at, is_faithful}
+use Rattle.rex_cluster.specs.Same.{same_events}
+use Rattle.rex_cluster.specs.Values.{Value, read_delta, events_of, trace_of, state_after, values_fit, still_live}
+use Rattle.rex_cluster.proofs.Acting.{IsLiveCut, beyond_same}
+use Rattle.rex_cluster.proofs.Between.{between_long, between_from, between_to}
+use Rattle.rex_cluster.proofs.Faithful.{faithful_at}
+use Rattle.rex_cluster.proofs.Replies.{trace_push, state_is}
 use Rattle.rex_node.specs.declared.pieces.Piece.{Piece}
 use Rattle.rex_node.specs.Calls.{AreLimits}
 use Rattle.rex_node.specs.Cutting.{IsPieceOf, counts_in, cut_in}

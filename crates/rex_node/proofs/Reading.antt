@@ -19,10 +19,10 @@ use Rattle.rex_durable.specs.Kept.{IsFirstBad}
 use Rattle.rex_event.specs.declared.delta.Delta.{Delta}
 use Rattle.rex_delta.specs.Reading.{delta_in}
 use Rattle.rex_snapshot.specs.Reading.{state_in}
-use Rattle.rex_safety.specs.Records.{Rec, known}
-use Rattle.rex_safety.specs.Calls.{begin}
-use Rattle.rex_safety.specs.Values.{Value, is_piece, may_be_value, spells}
-use Rattle.rex_safety.specs.Lanes.{CallHere}
+use Rattle.rex_cluster.specs.Records.{Rec, known}
+use Rattle.rex_cluster.specs.Calls.{begin}
+use Rattle.rex_cluster.specs.Values.{Value, is_piece, may_be_value, spells}
+use Rattle.rex_cluster.specs.Lanes.{CallHere}
 use Rattle.rex_node.specs.declared.contents.Place.{Place}
 use Rattle.rex_node.specs.declared.restart.RestartFault.{RestartFault}
 use Rattle.rex_node.specs.declared.restart.RestartFault.TheVariants.{BadRecord, OutOfMemory}

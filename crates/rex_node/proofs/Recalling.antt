@@ -12,8 +12,8 @@ use Rattle.rex_durable.specs.Recovery.{recovered, standing}
 use Rattle.rex_durable.specs.Spelling.{AreRecords, record_bytes}
 use Rattle.rex_durable.specs.Kept.{Spell}
 use Rattle.rex_durable.proofs.OneMore.{counts_all, counts_front, take_one_more}
-use Rattle.rex_safety.specs.Records.{Rec, has_old_base}
-use Rattle.rex_safety.specs.Values.{Value}
+use Rattle.rex_cluster.specs.Records.{Rec, has_old_base}
+use Rattle.rex_cluster.specs.Values.{Value}
 use Rattle.rex_log.specs.Log.{log_of, rec_of, standing_in}
 use Rattle.rex_log.specs.Laws.{Says}
 use Rattle.rex_log.proofs.Saying.{Front, front_none, front_more, log_front, records_say, stands_there}

@@ -11,11 +11,11 @@ use Rattle.rex_durable.specs.declared.records.Rec.{Rec as KeptRec}
 use Rattle.rex_durable.specs.Spelling.{HasSpelling, IsDue, record_bytes}
 use Rattle.rex_report.specs.declared.effect.Effect.{Effect}
 use Rattle.rex_traits.specs.Chains.{Answer}
-use Rattle.rex_safety.specs.Records.{Rec, base}
-use Rattle.rex_safety.specs.Node.{Failure}
-use Rattle.rex_safety.specs.Calls.{answer, append, follow, followed, logged, send}
-use Rattle.rex_safety.specs.Values.{Value}
-use Rattle.rex_safety.specs.Lanes.{Here, CallHere}
+use Rattle.rex_cluster.specs.Records.{Rec, base}
+use Rattle.rex_cluster.specs.Node.{Failure}
+use Rattle.rex_cluster.specs.Calls.{answer, append, follow, followed, logged, send}
+use Rattle.rex_cluster.specs.Values.{Value}
+use Rattle.rex_cluster.specs.Lanes.{Here, CallHere}
 use Rattle.rex_node.specs.declared.step.Draft.{Draft}
 use Rattle.rex_node.specs.declared.going.Going.TheVariants.{On, Down}
 use Rattle.rex_log.specs.Messages.{content_in, message_in}
@@ -26,7 +26,7 @@ use Rattle.rex_node.specs.Parts.{NodeValue, IsUp, IsResting, here_of, role_of, l
 use Rattle.rex_node.proofs.Appended.{IsLogged, call_at, appended_log, appended_here, appended_leads, appended_fell}
 use Rattle.rex_node.proofs.GoingLemmas.{leads_same, leads_then}
 use Rattle.rex_node.proofs.Stuck.{breaks_here}
-use Rattle.rex_safety.proofs.Lists.{length_push}
+use Rattle.rex_cluster.proofs.Lists.{length_push}
 use Rattle.rex_node.proofs.Following.{EndsWell, far, within, follower_here, follower_node}
 use Rattle.rex_node.specs.Stated.{is_stated}
 

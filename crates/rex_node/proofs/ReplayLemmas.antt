@@ -15,12 +15,12 @@ use Rattle.rex_state.proofs.Sounds.{run_keeps, start_keeps}
 use Rattle.rex_report.specs.declared.effect.Effect.{Effect}
 use Rattle.rex_report.specs.declared.effect.Effect.TheVariants.{Replayed, UpToDate}
 use Rattle.rex_traits.specs.Chains.{Answer}
-use Rattle.rex_safety.specs.Records.{known}
-use Rattle.rex_safety.specs.Node.{is_active}
-use Rattle.rex_safety.specs.Calls.{begin, say, replay}
-use Rattle.rex_safety.specs.Lanes.{Here, CallHere}
-use Rattle.rex_safety.specs.Values.{Value, runs, trace_of}
-use Rattle.rex_safety.proofs.Replies.{trace_both, fits_run}
+use Rattle.rex_cluster.specs.Records.{known}
+use Rattle.rex_cluster.specs.Node.{is_active}
+use Rattle.rex_cluster.specs.Calls.{begin, say, replay}
+use Rattle.rex_cluster.specs.Lanes.{Here, CallHere}
+use Rattle.rex_cluster.specs.Values.{Value, runs, trace_of}
+use Rattle.rex_cluster.proofs.Replies.{trace_both, fits_run}
 use Rattle.rex_node.specs.declared.step.Step.{Step}
 use Rattle.rex_log.specs.Messages.{message_in}
 use Rattle.rex_node.specs.Calls.{Does}

@@ -16,10 +16,10 @@ use Rattle.rex_paxos.specs.Acceptor.{AcceptorValue}
 use Rattle.rex_transfer.specs.Window.{WindowValue}
 use Rattle.rex_durable.specs.declared.recovery.Recovered.{Recovered}
 use Rattle.rex_durable.specs.Laws.{HasSnapshot, MayBeAccepted}
-use Rattle.rex_safety.specs.Records.{Rec, base, known}
-use Rattle.rex_safety.specs.Agreed.{base_state}
-use Rattle.rex_safety.specs.Values.{Value, state_after, trace_of, values_fit}
-use Rattle.rex_safety.proofs.Replies.{state_is}
+use Rattle.rex_cluster.specs.Records.{Rec, base, known}
+use Rattle.rex_cluster.specs.Agreed.{base_state}
+use Rattle.rex_cluster.specs.Values.{Value, state_after, trace_of, values_fit}
+use Rattle.rex_cluster.proofs.Replies.{state_is}
 use Rattle.rex_log.specs.Log.{first, log_of, read_state}
 use Rattle.rex_log.specs.Laws.{Says}
 use Rattle.rex_node.specs.Parts.{NodeValue, IsUp, IsNode, here_of, whole}

@@ -9,20 +9,20 @@ use Rattle.rex_paxos.specs.Counting.{AreCounted}
 use Rattle.rex_paxos.specs.Proposer.{ProposerValue, is_candidate}
 use Rattle.rex_paxos.specs.Reports.{best_for}
 use Rattle.rex_syntax.specs.declared.service.Declarations.{Declarations}
-use Rattle.rex_scenario.specs.Fits.{RequestFits}
+use Rattle.rex_schedule.specs.Fits.{RequestFits}
 use Rattle.rex_gate.specs.Noted.{AnswersValue, answers_at}
 use Rattle.rex_record.specs.Value.{RecorderValue, started}
 use Rattle.rex_state.specs.Value.{StateValue}
 use Rattle.rex_traits.specs.Chains.{Answer}
 use Rattle.rex_report.specs.declared.effect.Effect.TheVariants as effect
-use Rattle.rex_safety.specs.Records.{Proposal, known}
-use Rattle.rex_safety.specs.Node.{Failure, Lead, Role, Service, dice_of}
-use Rattle.rex_safety.specs.Node.Role.{Leads as Leading}
-use Rattle.rex_safety.specs.Quorum.{is_majority}
-use Rattle.rex_safety.specs.Ranges.{LeadFits, RoleFits}
-use Rattle.rex_safety.specs.Calls.{Call, activate, best, choose, lead, leading, settle, turn}
-use Rattle.rex_safety.specs.Values.{Value, service_of}
-use Rattle.rex_safety.specs.Lanes.{CallHere}
+use Rattle.rex_cluster.specs.Records.{Proposal, known}
+use Rattle.rex_cluster.specs.Node.{Failure, Lead, Role, Service, dice_of}
+use Rattle.rex_cluster.specs.Node.Role.{Leads as Leading}
+use Rattle.rex_cluster.specs.Quorum.{is_majority}
+use Rattle.rex_cluster.specs.Ranges.{LeadFits, RoleFits}
+use Rattle.rex_cluster.specs.Calls.{Call, activate, best, choose, lead, leading, settle, turn}
+use Rattle.rex_cluster.specs.Values.{Value, service_of}
+use Rattle.rex_cluster.specs.Lanes.{CallHere}
 use Rattle.rex_node.specs.declared.going.Going.TheVariants.{On}
 use Rattle.rex_node.specs.declared.going.Round.TheVariants.{Done}
 use Rattle.rex_node.specs.declared.step.Draft.{Draft}

@@ -23,14 +23,14 @@ use Rattle.rex_report.specs.declared.effect.Effect.TheVariants as effect
 use Rattle.rex_traits.specs.Chains.{Answer}
 use Rattle.rex_version.specs.declared.version.Version.{Version}
 use Rattle.rex_snapshot.specs.Allowed.{version_in}
-use Rattle.rex_safety.specs.Records.{Rec, known, base}
-use Rattle.rex_safety.specs.Records.Rec.{Checkpoint}
-use Rattle.rex_safety.specs.Node.{Failure, down_node}
-use Rattle.rex_safety.specs.Calls.{append, begin, checkpoint, logged, say}
-use Rattle.rex_safety.specs.Lanes.{Here, CallHere}
-use Rattle.rex_safety.specs.Values.{Value, runs, service_of, spells, state_after, trace_of, values_fit}
-use Rattle.rex_safety.proofs.Limits.{values_limited}
-use Rattle.rex_safety.proofs.Replies.{state_is}
+use Rattle.rex_cluster.specs.Records.{Rec, known, base}
+use Rattle.rex_cluster.specs.Records.Rec.{Checkpoint}
+use Rattle.rex_cluster.specs.Node.{Failure, down_node}
+use Rattle.rex_cluster.specs.Calls.{append, begin, checkpoint, logged, say}
+use Rattle.rex_cluster.specs.Lanes.{Here, CallHere}
+use Rattle.rex_cluster.specs.Values.{Value, runs, service_of, spells, state_after, trace_of, values_fit}
+use Rattle.rex_cluster.proofs.Limits.{values_limited}
+use Rattle.rex_cluster.proofs.Replies.{state_is}
 use Rattle.rex_node.specs.declared.refusal.Refusal.{Refusal}
 use Rattle.rex_node.specs.declared.refusal.Refusal.TheVariants as why
 use Rattle.rex_node.specs.declared.step.Step.{Step}

@@ -9,9 +9,9 @@ use Rattle.rex_state.specs.Value.{StateValue}
 use Rattle.rex_gate.specs.Numbers.{next_number, replies_to, stamp_of_state}
 use Rattle.rex_gate.specs.Noted.{AnswersValue, answers_at, noting, numbering, stamp_of}
 use Rattle.rex_gate.proofs.Stamps.{noted_number, numbered_long, state_long, state_stamp}
-use Rattle.rex_safety.specs.Values.{Value, events_of}
-use Rattle.rex_safety.specs.Reading.{last_reply}
-use Rattle.rex_safety.proofs.Lists.{length_push}
+use Rattle.rex_cluster.specs.Values.{Value, events_of}
+use Rattle.rex_cluster.specs.Reading.{last_reply}
+use Rattle.rex_cluster.proofs.Lists.{length_push}
 use Rattle.rex_node.specs.Parts.{ActingValue, HasStamps, NumbersReplies}
 use Rattle.rex_node.specs.Leading.{fresh_answers, numbering_values}
 

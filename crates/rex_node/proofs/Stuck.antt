@@ -5,15 +5,15 @@ use Rattle.rex_syntax.specs.declared.service.Declarations.{Declarations}
 use Rattle.rex_state.specs.Value.{StateValue}
 use Rattle.rex_traits.specs.Chains.{Answer}
 use Rattle.rex_traits.proofs.Chained.{chained}
-use Rattle.rex_safety.specs.Records.{Rec, Proposal, known, base}
-use Rattle.rex_safety.specs.Records.Rec.{Accepted, Known}
-use Rattle.rex_safety.specs.Quorum.{is_majority}
-use Rattle.rex_safety.specs.Node.{Service, Lead, Role, Failure}
-use Rattle.rex_safety.specs.Node.Failure.{After}
-use Rattle.rex_safety.specs.Node.Role.{Follower, Leads}
-use Rattle.rex_safety.specs.Calls.{Call, append, decide, best, choose, lead, turn, settle}
-use Rattle.rex_safety.specs.Values.{Value}
-use Rattle.rex_safety.specs.Lanes.{CallHere}
+use Rattle.rex_cluster.specs.Records.{Rec, Proposal, known, base}
+use Rattle.rex_cluster.specs.Records.Rec.{Accepted, Known}
+use Rattle.rex_cluster.specs.Quorum.{is_majority}
+use Rattle.rex_cluster.specs.Node.{Service, Lead, Role, Failure}
+use Rattle.rex_cluster.specs.Node.Failure.{After}
+use Rattle.rex_cluster.specs.Node.Role.{Follower, Leads}
+use Rattle.rex_cluster.specs.Calls.{Call, append, decide, best, choose, lead, turn, settle}
+use Rattle.rex_cluster.specs.Values.{Value}
+use Rattle.rex_cluster.specs.Lanes.{CallHere}
 use Rattle.rex_node.specs.declared.step.Draft.{Draft}
 use Rattle.rex_log.specs.Log.{log_of}
 use Rattle.rex_node.specs.Parts.{NodeValue, RunsShort, Stands}

@@ -3,9 +3,9 @@ use Rattle.std.proofs.Common.{◌≡◌, ℕ, ◌-◌, ◌^◌, ◌<◌, ◌≤�
 use Rattle.std.specs.Prelude.{is_some}
 use Rattle.rex_syntax.specs.declared.service.Declarations.{Declarations}
 use Rattle.rex_traits.specs.Chains.{Answer}
-use Rattle.rex_safety.specs.Calls.{settle}
-use Rattle.rex_safety.specs.Values.{service_of, Value}
-use Rattle.rex_safety.specs.Lanes.{CallHere}
+use Rattle.rex_cluster.specs.Calls.{settle}
+use Rattle.rex_cluster.specs.Values.{service_of, Value}
+use Rattle.rex_cluster.specs.Lanes.{CallHere}
 use Rattle.rex_node.specs.declared.going.Going.{Going}
 use Rattle.rex_node.specs.declared.going.Going.TheVariants.{On, Down}
 use Rattle.rex_node.specs.declared.going.Round.{Round}

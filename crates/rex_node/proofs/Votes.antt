@@ -21,14 +21,14 @@ use Rattle.rex_state.specs.Value.{StateValue}
 use Rattle.rex_traits.specs.Chains.{Answer}
 use Rattle.rex_report.specs.declared.effect.Effect.{Effect}
 use Rattle.rex_report.specs.declared.effect.Effect.TheVariants as effect
-use Rattle.rex_safety.specs.Records.{Proposal}
-use Rattle.rex_safety.specs.Node.{Lead, Role, Service}
-use Rattle.rex_safety.specs.Node.Role.{Leads as Leading}
-use Rattle.rex_safety.specs.Quorum.{IsNode as IsNodeOf, is_in, is_majority}
-use Rattle.rex_safety.specs.Calls.{Call, count_vote, led, on_own_vote, on_voted, say, settle}
-use Rattle.rex_safety.specs.Calls as calls
-use Rattle.rex_safety.specs.Values.{Value, service_of}
-use Rattle.rex_safety.specs.Lanes.{CallHere}
+use Rattle.rex_cluster.specs.Records.{Proposal}
+use Rattle.rex_cluster.specs.Node.{Lead, Role, Service}
+use Rattle.rex_cluster.specs.Node.Role.{Leads as Leading}
+use Rattle.rex_cluster.specs.Quorum.{IsNode as IsNodeOf, is_in, is_majority}
+use Rattle.rex_cluster.specs.Calls.{Call, count_vote, led, on_own_vote, on_voted, say, settle}
+use Rattle.rex_cluster.specs.Calls as calls
+use Rattle.rex_cluster.specs.Values.{Value, service_of}
+use Rattle.rex_cluster.specs.Lanes.{CallHere}
 use Rattle.rex_node.specs.Electing.{acceptance_vote_on, accepting_from, told_of}
 use Rattle.rex_log.specs.Messages.{message_in}
 use Rattle.rex_node.specs.declared.going.Going.TheVariants.{On}
@@ -41,7 +41,7 @@ use Rattle.rex_node.proofs.Appended.{beside_of, logged_of, up_of}
 use Rattle.rex_node.proofs.GoingLemmas.{leads_same}
 use Rattle.rex_node.proofs.Opening.{logged_as}
 use Rattle.rex_node.proofs.Written.{call_is}
-use Rattle.rex_safety.specs.Ranges.{LeadFits, RoleFits}
+use Rattle.rex_cluster.specs.Ranges.{LeadFits, RoleFits}
 use Rattle.rex_node.proofs.Bridges as bridges
 
 -- ---- what is made of an acceptance

@@ -9,12 +9,12 @@ use Rattle.rex_durable.specs.Spelling.{HasSpelling, IsDue, record_bytes}
 use Rattle.rex_report.specs.declared.effect.Effect.{Effect}
 use Rattle.rex_report.specs.declared.effect.Effect.TheVariants as effect
 use Rattle.rex_msg.specs.declared.message.Message.{Message as Sent}
-use Rattle.rex_safety.specs.Records.{Rec, base}
-use Rattle.rex_safety.specs.Node.{Failure, Message, Role, Work, down_node}
-use Rattle.rex_safety.specs.Calls.{append, logged}
-use Rattle.rex_safety.specs.Values.{Value}
-use Rattle.rex_safety.specs.Lanes.{Here, CallHere}
-use Rattle.rex_safety.proofs.Lists.{length_push}
+use Rattle.rex_cluster.specs.Records.{Rec, base}
+use Rattle.rex_cluster.specs.Node.{Failure, Message, Role, Work, down_node}
+use Rattle.rex_cluster.specs.Calls.{append, logged}
+use Rattle.rex_cluster.specs.Values.{Value}
+use Rattle.rex_cluster.specs.Lanes.{Here, CallHere}
+use Rattle.rex_cluster.proofs.Lists.{length_push}
 use Rattle.rex_node.specs.declared.going.Going.{Going}
 use Rattle.rex_node.specs.declared.going.Going.TheVariants.{Down}
 use Rattle.rex_node.specs.declared.step.Draft.{Draft}

@@ -3,8 +3,8 @@ use Rattle.std.specs.Prelude.{List, [], ◌∷◌}
 use Rattle.rex_syntax.specs.declared.service.Declarations.{Declarations}
 use Rattle.rex_event.specs.declared.event.Event.{Event}
 use Rattle.rex_record.specs.Block.{taken_all}
-use Rattle.rex_safety.specs.Lanes.{CallHere}
-use Rattle.rex_safety.specs.Takes.{take_event}
+use Rattle.rex_cluster.specs.Lanes.{CallHere}
+use Rattle.rex_cluster.specs.Takes.{take_event}
 use Rattle.rex_node.specs.Parts.{ActingValue}
 
 -- the node is handed the events, one after the other

@@ -12,16 +12,16 @@ use Rattle.rex_record.specs.declared.turns.Turn.{Turn}
 use Rattle.rex_record.specs.Turn.{turn_of}
 use Rattle.rex_report.specs.declared.effect.Effect.{Effect}
 use Rattle.rex_report.specs.declared.effect.Effect.TheVariants as effect
-use Rattle.rex_safety.specs.Records.{Rec, Proposal, promise, offset, known, base, has_old_base}
-use Rattle.rex_safety.specs.Quorum.{ballot_above, round_of}
+use Rattle.rex_cluster.specs.Records.{Rec, Proposal, promise, offset, known, base, has_old_base}
+use Rattle.rex_cluster.specs.Quorum.{ballot_above, round_of}
 use Rattle.rex_traits.specs.Chains.{Answer, AppendsInTurn}
 use Rattle.rex_traits.specs.declared.keeper.KeepFault.TheVariants.{Failed}
-use Rattle.rex_safety.specs.Node.{Failure, Role, role_name, is_active, down_node}
-use Rattle.rex_safety.specs.Node.Failure.{After}
-use Rattle.rex_safety.specs.Node.Role.{Follower, Leads}
-use Rattle.rex_safety.specs.Calls.{begin}
-use Rattle.rex_safety.specs.Values.{Value, greatest_value, values_fit}
-use Rattle.rex_safety.specs.Lanes.{Here, CallHere, live_state, no_limits, with_limits, value_at}
+use Rattle.rex_cluster.specs.Node.{Failure, Role, role_name, is_active, down_node}
+use Rattle.rex_cluster.specs.Node.Failure.{After}
+use Rattle.rex_cluster.specs.Node.Role.{Follower, Leads}
+use Rattle.rex_cluster.specs.Calls.{begin}
+use Rattle.rex_cluster.specs.Values.{Value, greatest_value, values_fit}
+use Rattle.rex_cluster.specs.Lanes.{Here, CallHere, live_state, no_limits, with_limits, value_at}
 use Rattle.rex_node.specs.declared.refusal.Refusal.{Refusal}
 use Rattle.rex_node.specs.declared.refusal.Refusal.TheVariants as why
 use Rattle.rex_node.specs.declared.step.Step.{Step}

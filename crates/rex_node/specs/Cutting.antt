@@ -10,9 +10,9 @@ use Rattle.rex_paxos.specs.Proposer.{ProposerValue}
 use Rattle.rex_report.specs.declared.effect.Effect.TheVariants as effect
 use Rattle.rex_syntax.specs.declared.service.Declarations.{Declarations}
 use Rattle.rex_traits.specs.Chains.{Answer}
-use Rattle.rex_safety.specs.Calls.{enough, propose, settle}
-use Rattle.rex_safety.specs.Values.{Value, service_of}
-use Rattle.rex_safety.specs.Lanes.{limits_between, value_at, propose_cut}
+use Rattle.rex_cluster.specs.Calls.{enough, propose, settle}
+use Rattle.rex_cluster.specs.Values.{Value, service_of}
+use Rattle.rex_cluster.specs.Lanes.{limits_between, value_at, propose_cut}
 use Rattle.rex_node.specs.declared.going.Going.{Going}
 use Rattle.rex_node.specs.declared.step.Draft.{Draft}
 use Rattle.rex_node.specs.declared.pieces.Piece.{Piece}

@@ -15,11 +15,11 @@ use Rattle.rex_record.specs.Value.{settled, releases, started}
 use Rattle.rex_record.specs.Kept.{IsRecorder}
 use Rattle.rex_gate.specs.Noted.{AnswersValue, answers_at, numbering, noting}
 use Rattle.rex_traits.specs.Chains.{Answer}
-use Rattle.rex_safety.specs.Records.{proposal_of}
-use Rattle.rex_safety.specs.Node.{Lead, dice_of}
-use Rattle.rex_safety.specs.Calls.{leading, led, propose, decide, settle}
-use Rattle.rex_safety.specs.Values.{Value, events_of, service_of, release_effect, trace_of}
-use Rattle.rex_safety.specs.Lanes.{CallHere}
+use Rattle.rex_cluster.specs.Records.{proposal_of}
+use Rattle.rex_cluster.specs.Node.{Lead, dice_of}
+use Rattle.rex_cluster.specs.Calls.{leading, led, propose, decide, settle}
+use Rattle.rex_cluster.specs.Values.{Value, events_of, service_of, release_effect, trace_of}
+use Rattle.rex_cluster.specs.Lanes.{CallHere}
 use Rattle.rex_node.specs.declared.going.Going.{Going}
 use Rattle.rex_node.specs.declared.going.Going.TheVariants.{On, Down}
 use Rattle.rex_node.specs.declared.going.Round.{Round}

@@ -16,21 +16,21 @@ use Rattle.rex_record.specs.Kept.{IsRecorder}
 use Rattle.rex_paxos.specs.Acceptor.{AcceptorValue}
 use Rattle.rex_paxos.specs.Proposer.{ProposerValue, CountsOnce, is_candidate}
 use Rattle.rex_gate.specs.Noted.{AnswersValue, stamp_of}
-use Rattle.rex_scenario.specs.Fits.{RequestFits}
-use Rattle.rex_safety.specs.Records.{Proposal, promise, accepted, offset, known, base, has_old_base}
+use Rattle.rex_schedule.specs.Fits.{RequestFits}
+use Rattle.rex_cluster.specs.Records.{Proposal, promise, accepted, offset, known, base, has_old_base}
 use Rattle.rex_log.specs.Log.{first, log_of, proposal_in}
-use Rattle.rex_safety.specs.Node.{Lead, Role, Work, no_work}
-use Rattle.rex_safety.specs.Node.Role.{Follower, Leads}
-use Rattle.rex_safety.specs.Calls.{replayed_left}
+use Rattle.rex_cluster.specs.Node.{Lead, Role, Work, no_work}
+use Rattle.rex_cluster.specs.Node.Role.{Follower, Leads}
+use Rattle.rex_cluster.specs.Calls.{replayed_left}
 use Rattle.rex_event.specs.Cuts.{IsConsistent, IsWithin, below, beyond}
-use Rattle.rex_safety.specs.Values.{Value, events_of, trace_of, values_fit, still_live}
-use Rattle.rex_safety.specs.Ranges.{NodeFits}
-use Rattle.rex_safety.specs.Invariant.{IsReplayed}
+use Rattle.rex_cluster.specs.Values.{Value, events_of, trace_of, values_fit, still_live}
+use Rattle.rex_cluster.specs.Ranges.{NodeFits}
+use Rattle.rex_cluster.specs.Invariant.{IsReplayed}
 use Rattle.rex_traits.specs.declared.keeper.KeepFault.{KeepFault}
 use Rattle.rex_traits.specs.declared.keeper.KeepFault.TheVariants.{Failed, OutOfMemory}
 use Rattle.rex_traits.specs.Chains.{Answer}
-use Rattle.rex_safety.specs.Lanes.{Here}
-use Rattle.rex_safety.specs.Reading.{last_reply}
+use Rattle.rex_cluster.specs.Lanes.{Here}
+use Rattle.rex_cluster.specs.Reading.{last_reply}
 
 -- ---- parts
 

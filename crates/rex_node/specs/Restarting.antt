@@ -13,11 +13,11 @@ use Rattle.rex_durable.specs.declared.recovery.Recovered.{Recovered}
 use Rattle.rex_durable.specs.Recovery.{offset, recovered}
 use Rattle.rex_durable.specs.Laws.{IsRecovered}
 use Rattle.rex_durable.specs.Kept.{Spell, IsFirstBad}
-use Rattle.rex_safety.specs.Records.{Rec as ModelRec, base, known, is_old, offset as offset_of}
-use Rattle.rex_safety.specs.Agreed.{base_state}
-use Rattle.rex_safety.specs.Node.{down_node}
-use Rattle.rex_safety.specs.Calls.{begin, restart}
-use Rattle.rex_safety.specs.Values.{Value, state_after, trace_of}
+use Rattle.rex_cluster.specs.Records.{Rec as ModelRec, base, known, is_old, offset as offset_of}
+use Rattle.rex_cluster.specs.Agreed.{base_state}
+use Rattle.rex_cluster.specs.Node.{down_node}
+use Rattle.rex_cluster.specs.Calls.{begin, restart}
+use Rattle.rex_cluster.specs.Values.{Value, state_after, trace_of}
 use Rattle.rex_node.specs.declared.contents.Place.{Place}
 use Rattle.rex_node.specs.declared.restart.RestartFault.{RestartFault}
 use Rattle.rex_node.specs.declared.restart.RestartFault.TheVariants.{BadRecord, OutOfMemory}

@@ -12,9 +12,9 @@ use Rattle.rex_gate.specs.Noted.{stamp_of}
 use Rattle.rex_msg.specs.declared.message.Message.{Message}
 use Rattle.rex_msg.specs.declared.message.Content.{Content}
 use Rattle.rex_msg.specs.declared.message.Content.TheVariants as sent
-use Rattle.rex_safety.specs.Records.{known}
-use Rattle.rex_safety.specs.Values.{Value, trace_of}
-use Rattle.rex_safety.specs.Lanes.{Here}
+use Rattle.rex_cluster.specs.Records.{known}
+use Rattle.rex_cluster.specs.Values.{Value, trace_of}
+use Rattle.rex_cluster.specs.Lanes.{Here}
 use Rattle.rex_log.specs.Log.{first}
 use Rattle.rex_node.specs.declared.refusal.Refusal.{Refusal}
 use Rattle.rex_node.specs.declared.refusal.Refusal.TheVariants as why

@@ -1,7 +1,7 @@
 //! Counts of events by lane.
 
 ghost use Rattle.std.specs.Prelude.{◌≡◌, ◌+◌, length, min, IfOk};
-ghost use Rattle.rex_safety.specs.Lanes as spec;
+ghost use Rattle.rex_cluster.specs.Lanes as spec;
 
 use std::alloc::{AllocError, Global};
 

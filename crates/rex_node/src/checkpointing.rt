@@ -8,12 +8,12 @@ ghost use Rattle.rex_state.specs.Sound.{IsSound};
 ghost use Rattle.rex_snapshot.specs.Allowed.{version_in};
 ghost use Rattle.rex_snapshot.specs.Reading.{state_in};
 ghost use Rattle.rex_snapshot.specs.Spelling.{IsLimited};
-ghost use Rattle.rex_safety.specs.Calls as calls;
-ghost use Rattle.rex_safety.specs.Values.{service_of};
+ghost use Rattle.rex_cluster.specs.Calls as calls;
+ghost use Rattle.rex_cluster.specs.Values.{service_of};
 ghost use Rattle.rex_node.specs.declared.refusal.Refusal.TheVariants as why;
 ghost use Rattle.rex_node.specs.Calls.{Does, EndsDown, IsSpared, LeavesAll, Refuses, refusal_of_checkpoint};
 ghost use Rattle.rex_node.specs.Checkpointing.{IsCheckpoint, SavesOr, rebased, replayed_state};
-ghost use Rattle.rex_safety.specs.Records.{is_old};
+ghost use Rattle.rex_cluster.specs.Records.{is_old};
 ghost use Rattle.rex_node.specs.Parts.{IsNode, StaysNode, here_of, whole};
 
 use crate::node::Node;

@@ -2,12 +2,12 @@
 
 ghost use Rattle.std.specs.Prelude.{◌≡◌, ◌<◌, ◌-◌, ◌++◌, ◌∷◌, ◌^◌, [], true, length, Some, None, is_some, option_map, IfSome, IsSome, IfOk, OnErr};
 ghost use Rattle.rex_ballot.specs.Proposals.{IsValue};
-ghost use Rattle.rex_safety.specs.Values.{values_fit};
+ghost use Rattle.rex_cluster.specs.Values.{values_fit};
 ghost use Rattle.rex_node.specs.Leading.{IsOwnCut};
 ghost use Rattle.std.specs.Option.{option_copied};
 ghost use Rattle.rex_event.specs.Cuts.{below};
 ghost use Rattle.rex_cut.specs.Greatest.{greatest_cut};
-ghost use Rattle.rex_safety.specs.Lanes as lanes;
+ghost use Rattle.rex_cluster.specs.Lanes as lanes;
 ghost use Rattle.rex_record.specs.Kept.{IsRecorder};
 ghost use Rattle.rex_node.specs.Cutting.{CanMakePiece, CanPropose, HasPiece, IsIdle, MakesPieceOf, ProposesCut, ProposesCutShort, ProposesPiece, ProposesPieceShort, cut_before, has_open, with_cut};
 ghost use Rattle.rex_log.specs.Log.{proposal_in};

@@ -2,12 +2,12 @@
 
 ghost use Rattle.std.specs.Prelude.{◌≡◌, ◌<◌, ◌-◌, ◌^◌, [], length, true, None, IfOk, IfErr, OnOk, OnErr};
 ghost use Rattle.rex_msg.specs.Spelling.{HasSpelling};
-ghost use Rattle.rex_safety.specs.Calls as calls;
-ghost use Rattle.rex_safety.specs.Calls.{begin};
-ghost use Rattle.rex_safety.specs.Ranges.{MessageFits};
-ghost use Rattle.rex_safety.specs.Values.{service_of};
-ghost use Rattle.rex_safety.specs.Invariant.{Begins};
-ghost use Rattle.rex_safety.specs.Records as records;
+ghost use Rattle.rex_cluster.specs.Calls as calls;
+ghost use Rattle.rex_cluster.specs.Calls.{begin};
+ghost use Rattle.rex_cluster.specs.Ranges.{MessageFits};
+ghost use Rattle.rex_cluster.specs.Values.{service_of};
+ghost use Rattle.rex_cluster.specs.Invariant.{Begins};
+ghost use Rattle.rex_cluster.specs.Records as records;
 ghost use Rattle.rex_node.specs.Parts.{count_of, here_of, IsNode, IsSame, StaysNode, whole, knows};
 ghost use Rattle.rex_node.specs.Telling.{AreTold, IsRight, IsToldState, RefusesContent, refusal_of_content};
 ghost use Rattle.rex_log.specs.Messages.{content_in, message_in};

@@ -2,8 +2,8 @@
 
 ghost use Rattle.std.specs.Prelude.{◌≡◌, ◌<◌, ◌-◌, ◌^◌, true, IfOk};
 ghost use Rattle.rex_durable.specs.Spelling.{HasSpelling, record_bytes};
-ghost use Rattle.rex_safety.specs.Calls as calls;
-ghost use Rattle.rex_safety.specs.Values.{service_of};
+ghost use Rattle.rex_cluster.specs.Calls as calls;
+ghost use Rattle.rex_cluster.specs.Values.{service_of};
 ghost use Rattle.rex_node.specs.Calls.{Does, EndsDown, IsSpared, LeavesAll, Refuses, refusal_of_migrate};
 ghost use Rattle.rex_node.specs.Checkpointing.{MigratesOr};
 ghost use Rattle.rex_node.specs.Parts.{IsNode, StaysNode, here_of, whole};

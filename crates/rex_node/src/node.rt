@@ -4,11 +4,11 @@ ghost use Rattle.std.specs.Prelude.{◌≡◌, ◌<◌, ◌≤◌, ◌+◌, ◌^
 ghost use Rattle.std.specs.Option.{option_copied};
 ghost use Rattle.rex_state.specs.Machine.{lane_of, run};
 ghost use Rattle.rex_state.specs.Counts.{AreCounted};
-ghost use Rattle.rex_scenario.specs.Fits.{RequestFits};
-ghost use Rattle.rex_safety.specs.Node.{role_name, lead_name};
-ghost use Rattle.rex_safety.specs.Calls.{begin};
-ghost use Rattle.rex_safety.specs.Lanes.{effect_of, live_state, submit_request, turned};
-ghost use Rattle.rex_safety.specs.Takes as takes;
+ghost use Rattle.rex_schedule.specs.Fits.{RequestFits};
+ghost use Rattle.rex_cluster.specs.Node.{role_name, lead_name};
+ghost use Rattle.rex_cluster.specs.Calls.{begin};
+ghost use Rattle.rex_cluster.specs.Lanes.{effect_of, live_state, submit_request, turned};
+ghost use Rattle.rex_cluster.specs.Takes as takes;
 ghost use Rattle.rex_log.specs.Log.{proposal_in};
 ghost use Rattle.rex_node.specs.Parts.{here_of, role_of, open_of, IsNode, StaysNode, count_of, knows};
 ghost use Rattle.rex_node.specs.Blocks.{take_each};

@@ -7,12 +7,12 @@ ghost use Rattle.rex_paxos.specs.Acceptor.{answer_to_accept, accepting, promisin
 ghost use Rattle.rex_paxos.specs.declared.answers.Asked.TheVariants as asked;
 ghost use Rattle.rex_msg.specs.declared.message.Content.TheVariants as sent;
 ghost use Rattle.rex_report.specs.declared.effect.Effect.TheVariants as effect;
-ghost use Rattle.rex_safety.specs.Calls as calls;
-ghost use Rattle.rex_safety.specs.Calls.{followed};
+ghost use Rattle.rex_cluster.specs.Calls as calls;
+ghost use Rattle.rex_cluster.specs.Calls.{followed};
 ghost use Rattle.rex_node.specs.Parts.{IsNode, IsSame, here_of, leaving, role_of, whole};
 ghost use Rattle.rex_node.specs.Telling.{AreTold};
-ghost use Rattle.rex_safety.specs.Invariant.{Begins};
-ghost use Rattle.rex_safety.specs.Records as records;
+ghost use Rattle.rex_cluster.specs.Invariant.{Begins};
+ghost use Rattle.rex_cluster.specs.Records as records;
 ghost use Rattle.rex_node.specs.Going.{Ends, IsStuck, Sends, Tells, answering};
 
 use crate::going::Going;

@@ -4,8 +4,8 @@ ghost use Rattle.std.specs.Prelude.{◌≡◌, ◌<◌, ◌≤◌, ℕ, List, tr
 ghost use Rattle.std.specs.List.{list_all};
 ghost use Rattle.rex_ballot.specs.Limits.{most_nodes};
 ghost use Rattle.rex_snapshot.specs.Reading.{state_in};
-ghost use Rattle.rex_safety.specs.Records.{known};
-ghost use Rattle.rex_safety.specs.Values.{spells, values_fit};
+ghost use Rattle.rex_cluster.specs.Records.{known};
+ghost use Rattle.rex_cluster.specs.Values.{spells, values_fit};
 ghost use Rattle.rex_log.specs.Log.{AreRead, log_of};
 ghost use Rattle.rex_node.specs.Parts.{IsNode};
 ghost use Rattle.rex_node.specs.Stated.{AreStated};

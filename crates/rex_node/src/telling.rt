@@ -2,9 +2,9 @@
 
 ghost use Rattle.std.specs.Prelude.{◌≡◌, ◌≤◌, None, true, is_some, length};
 ghost use Rattle.rex_reads.specs.Reads.{seen_after};
-ghost use Rattle.rex_safety.specs.Node.{is_active};
-ghost use Rattle.rex_safety.specs.Reading as reading;
-ghost use Rattle.rex_safety.specs.Reading.{read_at, stamp_at};
+ghost use Rattle.rex_cluster.specs.Node.{is_active};
+ghost use Rattle.rex_cluster.specs.Reading as reading;
+ghost use Rattle.rex_cluster.specs.Reading.{read_at, stamp_at};
 ghost use Rattle.rex_node.specs.Parts.{IsNode, here_of, role_of, state_of, shown_of, work_of};
 ghost use Rattle.rex_node.specs.Telling as spec;
 

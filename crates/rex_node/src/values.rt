@@ -4,7 +4,7 @@ ghost use Rattle.std.specs.Prelude.{◌≡◌, ◌++◌, Some, IsSome, IfOk, OnO
 ghost use Rattle.rex_state.specs.Counts.{AreCounted};
 ghost use Rattle.rex_state.specs.Machine.{run};
 ghost use Rattle.rex_state.specs.Sound.{IsSound};
-ghost use Rattle.rex_safety.specs.Values.{events_of, trace_of};
+ghost use Rattle.rex_cluster.specs.Values.{events_of, trace_of};
 
 use rex_ballot::Value;
 use rex_delta::{DecodeError, decode_events};

@@ -8,16 +8,16 @@ use Rattle.rex_event.specs.declared.event.Event.{Event}
 use Rattle.rex_event.specs.Cuts.{below}
 use Rattle.rex_cut.specs.Greatest.{greatest_cut}
 use Rattle.rex_state.specs.Value.{StateValue}
-use Rattle.rex_scenario.specs.declared.scenario.ScheduleLine.{ScheduleLine}
-use Rattle.rex_scenario.specs.declared.scenario.ScheduleLine.TheVariants as line
-use Rattle.rex_safety.specs.Records.{Proposal, known}
-use Rattle.rex_safety.specs.Quorum.{IsNode}
-use Rattle.rex_safety.specs.Node.{Service, Lead, Role, is_active}
-use Rattle.rex_safety.specs.Node.Role.{Follower, Leads}
-use Rattle.rex_safety.specs.Calls.{enough}
-use Rattle.rex_safety.specs.Values.{Value, service_of}
-use Rattle.rex_safety.specs.Lanes.{Here, CallHere, active_only, submit_request, lane_turn, cut_live, cut_lead, cut_role, cut, value_at, no_limits, with_limits}
-use Rattle.rex_safety.specs.World.{World, node_at, beginning, after, at_node, step, waiting_from, flush_steps, steps_of, steps, row, after_lines}
+use Rattle.rex_schedule.specs.declared.scenario.ScheduleLine.{ScheduleLine}
+use Rattle.rex_schedule.specs.declared.scenario.ScheduleLine.TheVariants as line
+use Rattle.rex_cluster.specs.Records.{Proposal, known}
+use Rattle.rex_cluster.specs.Quorum.{IsNode}
+use Rattle.rex_cluster.specs.Node.{Service, Lead, Role, is_active}
+use Rattle.rex_cluster.specs.Node.Role.{Follower, Leads}
+use Rattle.rex_cluster.specs.Calls.{enough}
+use Rattle.rex_cluster.specs.Values.{Value, service_of}
+use Rattle.rex_cluster.specs.Lanes.{Here, CallHere, active_only, submit_request, lane_turn, cut_live, cut_lead, cut_role, cut, value_at, no_limits, with_limits}
+use Rattle.rex_cluster.specs.World.{World, node_at, beginning, after, at_node, step, waiting_from, flush_steps, steps_of, steps, row, after_lines}
 use Rattle.std.specs.Prelude.{is_some}
 use Rattle.std.specs.List.{All}
 use Rattle.std.proofs.lemmas.List.Elements.{All-head, All-tail}
@@ -27,42 +27,20 @@ use Rattle.rex_syntax.specs.Check.{IsChecked}
 use Rattle.rex_event.specs.Cuts.{count_at}
 use Rattle.rex_cut.specs.Greatest.{IsCutOf}
 use Rattle.rex_state.specs.Counts.{counts_of}
-use Rattle.rex_scenario.specs.Fits.{RequestFits}
-use Rattle.rex_safety.specs.Records.{proposal_of}
-use Rattle.rex_safety.specs.Lanes.{is_faithful, known_state, limits_between, turn_in}
-use Rattle.rex_safety.specs.Acting.{IsActing, HasLane}
-use Rattle.rex_safety.specs.Agreed.{world_after}
+use Rattle.rex_schedule.specs.Fits.{RequestFits}
+use Rattle.rex_cluster.specs.Records.{proposal_of}
+use Rattle.rex_cluster.specs.Lanes.{is_faithful, known_state, limits_between, turn_in}
+use Rattle.rex_cluster.specs.Acting.{IsActing, HasLane}
+use Rattle.rex_cluster.specs.Agreed.{world_after}
 use Rattle.rex_safety.specs.Laws.{ActsRightly}
 use Rattle.rex_safety.proofs.Nodes.{fresh_at}
 use Rattle.rex_safety.proofs.Worlds.{IsWorld, node_of_lead}
 use Rattle.rex_safety.proofs.Moments.{known_run}
 use Rattle.rex_safety.proofs.Steps.{step_ok, row_ok, beginning_ok, reached_ok}
-use Rattle.rex_safety.proofs.Acting.{acting_new, acting_known, acting_answered, acting_turned, acting_proposed, IsLiveCut, live_cut, firsts_long, rises, known_is, live_is, live_runs}
+use Rattle.rex_cluster.proofs.Acting.{acting_new, acting_known, acting_answered, acting_turned, acting_proposed, IsLiveCut, live_cut, firsts_long, rises, known_is, live_is, live_runs}
 use Rattle.rex_safety.proofs.WorkingWorlds.{AllWorks, only_works, after_works, at_works, LanesWork, step_works, fresh_works}
-use Rattle.rex_safety.proofs.Working.{Works, if_works, propose_works, settle_works}
-
--- ---- limits between two lists of counts
-
-pub between_long : (firsts lasts limits : List ℕ) → length lasts ≡ length firsts → length limits ≡ length firsts → length (limits_between firsts lasts limits) ≡ length firsts
-between_long [] lasts limits h k = refl
-between_long (a ∷ xs) [] limits h k = absurd (omega arith)
-between_long (a ∷ xs) (b ∷ ys) [] h k = absurd (omega arith)
-between_long (a ∷ xs) (b ∷ ys) (l ∷ ls) h k = ap suc (between_long xs ys ls (omega arith) (omega arith))
-
-pub between_from : (firsts lasts limits : List ℕ) (lane : ℕ) → length lasts ≡ length firsts → length limits ≡ length firsts → ((m : ℕ) → count_at firsts m ≤ count_at lasts m)
-    → count_at firsts lane ≤ count_at (limits_between firsts lasts limits) lane
-between_from [] lasts limits lane h k below = omega arith
-between_from (a ∷ xs) [] limits lane h k below = absurd (omega arith)
-between_from (a ∷ xs) (b ∷ ys) [] lane h k below = absurd (omega arith)
-between_from (a ∷ xs) (b ∷ ys) (l ∷ ls) zero h k below = let f : a ≤ b = below 0 in omega arith
-between_from (a ∷ xs) (b ∷ ys) (l ∷ ls) (suc lane) h k below = between_from xs ys ls lane (omega arith) (omega arith) (λ m. below (suc m))
-
-pub between_to : (firsts lasts limits : List ℕ) (lane : ℕ) → count_at (limits_between firsts lasts limits) lane ≤ count_at lasts lane
-between_to [] lasts limits lane = omega arith
-between_to (a ∷ xs) [] limits lane = omega arith
-between_to (a ∷ xs) (b ∷ ys) [] lane = omega arith
-between_to (a ∷ xs) (b ∷ ys) (l ∷ ls) zero = omega arith
-between_to (a ∷ xs) (b ∷ ys) (l ∷ ls) (suc lane) = between_to xs ys ls lane
+use Rattle.rex_cluster.proofs.Working.{Works, if_works, propose_works, settle_works}
+use Rattle.rex_cluster.proofs.Between.{between_long, between_from, between_to}
 
 -- ---- calls
 

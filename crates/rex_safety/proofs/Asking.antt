@@ -4,23 +4,23 @@ use Rattle.std.proofs.lemmas.Bool.{false≢true, ne_eqb, eqb-false}
 use Rattle.rex_ballot.specs.Limits.{most_nodes}
 use Rattle.rex_state.specs.Value.{StateValue}
 use Rattle.rex_report.specs.declared.effect.Effect.TheVariants as effect
-use Rattle.rex_safety.specs.Records.{Rec, Proposal, promise, accepted, known, HasAccepted, HasBallot}
-use Rattle.rex_safety.specs.Records.Rec.{Accepted}
-use Rattle.rex_safety.specs.Quorum.{IsNode, Logs, node_of, ballot_above, is_in}
-use Rattle.rex_safety.specs.Node.{Service, Content, Message, Lead, Role}
-use Rattle.rex_safety.specs.Node.Content.{Prepare, Promise, Accept, Accepted as Voted, Chosen as Chose, Nack, Ask, Snapshot}
-use Rattle.rex_safety.specs.Node.Role.{Follower, Leads}
-use Rattle.rex_safety.specs.Calls.{begin, say, own_reports, elect}
-use Rattle.rex_safety.specs.Invariant.{IsIn, Covers, AreRecords, Grows, LeadsRightly, IsRightRole, IsJustified}
-use Rattle.rex_safety.specs.Values.{Value}
-use Rattle.rex_safety.specs.Lanes.{Here, CallHere}
-use Rattle.rex_safety.specs.World.{World, node_at, put, logs, after, if_up, at_node}
+use Rattle.rex_cluster.specs.Records.{Rec, Proposal, promise, accepted, known, HasAccepted, HasBallot}
+use Rattle.rex_cluster.specs.Records.Rec.{Accepted}
+use Rattle.rex_cluster.specs.Quorum.{IsNode, Logs, node_of, ballot_above, is_in}
+use Rattle.rex_cluster.specs.Node.{Service, Content, Message, Lead, Role}
+use Rattle.rex_cluster.specs.Node.Content.{Prepare, Promise, Accept, Accepted as Voted, Chosen as Chose, Nack, Ask, Snapshot}
+use Rattle.rex_cluster.specs.Node.Role.{Follower, Leads}
+use Rattle.rex_cluster.specs.Calls.{begin, say, own_reports, elect}
+use Rattle.rex_cluster.specs.Invariant.{IsIn, Covers, AreRecords, Grows, LeadsRightly, IsRightRole, IsJustified}
+use Rattle.rex_cluster.specs.Values.{Value}
+use Rattle.rex_cluster.specs.Lanes.{Here, CallHere}
+use Rattle.rex_cluster.specs.World.{World, node_at, put, logs, after, if_up, at_node}
 use Rattle.rex_safety.specs.Kept.{IsWorld}
-use Rattle.rex_safety.proofs.Lists.{in_cases, in_from_on, from_on_late, offset_known, accepted_real, accepted_covers, from_on_covers}
-use Rattle.rex_safety.proofs.Grow.{begins_length}
-use Rattle.rex_safety.proofs.Step.{acc_below, has_below}
-use Rattle.rex_safety.proofs.Roles.{heard_grows}
-use Rattle.rex_safety.proofs.Calls.{above_promise, above_owned}
+use Rattle.rex_cluster.proofs.Lists.{in_cases, in_from_on, from_on_late, offset_known, accepted_real, accepted_covers, from_on_covers}
+use Rattle.rex_cluster.proofs.Grow.{begins_length}
+use Rattle.rex_cluster.proofs.Step.{acc_below, has_below}
+use Rattle.rex_cluster.proofs.Roles.{heard_grows}
+use Rattle.rex_cluster.proofs.Calls.{above_promise, above_owned}
 use Rattle.rex_safety.proofs.Nodes.{node_put, put_none, none_down}
 use Rattle.rex_safety.proofs.Worlds.{GoesOnTo, node_or_not}
 use Rattle.rex_safety.proofs.Candidacies.{RoleHas, IsPlain, AreSent, Votes, elect_votes, Cast}

@@ -5,17 +5,17 @@ use Rattle.rex_report.specs.declared.effect.Effect.{Effect}
 use Rattle.rex_report.specs.declared.effect.Effect.TheVariants as effect
 use Rattle.rex_version.specs.declared.version.Version.{Version}
 use Rattle.rex_version.specs.declared.version.Version.TheVariants.{Two}
-use Rattle.rex_safety.specs.Records.{Rec, Proposal, promise, accepted, from_on, offset, known, base, has_old_base, HasAccepted}
-use Rattle.rex_safety.specs.Records.Rec.{Promised, Accepted, Known, Checkpoint, Dropped, Transferred}
-use Rattle.rex_safety.specs.Quorum.{is_in, is_majority, ballot_above, round_of}
-use Rattle.rex_safety.specs.Node.{Service, Content, Message, Lead, Role, Failure, is_active}
-use Rattle.rex_safety.specs.Node.Failure.{After}
-use Rattle.rex_safety.specs.Node.Content.{Prepare, Promise, Accept, Accepted as Voted, Chosen as Chose, Nack, Ask, Snapshot}
-use Rattle.rex_safety.specs.Node.Role.{Follower, Leads}
-use Rattle.rex_safety.specs.Calls.{Call, say, send, others, append, logged, with_role, follow, propose, decide, best, choose, lead, turn, settle, enough, own_reports, candidacy, stand, elect, promised, on_prepare, heard, on_own_promise, on_promise, has_last, on_accept, voted, on_own_vote, on_voted, tell, on_chosen, on_nack, on_snapshot, receive, ask, replay, checkpoint, drop_known, restart, stop, start, arm}
-use Rattle.rex_safety.specs.Invariant.{IsIn}
-use Rattle.rex_safety.proofs.Lists.{in_cases}
-use Rattle.rex_safety.proofs.Calls.{if_good}
+use Rattle.rex_cluster.specs.Records.{Rec, Proposal, promise, accepted, from_on, offset, known, base, has_old_base, HasAccepted}
+use Rattle.rex_cluster.specs.Records.Rec.{Promised, Accepted, Known, Checkpoint, Dropped, Transferred}
+use Rattle.rex_cluster.specs.Quorum.{is_in, is_majority, ballot_above, round_of}
+use Rattle.rex_cluster.specs.Node.{Service, Content, Message, Lead, Role, Failure, is_active}
+use Rattle.rex_cluster.specs.Node.Failure.{After}
+use Rattle.rex_cluster.specs.Node.Content.{Prepare, Promise, Accept, Accepted as Voted, Chosen as Chose, Nack, Ask, Snapshot}
+use Rattle.rex_cluster.specs.Node.Role.{Follower, Leads}
+use Rattle.rex_cluster.specs.Calls.{Call, say, send, others, append, logged, with_role, follow, propose, decide, best, choose, lead, turn, settle, enough, own_reports, candidacy, stand, elect, promised, on_prepare, heard, on_own_promise, on_promise, has_last, on_accept, voted, on_own_vote, on_voted, tell, on_chosen, on_nack, on_snapshot, receive, ask, replay, checkpoint, drop_known, restart, stop, start, arm}
+use Rattle.rex_cluster.specs.Invariant.{IsIn}
+use Rattle.rex_cluster.proofs.Lists.{in_cases}
+use Rattle.rex_cluster.proofs.Calls.{if_good}
 
 module _ {V : Type 0} where
   -- what holds of the ballot, of who was counted and of what was reported, at a node that leads

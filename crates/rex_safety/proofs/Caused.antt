@@ -25,15 +25,15 @@ use Rattle.rex_state.specs.Sound.{IsSound}
 use Rattle.rex_state.specs.Counts.{counts_of, done_of}
 use Rattle.rex_state.proofs.Counts.{runs_count_on}
 use Rattle.rex_state.proofs.Sounds.{run_keeps, start_keeps}
-use Rattle.rex_scenario.specs.declared.scenario.ScheduleLine.{ScheduleLine}
-use Rattle.rex_safety.specs.Invariant.{IsIn}
-use Rattle.rex_safety.specs.Values.{Value, read_delta, delta_of, events_of, trace_of, is_piece, may_be_value, spells, runs, values_fit, service_of}
-use Rattle.rex_safety.specs.Agreed.{world_after, agreed, trace_at}
-use Rattle.rex_safety.specs.World.{World}
+use Rattle.rex_schedule.specs.declared.scenario.ScheduleLine.{ScheduleLine}
+use Rattle.rex_cluster.specs.Invariant.{IsIn}
+use Rattle.rex_cluster.specs.Values.{Value, read_delta, delta_of, events_of, trace_of, is_piece, may_be_value, spells, runs, values_fit, service_of}
+use Rattle.rex_cluster.specs.Agreed.{world_after, agreed, trace_at}
+use Rattle.rex_cluster.specs.World.{World}
 use Rattle.rex_safety.specs.Kept.{IsWorld}
 use Rattle.rex_safety.proofs.Agreeing.{agreed_fits}
-use Rattle.rex_safety.proofs.Replies.{trace_both, fits_run, run_split}
-use Rattle.rex_safety.proofs.Sames.{lists_are}
+use Rattle.rex_cluster.proofs.Replies.{trace_both, fits_run, run_split}
+use Rattle.rex_cluster.proofs.Sames.{lists_are}
 use Rattle.rex_safety.proofs.Steps.{reached_ok}
 
 -- ---- a value among others

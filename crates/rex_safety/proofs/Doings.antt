@@ -7,20 +7,20 @@ use Rattle.rex_syntax.specs.declared.service.Declarations.{Declarations}
 use Rattle.rex_syntax.specs.Service.{IsService}
 use Rattle.rex_syntax.specs.Check.{IsChecked}
 use Rattle.rex_state.specs.Value.{StateValue}
-use Rattle.rex_scenario.specs.Fits.{RequestFits}
-use Rattle.rex_safety.specs.Quorum.{IsNode}
-use Rattle.rex_safety.specs.Node.{Service}
-use Rattle.rex_safety.specs.Values.{Value, service_of}
-use Rattle.rex_safety.specs.World.{World, logs, beginning, steps_of}
-use Rattle.rex_safety.specs.Invariant.{Begins, Grows}
-use Rattle.rex_safety.specs.Agreed.{known_at}
+use Rattle.rex_schedule.specs.Fits.{RequestFits}
+use Rattle.rex_cluster.specs.Quorum.{IsNode}
+use Rattle.rex_cluster.specs.Node.{Service}
+use Rattle.rex_cluster.specs.Values.{Value, service_of}
+use Rattle.rex_cluster.specs.World.{World, logs, beginning, steps_of}
+use Rattle.rex_cluster.specs.Invariant.{Begins, Grows}
+use Rattle.rex_cluster.specs.Agreed.{known_at}
 use Rattle.rex_safety.specs.Kept.{IsWorld}
 use Rattle.rex_safety.specs.Laws.{OnlyGrows, ReleasesStand, ReleasesAreAgreed, NodesAreKept}
-use Rattle.rex_safety.specs.Takes.{Doing, does, after_doings}
-use Rattle.rex_safety.specs.Takes.Doing.{Does, Takes}
+use Rattle.rex_cluster.specs.Takes.{Doing, does, after_doings}
+use Rattle.rex_cluster.specs.Takes.Doing.{Does, Takes}
 use Rattle.rex_safety.specs.Doings.{world_after_doings, moments_of_doings}
 use Rattle.rex_safety.proofs.Agreeing.{at_two, grows_only}
-use Rattle.rex_safety.proofs.Grow.{grows_trans}
+use Rattle.rex_cluster.proofs.Grow.{grows_trans}
 use Rattle.rex_safety.proofs.Moments.{AreMoments, step_moments_are, moments_stand, moments_agreed}
 use Rattle.rex_safety.proofs.Steps.{row_ok, beginning_ok}
 use Rattle.rex_safety.proofs.Takes.{take_ok}

@@ -24,33 +24,33 @@ use Rattle.rex_record.specs.declared.turns.Turn.TheVariants as turn
 use Rattle.rex_record.specs.Take.{is_fit}
 use Rattle.rex_gate.specs.declared.answer.Answer.{Answer}
 use Rattle.rex_gate.specs.declared.answer.Answer.TheVariants as answer
-use Rattle.rex_scenario.specs.Fits.{RequestFits, LineFits}
-use Rattle.rex_scenario.specs.declared.scenario.ScheduleLine.{ScheduleLine}
-use Rattle.rex_scenario.specs.declared.scenario.ScheduleLine.TheVariants as line
-use Rattle.rex_safety.specs.Records.{Proposal, known}
-use Rattle.rex_safety.specs.Node.{Service, Lead, Role, Work, is_active}
-use Rattle.rex_safety.specs.Node.Role.{Follower, Leads}
-use Rattle.rex_safety.specs.Calls.{begin, settle, enough, work_known}
-use Rattle.rex_safety.specs.Values.{Value, spells, runs, events_of, trace_of, state_after, values_fit, service_of}
-use Rattle.rex_safety.specs.Lanes.{Here, CallHere, active_only, submit_request, queue_with, lane_turn, turn_in, live_state, is_faithful, cut_live, cut_lead, cut_role, cut, value_at, no_limits, with_limits}
-use Rattle.rex_safety.specs.World.{World, node_at, beginning, if_up, at_node, message_at, step, waiting_from, flush_steps, steps_of, steps, row, after_lines}
+use Rattle.rex_schedule.specs.Fits.{RequestFits, LineFits}
+use Rattle.rex_schedule.specs.declared.scenario.ScheduleLine.{ScheduleLine}
+use Rattle.rex_schedule.specs.declared.scenario.ScheduleLine.TheVariants as line
+use Rattle.rex_cluster.specs.Records.{Proposal, known}
+use Rattle.rex_cluster.specs.Node.{Service, Lead, Role, Work, is_active}
+use Rattle.rex_cluster.specs.Node.Role.{Follower, Leads}
+use Rattle.rex_cluster.specs.Calls.{begin, settle, enough, work_known}
+use Rattle.rex_cluster.specs.Values.{Value, spells, runs, events_of, trace_of, state_after, values_fit, service_of}
+use Rattle.rex_cluster.specs.Lanes.{Here, CallHere, active_only, submit_request, queue_with, lane_turn, turn_in, live_state, is_faithful, cut_live, cut_lead, cut_role, cut, value_at, no_limits, with_limits}
+use Rattle.rex_cluster.specs.World.{World, node_at, beginning, if_up, at_node, message_at, step, waiting_from, flush_steps, steps_of, steps, row, after_lines}
 use Rattle.rex_safety.specs.Kept.{IsWorld, IsKept}
-use Rattle.rex_safety.specs.Takes.{Doing, DoingFits, taken_in, take_event, take, after_doings}
-use Rattle.rex_safety.specs.Takes.Doing.{Does, Takes}
+use Rattle.rex_cluster.specs.Takes.{Doing, DoingFits, taken_in, take_event, take, after_doings}
+use Rattle.rex_cluster.specs.Takes.Doing.{Does, Takes}
 use Rattle.rex_safety.specs.Doings.{world_after_doings}
 use Rattle.rex_safety.specs.Typed.{ServiceIsTyped, RequestIsTyped}
-use Rattle.rex_safety.specs.Agreed.{world_after}
+use Rattle.rex_cluster.specs.Agreed.{world_after}
 use Rattle.rex_safety.specs.Rounds.{lines_among}
 use Rattle.rex_safety.specs.Faithful.{EachCutIsFaithful, DoingIsTyped}
-use Rattle.rex_safety.proofs.Acting.{fits_front}
+use Rattle.rex_cluster.proofs.Acting.{fits_front}
 use Rattle.rex_safety.proofs.Keeps.{beginning_kept}
 use Rattle.rex_safety.proofs.Takes.{doings_kept}
-use Rattle.rex_safety.proofs.Bytes.{spelled_delta}
+use Rattle.rex_cluster.proofs.Bytes.{spelled_delta}
 use Rattle.rex_safety.proofs.Nodes.{fresh_at}
 use Rattle.rex_safety.proofs.Worlds.{node_of_lead}
 use Rattle.rex_safety.proofs.Moments.{known_run}
 use Rattle.rex_safety.proofs.Steps.{step_ok, beginning_ok}
-use Rattle.rex_safety.proofs.Working.{fresh_work, Works, if_works, propose_works, settle_works}
+use Rattle.rex_cluster.proofs.Working.{fresh_work, Works, if_works, propose_works, settle_works}
 use Rattle.rex_safety.proofs.WorkingWorlds.{AllWorks, only_works, at_works, deliver_works, LanesWork, step_works, fresh_works}
 use Rattle.rex_safety.proofs.Doings.{does_ok}
 use Rattle.rex_safety.proofs.Spelled.{kept_faithful}

@@ -7,22 +7,22 @@ use Rattle.rex_syntax.specs.declared.service.Declarations.{Declarations}
 use Rattle.rex_state.specs.Value.{StateValue}
 use Rattle.rex_state.specs.Start.{start_of}
 use Rattle.rex_state.specs.Machine.{run}
-use Rattle.rex_safety.specs.Records.{Rec, known, known_above, held, offset, base, given_in, most_in, HasKnown, HasTransferred}
-use Rattle.rex_safety.specs.Records.Rec.{Promised, Accepted, Known, Checkpoint, Dropped, Transferred}
-use Rattle.rex_safety.specs.Quorum.{IsNode, Logs, AllChosen, AllGiven}
-use Rattle.rex_safety.specs.Node.{Service, Message}
-use Rattle.rex_safety.specs.Node.Content.{Snapshot}
-use Rattle.rex_safety.specs.Values.{Value, service_of, trace_of, state_after}
-use Rattle.rex_safety.specs.Lanes.{Here}
-use Rattle.rex_safety.specs.World.{World, node_at, logs}
-use Rattle.rex_safety.specs.Invariant.{IsIn, Begins, AreRecords, IsRightSnapshot, IsJustified}
-use Rattle.rex_safety.specs.Agreed.{known_at, agreed, or_else, given_by, most_given, going_on, given_from, given, base_state}
+use Rattle.rex_cluster.specs.Records.{Rec, known, known_above, held, offset, base, given_in, most_in, HasKnown, HasTransferred}
+use Rattle.rex_cluster.specs.Records.Rec.{Promised, Accepted, Known, Checkpoint, Dropped, Transferred}
+use Rattle.rex_cluster.specs.Quorum.{IsNode, Logs, AllChosen, AllGiven}
+use Rattle.rex_cluster.specs.Node.{Service, Message}
+use Rattle.rex_cluster.specs.Node.Content.{Snapshot}
+use Rattle.rex_cluster.specs.Values.{Value, service_of, trace_of, state_after}
+use Rattle.rex_cluster.specs.Lanes.{Here}
+use Rattle.rex_cluster.specs.World.{World, node_at, logs}
+use Rattle.rex_cluster.specs.Invariant.{IsIn, Begins, AreRecords, IsRightSnapshot, IsJustified}
+use Rattle.rex_cluster.specs.Agreed.{known_at, agreed, or_else, given_by, most_given, going_on, given_from, given, base_state}
 use Rattle.rex_safety.specs.Laws.{state_at_base, HoldsAgreed, TransfersAreRight}
-use Rattle.rex_safety.proofs.Grow.{begins_trans}
-use Rattle.rex_safety.proofs.Lists.{offset_low, offset_known}
-use Rattle.rex_safety.proofs.Fronts.{prefix_of, base_right}
+use Rattle.rex_cluster.proofs.Grow.{begins_trans}
+use Rattle.rex_cluster.proofs.Lists.{offset_low, offset_known}
+use Rattle.rex_cluster.proofs.Fronts.{prefix_of, base_right}
 use Rattle.rex_safety.proofs.Agreeing.{longest_most, one_value, agreed_chosen, agreed_given, known_begins, known_fits}
-use Rattle.rex_safety.proofs.Replies.{trace_both, fits_run, run_split, state_is}
+use Rattle.rex_cluster.proofs.Replies.{trace_both, fits_run, run_split, state_is}
 use Rattle.rex_safety.proofs.Worlds.{IsWorld}
 
 module _ {V S : Type 0} where

@@ -10,20 +10,20 @@ use Rattle.rex_syntax.specs.declared.service.Declarations.{Declarations}
 use Rattle.rex_syntax.specs.Service.{IsService}
 use Rattle.rex_syntax.specs.Check.{IsChecked}
 use Rattle.rex_state.specs.Value.{StateValue}
-use Rattle.rex_scenario.specs.declared.scenario.ScheduleLine.{ScheduleLine}
-use Rattle.rex_scenario.specs.declared.scenario.ScheduleLine.TheVariants as line
-use Rattle.rex_scenario.specs.Fits.{RequestFits, LineFits}
-use Rattle.rex_safety.specs.Node.{Service, Message, Lead}
-use Rattle.rex_safety.specs.Node.Role.{Leads}
-use Rattle.rex_safety.specs.Calls.{begin, start, arm}
-use Rattle.rex_safety.specs.Values.{Value, service_of}
-use Rattle.rex_safety.specs.Lanes.{CallHere}
-use Rattle.rex_safety.specs.World.{World, node_at, beginning, after, if_up, start_if, with_handed, deliver_found, message_at, step, steps_of, steps, row}
-use Rattle.rex_safety.specs.Agreed.{known_at}
-use Rattle.rex_safety.specs.Acting.{IsActing, HasLane}
+use Rattle.rex_schedule.specs.declared.scenario.ScheduleLine.{ScheduleLine}
+use Rattle.rex_schedule.specs.declared.scenario.ScheduleLine.TheVariants as line
+use Rattle.rex_schedule.specs.Fits.{RequestFits, LineFits}
+use Rattle.rex_cluster.specs.Node.{Service, Message, Lead}
+use Rattle.rex_cluster.specs.Node.Role.{Leads}
+use Rattle.rex_cluster.specs.Calls.{begin, start, arm}
+use Rattle.rex_cluster.specs.Values.{Value, service_of}
+use Rattle.rex_cluster.specs.Lanes.{CallHere}
+use Rattle.rex_cluster.specs.World.{World, node_at, beginning, after, if_up, start_if, with_handed, deliver_found, message_at, step, steps_of, steps, row}
+use Rattle.rex_cluster.specs.Agreed.{known_at}
+use Rattle.rex_cluster.specs.Acting.{IsActing, HasLane}
 use Rattle.rex_safety.specs.Kept.{roles, IsWorld, IsKept}
 use Rattle.rex_safety.specs.Keeping.{IsRight}
-use Rattle.rex_safety.proofs.Acting.{live_runs}
+use Rattle.rex_cluster.proofs.Acting.{live_runs}
 use Rattle.rex_safety.proofs.Steps.{step_ok, beginning_ok}
 use Rattle.rex_safety.proofs.Worlds.{node_of_lead}
 use Rattle.rex_safety.proofs.Moments.{known_run}

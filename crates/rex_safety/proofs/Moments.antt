@@ -8,43 +8,43 @@ use Rattle.rex_syntax.specs.declared.service.Declarations.{Declarations}
 use Rattle.rex_state.specs.Value.{StateValue}
 use Rattle.rex_report.specs.declared.effect.Effect.{Effect}
 use Rattle.rex_report.specs.declared.effect.Effect.TheVariants as effect
-use Rattle.rex_scenario.specs.declared.scenario.ScheduleLine.{ScheduleLine}
-use Rattle.rex_scenario.specs.declared.scenario.ScheduleLine.TheVariants as line
-use Rattle.rex_safety.specs.Records.{known}
-use Rattle.rex_safety.specs.Quorum.{IsNode, Logs}
-use Rattle.rex_safety.specs.Node.{Service, Message, Lead, Role, is_active, kind_of}
-use Rattle.rex_safety.specs.Node.Role.{Follower, Leads}
-use Rattle.rex_safety.specs.Calls.{begin, elect, receive, ask, replay, checkpoint, drop_known, stop}
-use Rattle.rex_safety.specs.Values.{Value, service_of}
-use Rattle.rex_safety.specs.Lanes.{Here, CallHere, no_limits, with_limits}
-use Rattle.rex_safety.specs.World.{World, Row, node_at, put, logs, beginning, after, if_up, at_node, start_if, read_row, first_told, with_handed, deliver_found, message_at, step, steps_of, steps, row}
+use Rattle.rex_schedule.specs.declared.scenario.ScheduleLine.{ScheduleLine}
+use Rattle.rex_schedule.specs.declared.scenario.ScheduleLine.TheVariants as line
+use Rattle.rex_cluster.specs.Records.{known}
+use Rattle.rex_cluster.specs.Quorum.{IsNode, Logs}
+use Rattle.rex_cluster.specs.Node.{Service, Message, Lead, Role, is_active, kind_of}
+use Rattle.rex_cluster.specs.Node.Role.{Follower, Leads}
+use Rattle.rex_cluster.specs.Calls.{begin, elect, receive, ask, replay, checkpoint, drop_known, stop}
+use Rattle.rex_cluster.specs.Values.{Value, service_of}
+use Rattle.rex_cluster.specs.Lanes.{Here, CallHere, no_limits, with_limits}
+use Rattle.rex_cluster.specs.World.{World, Row, node_at, put, logs, beginning, after, if_up, at_node, start_if, read_row, first_told, with_handed, deliver_found, message_at, step, steps_of, steps, row}
 use Rattle.rex_reads.specs.declared.seen.Read.{Read as Told}
 use Rattle.rex_reads.specs.declared.seen.Read.TheVariants as told
-use Rattle.rex_safety.specs.Reading.{read_at, read_effect}
-use Rattle.rex_safety.specs.Invariant.{Begins, Grows, LeadsRightly, IsRightRole}
+use Rattle.rex_cluster.specs.Reading.{read_at, read_effect}
+use Rattle.rex_cluster.specs.Invariant.{Begins, Grows, LeadsRightly, IsRightRole}
 use Rattle.std.specs.Prelude.{ℤ}
 use Rattle.std.specs.List.{All}
 use Rattle.std.proofs.lemmas.Option.{same_Some}
 use Rattle.rex_syntax.specs.Service.{IsService}
 use Rattle.rex_syntax.specs.Check.{IsChecked}
-use Rattle.rex_scenario.specs.Fits.{RequestFits}
-use Rattle.rex_safety.specs.Node.{own_ballot}
-use Rattle.rex_safety.specs.Values.{trace_of, values_fit}
-use Rattle.rex_safety.specs.Lanes.{node_trace}
-use Rattle.rex_safety.specs.Stands.{Stands}
-use Rattle.rex_safety.specs.Agreed.{known_at, agreed}
+use Rattle.rex_schedule.specs.Fits.{RequestFits}
+use Rattle.rex_cluster.specs.Node.{own_ballot}
+use Rattle.rex_cluster.specs.Values.{trace_of, values_fit}
+use Rattle.rex_cluster.specs.Lanes.{node_trace}
+use Rattle.rex_cluster.specs.Stands.{Stands}
+use Rattle.rex_cluster.specs.Agreed.{known_at, agreed}
 use Rattle.rex_safety.specs.Laws.{ReleasesStand, ReleasesAreAgreed}
-use Rattle.rex_safety.specs.Releases.{IsAmong, Moment, receiver_of, node_in, step_moments, moments, IsLater}
-use Rattle.rex_safety.proofs.Traces.{stands_more}
-use Rattle.rex_safety.proofs.Grow.{grows_same, grows_trans}
-use Rattle.rex_safety.proofs.Fronts.{fits_front}
+use Rattle.rex_cluster.specs.Releases.{IsAmong, Moment, receiver_of, node_in, step_moments, moments, IsLater}
+use Rattle.rex_cluster.proofs.Traces.{stands_more}
+use Rattle.rex_cluster.proofs.Grow.{grows_same, grows_trans}
+use Rattle.rex_cluster.proofs.Fronts.{fits_front}
 use Rattle.rex_safety.proofs.Leaders.{later_knows, earlier_knows}
 use Rattle.rex_safety.proofs.Nodes.{node_put, none_down}
 use Rattle.rex_safety.proofs.Worlds.{IsWorld, node_or_not, node_of_lead}
 use Rattle.rex_safety.proofs.Steps.{step_ok, row_ok, beginning_ok}
-use Rattle.rex_safety.proofs.Saying.{Quiet, quiet_one, quiet_none, start_quiet, elect_says, receive_says, replay_says, checkpoint_says, drop_says, stop_says}
+use Rattle.rex_cluster.proofs.Saying.{Quiet, quiet_one, quiet_none, start_quiet, elect_says, receive_says, replay_says, checkpoint_says, drop_says, stop_says}
 use Rattle.rex_safety.proofs.Agreeing.{known_begins, agreed_grows}
-use Rattle.rex_safety.proofs.Replies.{trace_both, stands_begins, StandsIn, replies_stand, SaysHere, quietly, submit_says, turn_says, cut_tells}
+use Rattle.rex_cluster.proofs.Replies.{trace_both, stands_begins, StandsIn, replies_stand, SaysHere, quietly, submit_says, turn_says, cut_tells}
 
 -- ---- a step
 

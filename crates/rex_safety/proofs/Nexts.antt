@@ -8,23 +8,23 @@ use Rattle.std.specs.Prelude.{nat_le}
 use Rattle.std.specs.List.{list_all}
 use Rattle.std.proofs.lemmas.Bool.{and_parts}
 use Rattle.rex_delta.specs.Reading.{delta_in}
-use Rattle.rex_safety.specs.Records.{Proposal, HasAccepted}
-use Rattle.rex_safety.specs.Quorum.{IsNode, node_of}
-use Rattle.rex_safety.specs.Node.{Service, Content, Message, Lead}
-use Rattle.rex_safety.specs.Node.Role.{Leads}
-use Rattle.rex_safety.specs.Values.{Value, service_of}
-use Rattle.rex_safety.specs.World.{World, node_at, logs}
-use Rattle.rex_safety.specs.Invariant.{IsIn, LeadsRightly, IsRightRole, IsJustified}
-use Rattle.rex_safety.specs.Node.{Content}
-use Rattle.rex_safety.specs.Node.Content.{Promise, Accept, Chosen as Chose}
-use Rattle.rex_safety.specs.Values.{is_piece, may_be_value, is_byte, spells, runs, trace_of, values_fit}
-use Rattle.rex_safety.specs.Agreed.{known_at}
-use Rattle.rex_safety.specs.Invariant.{Open, IsRightOpen}
+use Rattle.rex_cluster.specs.Records.{Proposal, HasAccepted}
+use Rattle.rex_cluster.specs.Quorum.{IsNode, node_of}
+use Rattle.rex_cluster.specs.Node.{Service, Content, Message, Lead}
+use Rattle.rex_cluster.specs.Node.Role.{Leads}
+use Rattle.rex_cluster.specs.Values.{Value, service_of}
+use Rattle.rex_cluster.specs.World.{World, node_at, logs}
+use Rattle.rex_cluster.specs.Invariant.{IsIn, LeadsRightly, IsRightRole, IsJustified}
+use Rattle.rex_cluster.specs.Node.{Content}
+use Rattle.rex_cluster.specs.Node.Content.{Promise, Accept, Chosen as Chose}
+use Rattle.rex_cluster.specs.Values.{is_piece, may_be_value, is_byte, spells, runs, trace_of, values_fit}
+use Rattle.rex_cluster.specs.Agreed.{known_at}
+use Rattle.rex_cluster.specs.Invariant.{Open, IsRightOpen}
 use Rattle.rex_safety.specs.Laws.{NextFits, ValuesAreShort, ValuesAreBytes}
-use Rattle.rex_safety.proofs.Agree.{owned}
-use Rattle.rex_safety.proofs.Bytes.{spelled_bytes}
-use Rattle.rex_safety.proofs.Settle.{by_chosen, all_chosen_same}
-use Rattle.rex_safety.proofs.Fronts.{fits_front}
+use Rattle.rex_cluster.proofs.Agree.{owned}
+use Rattle.rex_cluster.proofs.Bytes.{spelled_bytes}
+use Rattle.rex_cluster.proofs.Settle.{by_chosen, all_chosen_same}
+use Rattle.rex_cluster.proofs.Fronts.{fits_front}
 use Rattle.rex_safety.proofs.Worlds.{IsWorld}
 
 module _ (service : Declarations) (seed n : ℕ) (w : World) (ok : IsWorld n (service_of service seed) w) where

@@ -9,31 +9,31 @@ use Rattle.rex_event.specs.declared.event.Event.{Event}
 use Rattle.rex_event.specs.Cuts.{below}
 use Rattle.rex_cut.specs.Greatest.{greatest_cut}
 use Rattle.rex_state.specs.Value.{StateValue}
-use Rattle.rex_scenario.specs.declared.scenario.ScheduleLine.{ScheduleLine}
-use Rattle.rex_scenario.specs.declared.scenario.ScheduleLine.TheVariants as line
-use Rattle.rex_safety.specs.Records.{Proposal, known, base, has_old_base}
-use Rattle.rex_safety.specs.Quorum.{IsNode}
-use Rattle.rex_safety.specs.Node.{Service, Message, Lead, Role, is_active}
-use Rattle.rex_safety.specs.Node.Role.{Follower, Leads}
-use Rattle.rex_safety.specs.Calls.{begin, enough, elect, receive, ask, replay, checkpoint, drop_known, restart, stop, start, arm}
-use Rattle.rex_safety.specs.Values.{Value, service_of}
-use Rattle.rex_safety.specs.Lanes.{Here, CallHere, active_only, submit_request, lane_turn, cut_live, cut_lead, cut_role, cut, value_at, no_limits, with_limits}
-use Rattle.rex_safety.specs.World.{World, node_at, put, beginning, after, if_up, at_node, start_if, with_handed, deliver_found, message_at, step, waiting_from, flush_steps, steps_of, steps, row, after_lines}
-use Rattle.rex_safety.specs.Invariant.{IsIn}
+use Rattle.rex_schedule.specs.declared.scenario.ScheduleLine.{ScheduleLine}
+use Rattle.rex_schedule.specs.declared.scenario.ScheduleLine.TheVariants as line
+use Rattle.rex_cluster.specs.Records.{Proposal, known, base, has_old_base}
+use Rattle.rex_cluster.specs.Quorum.{IsNode}
+use Rattle.rex_cluster.specs.Node.{Service, Message, Lead, Role, is_active}
+use Rattle.rex_cluster.specs.Node.Role.{Follower, Leads}
+use Rattle.rex_cluster.specs.Calls.{begin, enough, elect, receive, ask, replay, checkpoint, drop_known, restart, stop, start, arm}
+use Rattle.rex_cluster.specs.Values.{Value, service_of}
+use Rattle.rex_cluster.specs.Lanes.{Here, CallHere, active_only, submit_request, lane_turn, cut_live, cut_lead, cut_role, cut, value_at, no_limits, with_limits}
+use Rattle.rex_cluster.specs.World.{World, node_at, put, beginning, after, if_up, at_node, start_if, with_handed, deliver_found, message_at, step, waiting_from, flush_steps, steps_of, steps, row, after_lines}
+use Rattle.rex_cluster.specs.Invariant.{IsIn}
 use Rattle.std.proofs.Common.{leb-false}
 use Rattle.std.specs.List.{All}
 use Rattle.std.proofs.lemmas.List.Elements.{All-head, All-tail}
-use Rattle.rex_scenario.specs.Fits.{LineFits}
-use Rattle.rex_safety.specs.Lanes.{is_faithful}
-use Rattle.rex_safety.specs.Agreed.{world_after}
-use Rattle.rex_safety.specs.Ranges.{MessageFits, LogFits, LeadFits, RoleFits, NodeFits}
+use Rattle.rex_schedule.specs.Fits.{LineFits}
+use Rattle.rex_cluster.specs.Lanes.{is_faithful}
+use Rattle.rex_cluster.specs.Agreed.{world_after}
+use Rattle.rex_cluster.specs.Ranges.{MessageFits, LogFits, LeadFits, RoleFits, NodeFits}
 use Rattle.rex_safety.specs.Laws.{NumbersFit}
-use Rattle.rex_safety.proofs.Lists.{in_cases}
+use Rattle.rex_cluster.proofs.Lists.{in_cases}
 use Rattle.rex_safety.proofs.Nodes.{node_put, put_none, none_down, IsFresh, fresh_at}
 use Rattle.rex_safety.proofs.Worlds.{IsWorld, nth_in, node_or_not}
 use Rattle.rex_safety.proofs.Steps.{step_ok, row_ok, beginning_ok}
-use Rattle.rex_safety.proofs.Ranged.{Fits, if_fits, elect_fits, receive_fits, ask_fits, replay_fits, checkpoint_fits, drop_fits, migrated_fits, proposed_fits}
-use Rattle.rex_safety.proofs.Migrated.{migrated_sends}
+use Rattle.rex_cluster.proofs.Ranged.{Fits, if_fits, elect_fits, receive_fits, ask_fits, replay_fits, checkpoint_fits, drop_fits, migrated_fits, proposed_fits}
+use Rattle.rex_cluster.proofs.Migrated.{migrated_sends}
 
 module _ (service : Declarations) (requests : List Request) (seed n : ℕ) (few : n ≤ most_nodes) where
   abbrev sv : Service Value StateValue

@@ -10,28 +10,28 @@ use Rattle.rex_event.specs.Cuts.{below}
 use Rattle.rex_cut.specs.Greatest.{greatest_cut}
 use Rattle.rex_state.specs.Value.{StateValue}
 use Rattle.rex_report.specs.declared.effect.Effect.TheVariants as effect
-use Rattle.rex_scenario.specs.declared.scenario.ScheduleLine.{ScheduleLine}
-use Rattle.rex_scenario.specs.declared.scenario.ScheduleLine.TheVariants as line
-use Rattle.rex_safety.specs.Records.{Proposal, accepted, from_on, known, has_old_base, base, HasAccepted}
-use Rattle.rex_safety.specs.Quorum.{IsNode, Logs, is_in}
-use Rattle.rex_safety.specs.Node.{Service, Content, Message, Lead, Role, is_active}
-use Rattle.rex_safety.specs.Node.Content.{Prepare, Promise, Accept, Accepted as Voted, Chosen as Chose, Nack, Ask, Snapshot}
-use Rattle.rex_safety.specs.Node.Role.{Follower, Leads}
-use Rattle.rex_safety.specs.Calls.{begin, settle, enough, elect, receive, on_prepare, ask, replay, checkpoint, drop_known, restart, stop, start, arm}
-use Rattle.rex_safety.specs.Invariant.{IsIn, IsRightPromise, IsJustified}
-use Rattle.rex_safety.specs.Values.{Value, service_of}
-use Rattle.rex_safety.specs.Lanes.{Here, CallHere, active_only, submit_request, lane_turn, is_faithful, cut_live, cut_lead, cut_role, cut, value_at, no_limits, with_limits}
-use Rattle.rex_safety.specs.World.{World, node_at, logs, beginning, after, at_node, start_if, with_handed, deliver_found, message_at, step, steps_of, steps, row, after_lines}
-use Rattle.rex_safety.specs.Agreed.{world_after}
+use Rattle.rex_schedule.specs.declared.scenario.ScheduleLine.{ScheduleLine}
+use Rattle.rex_schedule.specs.declared.scenario.ScheduleLine.TheVariants as line
+use Rattle.rex_cluster.specs.Records.{Proposal, accepted, from_on, known, has_old_base, base, HasAccepted}
+use Rattle.rex_cluster.specs.Quorum.{IsNode, Logs, is_in}
+use Rattle.rex_cluster.specs.Node.{Service, Content, Message, Lead, Role, is_active}
+use Rattle.rex_cluster.specs.Node.Content.{Prepare, Promise, Accept, Accepted as Voted, Chosen as Chose, Nack, Ask, Snapshot}
+use Rattle.rex_cluster.specs.Node.Role.{Follower, Leads}
+use Rattle.rex_cluster.specs.Calls.{begin, settle, enough, elect, receive, on_prepare, ask, replay, checkpoint, drop_known, restart, stop, start, arm}
+use Rattle.rex_cluster.specs.Invariant.{IsIn, IsRightPromise, IsJustified}
+use Rattle.rex_cluster.specs.Values.{Value, service_of}
+use Rattle.rex_cluster.specs.Lanes.{Here, CallHere, active_only, submit_request, lane_turn, is_faithful, cut_live, cut_lead, cut_role, cut, value_at, no_limits, with_limits}
+use Rattle.rex_cluster.specs.World.{World, node_at, logs, beginning, after, at_node, start_if, with_handed, deliver_found, message_at, step, steps_of, steps, row, after_lines}
+use Rattle.rex_cluster.specs.Agreed.{world_after}
 use Rattle.rex_safety.specs.Kept.{IsWorld}
-use Rattle.rex_safety.specs.Takes.{Doing, take_event, take, after_doings}
-use Rattle.rex_safety.specs.Takes.Doing.{Does, Takes}
+use Rattle.rex_cluster.specs.Takes.{Doing, take_event, take, after_doings}
+use Rattle.rex_cluster.specs.Takes.Doing.{Does, Takes}
 use Rattle.rex_safety.specs.Doings.{world_after_doings}
-use Rattle.rex_safety.proofs.Lists.{in_cases, is_in_push, from_on_late, accepted_covers, from_on_covers, in_left, in_right}
+use Rattle.rex_cluster.proofs.Lists.{in_cases, is_in_push, from_on_late, accepted_covers, from_on_covers, in_left, in_right}
 use Rattle.rex_safety.proofs.Nodes.{node_put, IsFresh, fresh_at}
 use Rattle.rex_safety.proofs.Worlds.{GoesOnTo, nth_in}
 use Rattle.rex_safety.proofs.Steps.{step_ok, row_ok, beginning_ok}
-use Rattle.rex_safety.proofs.Migrated.{migrated_sends}
+use Rattle.rex_cluster.proofs.Migrated.{migrated_sends}
 use Rattle.rex_safety.proofs.Doings.{does_ok}
 use Rattle.rex_safety.proofs.Candidacies.{RoleHas, IsPlain, AreSent, if_votes, propose_votes, settle_votes, Any, Cast, Brings, IsGiven, Answers, receive_cast, prepare_answers, ask_cast, replay_cast, checkpoint_cast, drop_cast, stop_cast, start_cast, arm_cast}
 use Rattle.rex_safety.proofs.Asking.{CoversFrom, AreLater, OwnFrom, VotesCover, IsMeant, Candidacies, HasCandidacies, P, Q, plain, old_message, after_cand, begun, cast_cand, at_cand, at_cast, elect_cand}

@@ -18,32 +18,32 @@ use Rattle.rex_gate.specs.declared.answer.Answer.TheVariants as answer
 use Rattle.rex_gate.specs.Answer.{answer_to}
 use Rattle.rex_report.specs.declared.effect.Effect.{Effect}
 use Rattle.rex_report.specs.declared.effect.Effect.TheVariants as effect
-use Rattle.rex_scenario.specs.declared.scenario.ScheduleLine.{ScheduleLine}
-use Rattle.rex_scenario.specs.declared.scenario.ScheduleLine.TheVariants as line
-use Rattle.rex_safety.specs.Records.{Proposal, promise, known}
-use Rattle.rex_safety.specs.Quorum.{IsNode, round_of, ballot_above, node_of}
-use Rattle.rex_safety.specs.Node.{Service, Content, Message, Lead, Role, is_active, role_name, own_ballot, kind_of}
-use Rattle.rex_safety.specs.Node.Content.{Prepare, Promise, Accept, Accepted as Voted, Chosen as Chose, Nack, Ask, Snapshot}
-use Rattle.rex_safety.specs.Node.Role.{Follower, Leads}
-use Rattle.rex_safety.specs.Calls.{begin, say, settle, enough, elect, receive, ask, replay, checkpoint, drop_known, stop, start, arm}
-use Rattle.rex_safety.specs.Values.{Value, trace_of, state_after, events_of, service_of}
-use Rattle.rex_safety.specs.Lanes.{Here, CallHere, active_only, submit_request, effect_of, lane_turn, turn_effect, turn_in, is_faithful, cut_live, cut_lead, cut_role, cut, value_at, no_limits, with_limits, known_state, live_state}
-use Rattle.rex_safety.specs.World.{World, Row, node_at, logs, beginning, after, only, if_up, at_node, start_if, read_row, first_told, with_handed, deliver_found, message_at, step, waiting_from, flush_steps, steps_of, steps, sent_from, row, after_lines, effects_of}
+use Rattle.rex_schedule.specs.declared.scenario.ScheduleLine.{ScheduleLine}
+use Rattle.rex_schedule.specs.declared.scenario.ScheduleLine.TheVariants as line
+use Rattle.rex_cluster.specs.Records.{Proposal, promise, known}
+use Rattle.rex_cluster.specs.Quorum.{IsNode, round_of, ballot_above, node_of}
+use Rattle.rex_cluster.specs.Node.{Service, Content, Message, Lead, Role, is_active, role_name, own_ballot, kind_of}
+use Rattle.rex_cluster.specs.Node.Content.{Prepare, Promise, Accept, Accepted as Voted, Chosen as Chose, Nack, Ask, Snapshot}
+use Rattle.rex_cluster.specs.Node.Role.{Follower, Leads}
+use Rattle.rex_cluster.specs.Calls.{begin, say, settle, enough, elect, receive, ask, replay, checkpoint, drop_known, stop, start, arm}
+use Rattle.rex_cluster.specs.Values.{Value, trace_of, state_after, events_of, service_of}
+use Rattle.rex_cluster.specs.Lanes.{Here, CallHere, active_only, submit_request, effect_of, lane_turn, turn_effect, turn_in, is_faithful, cut_live, cut_lead, cut_role, cut, value_at, no_limits, with_limits, known_state, live_state}
+use Rattle.rex_cluster.specs.World.{World, Row, node_at, logs, beginning, after, only, if_up, at_node, start_if, read_row, first_told, with_handed, deliver_found, message_at, step, waiting_from, flush_steps, steps_of, steps, sent_from, row, after_lines, effects_of}
 use Rattle.rex_reads.specs.declared.seen.Read.{Read as Told}
 use Rattle.rex_reads.specs.declared.seen.Read.TheVariants as told
-use Rattle.rex_safety.specs.Reading.{read_at, read_effect}
-use Rattle.rex_safety.specs.Invariant.{IsIn, IsJustified}
-use Rattle.rex_safety.specs.Agreed.{world_after}
+use Rattle.rex_cluster.specs.Reading.{read_at, read_effect}
+use Rattle.rex_cluster.specs.Invariant.{IsIn, IsJustified}
+use Rattle.rex_cluster.specs.Agreed.{world_after}
 use Rattle.rex_safety.specs.Kept.{IsWorld}
-use Rattle.rex_safety.specs.Releases.{Moment, step_moments}
-use Rattle.rex_safety.specs.Takes.{Doing, take_event, take, after_doings}
-use Rattle.rex_safety.specs.Takes.Doing.{Does, Takes}
+use Rattle.rex_cluster.specs.Releases.{Moment, step_moments}
+use Rattle.rex_cluster.specs.Takes.{Doing, take_event, take, after_doings}
+use Rattle.rex_cluster.specs.Takes.Doing.{Does, Takes}
 use Rattle.rex_safety.specs.Doings.{world_after_doings, moments_of_doings}
 use Rattle.rex_safety.specs.Rounds.{greatest_round, RoundsAreAtMost, NoneIsSpent, lines_among}
 use Rattle.rex_safety.proofs.Doings.{does_ok}
 use Rattle.rex_safety.proofs.Nodes.{node_put, put_none, none_down, IsFresh, fresh_at}
 use Rattle.rex_safety.proofs.Rounds.{Other, Low, calm_none, calm_one, calm_both, calm_push, calm_releases, next_low, say_low, if_low, propose_low, settle_low, elect_low, elect_either, replay_low, checkpoint_low, drop_low, stop_low, arm_low, start_low, ContentLow, receive_low}
-use Rattle.rex_safety.proofs.Step.{acc_below}
+use Rattle.rex_cluster.proofs.Step.{acc_below}
 use Rattle.rex_safety.proofs.Steps.{step_ok, row_ok, beginning_ok}
 use Rattle.rex_safety.proofs.Worlds.{nth_in, node_or_not}
 

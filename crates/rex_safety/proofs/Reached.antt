@@ -6,14 +6,14 @@ use Rattle.rex_syntax.specs.declared.request.Request.{Request}
 use Rattle.rex_syntax.specs.declared.service.Declarations.{Declarations}
 use Rattle.rex_syntax.specs.Service.{IsService}
 use Rattle.rex_syntax.specs.Check.{IsChecked}
-use Rattle.rex_scenario.specs.Fits.{RequestFits}
-use Rattle.rex_safety.specs.Node.{Lead}
-use Rattle.rex_safety.specs.Node.Role.{Leads}
-use Rattle.rex_safety.specs.Values.{Value}
-use Rattle.rex_safety.specs.World.{World, node_at, beginning}
+use Rattle.rex_schedule.specs.Fits.{RequestFits}
+use Rattle.rex_cluster.specs.Node.{Lead}
+use Rattle.rex_cluster.specs.Node.Role.{Leads}
+use Rattle.rex_cluster.specs.Values.{Value}
+use Rattle.rex_cluster.specs.World.{World, node_at, beginning}
 use Rattle.rex_safety.specs.Kept.{IsKept}
 use Rattle.rex_safety.specs.Laws.{ActsRightly, NumbersFit}
-use Rattle.rex_safety.specs.Takes.{Doing, DoingFits}
+use Rattle.rex_cluster.specs.Takes.{Doing, DoingFits}
 use Rattle.rex_safety.specs.Doings.{world_after_doings}
 use Rattle.rex_safety.proofs.Keeps.{beginning_kept, kept_right}
 use Rattle.rex_safety.proofs.Takes.{doings_kept}

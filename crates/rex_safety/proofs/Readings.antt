@@ -10,23 +10,23 @@ use Rattle.rex_report.specs.declared.effect.Effect.TheVariants as effect
 use Rattle.rex_reads.specs.declared.seen.Read.{Read as Answer}
 use Rattle.rex_reads.specs.declared.seen.Read.TheVariants as answer
 use Rattle.rex_reads.specs.Reads.{seen_after}
-use Rattle.rex_scenario.specs.declared.scenario.ScheduleLine.{ScheduleLine}
-use Rattle.rex_scenario.specs.declared.scenario.ScheduleLine.TheVariants as line
-use Rattle.rex_safety.specs.Quorum.{IsNode}
-use Rattle.rex_safety.specs.Node.{Message, is_active}
-use Rattle.rex_safety.specs.Values.{Value, trace_of, state_after, service_of}
-use Rattle.rex_safety.specs.Lanes.{Here}
-use Rattle.rex_safety.specs.World.{World, node_at, beginning, sent_from, row}
-use Rattle.rex_safety.specs.Reading.{value_in, read_at, read_effect}
-use Rattle.rex_safety.specs.Agreed.{world_after, known_at, agreed, trace_at}
-use Rattle.rex_safety.specs.Invariant.{Begins}
+use Rattle.rex_schedule.specs.declared.scenario.ScheduleLine.{ScheduleLine}
+use Rattle.rex_schedule.specs.declared.scenario.ScheduleLine.TheVariants as line
+use Rattle.rex_cluster.specs.Quorum.{IsNode}
+use Rattle.rex_cluster.specs.Node.{Message, is_active}
+use Rattle.rex_cluster.specs.Values.{Value, trace_of, state_after, service_of}
+use Rattle.rex_cluster.specs.Lanes.{Here}
+use Rattle.rex_cluster.specs.World.{World, node_at, beginning, sent_from, row}
+use Rattle.rex_cluster.specs.Reading.{value_in, read_at, read_effect}
+use Rattle.rex_cluster.specs.Agreed.{world_after, known_at, agreed, trace_at}
+use Rattle.rex_cluster.specs.Invariant.{Begins}
 use Rattle.rex_safety.specs.Kept.{IsWorld}
-use Rattle.rex_safety.specs.Releases.{IsAmong}
-use Rattle.rex_safety.specs.Takes.{Doing}
-use Rattle.rex_safety.specs.Takes.Doing.{Does}
+use Rattle.rex_cluster.specs.Releases.{IsAmong}
+use Rattle.rex_cluster.specs.Takes.{Doing}
+use Rattle.rex_cluster.specs.Takes.Doing.{Does}
 use Rattle.rex_safety.specs.Seeing.{IsTold, ReportsWhatIsTold, TellsAgreed}
 use Rattle.rex_safety.specs.Doings.{world_after_doings}
-use Rattle.rex_safety.proofs.Fronts.{take_front}
+use Rattle.rex_cluster.proofs.Fronts.{take_front}
 use Rattle.rex_safety.proofs.Nodes.{none_down}
 use Rattle.rex_safety.proofs.Worlds.{node_or_not}
 use Rattle.rex_safety.proofs.Agreeing.{known_begins, after_both}

@@ -6,19 +6,19 @@ use Rattle.rex_report.specs.declared.effect.Effect.{Effect}
 use Rattle.rex_report.specs.declared.effect.Effect.TheVariants as effect
 use Rattle.rex_version.specs.declared.version.Version.{Version}
 use Rattle.rex_version.specs.declared.version.Version.TheVariants.{Two}
-use Rattle.rex_safety.specs.Records.{Rec, Proposal, promise, accepted, offset, known, base, has_old_base}
-use Rattle.rex_safety.specs.Records.Rec.{Promised, Accepted, Known, Checkpoint, Dropped, Transferred}
-use Rattle.rex_safety.specs.Quorum.{is_in, is_majority, ballot_above, round_of}
-use Rattle.rex_safety.specs.Node.{Service, Content, Message, Lead, Role, Failure, own_ballot, is_active}
-use Rattle.rex_safety.specs.Node.Failure.{After}
-use Rattle.rex_safety.specs.Node.Content.{Prepare, Promise, Accept, Accepted as Voted, Chosen as Chose, Nack, Ask, Snapshot}
-use Rattle.rex_safety.specs.Node.Role.{Follower, Leads}
-use Rattle.rex_safety.specs.Calls.{Call, say, send, append, logged, followed, follow, led, propose, released, decide, best, choose, lead, turn, settle, enough, own_reports, stand, elect, on_prepare, heard, on_own_promise, on_promise, has_last, on_accept, voted, on_own_vote, on_voted, on_chosen, on_nack, with_replayed, on_snapshot, receive, replay, checkpoint, drop_known, restart, stop, start, arm}
-use Rattle.rex_safety.specs.Releases.{IsAmong}
+use Rattle.rex_cluster.specs.Records.{Rec, Proposal, promise, accepted, offset, known, base, has_old_base}
+use Rattle.rex_cluster.specs.Records.Rec.{Promised, Accepted, Known, Checkpoint, Dropped, Transferred}
+use Rattle.rex_cluster.specs.Quorum.{is_in, is_majority, ballot_above, round_of}
+use Rattle.rex_cluster.specs.Node.{Service, Content, Message, Lead, Role, Failure, own_ballot, is_active}
+use Rattle.rex_cluster.specs.Node.Failure.{After}
+use Rattle.rex_cluster.specs.Node.Content.{Prepare, Promise, Accept, Accepted as Voted, Chosen as Chose, Nack, Ask, Snapshot}
+use Rattle.rex_cluster.specs.Node.Role.{Follower, Leads}
+use Rattle.rex_cluster.specs.Calls.{Call, say, send, append, logged, followed, follow, led, propose, released, decide, best, choose, lead, turn, settle, enough, own_reports, stand, elect, on_prepare, heard, on_own_promise, on_promise, has_last, on_accept, voted, on_own_vote, on_voted, on_chosen, on_nack, with_replayed, on_snapshot, receive, replay, checkpoint, drop_known, restart, stop, start, arm}
+use Rattle.rex_cluster.specs.Releases.{IsAmong}
 use Rattle.rex_safety.specs.Rounds.{NoneIsSpent, greatest_round}
-use Rattle.rex_safety.specs.Values.{release_effect}
-use Rattle.rex_safety.proofs.Saying.{among_either}
-use Rattle.rex_safety.proofs.Calls.{if_good}
+use Rattle.rex_cluster.specs.Values.{release_effect}
+use Rattle.rex_cluster.proofs.Saying.{among_either}
+use Rattle.rex_cluster.proofs.Calls.{if_good}
 
 -- ---- effects
 

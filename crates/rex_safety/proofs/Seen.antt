@@ -10,22 +10,22 @@ use Rattle.rex_report.specs.declared.effect.Effect.TheVariants as effect
 use Rattle.rex_reads.specs.declared.seen.Read.{Read as Answer}
 use Rattle.rex_reads.specs.declared.seen.Read.TheVariants as answer
 use Rattle.rex_reads.specs.Reads.{answered, seen_after}
-use Rattle.rex_scenario.specs.declared.scenario.ScheduleLine.{ScheduleLine}
-use Rattle.rex_scenario.specs.declared.scenario.ScheduleLine.TheVariants as line
-use Rattle.rex_safety.specs.Records.{known, offset}
-use Rattle.rex_safety.specs.Quorum.{IsNode}
-use Rattle.rex_safety.specs.Node.{Message, is_active, kind_of}
-use Rattle.rex_safety.specs.Calls.{begin, receive, start, arm}
-use Rattle.rex_safety.specs.Values.{Value, trace_of, state_after, service_of}
-use Rattle.rex_safety.specs.Lanes.{Here, CallHere}
-use Rattle.rex_safety.specs.World.{World, Row, node_at, put, after, only, if_up, at_node, start_if, read_row, first_told, with_handed, deliver_found, message_at, step, steps_of, steps, row, after_lines}
-use Rattle.rex_safety.specs.Reading.{last_reply, stamp_at, released_to, seen_by_release, seen_by_releases, value_in, read_effect}
-use Rattle.rex_safety.specs.Agreed.{known_at}
-use Rattle.rex_safety.specs.Releases.{IsAmong, receiver_of, node_in}
-use Rattle.rex_safety.specs.Takes.{Doing, does, after_doings}
-use Rattle.rex_safety.specs.Takes.Doing.{Does, Takes}
+use Rattle.rex_schedule.specs.declared.scenario.ScheduleLine.{ScheduleLine}
+use Rattle.rex_schedule.specs.declared.scenario.ScheduleLine.TheVariants as line
+use Rattle.rex_cluster.specs.Records.{known, offset}
+use Rattle.rex_cluster.specs.Quorum.{IsNode}
+use Rattle.rex_cluster.specs.Node.{Message, is_active, kind_of}
+use Rattle.rex_cluster.specs.Calls.{begin, receive, start, arm}
+use Rattle.rex_cluster.specs.Values.{Value, trace_of, state_after, service_of}
+use Rattle.rex_cluster.specs.Lanes.{Here, CallHere}
+use Rattle.rex_cluster.specs.World.{World, Row, node_at, put, after, only, if_up, at_node, start_if, read_row, first_told, with_handed, deliver_found, message_at, step, steps_of, steps, row, after_lines}
+use Rattle.rex_cluster.specs.Reading.{last_reply, stamp_at, released_to, seen_by_release, seen_by_releases, value_in, read_effect}
+use Rattle.rex_cluster.specs.Agreed.{known_at}
+use Rattle.rex_cluster.specs.Releases.{IsAmong, receiver_of, node_in}
+use Rattle.rex_cluster.specs.Takes.{Doing, does, after_doings}
+use Rattle.rex_cluster.specs.Takes.Doing.{Does, Takes}
 use Rattle.rex_safety.specs.Seeing.{IsTold}
-use Rattle.rex_safety.proofs.Saying.{quiet_one}
+use Rattle.rex_cluster.proofs.Saying.{quiet_one}
 use Rattle.rex_safety.proofs.Nodes.{node_put}
 use Rattle.rex_safety.proofs.Moments.{read_quiet}
 

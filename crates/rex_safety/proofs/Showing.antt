@@ -12,26 +12,26 @@ use Rattle.rex_event.specs.declared.event.Event.{Event}
 use Rattle.rex_state.specs.Value.{StateValue}
 use Rattle.rex_report.specs.declared.effect.Effect.{Effect}
 use Rattle.rex_report.specs.declared.effect.Effect.TheVariants as effect
-use Rattle.rex_scenario.specs.declared.scenario.ScheduleLine.{ScheduleLine}
-use Rattle.rex_scenario.specs.Fits.{RequestFits}
-use Rattle.rex_safety.specs.Quorum.{IsNode}
-use Rattle.rex_safety.specs.Node.{Service, Message}
-use Rattle.rex_safety.specs.Values.{Value, trace_of, service_of}
-use Rattle.rex_safety.specs.World.{World, logs, beginning, step, steps_of, steps, sent_from, row, after_lines, effects_of}
-use Rattle.rex_safety.specs.Agreed.{world_after, known_at, agreed, trace_at}
-use Rattle.rex_safety.specs.Invariant.{Begins, Grows}
+use Rattle.rex_schedule.specs.declared.scenario.ScheduleLine.{ScheduleLine}
+use Rattle.rex_schedule.specs.Fits.{RequestFits}
+use Rattle.rex_cluster.specs.Quorum.{IsNode}
+use Rattle.rex_cluster.specs.Node.{Service, Message}
+use Rattle.rex_cluster.specs.Values.{Value, trace_of, service_of}
+use Rattle.rex_cluster.specs.World.{World, logs, beginning, step, steps_of, steps, sent_from, row, after_lines, effects_of}
+use Rattle.rex_cluster.specs.Agreed.{world_after, known_at, agreed, trace_at}
+use Rattle.rex_cluster.specs.Invariant.{Begins, Grows}
 use Rattle.rex_safety.specs.Kept.{IsWorld}
-use Rattle.rex_safety.specs.Stands.{Stands}
-use Rattle.rex_safety.specs.Releases.{IsAmong, Moment, node_in, step_moments}
-use Rattle.rex_safety.specs.Takes.{Doing, does, after_doings}
-use Rattle.rex_safety.specs.Takes.Doing.{Does, Takes}
+use Rattle.rex_cluster.specs.Stands.{Stands}
+use Rattle.rex_cluster.specs.Releases.{IsAmong, Moment, node_in, step_moments}
+use Rattle.rex_cluster.specs.Takes.{Doing, does, after_doings}
+use Rattle.rex_cluster.specs.Takes.Doing.{Does, Takes}
 use Rattle.rex_safety.specs.Seeing.{IsTold}
 use Rattle.rex_safety.specs.Doings.{world_after_doings, moments_of, moments_of_doings}
-use Rattle.rex_safety.proofs.Saying.{among_either}
+use Rattle.rex_cluster.proofs.Saying.{among_either}
 use Rattle.rex_safety.proofs.Steps.{step_ok, steps_ok, row_ok, lines_ok, beginning_ok}
 use Rattle.rex_safety.proofs.Agreeing.{known_begins, agreed_grows}
 use Rattle.rex_safety.proofs.Moments.{step_true, known_run}
-use Rattle.rex_safety.proofs.Replies.{stands_begins}
+use Rattle.rex_cluster.proofs.Replies.{stands_begins}
 use Rattle.rex_safety.proofs.Doings.{does_ok, doings_ok}
 use Rattle.rex_safety.proofs.Stamps.{stands_front, begins_take}
 use Rattle.rex_safety.proofs.Seen.{Rises, told_enough, step_rises, steps_rise, lines_rise, doings_rise, step_stamps}

@@ -32,23 +32,23 @@ use Rattle.rex_state.proofs.Run.{run-first}
 use Rattle.rex_state.proofs.Sounds.{next_keeps}
 use Rattle.rex_state.proofs.Names.{events_name}
 use Rattle.rex_state.proofs.Counts.{count_is, runs_count_on}
-use Rattle.rex_safety.specs.Records.{Proposal, known}
-use Rattle.rex_safety.specs.Node.{Lead, Work}
-use Rattle.rex_safety.specs.Quorum.{IsNode}
-use Rattle.rex_safety.specs.Node.Role.{Leads}
-use Rattle.rex_safety.specs.Values.{Value, spells, runs, trace_of, service_of}
-use Rattle.rex_safety.specs.Lanes.{is_faithful, Here, no_limits, with_limits}
-use Rattle.rex_safety.specs.World.{World, node_at}
-use Rattle.rex_safety.specs.Agreed.{known_at}
-use Rattle.rex_safety.specs.Clients.{KindHasClient}
-use Rattle.rex_safety.specs.Acting.{IsActing}
+use Rattle.rex_cluster.specs.Records.{Proposal, known}
+use Rattle.rex_cluster.specs.Node.{Lead, Work}
+use Rattle.rex_cluster.specs.Quorum.{IsNode}
+use Rattle.rex_cluster.specs.Node.Role.{Leads}
+use Rattle.rex_cluster.specs.Values.{Value, spells, runs, trace_of, service_of}
+use Rattle.rex_cluster.specs.Lanes.{is_faithful, Here, no_limits, with_limits}
+use Rattle.rex_cluster.specs.World.{World, node_at}
+use Rattle.rex_cluster.specs.Agreed.{known_at}
+use Rattle.rex_cluster.specs.Clients.{KindHasClient}
+use Rattle.rex_cluster.specs.Acting.{IsActing}
 use Rattle.rex_safety.specs.Kept.{roles, IsKept}
 use Rattle.rex_safety.specs.Keeping.{AreCounts, CanCut, HasRoom}
-use Rattle.rex_safety.proofs.Acting.{IsLiveCut, live_cut, firsts_long, rises, live_is}
+use Rattle.rex_cluster.proofs.Acting.{IsLiveCut, live_cut, firsts_long, rises, live_is}
 use Rattle.rex_safety.proofs.Actives.{no_limits_live, with_limits_live}
-use Rattle.rex_safety.proofs.Bytes.{delta_bytes_are}
-use Rattle.rex_safety.proofs.Faithful.{faithful}
-use Rattle.rex_safety.proofs.Few.{counts_are_few}
+use Rattle.rex_cluster.proofs.Bytes.{delta_bytes_are}
+use Rattle.rex_cluster.proofs.Faithful.{faithful}
+use Rattle.rex_cluster.proofs.Few.{counts_are_few}
 use Rattle.rex_safety.proofs.Nexts.{next_fits}
 use Rattle.rex_safety.proofs.Worlds.{node_of_lead}
 

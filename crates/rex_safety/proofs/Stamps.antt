@@ -7,13 +7,13 @@ use Rattle.std.proofs.lemmas.List.{take-append-drop}
 use Rattle.rex_event.specs.declared.event.Event.{Event}
 use Rattle.rex_event.specs.declared.event.Kind.{Kind}
 use Rattle.rex_event.specs.declared.event.Kind.TheVariants.{Reply}
-use Rattle.rex_safety.specs.Values.{Value, events_of, trace_of}
+use Rattle.rex_cluster.specs.Values.{Value, events_of, trace_of}
 use Rattle.rex_gate.specs.Numbers.{is_reply_to, replies_to}
-use Rattle.rex_safety.specs.Reading.{last_reply}
-use Rattle.rex_safety.specs.Stands.{Replies, Stands}
-use Rattle.rex_safety.specs.Invariant.{Begins}
-use Rattle.rex_safety.proofs.Fronts.{begins_cons}
-use Rattle.rex_safety.proofs.Replies.{trace_both}
+use Rattle.rex_cluster.specs.Reading.{last_reply}
+use Rattle.rex_cluster.specs.Stands.{Replies, Stands}
+use Rattle.rex_cluster.specs.Invariant.{Begins}
+use Rattle.rex_cluster.proofs.Fronts.{begins_cons}
+use Rattle.rex_cluster.proofs.Replies.{trace_both}
 
 -- ---- events that reply to a client
 

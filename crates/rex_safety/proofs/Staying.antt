@@ -3,21 +3,21 @@ use Rattle.std.proofs.Common.{◌≡◌, ℕ, zero, suc, ◌==◌, Bool, true, f
 use Rattle.std.specs.Prelude.{nat_lt, nat_le, length}
 use Rattle.std.proofs.lemmas.Bool.{false≢true}
 use Rattle.rex_report.specs.declared.effect.Effect.{Effect}
-use Rattle.rex_safety.specs.Records.{Rec, Proposal, accepted, known, offset, promise}
-use Rattle.rex_safety.specs.Quorum.{is_in, is_majority, ballot_above, round_of}
-use Rattle.rex_safety.specs.Node.{Content, Failure, Lead, Role, Service, is_active}
-use Rattle.rex_safety.specs.Node.Failure.{After}
-use Rattle.rex_safety.specs.Node.Content.{Prepare, Promise, Accept, Accepted as Voted, Chosen as Chose, Nack, Ask, Snapshot}
-use Rattle.rex_safety.specs.Node.Role.{Follower, Leads}
+use Rattle.rex_cluster.specs.Records.{Rec, Proposal, accepted, known, offset, promise}
+use Rattle.rex_cluster.specs.Quorum.{is_in, is_majority, ballot_above, round_of}
+use Rattle.rex_cluster.specs.Node.{Content, Failure, Lead, Role, Service, is_active}
+use Rattle.rex_cluster.specs.Node.Failure.{After}
+use Rattle.rex_cluster.specs.Node.Content.{Prepare, Promise, Accept, Accepted as Voted, Chosen as Chose, Nack, Ask, Snapshot}
+use Rattle.rex_cluster.specs.Node.Role.{Follower, Leads}
 use Rattle.rex_syntax.specs.declared.request.Request.{Request}
 use Rattle.rex_syntax.specs.declared.service.Declarations.{Declarations}
 use Rattle.rex_event.specs.declared.event.Event.{Event}
 use Rattle.rex_event.specs.Cuts.{below}
 use Rattle.rex_cut.specs.Greatest.{greatest_cut}
 use Rattle.rex_state.specs.Value.{StateValue}
-use Rattle.rex_safety.specs.Values.{Value, service_of}
-use Rattle.rex_safety.specs.Lanes.{CallHere, active_only, cut, cut_lead, cut_live, cut_role, is_faithful, submit_request, value_at}
-use Rattle.rex_safety.specs.Calls.{Call, append, best, choose, decide, elect, enough, has_last, hear, heard, count_vote, voted, lead, logged, on_accept, on_ask, on_chosen, on_nack, on_own_promise, on_own_vote, on_prepare, on_promise, on_snapshot, on_voted, own_reports, propose, receive, settle, turn}
+use Rattle.rex_cluster.specs.Values.{Value, service_of}
+use Rattle.rex_cluster.specs.Lanes.{CallHere, active_only, cut, cut_lead, cut_live, cut_role, is_faithful, submit_request, value_at}
+use Rattle.rex_cluster.specs.Calls.{Call, append, best, choose, decide, elect, enough, has_last, hear, heard, count_vote, voted, lead, logged, on_accept, on_ask, on_chosen, on_nack, on_own_promise, on_own_vote, on_prepare, on_promise, on_snapshot, on_voted, own_reports, propose, receive, settle, turn}
 
 module _ {V S : Type 0} (n : ℕ) (sv : Service V S) (me : ℕ) where
   -- where it is active it is up

@@ -23,24 +23,24 @@ use Rattle.rex_record.specs.Value.{RecorderValue, live_after}
 use Rattle.rex_record.specs.Take.{is_fit, taken_turn}
 use Rattle.rex_record.proofs.Follows.{state_sound}
 use Rattle.rex_record.proofs.Takes.{CanTake, can_take, done_fits}
-use Rattle.rex_scenario.specs.Fits.{RequestFits}
-use Rattle.rex_safety.specs.Records.{Proposal, known}
-use Rattle.rex_safety.specs.Quorum.{IsNode}
-use Rattle.rex_safety.specs.Node.{Work, is_active}
-use Rattle.rex_safety.specs.Calls.{begin}
-use Rattle.rex_safety.specs.Values.{Value, spells, runs, trace_of, state_after, service_of}
-use Rattle.rex_safety.specs.Lanes.{CallHere, active_only}
-use Rattle.rex_safety.specs.World.{World, node_at, if_up}
-use Rattle.rex_safety.specs.Acting.{IsActing}
-use Rattle.rex_safety.specs.Clients.{HasClient}
+use Rattle.rex_schedule.specs.Fits.{RequestFits}
+use Rattle.rex_cluster.specs.Records.{Proposal, known}
+use Rattle.rex_cluster.specs.Quorum.{IsNode}
+use Rattle.rex_cluster.specs.Node.{Work, is_active}
+use Rattle.rex_cluster.specs.Calls.{begin}
+use Rattle.rex_cluster.specs.Values.{Value, spells, runs, trace_of, state_after, service_of}
+use Rattle.rex_cluster.specs.Lanes.{CallHere, active_only}
+use Rattle.rex_cluster.specs.World.{World, node_at, if_up}
+use Rattle.rex_cluster.specs.Acting.{IsActing}
+use Rattle.rex_cluster.specs.Clients.{HasClient}
 use Rattle.rex_safety.specs.Kept.{IsKept}
 use Rattle.rex_safety.specs.Laws.{NumbersFit}
-use Rattle.rex_safety.specs.Takes.{Doing, DoingFits, BeginsInRange, taken_in, take_event, take, does, after_doings}
-use Rattle.rex_safety.specs.Takes.Doing.{Does, Takes}
-use Rattle.rex_safety.proofs.Acting.{live_is, goes_on_with}
+use Rattle.rex_cluster.specs.Takes.{Doing, DoingFits, BeginsInRange, taken_in, take_event, take, does, after_doings}
+use Rattle.rex_cluster.specs.Takes.Doing.{Does, Takes}
+use Rattle.rex_cluster.proofs.Acting.{live_is, goes_on_with}
 use Rattle.rex_safety.proofs.Actives.{WorksHere, AllWork, active_works, after_work}
-use Rattle.rex_safety.proofs.Calls.{good_with}
-use Rattle.rex_safety.proofs.Clients.{unused_next, next_client}
+use Rattle.rex_cluster.proofs.Calls.{good_with}
+use Rattle.rex_cluster.proofs.Clients.{unused_next, next_client}
 use Rattle.rex_safety.proofs.Keeps.{if_up_told, acting_of, all_work, row_kept}
 use Rattle.rex_safety.proofs.Numbers.{any_fits, active_fits}
 use Rattle.rex_safety.proofs.Spelled.{lives}

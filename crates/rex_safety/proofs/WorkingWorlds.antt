@@ -4,18 +4,18 @@ use Rattle.rand_pcg.specs.Lcg.{Lcg}
 use Rattle.rex_syntax.specs.declared.request.Request.{Request}
 use Rattle.rex_syntax.specs.declared.service.Declarations.{Declarations}
 use Rattle.rex_state.specs.Value.{StateValue}
-use Rattle.rex_scenario.specs.declared.scenario.ScheduleLine.{ScheduleLine}
-use Rattle.rex_scenario.specs.declared.scenario.ScheduleLine.TheVariants as line
-use Rattle.rex_safety.specs.Records.{Proposal}
-use Rattle.rex_safety.specs.Quorum.{IsNode}
-use Rattle.rex_safety.specs.Node.{Service, Message, Work}
-use Rattle.rex_safety.specs.Calls.{begin, elect, receive, ask, replay, checkpoint, drop_known, stop, start, arm, work_known}
-use Rattle.rex_safety.specs.Values.{Value, service_of}
-use Rattle.rex_safety.specs.Lanes.{Here, CallHere, active_only}
-use Rattle.rex_safety.specs.World.{World, node_at, put, after, if_up, at_node, start_if, with_handed, deliver_found, message_at, step}
+use Rattle.rex_schedule.specs.declared.scenario.ScheduleLine.{ScheduleLine}
+use Rattle.rex_schedule.specs.declared.scenario.ScheduleLine.TheVariants as line
+use Rattle.rex_cluster.specs.Records.{Proposal}
+use Rattle.rex_cluster.specs.Quorum.{IsNode}
+use Rattle.rex_cluster.specs.Node.{Service, Message, Work}
+use Rattle.rex_cluster.specs.Calls.{begin, elect, receive, ask, replay, checkpoint, drop_known, stop, start, arm, work_known}
+use Rattle.rex_cluster.specs.Values.{Value, service_of}
+use Rattle.rex_cluster.specs.Lanes.{Here, CallHere, active_only}
+use Rattle.rex_cluster.specs.World.{World, node_at, put, after, if_up, at_node, start_if, with_handed, deliver_found, message_at, step}
 use Rattle.rex_safety.proofs.Nodes.{node_put, put_none, IsFresh}
 use Rattle.rex_safety.proofs.Worlds.{node_or_not}
-use Rattle.rex_safety.proofs.Working.{fresh_work, Works, passive, elect_works, receive_works, replay_works, checkpoint_works, drop_works, start_works}
+use Rattle.rex_cluster.proofs.Working.{fresh_work, Works, passive, elect_works, receive_works, replay_works, checkpoint_works, drop_works, start_works}
 
 module _ (service : Declarations) (seed n : ℕ) (A : List Value → Option (Proposal Value) → Work → Type 0)
     (new : (vs : List Value) (dice : Lcg) → (service_of service seed).fits vs ≡ true → A vs None (fresh_work dice))

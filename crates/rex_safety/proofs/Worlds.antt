@@ -5,16 +5,16 @@ use Rattle.std.specs.Prelude.{replicate, slice_get}
 use Rattle.std.proofs.lemmas.Bool.{cases_lt, eqb-false}
 use mathlib.Core.Path.{fun_ext}
 use Rattle.rex_state.specs.Value.{StateValue}
-use Rattle.rex_safety.specs.Quorum.{IsNode}
-use Rattle.rex_safety.specs.Node.{Service, Message, Lead}
-use Rattle.rex_safety.specs.Node.Role.{Follower, Leads}
-use Rattle.rex_safety.specs.Calls.{begin}
-use Rattle.rex_safety.specs.Values.{Value}
-use Rattle.rex_safety.specs.Lanes.{Here, CallHere}
-use Rattle.rex_safety.specs.World.{World, node_at, put, logs, after, if_up, at_node}
-use Rattle.rex_safety.specs.Invariant.{IsIn, with_log, AreSafe, Grows, IsRightRole, IsReplayed, AreJustified, KeepsAll}
-use Rattle.rex_safety.proofs.Grow.{grows_same}
-use Rattle.rex_safety.proofs.Roles.{just_both}
+use Rattle.rex_cluster.specs.Quorum.{IsNode}
+use Rattle.rex_cluster.specs.Node.{Service, Message, Lead}
+use Rattle.rex_cluster.specs.Node.Role.{Follower, Leads}
+use Rattle.rex_cluster.specs.Calls.{begin}
+use Rattle.rex_cluster.specs.Values.{Value}
+use Rattle.rex_cluster.specs.Lanes.{Here, CallHere}
+use Rattle.rex_cluster.specs.World.{World, node_at, put, logs, after, if_up, at_node}
+use Rattle.rex_cluster.specs.Invariant.{IsIn, with_log, AreSafe, Grows, IsRightRole, IsReplayed, AreJustified, KeepsAll}
+use Rattle.rex_cluster.proofs.Grow.{grows_same}
+use Rattle.rex_cluster.proofs.Roles.{just_both}
 use Rattle.rex_safety.proofs.Nodes.{put_length, node_put, put_none, none_down}
 
 -- it is kept, and no record was taken away

@@ -8,22 +8,22 @@ use Rattle.rex_syntax.specs.Service.{IsService}
 use Rattle.rex_syntax.specs.Check.{IsChecked}
 use Rattle.rex_event.specs.declared.event.Event.{Event}
 use Rattle.rex_report.specs.declared.effect.Effect.TheVariants.{Released}
-use Rattle.rex_scenario.specs.declared.scenario.ScheduleLine.TheVariants.{ReadVariable}
-use Rattle.rex_scenario.specs.Fits.{IsNode, RequestFits}
-use Rattle.rex_safety.specs.World.{World, node_at, beginning, steps_of}
-use Rattle.rex_safety.specs.Agreed.{agreed, trace_at}
-use Rattle.rex_safety.specs.Values.{Value, trace_of, service_of}
+use Rattle.rex_schedule.specs.declared.scenario.ScheduleLine.TheVariants.{ReadVariable}
+use Rattle.rex_schedule.specs.Fits.{IsNode, RequestFits}
+use Rattle.rex_cluster.specs.World.{World, node_at, beginning, steps_of}
+use Rattle.rex_cluster.specs.Agreed.{agreed, trace_at}
+use Rattle.rex_cluster.specs.Values.{Value, trace_of, service_of}
 use Rattle.rex_safety.specs.Once.{IsOnce}
 use Rattle.rex_safety.specs.Kept.{IsKept}
 use Rattle.rex_safety.specs.Laws.{HasOneValue, KnowsAgreed, OnlyGrows, IsOneList, AgreedRuns, BaseIsRight, AgreedIsGiven, HoldsAgreed, TransfersAreRight, ReleasesStand, ReleasesAreAgreed, CutsGoFirst, CausesAreLeast, NextFits, ValuesAreBytes, ValuesAreShort, NodesAreKept, ActsRightly, NumbersFit}
 use Rattle.rex_safety.specs.Rules.{Rules}
-use Rattle.rex_safety.specs.Node.{Lead}
-use Rattle.rex_safety.specs.Node.Role.{Leads}
-use Rattle.rex_safety.specs.Stands.{Stands}
-use Rattle.rex_safety.specs.Releases.{Moment, IsAmong, step_moments}
+use Rattle.rex_cluster.specs.Node.{Lead}
+use Rattle.rex_cluster.specs.Node.Role.{Leads}
+use Rattle.rex_cluster.specs.Stands.{Stands}
+use Rattle.rex_cluster.specs.Releases.{Moment, IsAmong, step_moments}
 use Rattle.rex_safety.specs.Seeing.{IsTold, ReportsWhatIsTold, TellsAgreed}
-use Rattle.rex_safety.specs.Takes.{Doing, DoingFits, BeginsInRange, take, does, after_doings}
-use Rattle.rex_safety.specs.Takes.Doing.{Does, Takes}
+use Rattle.rex_cluster.specs.Takes.{Doing, DoingFits, BeginsInRange, take, does, after_doings}
+use Rattle.rex_cluster.specs.Takes.Doing.{Does, Takes}
 
 -- the world after doings, from the beginning
 abbrev pub world_after_doings : Declarations → List Request → ℕ → ℕ → List Doing → World

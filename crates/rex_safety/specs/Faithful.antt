@@ -9,18 +9,18 @@ use Rattle.rex_syntax.specs.Check.{IsChecked}
 use Rattle.rex_event.specs.Cuts.{below}
 use Rattle.rex_cut.specs.Greatest.{greatest_cut}
 use Rattle.rex_delta.specs.Spelling.{HasTypedKind}
-use Rattle.rex_scenario.specs.declared.scenario.ScheduleLine.{ScheduleLine}
-use Rattle.rex_scenario.specs.Fits.{RequestFits, LineFits}
-use Rattle.rex_safety.specs.Node.{Lead}
-use Rattle.rex_safety.specs.Node.Role.{Leads}
-use Rattle.rex_safety.specs.Lanes.{is_faithful}
-use Rattle.rex_safety.specs.Values.{Value}
+use Rattle.rex_schedule.specs.declared.scenario.ScheduleLine.{ScheduleLine}
+use Rattle.rex_schedule.specs.Fits.{RequestFits, LineFits}
+use Rattle.rex_cluster.specs.Node.{Lead}
+use Rattle.rex_cluster.specs.Node.Role.{Leads}
+use Rattle.rex_cluster.specs.Lanes.{is_faithful}
+use Rattle.rex_cluster.specs.Values.{Value}
 use Rattle.rex_safety.specs.Keeping.{AreCounts}
 use Rattle.rex_safety.specs.Kept.{roles}
-use Rattle.rex_safety.specs.World.{World, node_at}
-use Rattle.rex_safety.specs.Agreed.{world_after, known_at}
-use Rattle.rex_safety.specs.Takes.{Doing, DoingFits}
-use Rattle.rex_safety.specs.Takes.Doing.{Does, Takes}
+use Rattle.rex_cluster.specs.World.{World, node_at}
+use Rattle.rex_cluster.specs.Agreed.{world_after, known_at}
+use Rattle.rex_cluster.specs.Takes.{Doing, DoingFits}
+use Rattle.rex_cluster.specs.Takes.Doing.{Does, Takes}
 use Rattle.rex_safety.specs.Doings.{world_after_doings}
 use Rattle.rex_safety.specs.Rounds.{lines_among}
 use Rattle.rex_safety.specs.Typed.{ServiceIsTyped, RequestIsTyped}

@@ -11,15 +11,15 @@ use Rattle.rex_cut.specs.Greatest.{greatest_cut, IsCutOf}
 use Rattle.rex_cut.specs.Delta.{delta_at}
 use Rattle.rex_delta.specs.Spelling.{IsDelta, HasTypedKind}
 use Rattle.rex_state.specs.Machine.{lane_of}
-use Rattle.rex_scenario.specs.declared.scenario.ScheduleLine.{ScheduleLine}
-use Rattle.rex_scenario.specs.Fits.{RequestFits, LineFits}
-use Rattle.rex_safety.specs.Node.{Lead}
-use Rattle.rex_safety.specs.Node.Role.{Leads}
-use Rattle.rex_safety.specs.Records.{known}
-use Rattle.rex_safety.specs.Values.{Value, greatest_value}
-use Rattle.rex_safety.specs.Lanes.{Here, live_state, value_at, is_faithful, no_limits, with_limits}
-use Rattle.rex_safety.specs.Agreed.{known_at}
-use Rattle.rex_safety.specs.World.{World, node_at, beginning, step, row}
+use Rattle.rex_schedule.specs.declared.scenario.ScheduleLine.{ScheduleLine}
+use Rattle.rex_schedule.specs.Fits.{RequestFits, LineFits}
+use Rattle.rex_cluster.specs.Node.{Lead}
+use Rattle.rex_cluster.specs.Node.Role.{Leads}
+use Rattle.rex_cluster.specs.Records.{known}
+use Rattle.rex_cluster.specs.Values.{Value, greatest_value}
+use Rattle.rex_cluster.specs.Lanes.{Here, live_state, value_at, is_faithful, no_limits, with_limits}
+use Rattle.rex_cluster.specs.Agreed.{known_at}
+use Rattle.rex_cluster.specs.World.{World, node_at, beginning, step, row}
 use Rattle.rex_safety.specs.Laws.{NextFits, ValuesAreShort, ValuesAreBytes, NodesAreKept, ActsRightly, BaseIsRight}
 use Rattle.rex_safety.specs.Kept.{roles, IsKept}
 

@@ -11,28 +11,28 @@ use Rattle.rex_state.specs.Commute.{GoesFirst}
 use Rattle.rex_syntax.specs.Service.{IsService}
 use Rattle.rex_syntax.specs.Check.{IsChecked}
 use Rattle.rex_state.specs.Value.{StateValue}
-use Rattle.rex_scenario.specs.declared.scenario.ScheduleLine.{ScheduleLine}
-use Rattle.rex_scenario.specs.Fits.{RequestFits, LineFits}
+use Rattle.rex_schedule.specs.declared.scenario.ScheduleLine.{ScheduleLine}
+use Rattle.rex_schedule.specs.Fits.{RequestFits, LineFits}
 use Rattle.rex_reduce.specs.Reduced.{AreLeast}
 use Rattle.rex_cut.specs.Greatest.{greatest_cut, IsCutOf}
 use Rattle.rex_cut.specs.Delta.{delta_at}
 use Rattle.rex_delta.specs.Spelling.{HasSpelling}
-use Rattle.rex_safety.specs.Records.{Proposal, known, base, offset, held, HasAccepted, HasTransferred}
-use Rattle.rex_safety.specs.Quorum.{IsNode, Chosen}
-use Rattle.rex_safety.specs.Values.{Value, IsBytes, greatest_value, delta_of, spells, trace_of, runs, state_after, values_fit, service_of}
-use Rattle.rex_safety.specs.World.{World, node_at, logs, beginning, effects_of}
-use Rattle.rex_safety.specs.Node.{Service, Message, Lead, Work}
-use Rattle.rex_safety.specs.Node.Content.{Promise, Accept, Chosen as ToldChosen, Snapshot}
-use Rattle.rex_safety.specs.Node.Role.{Leads}
-use Rattle.rex_safety.specs.Lanes.{Here, CallHere, node_trace, is_faithful, value_at}
-use Rattle.rex_safety.specs.Calls.{turn, settle, enough}
-use Rattle.rex_safety.specs.Acting.{IsActing, HasLane}
-use Rattle.rex_safety.specs.Stands.{Stands}
+use Rattle.rex_cluster.specs.Records.{Proposal, known, base, offset, held, HasAccepted, HasTransferred}
+use Rattle.rex_cluster.specs.Quorum.{IsNode, Chosen}
+use Rattle.rex_cluster.specs.Values.{Value, IsBytes, greatest_value, delta_of, spells, trace_of, runs, state_after, values_fit, service_of}
+use Rattle.rex_cluster.specs.World.{World, node_at, logs, beginning, effects_of}
+use Rattle.rex_cluster.specs.Node.{Service, Message, Lead, Work}
+use Rattle.rex_cluster.specs.Node.Content.{Promise, Accept, Chosen as ToldChosen, Snapshot}
+use Rattle.rex_cluster.specs.Node.Role.{Leads}
+use Rattle.rex_cluster.specs.Lanes.{Here, CallHere, node_trace, is_faithful, value_at}
+use Rattle.rex_cluster.specs.Calls.{turn, settle, enough}
+use Rattle.rex_cluster.specs.Acting.{IsActing, HasLane}
+use Rattle.rex_cluster.specs.Stands.{Stands}
 use Rattle.rex_report.specs.declared.effect.Effect.TheVariants.{Released}
-use Rattle.rex_safety.specs.Releases.{Moment, moments, IsAmong, IsReleased, IsLeader, IsLater}
-use Rattle.rex_safety.specs.Agreed.{world_after, known_at, agreed, given, base_state, trace_at}
-use Rattle.rex_safety.specs.Invariant.{IsIn, Begins, AreRecords, IsReplayed}
-use Rattle.rex_safety.specs.Ranges.{MessageFits, NodeFits}
+use Rattle.rex_cluster.specs.Releases.{Moment, moments, IsAmong, IsReleased, IsLeader, IsLater}
+use Rattle.rex_cluster.specs.Agreed.{world_after, known_at, agreed, given, base_state, trace_at}
+use Rattle.rex_cluster.specs.Invariant.{IsIn, Begins, AreRecords, IsReplayed}
+use Rattle.rex_cluster.specs.Ranges.{MessageFits, NodeFits}
 use Rattle.rex_safety.specs.Rules.{Rules}
 use Rattle.rex_safety.specs.Once.{IsOnce}
 

@@ -5,15 +5,15 @@ use Rattle.rex_syntax.specs.declared.request.Request.{Request}
 use Rattle.rex_syntax.specs.declared.service.Declarations.{Declarations}
 use Rattle.rex_report.specs.declared.effect.Effect.{Effect}
 use Rattle.rex_report.specs.declared.effect.Effect.TheVariants.{Spent}
-use Rattle.rex_scenario.specs.declared.scenario.ScheduleLine.{ScheduleLine}
-use Rattle.rex_safety.specs.Records.{promise}
-use Rattle.rex_safety.specs.Quorum.{IsNode, round_of, ballot_above}
-use Rattle.rex_safety.specs.Node.{own_ballot}
-use Rattle.rex_safety.specs.World.{World, node_at, logs, beginning, effects_of}
-use Rattle.rex_safety.specs.Agreed.{world_after}
-use Rattle.rex_safety.specs.Releases.{Moment, IsAmong}
-use Rattle.rex_safety.specs.Takes.{Doing}
-use Rattle.rex_safety.specs.Takes.Doing.{Does, Takes}
+use Rattle.rex_schedule.specs.declared.scenario.ScheduleLine.{ScheduleLine}
+use Rattle.rex_cluster.specs.Records.{promise}
+use Rattle.rex_cluster.specs.Quorum.{IsNode, round_of, ballot_above}
+use Rattle.rex_cluster.specs.Node.{own_ballot}
+use Rattle.rex_cluster.specs.World.{World, node_at, logs, beginning, effects_of}
+use Rattle.rex_cluster.specs.Agreed.{world_after}
+use Rattle.rex_cluster.specs.Releases.{Moment, IsAmong}
+use Rattle.rex_cluster.specs.Takes.{Doing}
+use Rattle.rex_cluster.specs.Takes.Doing.{Does, Takes}
 use Rattle.rex_safety.specs.Doings.{world_after_doings, moments_of_doings}
 
 -- the greatest round that a ballot may have

@@ -8,15 +8,15 @@ use Rattle.rex_syntax.specs.Service.{IsService}
 use Rattle.rex_syntax.specs.Check.{IsChecked}
 use Rattle.rex_report.specs.declared.effect.Effect.TheVariants.{Released, Read}
 use Rattle.rex_reads.specs.declared.seen.Read.TheVariants as answer
-use Rattle.rex_scenario.specs.declared.scenario.ScheduleLine.{ScheduleLine}
-use Rattle.rex_scenario.specs.declared.scenario.ScheduleLine.TheVariants.{ReadVariable}
-use Rattle.rex_scenario.specs.Fits.{RequestFits}
-use Rattle.rex_safety.specs.Values.{state_after}
-use Rattle.rex_safety.specs.World.{World, node_at, beginning, row, effects_of}
-use Rattle.rex_safety.specs.Reading.{read_at, value_in}
-use Rattle.rex_safety.specs.Agreed.{world_after, agreed, trace_at}
-use Rattle.rex_safety.specs.Stands.{Stands}
-use Rattle.rex_safety.specs.Releases.{IsAmong}
+use Rattle.rex_schedule.specs.declared.scenario.ScheduleLine.{ScheduleLine}
+use Rattle.rex_schedule.specs.declared.scenario.ScheduleLine.TheVariants.{ReadVariable}
+use Rattle.rex_schedule.specs.Fits.{RequestFits}
+use Rattle.rex_cluster.specs.Values.{state_after}
+use Rattle.rex_cluster.specs.World.{World, node_at, beginning, row, effects_of}
+use Rattle.rex_cluster.specs.Reading.{read_at, value_in}
+use Rattle.rex_cluster.specs.Agreed.{world_after, agreed, trace_at}
+use Rattle.rex_cluster.specs.Stands.{Stands}
+use Rattle.rex_cluster.specs.Releases.{IsAmong}
 use Rattle.rex_safety.specs.Laws.{AfterAnyLines}
 
 -- a client that reads the variable at the node is told this value, after so many deltas

@@ -6,8 +6,8 @@ ghost use Rattle.rex_safety.specs.Laws.{ChosenValuesAgree, KnownBeginsAgreed, Li
 ghost use Rattle.rex_safety.specs.Keeping.{BeginningsAreKept, StepsAreKept, LinesAreKept, KeptValuesFit, KeptBasesAreRight, KeptCutsAreSpelled, KeptCutsAreFaithful, KeptCountsHaveRoom};
 ghost use Rattle.rex_safety.specs.Rounds.{RoundsStayFew, RoundsAreLeft, DoingsKeepRoundsFew, DoingsLeaveRounds};
 ghost use Rattle.rex_safety.specs.Faithful.{CutsStayFaithful, DoingsKeepCutsFaithful};
-ghost use Rattle.rex_safety.specs.Limits.{ValuesLeadToLimitedStates};
-ghost use Rattle.rex_safety.specs.Migrating.{MigrationsSayTheSame, MigrationsKeepStates, MigrationsHappenOnce};
+ghost use Rattle.rex_cluster.specs.Limits.{ValuesLeadToLimitedStates};
+ghost use Rattle.rex_cluster.specs.Migrating.{MigrationsSayTheSame, MigrationsKeepStates, MigrationsHappenOnce};
 ghost use Rattle.rex_safety.specs.Seeing.{ReadsAreReported, ReadsAreOfTheAgreed, ReadsNeverGoBack, ReadsShowReplies};
 ghost use Rattle.rex_safety.specs.Doings.{TakesAreKept, DoingsAreKept, DoingsAgree, DoingsBeginAgreed, DoingsOnlyGrow, DoingsGivePrefixes, DoingsRun, DoingsKeepBases, DoingsGiveAgreed, DoingsHoldAgreed, DoingsTransferRightly, DoingsHappenOnce, DoingsKeepReplies, DoingsKeepAgreed, DoingsLetCutsGoFirst, DoingsKeepCausesLeast, DoingsFitNext, DoingsKeepBytes, DoingsKeepShort, DoingsKeepRules, DoingsKeepNodes, DoingsRunActives, DoingsKeepNumbers, DoingsReportReads, DoingsTellAgreed, DoingsNeverGoBack, DoingsShowReplies};
 

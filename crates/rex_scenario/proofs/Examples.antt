@@ -15,8 +15,8 @@ use Rattle.rex_scenario.specs.Schedule.{step_of, is_there, schedule_code}
 use Rattle.rex_scenario.specs.Reading.{start, answer_from, answer_of, unscheduled_answer_of, scenario_of}
 use Rattle.rex_scenario.specs.declared.scenario.ScenarioCode.{ScenarioCode}
 use Rattle.rex_scenario.specs.declared.scenario.ScenarioCode.TheVariants as code
-use Rattle.rex_scenario.specs.declared.scenario.ScheduleLine.{ScheduleLine}
-use Rattle.rex_scenario.specs.declared.scenario.ScheduleLine.TheVariants.{Elect, Submit, Lane, Cut, CutBelow, Deliver, Flush, Replay, Ask, Stop, Start, ReadVariable}
+use Rattle.rex_schedule.specs.declared.scenario.ScheduleLine.{ScheduleLine}
+use Rattle.rex_schedule.specs.declared.scenario.ScheduleLine.TheVariants.{Elect, Submit, Lane, Cut, CutBelow, Deliver, Flush, Replay, Ask, Stop, Start, ReadVariable}
 use Rattle.rex_scenario.specs.declared.schedule.Step.{Step}
 use Rattle.rex_scenario.specs.declared.schedule.Step.TheVariants as step
 use Rattle.rex_scenario.specs.declared.scenario.Sections.{Sections}

@@ -9,9 +9,10 @@ use Rattle.rex_parse.specs.Good.{IsGood}
 use Rattle.rex_parse.specs.After.{service_of}
 use Rattle.rex_parse.specs.Reading.{end_code}
 use Rattle.rex_parse.specs.declared.language.ServiceCode.{ServiceCode}
-use Rattle.rex_scenario.specs.Headings.{is_heading, is_due, if_due, begun_by, heading_code, begin_code, begun, after_heading, is_node_count, is_whole, nodes_after, next_stage}
+use Rattle.rex_schedule.specs.Counts.{is_node_count}
+use Rattle.rex_scenario.specs.Headings.{is_heading, is_due, if_due, begun_by, heading_code, begin_code, begun, after_heading, is_whole, nodes_after, next_stage}
 use Rattle.rex_version.specs.Versions.{is_old_size}
-use Rattle.rex_scenario.specs.Fits.{ScenarioFits}
+use Rattle.rex_schedule.specs.Fits.{ScenarioFits}
 use Rattle.rex_scenario.specs.Keeps.{FitsAt, SectionsFit}
 use Rattle.rex_scenario.specs.Schedule.{step_of}
 use Rattle.rex_scenario.specs.Reading.{of_service, is_clean, service_line_code, service_end_code, service_line_after, other_line_code, other_line_after, words_code, after_words, code_in, after_in, line_code, line_after, end_of, scenario_of}

@@ -16,9 +16,9 @@ use Rattle.rex_parse.specs.declared.language.Entry.{Entry}
 use Rattle.rex_parse.specs.declared.language.Meaning.{Meaning}
 use Rattle.rex_parse.specs.declared.language.Meaning.TheVariants as meaning
 use Rattle.rex_scenario.specs.Requests.{client_of}
-use Rattle.rex_scenario.specs.Fits.{VariableFits}
+use Rattle.rex_schedule.specs.Fits.{VariableFits}
 use Rattle.rex_scenario.specs.Schedule.{short_step, long_step, kept_at, limits_at, with_limits, cut_step, longer_step, variable_meant, variable_named, read_of, reading, plain_step, step_of, is_there, has_limits, has_form, line_of, step_code, with_step}
-use Rattle.rex_scenario.specs.declared.scenario.ScheduleLine.{ScheduleLine}
+use Rattle.rex_schedule.specs.declared.scenario.ScheduleLine.{ScheduleLine}
 use Rattle.rex_scenario.specs.declared.schedule.Step.{Step}
 use Rattle.rex_scenario.specs.declared.schedule.Step.TheVariants as step
 use Rattle.rex_scenario.proofs.Placed.{All-one, no_code}

@@ -1,7 +1,7 @@
 -- The headings of a scenario's sections, in their order.
 use Rattle.std.specs.Prelude.{◌==◌, ◌&&◌, ◌%◌, ℕ, nat_le, Bool, true, false, List, [], ◌∷◌, Option, Some, None, is_some, unwrap_or, codes, slice_index, option_and_then, if◌then◌else◌}
 use Rattle.std.specs.Str.{bytes_eq}
-use Rattle.rex_ballot.specs.Limits.{most_nodes}
+use Rattle.rex_schedule.specs.Counts.{is_node_count}
 use Rattle.rex_text.specs.Text.{Word}
 use Rattle.rex_text.specs.Numbers.{u64_at}
 use Rattle.rex_parse.specs.Table.{count_of}
@@ -47,10 +47,6 @@ next_stage s w = if_due s (begun_by w)
 -- a seed, from 0 to 4,294,967,295
 abbrev pub seed_of : Word → Option ℕ
 seed_of w = count_of 0 4294967295 w
-
--- so many nodes there may be: an odd number, of which a majority is more than half, up to the most nodes
-abbrev pub is_node_count : ℕ → Bool
-is_node_count n = n % 2 == 1 && nat_le n most_nodes
 
 -- a number of nodes, where there may be so many
 abbrev pub nodes_of : Word → Option ℕ

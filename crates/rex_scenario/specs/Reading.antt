@@ -12,7 +12,7 @@ use Rattle.rex_scenario.specs.Requests.{or_code, request_code, request_of}
 use Rattle.rex_scenario.specs.Schedule.{schedule_code, step_of, with_step}
 use Rattle.rex_scenario.specs.declared.scenario.ScenarioCode.{ScenarioCode}
 use Rattle.rex_scenario.specs.declared.scenario.ScenarioCode.TheVariants.{Service, TooLong, BadByte, OutOfPlace}
-use Rattle.rex_scenario.specs.declared.scenario.Scenario.{Scenario}
+use Rattle.rex_schedule.specs.declared.scenario.Scenario.{Scenario}
 use Rattle.rex_scenario.specs.declared.scenario.Sections.{Sections}
 use Rattle.rex_scenario.specs.declared.scenario.Stage.{Stage}
 use Rattle.rex_scenario.specs.declared.scenario.Stage.TheVariants as stage

@@ -5,7 +5,7 @@ ghost use Rattle.rex_text.specs.Text.{lines_of, numbered};
 ghost use Rattle.rex_scenario.specs.Answers.{Refuses, Says};
 ghost use Rattle.rex_parse.specs.After.{service_of};
 ghost use Rattle.rex_scenario.specs.Beyond.{IsPlain, beyond_words};
-ghost use Rattle.rex_scenario.specs.Fits.{ScenarioFits};
+ghost use Rattle.rex_schedule.specs.Fits.{ScenarioFits};
 ghost use Rattle.rex_scenario.specs.Keeps.{SectionsFit};
 ghost use Rattle.rex_scenario.specs.Reading.{answer_from, answer_of, answer_to, end_of, start, unscheduled_answer_of};
 

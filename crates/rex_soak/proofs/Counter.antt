@@ -10,7 +10,7 @@ use Rattle.rex_lockset.specs.Refusal.{refusal_of}
 use Rattle.rex_parse.specs.After.{service_of}
 use Rattle.rex_parse.specs.declared.language.Above.{Above}
 use Rattle.rex_parse.specs.declared.language.Meaning.TheVariants as meaning
-use Rattle.rex_scenario.specs.declared.scenario.ScheduleLine.{ScheduleLine}
+use Rattle.rex_schedule.specs.declared.scenario.ScheduleLine.{ScheduleLine}
 use Rattle.rex_scenario.specs.declared.scenario.Sections.{Sections}
 use Rattle.rex_scenario.specs.declared.scenario.Stage.TheVariants as stage
 

@@ -10,7 +10,7 @@ use Rattle.rex_gen.specs.Commands.{command}
 use Rattle.rex_parse.specs.declared.language.Above.{Above}
 use Rattle.rex_scenario.specs.Reading.{line_code, line_after}
 use Rattle.rex_scenario.specs.Schedule.{schedule_code, step_of, line_of, with_step}
-use Rattle.rex_scenario.specs.declared.scenario.ScheduleLine.{ScheduleLine}
+use Rattle.rex_schedule.specs.declared.scenario.ScheduleLine.{ScheduleLine}
 use Rattle.rex_soak.proofs.Lines.{IsWord, AreWords, spaced, spaced_words, spaced_plain, plain_clean, size, length-spaced}
 use Rattle.rex_soak.proofs.Numbers.{decimal_word, short_six}
 use Rattle.rex_soak.proofs.Commands.{command_is}

@@ -5,8 +5,8 @@ use Rattle.std.specs.Fmt.{decimal, digits}
 use Rattle.rex_syntax.specs.declared.request.Request.{Request}
 use Rattle.rex_gen.specs.Commands.{command}
 use Rattle.rex_gen.specs.Scenario.{head, requests, rounds, service_text, scenario_text}
-use Rattle.rex_scenario.specs.declared.scenario.ScheduleLine.{ScheduleLine}
-use Rattle.rex_scenario.specs.declared.scenario.ScheduleLine.TheVariants.{Elect, Flush}
+use Rattle.rex_schedule.specs.declared.scenario.ScheduleLine.{ScheduleLine}
+use Rattle.rex_schedule.specs.declared.scenario.ScheduleLine.TheVariants.{Elect, Flush}
 use Rattle.rex_soak.specs.Generated.{GeneratedScenariosAreGood}
 use Rattle.rex_soak.proofs.Lines.{length-spaced}
 use Rattle.rex_soak.proofs.Numbers.{short}

@@ -17,24 +17,24 @@ use Rattle.rex_state.specs.Start.{start_of}
 use Rattle.rex_state.specs.Machine.{run}
 use Rattle.rex_state.specs.Counts.{counts_of}
 use Rattle.rex_report.specs.declared.effect.Effect.TheVariants.{Proposes, Ended, Nothing}
-use Rattle.rex_scenario.specs.Fits.{RequestFits, LineFits}
-use Rattle.rex_scenario.specs.declared.scenario.ScheduleLine.{ScheduleLine}
-use Rattle.rex_scenario.specs.declared.scenario.ScheduleLine.TheVariants.{Cut, Flush}
-use Rattle.rex_safety.specs.Records.{Proposal, proposal_of, placed, last_accepted, accepted, from_on, offset, known}
-use Rattle.rex_safety.specs.Records.Rec.{Accepted, Known}
-use Rattle.rex_safety.specs.Node.{Message}
-use Rattle.rex_safety.specs.Node.Content.{Accept, Accepted as Voted, Chosen as Chose}
-use Rattle.rex_safety.specs.Calls.{begin, say, others, propose, settle, has_last}
-use Rattle.rex_safety.specs.Values.{Value, events_of, trace_of, state_after, still_live, service_of}
-use Rattle.rex_safety.specs.Same.{same_events}
-use Rattle.rex_safety.specs.Lanes.{Here, CallHere, value_at, is_faithful, no_limits, cut, cut_live, propose_cut}
-use Rattle.rex_safety.specs.World.{World, row}
+use Rattle.rex_schedule.specs.Fits.{RequestFits, LineFits}
+use Rattle.rex_schedule.specs.declared.scenario.ScheduleLine.{ScheduleLine}
+use Rattle.rex_schedule.specs.declared.scenario.ScheduleLine.TheVariants.{Cut, Flush}
+use Rattle.rex_cluster.specs.Records.{Proposal, proposal_of, placed, last_accepted, accepted, from_on, offset, known}
+use Rattle.rex_cluster.specs.Records.Rec.{Accepted, Known}
+use Rattle.rex_cluster.specs.Node.{Message}
+use Rattle.rex_cluster.specs.Node.Content.{Accept, Accepted as Voted, Chosen as Chose}
+use Rattle.rex_cluster.specs.Calls.{begin, say, others, propose, settle, has_last}
+use Rattle.rex_cluster.specs.Values.{Value, events_of, trace_of, state_after, still_live, service_of}
+use Rattle.rex_cluster.specs.Same.{same_events}
+use Rattle.rex_cluster.specs.Lanes.{Here, CallHere, value_at, is_faithful, no_limits, cut, cut_live, propose_cut}
+use Rattle.rex_cluster.specs.World.{World, row}
 use Rattle.rex_safety.specs.Kept.{IsKept}
 use Rattle.rex_safety.specs.Keeping.{AreCounts}
-use Rattle.rex_safety.specs.Takes.{after_doings}
+use Rattle.rex_cluster.specs.Takes.{after_doings}
 use Rattle.rex_safety.proofs.Keeps.{row_kept}
-use Rattle.rex_safety.proofs.Replies.{run_split, state_is, trace_push}
-use Rattle.rex_safety.proofs.Sames.{events_are}
+use Rattle.rex_cluster.proofs.Replies.{run_split, state_is, trace_push}
+use Rattle.rex_cluster.proofs.Sames.{events_are}
 use Rattle.rex_safety.proofs.Spelled.{kept_faithful}
 use Rattle.rex_steady.specs.Schedule.{agreement}
 use Rattle.rex_steady.proofs.Phases.{Holds, each_other, each_none, Answered, tell, answer, call_first}

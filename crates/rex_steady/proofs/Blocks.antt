@@ -14,15 +14,15 @@ use Rattle.rex_state.specs.Value.{StateValue}
 use Rattle.rex_state.specs.Start.{start_of}
 use Rattle.rex_state.specs.Machine.{run}
 use Rattle.rex_state.specs.Counts.{counts_of}
-use Rattle.rex_scenario.specs.Fits.{RequestFits}
-use Rattle.rex_safety.specs.Values.{Value, events_of, trace_of, state_after}
-use Rattle.rex_safety.specs.Lanes.{value_at}
-use Rattle.rex_safety.specs.World.{World}
+use Rattle.rex_schedule.specs.Fits.{RequestFits}
+use Rattle.rex_cluster.specs.Values.{Value, events_of, trace_of, state_after}
+use Rattle.rex_cluster.specs.Lanes.{value_at}
+use Rattle.rex_cluster.specs.World.{World}
 use Rattle.rex_safety.specs.Kept.{IsKept}
-use Rattle.rex_safety.specs.Takes.{Doing, does, take, after_doings}
-use Rattle.rex_safety.specs.Takes.Doing.{Does, Takes}
+use Rattle.rex_cluster.specs.Takes.{Doing, does, take, after_doings}
+use Rattle.rex_cluster.specs.Takes.Doing.{Does, Takes}
 use Rattle.rex_safety.specs.Doings.{TakesAreKept}
-use Rattle.rex_safety.proofs.Replies.{run_split, state_is, trace_push}
+use Rattle.rex_cluster.proofs.Replies.{run_split, state_is, trace_push}
 use Rattle.rex_steady.specs.Schedule.{takes, agreement, agreements}
 use Rattle.rex_steady.specs.Blocks.{joined, IsBlock, values_after}
 use Rattle.rex_steady.specs.Steady.{AreTaken}

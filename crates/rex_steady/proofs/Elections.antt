@@ -8,16 +8,16 @@ use Rattle.rex_syntax.specs.declared.request.Request.{Request}
 use Rattle.rex_syntax.specs.declared.service.Declarations.{Declarations}
 use Rattle.rex_event.specs.declared.event.Event.{Event}
 use Rattle.rex_state.specs.Value.{StateValue}
-use Rattle.rex_scenario.specs.declared.scenario.ScheduleLine.TheVariants.{Elect, Flush}
-use Rattle.rex_safety.specs.Records.{promise, last_accepted, offset, known}
-use Rattle.rex_safety.specs.Records.Rec.{Promised}
-use Rattle.rex_safety.specs.Node.{Message, new_node, dice_of}
-use Rattle.rex_safety.specs.Node.Content.{Prepare, Promise}
-use Rattle.rex_safety.specs.Calls.{begin, others, elect, has_last}
-use Rattle.rex_safety.specs.Values.{Value, service_of}
-use Rattle.rex_safety.specs.Lanes.{Here}
-use Rattle.rex_safety.specs.World.{World, node_at, beginning, row}
-use Rattle.rex_safety.specs.Takes.{after_doings}
+use Rattle.rex_schedule.specs.declared.scenario.ScheduleLine.TheVariants.{Elect, Flush}
+use Rattle.rex_cluster.specs.Records.{promise, last_accepted, offset, known}
+use Rattle.rex_cluster.specs.Records.Rec.{Promised}
+use Rattle.rex_cluster.specs.Node.{Message, new_node, dice_of}
+use Rattle.rex_cluster.specs.Node.Content.{Prepare, Promise}
+use Rattle.rex_cluster.specs.Calls.{begin, others, elect, has_last}
+use Rattle.rex_cluster.specs.Values.{Value, service_of}
+use Rattle.rex_cluster.specs.Lanes.{Here}
+use Rattle.rex_cluster.specs.World.{World, node_at, beginning, row}
+use Rattle.rex_cluster.specs.Takes.{after_doings}
 use Rattle.rex_steady.specs.Schedule.{election}
 use Rattle.rex_steady.proofs.Phases.{Holds, each_other, Answered, tell, answer, call_first}
 use Rattle.rex_steady.proofs.Shapes.{Log, lead_role, lead_node, follow_node, prepared, prepared_sends, Standing, Elected, elected_up, stands, stands_sends, hears_on, active_node}

@@ -13,19 +13,19 @@ use Rattle.rex_event.specs.declared.event.Event.{Event}
 use Rattle.rex_state.specs.Value.{StateValue}
 use Rattle.rex_state.specs.Start.{start_of}
 use Rattle.rex_state.specs.Machine.{run}
-use Rattle.rex_scenario.specs.Fits.{IsNode, RequestFits, LineFits}
-use Rattle.rex_scenario.specs.declared.scenario.ScheduleLine.{ScheduleLine}
-use Rattle.rex_scenario.specs.declared.scenario.ScheduleLine.TheVariants.{Elect, Flush}
-use Rattle.rex_safety.specs.Records.{known}
-use Rattle.rex_safety.specs.Node.{Message}
-use Rattle.rex_safety.specs.Values.{Value, events_of, trace_of, state_after}
-use Rattle.rex_safety.specs.Lanes.{Here}
-use Rattle.rex_safety.specs.World.{World, node_at, beginning, row}
+use Rattle.rex_schedule.specs.Fits.{IsNode, RequestFits, LineFits}
+use Rattle.rex_schedule.specs.declared.scenario.ScheduleLine.{ScheduleLine}
+use Rattle.rex_schedule.specs.declared.scenario.ScheduleLine.TheVariants.{Elect, Flush}
+use Rattle.rex_cluster.specs.Records.{known}
+use Rattle.rex_cluster.specs.Node.{Message}
+use Rattle.rex_cluster.specs.Values.{Value, events_of, trace_of, state_after}
+use Rattle.rex_cluster.specs.Lanes.{Here}
+use Rattle.rex_cluster.specs.World.{World, node_at, beginning, row}
 use Rattle.rex_safety.specs.Kept.{IsKept}
-use Rattle.rex_safety.specs.Takes.{after_doings}
+use Rattle.rex_cluster.specs.Takes.{after_doings}
 use Rattle.rex_safety.specs.Doings.{TakesAreKept, world_after_doings}
 use Rattle.rex_safety.proofs.Keeps.{beginning_kept, row_kept}
-use Rattle.rex_safety.proofs.Replies.{state_is}
+use Rattle.rex_cluster.proofs.Replies.{state_is}
 use Rattle.rex_steady.specs.Schedule.{election, agreements, replays, live_doings}
 use Rattle.rex_steady.specs.Blocks.{joined, IsBlock, values_of}
 use Rattle.rex_steady.specs.Settled.{IsLeader, IsFollower, IsSettled}

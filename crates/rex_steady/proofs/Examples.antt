@@ -6,8 +6,8 @@ use Rattle.rex_event.specs.declared.event.Kind.TheVariants.{Begin, AcqEx, RelEx,
 use Rattle.rex_state.specs.Start.{start_of}
 use Rattle.rex_state.specs.Machine.{run}
 use Rattle.rex_delta.specs.Reading as reading
-use Rattle.rex_safety.specs.Values.{trace_of}
-use Rattle.rex_safety.specs.Agreed.{known_at}
+use Rattle.rex_cluster.specs.Values.{trace_of}
+use Rattle.rex_cluster.specs.Agreed.{known_at}
 use Rattle.rex_safety.proofs.Examples.{counter, on_lane_0}
 use Rattle.rex_steady.specs.Blocks.{joined, values_of}
 use Rattle.rex_steady.specs.Steady.{live_world}

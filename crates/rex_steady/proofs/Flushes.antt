@@ -4,13 +4,13 @@ use Rattle.std.specs.Prelude.{◌+◌, ◌-◌, Option, Some, map, replicate, sl
 use Rattle.std.proofs.Math.Seq.{set-append_seam}
 use Rattle.rex_syntax.specs.declared.request.Request.{Request}
 use Rattle.rex_syntax.specs.declared.service.Declarations.{Declarations}
-use Rattle.rex_scenario.specs.declared.scenario.ScheduleLine.TheVariants.{Deliver, Flush}
-use Rattle.rex_safety.specs.Node.{Message}
-use Rattle.rex_safety.specs.Calls.{begin, receive}
-use Rattle.rex_safety.specs.Values.{Value, service_of}
-use Rattle.rex_safety.specs.Lanes.{Here, CallHere}
-use Rattle.rex_safety.specs.Reading.{stamp_at, seen_by_releases}
-use Rattle.rex_safety.specs.World.{World, node_at, put, after, if_up, at_node, with_handed, deliver_found, step, waiting_from, flush_steps, steps, finished, row}
+use Rattle.rex_schedule.specs.declared.scenario.ScheduleLine.TheVariants.{Deliver, Flush}
+use Rattle.rex_cluster.specs.Node.{Message}
+use Rattle.rex_cluster.specs.Calls.{begin, receive}
+use Rattle.rex_cluster.specs.Values.{Value, service_of}
+use Rattle.rex_cluster.specs.Lanes.{Here, CallHere}
+use Rattle.rex_cluster.specs.Reading.{stamp_at, seen_by_releases}
+use Rattle.rex_cluster.specs.World.{World, node_at, put, after, if_up, at_node, with_handed, deliver_found, step, waiting_from, flush_steps, steps, finished, row}
 
 -- ---- which messages were handed over
 

@@ -2,7 +2,7 @@
 use Rattle.std.proofs.Common.{◌≡◌, ℕ, zero, suc, ◌<◌, ◌≤◌, Bool, true, false, cond, ◌⊎◌, List, [], ◌∷◌, ◌++◌, eqb, refl, sym, ◌∙◌, ap, subst, inl, inr, arith, eq-eqb}
 use Rattle.std.specs.Prelude.{◌*◌, ◌||◌, nat_lt}
 use Rattle.std.proofs.lemmas.Bool.{cases_eq, ne_eqb}
-use Rattle.rex_safety.specs.Quorum.{count, is_in, is_majority}
+use Rattle.rex_cluster.specs.Quorum.{count, is_in, is_majority}
 
 -- the numbers from 1 to k
 abbrev pub up_to : ℕ → List ℕ

@@ -3,13 +3,13 @@ use Rattle.std.proofs.Common.{◌≡◌, ℕ, zero, suc, ◌<◌, ◌≤◌, Boo
 use Rattle.std.proofs.lemmas.Bool.{cases_eq, ne_eqb}
 use Rattle.rex_syntax.specs.declared.request.Request.{Request}
 use Rattle.rex_syntax.specs.declared.service.Declarations.{Declarations}
-use Rattle.rex_scenario.specs.declared.scenario.ScheduleLine.TheVariants.{Flush}
-use Rattle.rex_safety.specs.Quorum.{IsNode}
-use Rattle.rex_safety.specs.Node.{Message, Content}
-use Rattle.rex_safety.specs.Calls.{begin, others, receive}
-use Rattle.rex_safety.specs.Values.{Value, service_of}
-use Rattle.rex_safety.specs.Lanes.{Here, CallHere}
-use Rattle.rex_safety.specs.World.{World, node_at, put, at_node, row}
+use Rattle.rex_schedule.specs.declared.scenario.ScheduleLine.TheVariants.{Flush}
+use Rattle.rex_cluster.specs.Quorum.{IsNode}
+use Rattle.rex_cluster.specs.Node.{Message, Content}
+use Rattle.rex_cluster.specs.Calls.{begin, others, receive}
+use Rattle.rex_cluster.specs.Values.{Value, service_of}
+use Rattle.rex_cluster.specs.Lanes.{Here, CallHere}
+use Rattle.rex_cluster.specs.World.{World, node_at, put, at_node, row}
 use Rattle.rex_safety.proofs.Nodes.{node_put, put_length}
 use Rattle.rex_steady.proofs.Flushes.{Waits, Flushed, Called, received, nodes_after, sends_after, ReachUp, flush_hands, call_sends}
 

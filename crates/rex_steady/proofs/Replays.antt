@@ -5,15 +5,15 @@ use Rattle.std.proofs.lemmas.Bool.{ne_eqb}
 use Rattle.rex_syntax.specs.declared.request.Request.{Request}
 use Rattle.rex_syntax.specs.declared.service.Declarations.{Declarations}
 use Rattle.rex_report.specs.declared.effect.Effect.TheVariants.{UpToDate, Replayed}
-use Rattle.rex_scenario.specs.declared.scenario.ScheduleLine.TheVariants.{Replay}
-use Rattle.rex_safety.specs.Records.{known}
-use Rattle.rex_safety.specs.Node.{no_work}
-use Rattle.rex_safety.specs.Node.Role.{Follower}
-use Rattle.rex_safety.specs.Calls.{begin, say, replay}
-use Rattle.rex_safety.specs.Lanes.{Here}
-use Rattle.rex_safety.specs.World.{World, node_at, put, row}
-use Rattle.rex_safety.specs.Takes.{after_doings}
-use Rattle.rex_safety.specs.Takes.Doing.{Does}
+use Rattle.rex_schedule.specs.declared.scenario.ScheduleLine.TheVariants.{Replay}
+use Rattle.rex_cluster.specs.Records.{known}
+use Rattle.rex_cluster.specs.Node.{no_work}
+use Rattle.rex_cluster.specs.Node.Role.{Follower}
+use Rattle.rex_cluster.specs.Calls.{begin, say, replay}
+use Rattle.rex_cluster.specs.Lanes.{Here}
+use Rattle.rex_cluster.specs.World.{World, node_at, put, row}
+use Rattle.rex_cluster.specs.Takes.{after_doings}
+use Rattle.rex_cluster.specs.Takes.Doing.{Does}
 use Rattle.rex_steady.specs.Schedule.{replays}
 use Rattle.rex_steady.specs.Steady.{AreTaken}
 use Rattle.rex_steady.proofs.Flushes.{Waits, Called, call_sends}

@@ -7,16 +7,16 @@ use Rattle.rex_syntax.specs.declared.service.Declarations.{Declarations}
 use Rattle.rex_event.specs.declared.event.Event.{Event}
 use Rattle.rex_state.specs.Value.{StateValue}
 use Rattle.rex_report.specs.declared.effect.Effect.{Effect}
-use Rattle.rex_safety.specs.Records.{Rec, Proposal, proposal_of, promise, accepted, offset, known}
-use Rattle.rex_safety.specs.Records.Rec.{Promised, Accepted, Known}
-use Rattle.rex_safety.specs.Quorum.{is_majority}
-use Rattle.rex_safety.specs.Node.{Message, Content, Lead, Role, dice_of, no_work}
-use Rattle.rex_safety.specs.Node.Role.{Follower, Leads}
-use Rattle.rex_safety.specs.Node.Content.{Prepare, Promise, Accept, Accepted as Voted, Chosen as Chose}
-use Rattle.rex_safety.specs.Calls.{begin, others, propose, settle, elect, receive, has_last}
-use Rattle.rex_safety.specs.Values.{Value, still_live, service_of}
-use Rattle.rex_safety.specs.Lanes.{Here}
-use Rattle.rex_safety.specs.Node.{new_node}
+use Rattle.rex_cluster.specs.Records.{Rec, Proposal, proposal_of, promise, accepted, offset, known}
+use Rattle.rex_cluster.specs.Records.Rec.{Promised, Accepted, Known}
+use Rattle.rex_cluster.specs.Quorum.{is_majority}
+use Rattle.rex_cluster.specs.Node.{Message, Content, Lead, Role, dice_of, no_work}
+use Rattle.rex_cluster.specs.Node.Role.{Follower, Leads}
+use Rattle.rex_cluster.specs.Node.Content.{Prepare, Promise, Accept, Accepted as Voted, Chosen as Chose}
+use Rattle.rex_cluster.specs.Calls.{begin, others, propose, settle, elect, receive, has_last}
+use Rattle.rex_cluster.specs.Values.{Value, still_live, service_of}
+use Rattle.rex_cluster.specs.Lanes.{Here}
+use Rattle.rex_cluster.specs.Node.{new_node}
 use Rattle.rex_steady.proofs.Majorities.{up_to, is_later, majority_is}
 
 abbrev pub Log : Type 0

@@ -16,15 +16,15 @@ use Rattle.rex_state.proofs.Run.{run-first}
 use Rattle.rex_record.specs.declared.turns.Turn.{Turn}
 use Rattle.rex_record.specs.declared.turns.Turn.TheVariants.{Done}
 use Rattle.rex_record.specs.Take.{taken_turn}
-use Rattle.rex_safety.specs.Node.{is_active}
-use Rattle.rex_safety.specs.Calls.{begin}
-use Rattle.rex_safety.specs.Values.{Value, trace_of, state_after}
-use Rattle.rex_safety.specs.Lanes.{Here, CallHere, active_only}
-use Rattle.rex_safety.specs.World.{World, node_at, at_node}
+use Rattle.rex_cluster.specs.Node.{is_active}
+use Rattle.rex_cluster.specs.Calls.{begin}
+use Rattle.rex_cluster.specs.Values.{Value, trace_of, state_after}
+use Rattle.rex_cluster.specs.Lanes.{Here, CallHere, active_only}
+use Rattle.rex_cluster.specs.World.{World, node_at, at_node}
 use Rattle.rex_safety.specs.Kept.{IsKept}
-use Rattle.rex_safety.specs.Takes.{BeginsInRange, taken, taken_in, take_event, take, after_doings}
+use Rattle.rex_cluster.specs.Takes.{BeginsInRange, taken, taken_in, take_event, take, after_doings}
 use Rattle.rex_safety.specs.Doings.{TakesAreKept}
-use Rattle.rex_safety.proofs.Replies.{run_split, state_is}
+use Rattle.rex_cluster.proofs.Replies.{run_split, state_is}
 use Rattle.rex_steady.specs.Schedule.{takes}
 use Rattle.rex_steady.specs.Steady.{AreTaken}
 use Rattle.rex_steady.proofs.Phases.{Holds, call_first}

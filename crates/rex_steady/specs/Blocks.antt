@@ -5,9 +5,9 @@ use Rattle.rex_syntax.specs.declared.service.Declarations.{Declarations}
 use Rattle.rex_event.specs.declared.event.Event.{Event}
 use Rattle.rex_delta.specs.Spelling.{HasTypedKind}
 use Rattle.rex_state.specs.Counts.{counts_of}
-use Rattle.rex_safety.specs.Values.{Value, state_after}
-use Rattle.rex_safety.specs.Lanes.{value_at}
-use Rattle.rex_safety.specs.Takes.{BeginsInRange}
+use Rattle.rex_cluster.specs.Values.{Value, state_after}
+use Rattle.rex_cluster.specs.Lanes.{value_at}
+use Rattle.rex_cluster.specs.Takes.{BeginsInRange}
 
 -- blocks, one after the other
 abbrev pub joined : List (List Event) → List Event

@@ -1,9 +1,9 @@
 -- What a leader that nothing disturbs is made to do.
 use Rattle.std.specs.Prelude.{ℕ, zero, suc, ◌==◌, List, [], ◌∷◌, ◌++◌, if◌then◌else◌}
 use Rattle.rex_event.specs.declared.event.Event.{Event}
-use Rattle.rex_scenario.specs.declared.scenario.ScheduleLine.TheVariants.{Elect, Cut, Flush, Replay}
-use Rattle.rex_safety.specs.Takes.{Doing}
-use Rattle.rex_safety.specs.Takes.Doing.{Does, Takes}
+use Rattle.rex_schedule.specs.declared.scenario.ScheduleLine.TheVariants.{Elect, Cut, Flush, Replay}
+use Rattle.rex_cluster.specs.Takes.{Doing}
+use Rattle.rex_cluster.specs.Takes.Doing.{Does, Takes}
 
 -- node 1 asks to lead, and the answers of all others come back to it
 abbrev pub election : List Doing

@@ -1,11 +1,11 @@
 -- A leader and its followers at rest.
 use Rattle.std.specs.Prelude.{◌≡◌, ℕ, ◌<◌, ◌≤◌, true, List, [], length, replicate, None}
-use Rattle.rex_safety.specs.Records.{known, promise}
-use Rattle.rex_safety.specs.Node.{Lead}
-use Rattle.rex_safety.specs.Node.Role.{Follower, Leads}
-use Rattle.rex_safety.specs.Values.{Value}
-use Rattle.rex_safety.specs.Lanes.{Here}
-use Rattle.rex_safety.specs.World.{World, node_at}
+use Rattle.rex_cluster.specs.Records.{known, promise}
+use Rattle.rex_cluster.specs.Node.{Lead}
+use Rattle.rex_cluster.specs.Node.Role.{Follower, Leads}
+use Rattle.rex_cluster.specs.Values.{Value}
+use Rattle.rex_cluster.specs.Lanes.{Here}
+use Rattle.rex_cluster.specs.World.{World, node_at}
 
 -- ---- nodes
 

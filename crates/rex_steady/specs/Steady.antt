@@ -11,12 +11,12 @@ use Rattle.rex_state.specs.Value.{StateValue}
 use Rattle.rex_state.specs.Start.{start_of}
 use Rattle.rex_state.specs.Machine.{run}
 use Rattle.rex_record.specs.declared.turns.Turn.TheVariants.{Done}
-use Rattle.rex_scenario.specs.Fits.{IsNode, RequestFits}
-use Rattle.rex_safety.specs.Values.{events_of, trace_of, state_after}
-use Rattle.rex_safety.specs.Agreed.{known_at}
-use Rattle.rex_safety.specs.World.{World, node_at, beginning}
-use Rattle.rex_safety.specs.Takes.{Doing, taken_in, does}
-use Rattle.rex_safety.specs.Takes.Doing.{Does, Takes}
+use Rattle.rex_schedule.specs.Fits.{IsNode, RequestFits}
+use Rattle.rex_cluster.specs.Values.{events_of, trace_of, state_after}
+use Rattle.rex_cluster.specs.Agreed.{known_at}
+use Rattle.rex_cluster.specs.World.{World, node_at, beginning}
+use Rattle.rex_cluster.specs.Takes.{Doing, taken_in, does}
+use Rattle.rex_cluster.specs.Takes.Doing.{Does, Takes}
 use Rattle.rex_safety.specs.Doings.{world_after_doings}
 use Rattle.rex_steady.specs.Schedule.{election, agreements, live_doings}
 use Rattle.rex_steady.specs.Blocks.{joined, IsBlock, values_of}

@@ -26,14 +26,15 @@ pub struct Input {
     pub turns: usize,
 }
 
-/// Reads a source to its end, or `MOST` bytes of it. Each turn but the last takes at least a byte.
+/// Reads a source to its end, or `MOST` bytes of it. Each turn makes one read, and each but the last takes at least a byte.
 pub fn read_input<S: Source>(alloc: Global, source: &mut S) -> Result<Input, ReadFault>
     ensures taken { IfOk result (λ i. Consumes (S.left source.old) (S.left source.new) i.bytes.items) }
     ensures whole { IfOk result (λ i. length i.bytes.items < 4194305 → IsAtEnd (S.left source.new)) }
     ensures most { IfOk result (λ i. length i.bytes.items ≤ 4194305) }
     ensures turns { IfOk result (λ i. i.turns ≤ length i.bytes.items + 1) }
     ensures few_turns { IfOk result (λ i. i.turns ≤ 4194305) }
-
+    ensures read_in_turns { IfOk result (λ i. S.calls source.new ≤ S.calls source.old + i.turns) }
+    ensures few_reads { S.calls source.new ≤ S.calls source.old + 4194305 }
     ensures told { TellsAlike (S.left source.old) (S.left source.new) }
     ensures later { S.faults source.old ≤ S.faults source.new }
     ensures failed { IsErrOf result fault.Failed → Rose (S.faults source.old) (S.faults source.new) }

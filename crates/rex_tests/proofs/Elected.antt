@@ -3,10 +3,10 @@ use Rattle.std.proofs.Common.{ℕ, List, [], None, refl, sym, subst}
 use Rattle.rex_syntax.specs.declared.service.Declarations.{Declarations}
 use Rattle.rex_traits.specs.declared.mem_keeper.Fate.{Fate}
 use Rattle.rex_traits.specs.Keeping.{KeeperValue, armed_to, unused_keeper}
-use Rattle.rex_safety.specs.Node.{down_node}
-use Rattle.rex_safety.specs.Calls.{begin, elect, restart}
-use Rattle.rex_safety.specs.Lanes.{Here}
-use Rattle.rex_safety.specs.Values.{service_of}
+use Rattle.rex_cluster.specs.Node.{down_node}
+use Rattle.rex_cluster.specs.Calls.{begin, elect, restart}
+use Rattle.rex_cluster.specs.Lanes.{Here}
+use Rattle.rex_cluster.specs.Values.{service_of}
 use Rattle.rex_node.specs.Parts.{NodeValue, here_of}
 use Rattle.rex_node.specs.Restarting.{CameUp}
 use Rattle.rex_node.specs.Going.{RunsOn}

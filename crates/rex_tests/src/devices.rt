@@ -83,6 +83,8 @@ impl Source for Slow {
 
     ghost faults = { λ s. (reads s.source).faults };
 
+    ghost calls = { λ s. (reads s.source).calls };
+
     fn read(&mut self, buf: &mut [u8]) -> Result<usize, Failed> {
         let count = self.most.max(1).min(buf.len());
         self.source.read(&mut buf[..count])

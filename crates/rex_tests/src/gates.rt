@@ -12,6 +12,8 @@ const LOOKS: u64 = 1 << 30;
 pub struct HoldingGate {
     held: u8,
     until: u8,
+    /// Whether it says that it is open, so that a worker may make several tries between two of its entries.
+    open: bool,
     /// Whether the worker that is held entered: 1, or else 0.
     entered: AtomicU64,
     /// Whether the other worker came: 1, or else 0.
@@ -33,9 +35,20 @@ fn zero() -> AtomicU64 {
 impl HoldingGate {
     /// A gate that holds worker `held` until worker `until` enters with index 1.
     pub fn new(held: u8, until: u8) -> HoldingGate {
+        HoldingGate::that(held, until, false)
+    }
+
+    /// The same of a gate that says that it is open, and holds worker `held` until worker `until` enters with index 1 or a
+    /// later one.
+    pub fn open(held: u8, until: u8) -> HoldingGate {
+        HoldingGate::that(held, until, true)
+    }
+
+    fn that(held: u8, until: u8, open: bool) -> HoldingGate {
         HoldingGate {
             held,
             until,
+            open,
             entered: zero(),
             came: zero(),
             gave_up: zero(),
@@ -64,7 +77,7 @@ impl HoldingGate {
         let is_near = match self.last.get(lane as usize) {
             Some(last) => {
                 let before = last.swap(next, Ordering::SeqCst);
-                before == next || before == u64::from(index)
+                before == next || before == u64::from(index) || (self.open && before < next)
             }
             None => false,
         };
@@ -98,7 +111,7 @@ impl Gate for HoldingGate {
                 count.fetch_add(1, Ordering::SeqCst);
             }
         }
-        if worker == self.until && index == 1 {
+        if worker == self.until && (index == 1 || (self.open && index > 1)) {
             self.hold(&self.entered);
             self.came.store(1, Ordering::SeqCst);
         }
@@ -106,5 +119,37 @@ impl Gate for HoldingGate {
             self.entered.store(1, Ordering::SeqCst);
             self.hold(&self.came);
         }
+    }
+
+    fn is_open(&self) -> bool {
+        self.open
+    }
+}
+
+/// A gate that lets every worker pass at once, says so, and counts how often one did.
+#[derive(Drop)]
+pub struct CountingGate {
+    entries: AtomicU64,
+}
+
+impl CountingGate {
+    /// A gate that nobody passed yet.
+    pub fn new() -> CountingGate {
+        CountingGate { entries: zero() }
+    }
+
+    /// How often a worker passed.
+    pub fn entries(&self) -> u64 {
+        self.entries.load(Ordering::SeqCst)
+    }
+}
+
+impl Gate for CountingGate {
+    fn enter(&self, _worker: u8, _lane: u8, _index: u32) {
+        self.entries.fetch_add(1, Ordering::SeqCst);
+    }
+
+    fn is_open(&self) -> bool {
+        true
     }
 }

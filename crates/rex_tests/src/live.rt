@@ -1,5 +1,6 @@
-use crate::gates::HoldingGate;
+use crate::gates::{CountingGate, HoldingGate};
 use crate::runs::Outcome;
+use rex_threads::processors;
 use rex_traits::{Gate, MemSink, MemSource, OpenGate};
 use rexlive_cli::live_main;
 use std::alloc::AllocGlobal;
@@ -55,6 +56,111 @@ const ONE_TOLD: &[u8] = b"delta 1 events 4
 end node 1 active promised 17 known 1 live 0 a=5
 end node 2 follower promised 17 known 1 replayed 1 a=5
 end node 3 follower promised 17 known 1 replayed 1 a=5
+";
+
+/// Requests of 42 events each, with no line to run between two of them: one request.
+const LONG: &[u8] = b"%nodes 1
+%service
+lanes 1
+lock L
+handler many
+acquire L
+release L
+acquire L
+release L
+acquire L
+release L
+acquire L
+release L
+acquire L
+release L
+acquire L
+release L
+acquire L
+release L
+acquire L
+release L
+acquire L
+release L
+acquire L
+release L
+acquire L
+release L
+acquire L
+release L
+acquire L
+release L
+acquire L
+release L
+acquire L
+release L
+acquire L
+release L
+acquire L
+release L
+acquire L
+release L
+acquire L
+release L
+acquire L
+release L
+reply 0
+%requests
+1 1 many
+%schedule
+";
+
+/// Two requests, and two lanes.
+const LONG_BOTH: &[u8] = b"%nodes 1
+%service
+lanes 2
+lock L
+handler many
+acquire L
+release L
+acquire L
+release L
+acquire L
+release L
+acquire L
+release L
+acquire L
+release L
+acquire L
+release L
+acquire L
+release L
+acquire L
+release L
+acquire L
+release L
+acquire L
+release L
+acquire L
+release L
+acquire L
+release L
+acquire L
+release L
+acquire L
+release L
+acquire L
+release L
+acquire L
+release L
+acquire L
+release L
+acquire L
+release L
+acquire L
+release L
+acquire L
+release L
+reply 0
+%requests
+1 1 many
+2 1 many
+%schedule
 ";
 
 /// A service with a condition, at line 6.
@@ -206,6 +312,29 @@ fn lanes_run_beside_each_other(rt: HostRuntime) -> Result<(), Fail> {
     for way in WAYS {
         live_held(&rt, way, 0, 1)?;
         live_held(&rt, way, 1, 0)?;
+    }
+    Ok(())
+}
+
+/// Behind an open gate a lane makes no more than 16 tries between two passages.
+#[test]
+fn an_open_gate_is_passed_again_and_again(rt: HostRuntime) -> Result<(), Fail> {
+    let gate = CountingGate::new();
+    let outcome = live(&rt, "rexlive", LONG, (0, 0), &gate)?;
+    assert!(rt; outcome.status == 0 && gate.entries() >= 3);
+    Ok(())
+}
+
+/// Behind an open gate, too, a lane makes its events while another one's thread is held, where there are two processors.
+#[test]
+fn lanes_run_beside_each_other_behind_an_open_gate(rt: HostRuntime) -> Result<(), Fail> {
+    if processors(&rt) < 2 {
+        return Ok(());
+    }
+    for (held, until) in [(0, 1), (1, 0)] {
+        let gate = HoldingGate::open(held, until);
+        let outcome = live(&rt, "rexlive", LONG_BOTH, (0, 0), &gate)?;
+        assert!(rt; outcome.status == 0 && gate.is_kept(), "{held} was held");
     }
     Ok(())
 }

@@ -1,6 +1,6 @@
 ghost use Rattle.std.specs.Prelude.{◌≡◌, ◌<◌, None, length};
 ghost use Rattle.rex_scenario.specs.Beyond.{IsPlain};
-ghost use Rattle.rex_scenario.specs.Fits.{ScenarioFits};
+ghost use Rattle.rex_schedule.specs.Fits.{ScenarioFits};
 ghost use Rattle.rex_words.specs.Dealing.{CanRecord};
 ghost use Rattle.rex_words.specs.Histories.{AreSeats};
 ghost use Rattle.rex_words.specs.Tables.{IsWords, assignment_of, table_of};

@@ -1,6 +1,6 @@
 //! A world whose leader comes to the last instance.
 
-ghost use Rattle.rex_scenario.specs.Fits.{ScenarioFits};
+ghost use Rattle.rex_schedule.specs.Fits.{ScenarioFits};
 ghost use Rattle.rex_world.specs.Kept.{IsOf, IsRunning};
 
 use rex_lockset::check;

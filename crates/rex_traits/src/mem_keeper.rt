@@ -88,11 +88,12 @@ pub struct MemKeeper {
 }
 
 impl Model for MemKeeper {
+    ghost use Rattle.std.specs.Prelude.{false};
     ghost use Rattle.rex_traits.specs.Keeping.{KeeperValue};
 
     ghost Value = { KeeperValue };
 
-    ghost view = { λ k. record { records = k.keeper; armed = k.armed; faults = k.faults } };
+    ghost view = { λ k. record { records = k.keeper; armed = k.armed; faults = k.faults; broken = false } };
 }
 
 impl MemKeeper {

@@ -1,7 +1,7 @@
-ghost use Rattle.std.specs.Prelude.{◌≡◌, ◌≤◌, ◌<◌, ◌+◌, ◌-◌, ◌^◌, length, refl, IsTrue, IfOk};
-ghost use Rattle.rex_traits.specs.Keeping.{FollowsArming, armed_to};
+ghost use Rattle.std.specs.Prelude.{◌≡◌, ◌≤◌, ◌<◌, ◌+◌, ◌-◌, ◌^◌, false, length, refl, IsTrue, IfOk};
+ghost use Rattle.rex_traits.specs.Keeping.{armed_to};
 ghost use Rattle.rex_traits.specs.Stores.{value_by};
-ghost use Rattle.rex_traits.specs.Obeying.{kept_value};
+ghost use Rattle.rex_traits.specs.Obeying.{ObeysArming, kept_value};
 
 use crate::{Fate, KeepFault, Keeper, ReopenFault, Store};
 use std::alloc::AllocError;
@@ -44,10 +44,10 @@ impl<K: Store> Obedient<K> {
         self.store.arm(fate);
     }
 
-    /// Reopens the store as a stop of the machine may have left it.
+    /// Reopens the store as a stop of the machine may have left it. Then it needn't be reopened any more.
     pub fn reopen(self) -> Result<Obedient<K>, AllocError>
         requires { self.faults < 2 ^ 64 - 1 }
-        ensures { IfOk result (λ o. o ≡ self) }
+        ensures { IfOk result (λ o. o ≡ record self { broken = false }) }
     {
         match self.store.reopen() {
             Ok(store) => Ok(Obedient { store }),
@@ -61,14 +61,14 @@ impl<K: Store> Keeper for Obedient<K> {
 
     ghost faults = { λ k. k.faults };
 
-    ghost append_gives = { λ old bytes result new. FollowsArming old new bytes result };
+    ghost append_gives = { λ old bytes result new. ObeysArming old new bytes result };
 
     ghost may_run_out = { λ k bytes. refl };
 
     fn append(&mut self, bytes: &[u8]) -> Result<(), KeepFault>
         requires count { self.old.faults < 2 ^ 64 - 1 }
         requires short { length bytes.now < 2 ^ 32 }
-        ensures { FollowsArming self.old self.new bytes.now result }
+        ensures { ObeysArming self.old self.new bytes.now result }
     {
         if self.store.is_broken() {
             return Err(KeepFault::OutOfMemory);

@@ -62,7 +62,7 @@ set_alike (x ∷ xs) (y ∷ ys) (suc i) zero v d l e = e
 set_alike (x ∷ xs) (y ∷ ys) (suc i) (suc j) v d l e = set_alike xs ys i j v d (omega arith) e
 
 module _ (cs ds : List Entry) (long : length cs ≡ length ds) where
-  allows_same : (kind : Kind) → ((c : ℕ) → named_client kind ≡ Some c → entry_at cs c ≡ entry_at ds c) → client_allows kind cs ≡ client_allows kind ds
+  pub allows_same : (kind : Kind) → ((c : ℕ) → named_client kind ≡ Some c → entry_at cs c ≡ entry_at ds c) → client_allows kind cs ≡ client_allows kind ds
   allows_same (Begin client sequence handler arguments) h = rw (long, h client refl) refl
   allows_same _ h = refl
 

@@ -9,6 +9,7 @@ use lib.ListN.{get_elem?}
 use Rattle.atomic_table.specs.Seated.{TableId}
 use Rattle.rex_event.specs.declared.event.Event.{Event}
 use Rattle.rex_event.specs.Order.{Has}
+use Rattle.rex_state.specs.Value.{StateValue}
 use Rattle.rex_state.specs.Machine.{run}
 use Rattle.rex_state.specs.Start.{start_of}
 use Rattle.rex_words.specs.declared.assignment.Assignment.{Assignment}
@@ -20,6 +21,7 @@ use Rattle.rex_words.specs.declared.view.View.{View}
 use Rattle.rex_words.specs.declared.view.Role.TheVariants.{Host}
 use Rattle.rex_words.specs.Stamps.{event_of, events_in, is_of, lane_list}
 use Rattle.rex_words.specs.Alone.{service_of, AreTold, DoAlone}
+use Rattle.rex_words.specs.Own.{IsOwn}
 use Rattle.rex_words.specs.Moment.{IsCommon, IsBounded, IsMoment}
 use Rattle.rex_words.specs.Seats.{IsSeatOf}
 use Rattle.rex_words.specs.Histories.{IsSeatAt, AreSeats, IsHistoryOf, IsMerged, HostSeat, IsGathering, IsCollected, AreCollected, IsCollecting}
@@ -81,7 +83,7 @@ module _ (r : Assignment) (z : TableId) (s s' : HostSeat) (all left : List WordS
     abbrev q : IsSeatOf r z m
     q = popped_seat.seat
 
-    new : IsCollected r s'.me.0.gathered (length left) list
+    new : IsCollected r s'.me.0.gathered all (length left) list
     new = record {
       place = length s.me.0.gathered;
       known = record { lane = m.seat.me.0.lane; knows = m.seat.me.0.knows };
@@ -92,11 +94,12 @@ module _ (r : Assignment) (z : TableId) (s s' : HostSeat) (all left : List WordS
       does = subst (λ (x : ℕ). DoAlone r x m.seat.me.0.knows q.held q.now) popped_seat.lane_is q.does;
       quiet = q.quiet;
       list_is = q.list ∙ sym list_is;
+      own_is = λ d. q.own ∙ sym (ap (λ (x : WordSeat). x.state) (last.at d));
       few = let e : length list ≡ length m.events.items = ap (λ (xs : List Stamped). length xs) list_is in let f = q.lane.few in omega arith;
       told = subst (λ (x : ℕ × List Stamped). AreTold r x.0 x.1) (λ i. (popped_seat.lane_is i, sym list_is i)) q.lane.told;
     }
 
-    old : (lane : ℕ) (xs : List Stamped) → IsCollected r s.me.0.gathered lane xs → IsCollected r s'.me.0.gathered lane xs
+    old : (lane : ℕ) (xs : List Stamped) → IsCollected r s.me.0.gathered all lane xs → IsCollected r s'.me.0.gathered all lane xs
     old lane xs k = record {
       place = k.place;
       known = k.known;
@@ -107,6 +110,7 @@ module _ (r : Assignment) (z : TableId) (s s' : HostSeat) (all left : List WordS
       does = k.does;
       quiet = k.quiet;
       list_is = k.list_is;
+      own_is = k.own_is;
       few = k.few;
       told = k.told;
     }
@@ -130,9 +134,9 @@ module _ (r : Assignment) (z : TableId) (s s' : HostSeat) (all left : List WordS
       };
     }
       where
-        each : (lane : ℕ) → length left ≤ lane → lane < length all → (lane ≡ length left) ⊎ (lane ≡ length left → ⊥) → IsCollected r s'.me.0.gathered lane (slice_index_or (lists ++ list ∷ []) (length all - (lane + 1)) [])
-        each lane low high (inl e) = subst (IsCollected r s'.me.0.gathered lane) (sym (here lane e)) (subst (λ (x : ℕ). IsCollected r s'.me.0.gathered x list) (sym e) new)
-        each lane low high (inr ne) = subst (IsCollected r s'.me.0.gathered lane) (sym (behind lane (omega arith) high)) (old lane _ (c.collected.each lane (let o = long in omega arith) high))
+        each : (lane : ℕ) → length left ≤ lane → lane < length all → (lane ≡ length left) ⊎ (lane ≡ length left → ⊥) → IsCollected r s'.me.0.gathered all lane (slice_index_or (lists ++ list ∷ []) (length all - (lane + 1)) [])
+        each lane low high (inl e) = subst (IsCollected r s'.me.0.gathered all lane) (sym (here lane e)) (subst (λ (x : ℕ). IsCollected r s'.me.0.gathered all x list) (sym e) new)
+        each lane low high (inr ne) = subst (IsCollected r s'.me.0.gathered all lane) (sym (behind lane (omega arith) high)) (old lane _ (c.collected.each lane (let o = long in omega arith) high))
 
         same : (lane : ℕ) (d : WordSeat) → length left ≤ lane → lane < length all → (lane ≡ length left) ⊎ (lane ≡ length left → ⊥) → slice_index_or (lists ++ list ∷ []) (length all - (lane + 1)) [] ≡ (slice_index_or all lane d).events.items
         same lane d low high (inl e) = here lane e ∙ (list_is ∙ sym (ap (λ (x : WordSeat). x.events.items) (ap (λ (n : ℕ). get_or all n d) e ∙ last.at d)))
@@ -197,14 +201,15 @@ pub record HasEntered (r : Assignment) (words : List ℕ) (know : ℕ → Knowle
   pub common : IsCommon r words now
   pub bounded : IsBounded r now
   pub done : (lane : ℕ) → lane < n → (now lane).list ≡ slice_index_or lists (length seats - (lane + 1)) []
+  pub owns : (lane : ℕ) (d : WordSeat) → lane < n → (now lane).own ≡ (slice_index_or seats lane d).state
   pub rest : (lane : ℕ) → n ≤ lane → now lane ≡ know lane
 
 module _ (r : Assignment) (s : S) (M : IsMoment r s) (id : ℕ) (v : View) (at : get_elem? s.views id ≡ some v) (role : v.role ≡ Host) (seats : List WordSeat) (lists : List (List Stamped)) (c : AreCollected r v.gathered 0 seats lists) (all : length seats ≡ (service_of r).lanes) where
-  knows_is : (lane : ℕ) (xs : List Stamped) → (k : IsCollected r v.gathered lane xs) → M.know lane ≡ k.known.knows
+  knows_is : (lane : ℕ) (xs : List Stamped) → (k : IsCollected r v.gathered seats lane xs) → M.know lane ≡ k.known.knows
   knows_is lane xs k = ap M.know (sym k.lane_is) ∙ ((says_host r s M id v at role).3 k.place k.known k.at).knows
 
   enters_to : (n : ℕ) → n ≤ length seats → HasEntered r s.words M.know seats lists n
-  enters_to zero h = record { now = M.know; common = M.common; bounded = M.bounded; done = λ lane lt. absurd (omega arith); rest = λ lane le. refl }
+  enters_to zero h = record { now = M.know; common = M.common; bounded = M.bounded; done = λ lane lt. absurd (omega arith); owns = λ lane d lt. absurd (omega arith); rest = λ lane le. refl }
   enters_to (suc n) h =
       let e = enters_to n (omega arith) in
       let k = c.each n (omega arith) (omega arith) in
@@ -216,6 +221,10 @@ module _ (r : Assignment) (s : S) (M : IsMoment r s) (id : ℕ) (v : View) (at :
         done = λ lane lt. ⊎_elim
             (λ (q : lane ≡ n). ap (λ (x : Knowledge). x.list) (ap p.know' q ∙ p.mine) ∙ (k.list_is ∙ ap (λ (x : ℕ). slice_index_or lists (length seats - (x + 1)) []) (sym q)))
             (λ (ne : lane ≡ n → ⊥). ap (λ (x : Knowledge). x.list) (p.others lane ne) ∙ e.done lane (omega arith))
+            (cases_eq lane n);
+        owns = λ lane d lt. ⊎_elim
+            (λ (q : lane ≡ n). ap (λ (x : Knowledge). x.own) (ap p.know' q ∙ p.mine) ∙ (k.own_is d ∙ ap (λ (x : ℕ). (slice_index_or seats x d).state) (sym q)))
+            (λ (ne : lane ≡ n → ⊥). ap (λ (x : Knowledge). x.own) (p.others lane ne) ∙ e.owns lane d (omega arith))
             (cases_eq lane n);
         rest = λ lane le. p.others lane (λ q. absurd (omega arith)) ∙ e.rest lane (omega arith);
       }
@@ -253,6 +262,7 @@ module _ (r : Assignment) (s : S) (M : IsMoment r s) (id : ℕ) (v : View) (at :
         lanes = λ x h. let l = m.lanes x h in let e = lists_long in omega arith;
         mine = λ lane d lt. list_at lane (omega arith) ∙ c.same lane d (omega arith) (omega arith);
         told = λ lane lt. subst (AreTold r lane) (sym (list_at lane (omega arith))) (c.each lane (omega arith) (omega arith)).told;
+        own = λ lane d lt. subst (λ (o : StateValue). IsOwn (service_of r) lane o ended.common.state) (ended.owns lane d (omega arith)) (ended.common.lanes lane lt).own;
       }
     where
       none_past : (xs : List Stamped) → IsMerged lists xs → (lane : ℕ) → length lists ≤ lane → lane_list xs lane ≡ []

@@ -30,5 +30,6 @@ pub mod Listed
 pub mod Dealt
 pub mod Merging
 pub mod Collecting
+pub mod Ending
 pub mod Over
 pub mod Momentary

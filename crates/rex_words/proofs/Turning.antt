@@ -157,7 +157,7 @@ begin_parts service lane s (Some q) k h = by (enabled service lane (begin_of q) 
 next_by : (service : Declarations) (s : StateValue) (lane : ℕ) (k : Kind) → enabled service lane k s ≡ true → next service s (event_at s lane k) ≡ Some (after service lane k s)
 next_by service s lane k h = rw (eq-eqb (lane_of s lane).done (lane_of s lane).done refl, h) refl
 
-filtered : (p : Request → Bool) (qs : List Request) (i : ℕ) (q : Request) → slice_get (filter p qs) i ≡ Some q → p q ≡ true
+pub filtered : (p : Request → Bool) (qs : List Request) (i : ℕ) (q : Request) → slice_get (filter p qs) i ≡ Some q → p q ≡ true
 filtered p [] i q h = absurd (cc)
 filtered p (x ∷ xs) i q h = by (p x) refl i h (λ j g. filtered p xs j q g)
   where

@@ -1,13 +1,14 @@
 -- What lanes recorded, once all their seats are handed back.
-use Rattle.std.specs.Prelude.{◌≡◌, ◌⊎◌, ℕ, ◌+◌, ◌-◌, ◌<◌, ◌≤◌, ◌++◌, false, List, [], ◌∷◌, length, slice_index_or, drop, take, Option, None, Some}
+use Rattle.std.specs.Prelude.{◌≡◌, ◌≢◌, ◌⊎◌, ℕ, ◌+◌, ◌-◌, ◌<◌, ◌≤◌, ◌++◌, false, List, [], ◌∷◌, length, slice_get, slice_index_or, drop, take, Option, None, Some}
 use mathlib.Core.Option.{some}
 use lib.ListN.{get_elem?}
 use Rattle.atomic_table.specs.Seated.{TableId}
 use Rattle.atomic_table.specs.declared.shared.Seat.{Seat}
 use Rattle.rex_event.specs.declared.event.Event.{Event}
+use Rattle.rex_event.specs.declared.event.Kind.{Kind}
 use Rattle.rex_event.specs.Order.{Has}
 use Rattle.rex_state.specs.Value.{StateValue}
-use Rattle.rex_state.specs.Machine.{run}
+use Rattle.rex_state.specs.Machine.{frame_at, run}
 use Rattle.rex_state.specs.Start.{start_of}
 use Rattle.rex_words.specs.declared.assignment.Assignment.{Assignment}
 use Rattle.rex_words.specs.declared.stamped.Stamped.{Stamped}
@@ -17,7 +18,8 @@ use Rattle.rex_words.specs.declared.view.Knowledge.{Knowledge}
 use Rattle.rex_words.specs.declared.view.View.{View}
 use Rattle.rex_words.specs.declared.view.Role.TheVariants.{Host}
 use Rattle.rex_words.specs.Stamps.{IsInOrder, comes_before, events_in, lane_list}
-use Rattle.rex_words.specs.Alone.{service_of, AreTold, DoAlone, IsQuiet}
+use Rattle.rex_words.specs.Alone.{service_of, lane_requests, begun_in, begin_next, AreTold, DoAlone, IsQuiet}
+use Rattle.rex_words.specs.Own.{IsOwn}
 use Rattle.rex_words.specs.Seats.{IsSeatOf}
 use Rattle.rex_words.specs.Turns.{IsIdle, IsFull}
 use Rattle.rex_words.specs.Dealing.{IsAssignmentOf}
@@ -34,7 +36,7 @@ pub record AreSeats (r : Assignment) (z : TableId) (n : ℕ) (seats : List WordS
   pub count : length seats ≡ n
   pub each : (lane : ℕ) (d : WordSeat) → lane < n → IsSeatAt r z lane (slice_index_or seats lane d)
 
--- the events of all seats' lanes, in order of stamp and then of lane, run from the service's start; those of a lane are just those of its seat, and say what they should; there are at most 1,000,000 of each of 16 lanes
+-- the events of all seats' lanes, in order of stamp and then of lane, run from the service's start; those of a lane are just those of its seat, and say what they should; each seat's own state is its lane's in the state to which they run; there are at most 64,000,000
 pub record IsHistoryOf (r : Assignment) (seats : List WordSeat) (history : List Event) : Type 0 where
   pub list : List Stamped
   pub order : IsInOrder list
@@ -45,6 +47,7 @@ pub record IsHistoryOf (r : Assignment) (seats : List WordSeat) (history : List 
   pub lanes : (x : Stamped) → Has x list → x.event.lane < (service_of r).lanes
   pub mine : (lane : ℕ) (d : WordSeat) → lane < (service_of r).lanes → lane_list list lane ≡ (slice_index_or seats lane d).events.items
   pub told : (lane : ℕ) → lane < (service_of r).lanes → AreTold r lane (lane_list list lane)
+  pub own : (lane : ℕ) (d : WordSeat) → lane < (service_of r).lanes → IsOwn (service_of r) lane (slice_index_or seats lane d).state state
 
 -- ---- runs of all lanes
 
@@ -53,7 +56,16 @@ pub record IsOver (r : Assignment) (z : TableId) (lane : ℕ) (m : WordSeat) : T
   pub at : IsSeatAt r z lane m
   pub over : IsIdle r m ⊎ IsFull r m
 
--- lanes of the service recorded this history of the requests, and each is over
+-- the begin of a lane's next request behind its events, where there is one that may begin in this state of all lanes
+abbrev pub open_in : Assignment → StateValue → ℕ → List Stamped → Option Kind
+open_in r s lane list = begin_next (service_of r) lane s (slice_get (lane_requests r lane) (begun_in list))
+
+-- in this state of all lanes a lane is over that did these events: it is idle, and has no request that may begin, or one but more than 899,999 events
+pub record HasEnded (r : Assignment) (s : StateValue) (lane : ℕ) (list : List Stamped) : Type 0 where
+  pub idle : frame_at s lane ≡ None
+  pub over : (open_in r s lane list ≡ None) ⊎ ((open_in r s lane list ≢ None) × (899999 < length list))
+
+-- lanes of the service recorded this history of the requests, and each is over, in the state to which the history runs
 pub record IsRecording (service : Declarations) (requests : List Request) (seed : ℕ) (history : List Event) : Type 0 where
   pub assignment : Assignment
   pub of : IsAssignmentOf assignment service requests seed
@@ -61,6 +73,7 @@ pub record IsRecording (service : Declarations) (requests : List Request) (seed 
   pub table : TableId
   pub recorded : IsHistoryOf assignment seats history
   pub over : (lane : ℕ) (d : WordSeat) → lane < service.lanes → IsOver assignment table lane (slice_index_or seats lane d)
+  pub ends : (lane : ℕ) → lane < service.lanes → HasEnded assignment recorded.state lane (lane_list recorded.list lane)
 
 -- ---- lists of lanes, the last lane's first
 
@@ -122,8 +135,8 @@ pub record IsGathering (r : Assignment) (z : TableId) (s : HostSeat) : Type 0 wh
   pub key : s.me.0.key ≡ r
   pub empty : s.me.1 ≡ []
 
--- what a seat's view said was taken in, and its lane's list is this
-pub record IsCollected (r : Assignment) (gathered : List Gathered) (lane : ℕ) (list : List Stamped) : Type 0 where
+-- what a seat's view said was taken in, and its lane's list is this; with what the lane did by itself since, its own state is that of its seat
+pub record IsCollected (r : Assignment) (gathered : List Gathered) (seats : List WordSeat) (lane : ℕ) (list : List Stamped) : Type 0 where
   pub place : ℕ
   pub known : Gathered
   pub at : get_elem? gathered place ≡ some known
@@ -133,13 +146,14 @@ pub record IsCollected (r : Assignment) (gathered : List Gathered) (lane : ℕ) 
   pub does : DoAlone r lane known.knows held now
   pub quiet : (e : Event) → Has e held → IsQuiet (service_of r) e
   pub list_is : now.list ≡ list
+  pub own_is : (d : WordSeat) → now.own ≡ (slice_index_or seats lane d).state
   pub few : length list ≤ 1000000
   pub told : AreTold r lane list
 
 -- the seats of the lanes from n on were taken in, and the lists are theirs
 pub record AreCollected (r : Assignment) (gathered : List Gathered) (n : ℕ) (seats : List WordSeat) (lists : List (List Stamped)) : Type 0 where
   pub count : length lists + n ≡ length seats
-  pub each : (lane : ℕ) → n ≤ lane → lane < length seats → IsCollected r gathered lane (slice_index_or lists (length seats - (lane + 1)) [])
+  pub each : (lane : ℕ) → n ≤ lane → lane < length seats → IsCollected r gathered seats lane (slice_index_or lists (length seats - (lane + 1)) [])
   pub same : (lane : ℕ) (d : WordSeat) → n ≤ lane → lane < length seats → slice_index_or lists (length seats - (lane + 1)) [] ≡ (slice_index_or seats lane d).events.items
 
 -- all were

@@ -1,6 +1,6 @@
 //! What stamps give. Each function is the statement that its contract makes, and does nothing.
 
-ghost use Rattle.rex_words.specs.Laws.{HoldersAreLast, NewEventsAreApart, EventsFindTheirPlace, GatheredListsAreOne};
+ghost use Rattle.rex_words.specs.Laws.{HoldersAreLast, NewEventsAreApart, EventsFindTheirPlace, GatheredListsAreOne, EmptyHistoriesBeginNothing};
 ghost use Rattle.rex_words.specs.Moments.{ViewsKnowWhatIsSo, LanesHaveOneView, FreshLanesDidNothing, MomentsRun};
 ghost use Rattle.rex_words.specs.Own.{OwnEventsGoAlong, OthersStayOwn};
 ghost use Rattle.rex_words.specs.Kept.{BeginningsHold, QuietEventsEnter, LooksKeep, FailuresKeep, LoadsKeep, StoresKeep, TakesKeep, ReleasesKeep};
@@ -51,6 +51,12 @@ pub fn own_events_go_along()
 /// An event of one lane leaves what the others have of the state of all lanes.
 pub fn others_stay_own()
     ensures { OthersStayOwn }
+{}
+
+/// Lanes recorded nothing only where no lane has a first request that may begin: a run of lanes that does nothing is no
+/// recording of requests that may begin.
+pub fn empty_histories_begin_nothing()
+    ensures { EmptyHistoriesBeginNothing }
 {}
 
 /// There is one list in order with the events of the lanes, so whoever gathers them in order gathers what was recorded.

@@ -5,15 +5,15 @@ use Rattle.rex_syntax.specs.declared.service.Declarations.{Declarations}
 use Rattle.rex_event.specs.declared.event.Event.{Event}
 use Rattle.rex_report.specs.declared.effect.Effect.TheVariants as effect
 use Rattle.rex_traits.specs.Keeping.{KeeperValue}
-use Rattle.rex_safety.specs.Records.{Rec, Proposal, base, offset, promise, known}
-use Rattle.rex_safety.specs.Quorum.{ballot_above, round_of}
-use Rattle.rex_safety.specs.Node.{Failure, Lead, Role, Service, is_active, role_name}
-use Rattle.rex_safety.specs.Node.Role.{Follower, Leads}
+use Rattle.rex_cluster.specs.Records.{Rec, Proposal, base, offset, promise, known}
+use Rattle.rex_cluster.specs.Quorum.{ballot_above, round_of}
+use Rattle.rex_cluster.specs.Node.{Failure, Lead, Role, Service, is_active, role_name}
+use Rattle.rex_cluster.specs.Node.Role.{Follower, Leads}
 use Rattle.rex_version.specs.declared.version.Version.{Version}
-use Rattle.rex_safety.specs.Invariant.{Begins}
-use Rattle.rex_safety.specs.Calls.{begin, say, checkpoint, drop_known, elect, receive, replay}
-use Rattle.rex_safety.specs.Values.{Value, service_of, values_fit}
-use Rattle.rex_safety.specs.Lanes.{Here, CallHere, active_only, cut, cut_role, cut_lead, cut_live}
+use Rattle.rex_cluster.specs.Invariant.{Begins}
+use Rattle.rex_cluster.specs.Calls.{begin, say, checkpoint, drop_known, elect, receive, replay}
+use Rattle.rex_cluster.specs.Values.{Value, service_of, values_fit}
+use Rattle.rex_cluster.specs.Lanes.{Here, CallHere, active_only, cut, cut_role, cut_lead, cut_live}
 use Rattle.rex_state.specs.Value.{StateValue}
 use Rattle.rex_node.specs.declared.refusal.Refusal.{Refusal}
 use Rattle.rex_node.specs.declared.refusal.Refusal.TheVariants as why
@@ -29,7 +29,7 @@ use Rattle.rex_node.specs.Telling.{IsRight, IsTold, LeadTo, bad_state, refusal_o
 use Rattle.rex_node.specs.Restarting.{CameUp, HasForgotten, HasRightBase}
 use Rattle.rex_world.specs.declared.seats.Seat.{Seat}
 use Rattle.rex_world.specs.declared.seats.Seat.TheVariants.{Running, Stopped, Empty}
-use Rattle.rex_world.specs.Seats.{HasKeeper, IsKeeping, IsRunner, IsSeat, StaysRunner, StaysSeat, faults_of, here_at, keeper_in, records_of, here_in}
+use Rattle.rex_world.specs.Seats.{HasKeeper, IsKeeping, IsRunner, IsSeat, StaysRunner, StaysSeat, faults_of, here_at, keeper_in, records_of, here_in, reopened}
 use Rattle.rex_world.specs.Calls.{Acts, IsDone, IsWhole, effect_of, Starts}
 use Rattle.rex_world.proofs.Failing.{follows, is_done, stays_grown, stays_keeping, stays_within}
 use Rattle.rex_world.proofs.Unseen.{Goes, checkpoint_either, cut_either, drop_either, elect_either, receive_either, replay_either}
@@ -390,15 +390,19 @@ has_keeper service past seed nodes number Empty none = absurd none
 pub has_room : {S : Type 0} → (service : Declarations) (past : List Value) (seed nodes number : ℕ) (seat : Seat S) → IsSeat service past seed nodes number seat → (keeper_in seat).faults < 2 ^ 64 - 1
 has_room service past seed nodes number seat is = let k = (keeping_in service past seed nodes number seat is).room in omega arith
 
--- a node that came up with a seat's keeper is kept in the seat
-pub comes_up : {S : Type 0} → (service : Declarations) (past : List Value) (seed nodes number : ℕ) (seat : Seat S) (node : NodeValue KeeperValue) → IsSeat service past seed nodes number seat → CameUp records_of service past number nodes seed (keeper_in seat) node → IsNode records_of service past node → StaysSeat service past seed nodes number seat (Running node)
+-- a keeper that is reopened keeps its records
+keeping_reopened : (service : Declarations) (past : List Value) (k : KeeperValue) → IsKeeping service past k → IsKeeping service past (reopened k)
+keeping_reopened service past k h = record { read = h.read; stated = h.stated; room = h.room }
+
+-- a node that came up with a seat's keeper, reopened, is kept in the seat
+pub comes_up : {S : Type 0} → (service : Declarations) (past : List Value) (seed nodes number : ℕ) (seat : Seat S) (node : NodeValue KeeperValue) → IsSeat service past seed nodes number seat → CameUp records_of service past number nodes seed (reopened (keeper_in seat)) node → IsNode records_of service past node → StaysSeat service past seed nodes number seat (Running node)
 comes_up service past seed nodes number seat node is up kept = record {
   seat = record {
     id = up.id_is;
     nodes_are = up.nodes_are;
     seed_is = up.seed_is;
     node = kept;
-    keeping = subst (IsKeeping service past) (sym up.keeper_is) (keeping_in service past seed nodes number seat is);
+    keeping = subst (IsKeeping service past) (sym up.keeper_is) (keeping_reopened service past (keeper_in seat) (keeping_in service past seed nodes number seat is));
   };
   within = subst (λ (k : KeeperValue). faults_of k ≤ faults_of (keeper_in seat)) (sym up.keeper_is) (le_refl (faults_of (keeper_in seat)));
   grown = subst (λ (k : KeeperValue). Begins (records_of (keeper_in seat)) k.records) (sym up.keeper_is) (none_grown (records_of (keeper_in seat)));
@@ -411,7 +415,7 @@ log_in service past (Stopped keeper) = refl
 log_in service past Empty = refl
 
 -- what holds where a node starts holds of its keeper
-pub starts_kept : {S : Type 0} → (service : Declarations) (past : List Value) (seat : Seat S) (keeper : KeeperValue) (P : Type 0) → keeper ≡ keeper_in seat → Starts service past (here_in service past seat)
+pub starts_kept : {S : Type 0} → (service : Declarations) (past : List Value) (seat : Seat S) (keeper : KeeperValue) (P : Type 0) → keeper ≡ reopened (keeper_in seat) → Starts service past (here_in service past seat)
     → (values_fit service (known (log_of service past (records_of keeper))) ≡ true → HasRightBase service (log_of service past (records_of keeper)) → HasForgotten past (log_of service past (records_of keeper)) → P) → P
 starts_kept service past seat keeper P e h go =
     let logs : (here_in service past seat).log ≡ log_of service past (records_of keeper) = log_in service past seat ∙ ap (λ (k : KeeperValue). log_of service past (records_of k)) (sym e) in

@@ -3,12 +3,12 @@ use Rattle.std.proofs.Common.{◌≡◌, ℕ, zero, suc, ◌-◌, ◌<◌, ◌�
 use Rattle.std.specs.Prelude.{nat_lt, if◌then◌else◌}
 use Rattle.rex_syntax.specs.declared.service.Declarations.{Declarations}
 use Rattle.rex_state.specs.Value.{StateValue}
-use Rattle.rex_safety.specs.Records.{Rec, known}
-use Rattle.rex_safety.specs.Values.{Value}
-use Rattle.rex_safety.specs.Lanes.{Here}
-use Rattle.rex_safety.specs.Agreed.{agreed, longer_of, longest}
-use Rattle.rex_safety.specs.Quorum.{IsNode}
-use Rattle.rex_safety.specs.World.{node_at, put}
+use Rattle.rex_cluster.specs.Records.{Rec, known}
+use Rattle.rex_cluster.specs.Values.{Value}
+use Rattle.rex_cluster.specs.Lanes.{Here}
+use Rattle.rex_cluster.specs.Agreed.{agreed, longer_of, longest}
+use Rattle.rex_cluster.specs.Quorum.{IsNode}
+use Rattle.rex_cluster.specs.World.{node_at, put}
 use Rattle.rex_world.specs.declared.world.World.{World}
 use Rattle.rex_world.specs.Kept.{IsRunning}
 use Rattle.rex_world.specs.World.{world_of}

@@ -13,14 +13,14 @@ use Rattle.rex_traits.specs.declared.mem_keeper.Fate.{Fate}
 use Rattle.rex_traits.specs.declared.mem_keeper.Fate.TheVariants as fate
 use Rattle.rex_traits.specs.Keeping.{KeeperValue, armed_to}
 use Rattle.rex_report.specs.declared.effect.Effect.TheVariants.{WillFail}
-use Rattle.rex_scenario.specs.declared.scenario.ScheduleLine.TheVariants.{KeepFail}
-use Rattle.rex_scenario.specs.Fits.{IsNode}
-use Rattle.rex_safety.specs.Node.{Message}
-use Rattle.rex_safety.specs.Node.Failure.{After}
-use Rattle.rex_safety.specs.Values.{Value}
-use Rattle.rex_safety.specs.Lanes.{Here}
-use Rattle.rex_safety.specs.World.{World as ModelWorld, node_at, put, row, sent_from}
-use Rattle.rex_safety.specs.Agreed.{agreed}
+use Rattle.rex_schedule.specs.declared.scenario.ScheduleLine.TheVariants.{KeepFail}
+use Rattle.rex_schedule.specs.Fits.{IsNode}
+use Rattle.rex_cluster.specs.Node.{Message}
+use Rattle.rex_cluster.specs.Node.Failure.{After}
+use Rattle.rex_cluster.specs.Values.{Value}
+use Rattle.rex_cluster.specs.Lanes.{Here}
+use Rattle.rex_cluster.specs.World.{World as ModelWorld, node_at, put, row, sent_from}
+use Rattle.rex_cluster.specs.Agreed.{agreed}
 use Rattle.rex_safety.specs.Kept.{IsKept}
 use Rattle.rex_safety.proofs.Keeps.{row_kept}
 use Rattle.rex_node.specs.Parts.{NodeValue, IsNode as IsKeptNode}

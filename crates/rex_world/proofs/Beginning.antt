@@ -9,14 +9,14 @@ use Rattle.rex_ballot.specs.Limits.{most_nodes}
 use Rattle.rex_syntax.specs.declared.service.Declarations.{Declarations}
 use Rattle.rex_syntax.specs.Service.{IsService}
 use Rattle.rex_syntax.specs.Check.{IsChecked}
-use Rattle.rex_scenario.specs.Headings.{is_node_count}
-use Rattle.rex_scenario.specs.Fits.{RequestFits}
-use Rattle.rex_safety.specs.Node.{Message, new_node}
-use Rattle.rex_safety.specs.Values.{Value}
-use Rattle.rex_safety.specs.Lanes.{Here}
-use Rattle.rex_safety.specs.World.{World as ModelWorld, beginning}
-use Rattle.rex_safety.specs.Reading.{nothing_seen}
-use Rattle.rex_safety.specs.Agreed.{agreed, longer_of, longest}
+use Rattle.rex_schedule.specs.Counts.{is_node_count}
+use Rattle.rex_schedule.specs.Fits.{RequestFits}
+use Rattle.rex_cluster.specs.Node.{Message, new_node}
+use Rattle.rex_cluster.specs.Values.{Value}
+use Rattle.rex_cluster.specs.Lanes.{Here}
+use Rattle.rex_cluster.specs.World.{World as ModelWorld, beginning}
+use Rattle.rex_cluster.specs.Reading.{nothing_seen}
+use Rattle.rex_cluster.specs.Agreed.{agreed, longer_of, longest}
 use Rattle.rex_safety.specs.Kept.{IsKept}
 use Rattle.rex_safety.proofs.Keeps.{beginning_kept}
 use Rattle.rex_world.specs.declared.seats.Seat.{Seat}

@@ -12,15 +12,15 @@ use Rattle.rex_syntax.specs.declared.service.Declarations.{Declarations}
 use Rattle.rex_syntax.specs.Service.{IsService}
 use Rattle.rex_syntax.specs.Check.{IsChecked}
 use Rattle.rex_event.specs.declared.event.Event.{Event}
-use Rattle.rex_scenario.specs.Fits.{IsNode, RequestFits}
+use Rattle.rex_schedule.specs.Fits.{IsNode, RequestFits}
 use Rattle.rex_traits.specs.Keeping.{KeeperValue}
-use Rattle.rex_safety.specs.Node.{Failure, is_active}
-use Rattle.rex_safety.specs.Calls.{begin}
-use Rattle.rex_safety.specs.Lanes.{Here}
-use Rattle.rex_safety.specs.World.{World as ModelWorld, node_at, put}
-use Rattle.rex_safety.specs.Takes.{BeginsInRange, after_doings, take, take_event}
-use Rattle.rex_safety.specs.Agreed.{agreed}
-use Rattle.rex_safety.specs.Values.{Value}
+use Rattle.rex_cluster.specs.Node.{Failure, is_active}
+use Rattle.rex_cluster.specs.Calls.{begin}
+use Rattle.rex_cluster.specs.Lanes.{Here}
+use Rattle.rex_cluster.specs.World.{World as ModelWorld, node_at, put}
+use Rattle.rex_cluster.specs.Takes.{BeginsInRange, after_doings, take, take_event}
+use Rattle.rex_cluster.specs.Agreed.{agreed}
+use Rattle.rex_cluster.specs.Values.{Value}
 use Rattle.rex_safety.specs.Kept.{IsKept}
 use Rattle.rex_safety.proofs.Nodes.{node_put, put_length}
 use Rattle.rex_safety.proofs.Takes.{take_kept}

@@ -10,7 +10,7 @@ use Rattle.rex_ballot.specs.Limits.{most_nodes}
 use Rattle.rex_syntax.specs.declared.service.Declarations.{Declarations}
 use Rattle.rex_syntax.specs.Service.{IsService}
 use Rattle.rex_syntax.specs.Check.{IsChecked}
-use Rattle.rex_scenario.specs.Fits.{RequestFits}
+use Rattle.rex_schedule.specs.Fits.{RequestFits}
 use Rattle.rex_report.specs.declared.effect.Effect.{Effect}
 use Rattle.rex_report.specs.declared.effect.Effect.TheVariants.{IsDown, IsUp}
 use Rattle.rex_msg.specs.declared.message.Message.{Message as Said}
@@ -18,16 +18,16 @@ use Rattle.rex_msg.specs.Spelling.{HasSpelling, spelling_of, IsMessage}
 use Rattle.rex_msg.proofs.MessageAgain.{message_read}
 use Rattle.rex_state.specs.Value.{StateValue}
 use Rattle.rex_version.specs.declared.version.Version.TheVariants.{Two}
-use Rattle.rex_safety.specs.Records.{base, known, has_old_base}
-use Rattle.rex_safety.specs.Records.Rec.{Checkpoint}
-use Rattle.rex_safety.specs.Node.{Message, Service}
-use Rattle.rex_safety.specs.Calls.{begin, restart, say, start}
-use Rattle.rex_safety.specs.Values.{Value, service_of}
-use Rattle.rex_safety.specs.Lanes.{Here, CallHere}
-use Rattle.rex_safety.specs.World.{World as ModelWorld, Row, node_at, put, after, only, if_up, at_node, start_if, sent_from}
+use Rattle.rex_cluster.specs.Records.{base, known, has_old_base}
+use Rattle.rex_cluster.specs.Records.Rec.{Checkpoint}
+use Rattle.rex_cluster.specs.Node.{Message, Service}
+use Rattle.rex_cluster.specs.Calls.{begin, restart, say, start}
+use Rattle.rex_cluster.specs.Values.{Value, service_of}
+use Rattle.rex_cluster.specs.Lanes.{Here, CallHere}
+use Rattle.rex_cluster.specs.World.{World as ModelWorld, Row, node_at, put, after, only, if_up, at_node, start_if, sent_from}
 use Rattle.rex_safety.specs.Kept.{IsKept}
-use Rattle.rex_safety.specs.Reading.{released_to, seen_by_release, seen_by_releases, stamp_at}
-use Rattle.rex_safety.proofs.Migrated.{migrated_sends}
+use Rattle.rex_cluster.specs.Reading.{released_to, seen_by_release, seen_by_releases, stamp_at}
+use Rattle.rex_cluster.proofs.Migrated.{migrated_sends}
 use Rattle.rex_node.specs.declared.refusal.Refusal.{Refusal}
 use Rattle.rex_node.specs.declared.refusal.Refusal.TheVariants as why
 use Rattle.rex_node.specs.declared.step.Step.{Step}

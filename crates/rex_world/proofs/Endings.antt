@@ -13,10 +13,10 @@ use Rattle.rex_report.specs.declared.ends.End.{End}
 use Rattle.rex_report.specs.declared.ends.End.TheVariants.{Up, Down}
 use Rattle.rex_report.specs.declared.ends.UpEnd.{UpEnd}
 use Rattle.rex_report.specs.Ends.{end_text}
-use Rattle.rex_safety.specs.Records.{promise, known}
-use Rattle.rex_safety.specs.Node.{role_name, is_active}
-use Rattle.rex_safety.specs.Values.{Value, trace_of, state_after}
-use Rattle.rex_safety.specs.Lanes.{Here}
+use Rattle.rex_cluster.specs.Records.{promise, known}
+use Rattle.rex_cluster.specs.Node.{role_name, is_active}
+use Rattle.rex_cluster.specs.Values.{Value, trace_of, state_after}
+use Rattle.rex_cluster.specs.Lanes.{Here}
 use Rattle.rex_traits.specs.Keeping.{KeeperValue}
 use Rattle.rex_log.specs.Log.{log_of}
 use Rattle.rex_node.specs.Parts.{NodeValue, ActingValue, IsNode, IsActing, knows, here_of, role_of, work_of, state_of, shown_of, shown_with}

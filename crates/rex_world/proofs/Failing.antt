@@ -7,17 +7,18 @@ use Rattle.std.proofs.lemmas.List.Folds.{list_all-append}
 use Rattle.rex_syntax.specs.declared.service.Declarations.{Declarations}
 use Rattle.rex_traits.specs.declared.keeper.KeepFault.{KeepFault}
 use Rattle.rex_traits.specs.Chains.{Answer, AppendsInTurn}
-use Rattle.rex_traits.specs.Keeping.{KeeperValue, FollowsArming, appended_as, with_record}
+use Rattle.rex_traits.specs.Keeping.{KeeperValue, appended_as, with_record}
+use Rattle.rex_traits.specs.Obeying.{ObeysArming}
 use Rattle.rex_traits.specs.declared.mem_keeper.Fate.{Fate}
 use Rattle.rex_traits.specs.declared.mem_keeper.Fate.TheVariants.{Kept, Lost}
-use Rattle.rex_safety.specs.Node.{Failure}
-use Rattle.rex_safety.specs.Node.Failure.{After}
-use Rattle.rex_safety.specs.Calls.{begin}
-use Rattle.rex_safety.specs.Lanes.{Here, CallHere}
+use Rattle.rex_cluster.specs.Node.{Failure}
+use Rattle.rex_cluster.specs.Node.Failure.{After}
+use Rattle.rex_cluster.specs.Calls.{begin}
+use Rattle.rex_cluster.specs.Lanes.{Here, CallHere}
 use Rattle.rex_node.specs.declared.step.Step.{Step}
 use Rattle.rex_node.specs.Parts.{NodeValue, failed_records, here_of}
-use Rattle.rex_safety.specs.Values.{Value}
-use Rattle.rex_safety.specs.Invariant.{Begins}
+use Rattle.rex_cluster.specs.Values.{Value}
+use Rattle.rex_cluster.specs.Invariant.{Begins}
 use Rattle.rex_log.specs.Log.{AreRead}
 use Rattle.rex_node.specs.Stated.{AreStated, is_stated}
 use Rattle.rex_node.specs.Calls.{Does, FailsAfter, GoesWell, call_of, failed_many}
@@ -26,7 +27,7 @@ use Rattle.rex_world.specs.Calls.{IsDone}
 use Rattle.rex_world.proofs.Unseen.{Goes, armed_as, unseen}
 
 abbrev pub follows : KeeperValue → List ℕ → Answer → KeeperValue → Type 0
-follows old bytes result new = FollowsArming old new bytes result
+follows old bytes result new = ObeysArming old new bytes result
 
 abbrev done : Answer
 done = Ok tt
@@ -70,16 +71,39 @@ none_written fate old new (bytes ∷ later) armed h = by h.0 h.1 h.2 h.3
     by (Ok x) k g chain = absurd (some_not old.armed fate armed g.0)
     by (Err e) k g end = absurd (let no : done ≡ fault_of e = end.0 in cc)
 
+-- what its failure leaves: it may have to be reopened
+abbrev failed_to : Fate → List ℕ → KeeperValue → Bool → KeeperValue
+failed_to fate bytes old broken = record (appended_as (Some fate) bytes old) { broken = broken }
+
 -- its failure is the one that it was armed to
-kept_as : (fate : Fate) (kept : Bool) (old new : KeeperValue) (bytes : List ℕ) → new ≡ appended_as (Some fate) bytes old → new.records ≡ failed_records kept old.records bytes → let f : Option Failure = Some (After 0 kept) in f ≡ armed_of (Some fate)
+kept_as : (fate : Fate) (kept : Bool) (old new : KeeperValue) (bytes : List ℕ) → new ≡ failed_to fate bytes old new.broken → new.records ≡ failed_records kept old.records bytes → let f : Option Failure = Some (After 0 kept) in f ≡ armed_of (Some fate)
 kept_as Kept true old new bytes is grown = refl
 kept_as Lost false old new bytes is grown = refl
 kept_as Kept false old new bytes is grown = absurd (let n = length-append old.records (bytes ∷ []) in let e = ap (λ (k : KeeperValue). length k.records) is in let g = ap length grown in omega arith)
 kept_as Lost true old new bytes is grown = absurd (let n = length-append old.records (bytes ∷ []) in let e = ap (λ (k : KeeperValue). length k.records) is in let g = ap length grown in omega arith)
 
-unarmed_then : (fate : Fate) (old new : KeeperValue) (bytes : List ℕ) → new ≡ appended_as (Some fate) bytes old → (new.armed ≡ None) × (faults_of new ≡ old.faults + 1)
+unarmed_then : (fate : Fate) (old new : KeeperValue) (bytes : List ℕ) → new ≡ failed_to fate bytes old new.broken → (new.armed ≡ None) × (faults_of new ≡ old.faults + 1)
 unarmed_then Kept old new bytes is = (ap (λ (k : KeeperValue). k.armed) is, ap faults_of is ∙ let e : old.faults + 1 + 0 ≡ old.faults + 1 = omega arith in e)
 unarmed_then Lost old new bytes is = (ap (λ (k : KeeperValue). k.armed) is, ap faults_of is ∙ let e : old.faults + 1 + 0 ≡ old.faults + 1 = omega arith in e)
+
+-- appends that go well leave it to be reopened, or not, as before
+same_broken : (armed : Option Fate) (bytes : List ℕ) (old : KeeperValue) → (appended_as armed bytes old).broken ≡ old.broken
+same_broken None bytes old = refl
+same_broken (Some Kept) bytes old = refl
+same_broken (Some Lost) bytes old = refl
+
+pub stays_broken : (old new : KeeperValue) (written : List (List ℕ)) → AppendsInTurn follows old written done new → new.broken ≡ old.broken
+stays_broken old new [] h = ap (λ (k : KeeperValue). k.broken) h.1
+stays_broken old new (bytes ∷ later) h = by h.0 h.1 h.2 (λ k chain. stays_broken k new later chain) h.3
+  where
+    by : (answer : Answer) (k : KeeperValue) → follows old bytes answer k → ((j : KeeperValue) → AppendsInTurn follows j later done new → new.broken ≡ j.broken) → MatchResult answer (λ _. AppendsInTurn follows k later done new) (λ e. (done ≡ Err e) × (new ≡ k)) → new.broken ≡ old.broken
+    by (Ok x) k g next chain = next k chain ∙ (ap (λ (j : KeeperValue). j.broken) g.1 ∙ same_broken old.armed bytes old)
+    by (Err e) k g next end = absurd (let no : done ≡ fault_of e = end.0 in cc)
+
+-- where an append failed, it was the first one
+pub none_before : (armed : Option Fate) (old between : KeeperValue) (written : List (List ℕ)) → old.armed ≡ armed → AppendsInTurn follows old written done between → IsSome between.armed → written ≡ []
+none_before None old between written e chain some = absurd (armed_not between.armed (stays old between written e chain) some)
+none_before (Some fate) old between written e chain some = (none_written fate old between written e chain).0
 
 -- ---- a node's step is the model's call
 
@@ -123,8 +147,8 @@ module _ (service : Declarations) (past : List Value) (call : CallHere → CallH
   fails None e h = absurd (armed_not h.between.armed (stays old.keeper h.between h.written e h.appends) h.fails.0)
   fails (Some fate) e h =
       let none = none_written fate old.keeper h.between h.written e h.appends in
-      let is : new.keeper ≡ appended_as (Some fate) h.bytes old.keeper =
-      subst (λ (k : KeeperValue). new.keeper ≡ appended_as k.armed h.bytes k) none.1 h.fails.1 ∙ ap (λ (a : Option Fate). appended_as a h.bytes old.keeper) e in
+      let is : new.keeper ≡ failed_to fate h.bytes old.keeper new.keeper.broken =
+      subst (λ (k : KeeperValue). new.keeper ≡ record (appended_as k.armed h.bytes k) { broken = new.keeper.broken }) none.1 h.fails.1 ∙ ap (λ (a : Option Fate). let k : KeeperValue = record (appended_as a h.bytes old.keeper) { broken = new.keeper.broken } in k) e in
       let grown : new.keeper.records ≡ failed_records h.kept old.keeper.records h.bytes =
       h.grown ∙ ap (λ (ws : List (List ℕ)). failed_records h.kept (old.keeper.records ++ ws) h.bytes) none.0 ∙ ap (λ (rs : List (List ℕ)). failed_records h.kept rs h.bytes) (append-nil old.keeper.records) in
       let failure : let f : Option Failure = Some (After (length h.written) h.kept) in f ≡ armed_of old.keeper.armed =

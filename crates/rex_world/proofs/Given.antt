@@ -9,16 +9,16 @@ use Rattle.rex_ballot.specs.Limits.{most_nodes}
 use Rattle.rex_syntax.specs.declared.service.Declarations.{Declarations}
 use Rattle.rex_event.specs.declared.event.Event.{Event}
 use Rattle.rex_record.specs.declared.turns.Turn.{Turn}
-use Rattle.rex_scenario.specs.Fits.{IsNode, RequestFits}
+use Rattle.rex_schedule.specs.Fits.{IsNode, RequestFits}
 use Rattle.rex_traits.specs.Keeping.{KeeperValue}
-use Rattle.rex_safety.specs.Node.{Failure, Lead, Role, is_active, role_name}
-use Rattle.rex_safety.specs.Node.Role.{Follower, Leads}
-use Rattle.rex_safety.specs.Calls.{begin}
-use Rattle.rex_safety.specs.Values.{Value}
-use Rattle.rex_safety.specs.Lanes.{Here, active_only}
-use Rattle.rex_safety.specs.World.{World as ModelWorld, after, if_up, node_at, put}
-use Rattle.rex_safety.specs.Takes.{BeginsInRange, take, take_event, taken, taken_in}
-use Rattle.rex_safety.specs.Agreed.{agreed}
+use Rattle.rex_cluster.specs.Node.{Failure, Lead, Role, is_active, role_name}
+use Rattle.rex_cluster.specs.Node.Role.{Follower, Leads}
+use Rattle.rex_cluster.specs.Calls.{begin}
+use Rattle.rex_cluster.specs.Values.{Value}
+use Rattle.rex_cluster.specs.Lanes.{Here, active_only}
+use Rattle.rex_cluster.specs.World.{World as ModelWorld, after, if_up, node_at, put}
+use Rattle.rex_cluster.specs.Takes.{BeginsInRange, take, take_event, taken, taken_in}
+use Rattle.rex_cluster.specs.Agreed.{agreed}
 use Rattle.rex_safety.specs.Kept.{IsKept}
 use Rattle.rex_safety.specs.Doings.{TakesAreKept}
 use Rattle.rex_safety.proofs.Takes.{take_kept}

@@ -11,14 +11,14 @@ use Rattle.rex_traits.specs.Keeping.{KeeperValue}
 use Rattle.rex_durable.specs.declared.records.Rec.{Rec as KeptRec}
 use Rattle.rex_durable.specs.declared.records.Rec.TheVariants as rec
 use Rattle.rex_durable.specs.Reading.{record_in}
-use Rattle.rex_safety.specs.Records.{Rec, known}
-use Rattle.rex_safety.specs.Invariant.{AreRecords, Begins}
-use Rattle.rex_safety.specs.Node.{Service, down_node}
-use Rattle.rex_safety.specs.Quorum.{IsNode}
-use Rattle.rex_safety.specs.Values.{Value, runs, service_of, spells, trace_of}
-use Rattle.rex_safety.specs.Lanes.{Here}
-use Rattle.rex_safety.specs.Agreed.{agreed}
-use Rattle.rex_safety.specs.World.{node_at, put}
+use Rattle.rex_cluster.specs.Records.{Rec, known}
+use Rattle.rex_cluster.specs.Invariant.{AreRecords, Begins}
+use Rattle.rex_cluster.specs.Node.{Service, down_node}
+use Rattle.rex_cluster.specs.Quorum.{IsNode}
+use Rattle.rex_cluster.specs.Values.{Value, runs, service_of, spells, trace_of}
+use Rattle.rex_cluster.specs.Lanes.{Here}
+use Rattle.rex_cluster.specs.Agreed.{agreed}
+use Rattle.rex_cluster.specs.World.{node_at, put}
 use Rattle.rex_safety.specs.Kept.{IsKept}
 use Rattle.rex_safety.proofs.Agreeing.{known_begins, longest_most}
 use Rattle.rex_safety.proofs.Held.{transfers_right}

@@ -14,17 +14,17 @@ use Rattle.rex_msg.specs.declared.message.Message.{Message as Said}
 use Rattle.rex_msg.specs.Spelling.{spelling_of}
 use Rattle.rex_msg.proofs.MessageAgain.{message_read}
 use Rattle.rex_net.specs.Net as net
-use Rattle.rex_scenario.specs.Fits.{IsNode}
-use Rattle.rex_scenario.specs.declared.scenario.ScheduleLine.TheVariants as line
-use Rattle.rex_safety.specs.Node.{Message, kind_of}
-use Rattle.rex_safety.specs.Values.{Value, service_of}
-use Rattle.rex_safety.specs.World.{World as ModelWorld, Row, node_at, logs, at_node, only, first_told, deliver_found, sent_from, message_at, with_handed}
+use Rattle.rex_schedule.specs.Fits.{IsNode}
+use Rattle.rex_schedule.specs.declared.scenario.ScheduleLine.TheVariants as line
+use Rattle.rex_cluster.specs.Node.{Message, kind_of}
+use Rattle.rex_cluster.specs.Values.{Value, service_of}
+use Rattle.rex_cluster.specs.World.{World as ModelWorld, Row, node_at, logs, at_node, only, first_told, deliver_found, sent_from, message_at, with_handed}
 use Rattle.rex_safety.specs.Kept.{roles, IsKept}
-use Rattle.rex_safety.specs.Calls.{begin, receive}
-use Rattle.rex_safety.specs.Invariant.{Begins, IsIn}
-use Rattle.rex_safety.specs.Records.{known}
-use Rattle.rex_safety.specs.Ranges.{MessageFits}
-use Rattle.rex_safety.proofs.Calls.{receive_good}
+use Rattle.rex_cluster.specs.Calls.{begin, receive}
+use Rattle.rex_cluster.specs.Invariant.{Begins, IsIn}
+use Rattle.rex_cluster.specs.Records.{known}
+use Rattle.rex_cluster.specs.Ranges.{MessageFits}
+use Rattle.rex_cluster.proofs.Calls.{receive_good}
 use Rattle.rex_safety.proofs.Worlds.{nth_in}
 use Rattle.rex_node.specs.Going.{RunsOn}
 use Rattle.rex_log.specs.Messages.{message_in, content_in}

@@ -9,13 +9,13 @@ use Rattle.std.proofs.lemmas.Option.{slice_get-get_or}
 use Rattle.rex_syntax.specs.declared.request.Request.{Request}
 use Rattle.rex_syntax.specs.declared.service.Declarations.{Declarations}
 use Rattle.rex_report.specs.declared.effect.Effect.{Effect}
-use Rattle.rex_scenario.specs.declared.scenario.ScheduleLine.{ScheduleLine}
-use Rattle.rex_scenario.specs.declared.scenario.ScheduleLine.TheVariants.{Deliver}
-use Rattle.rex_safety.specs.Node.{Message}
-use Rattle.rex_safety.specs.Node.Content.{Ask}
-use Rattle.rex_safety.specs.Values.{Value}
-use Rattle.rex_safety.specs.Lanes.{CallHere}
-use Rattle.rex_safety.specs.World.{World as ModelWorld, Row, node_at, if_up, with_handed, deliver_found, step, steps, waiting_from, sent_from}
+use Rattle.rex_schedule.specs.declared.scenario.ScheduleLine.{ScheduleLine}
+use Rattle.rex_schedule.specs.declared.scenario.ScheduleLine.TheVariants.{Deliver}
+use Rattle.rex_cluster.specs.Node.{Message}
+use Rattle.rex_cluster.specs.Node.Content.{Ask}
+use Rattle.rex_cluster.specs.Values.{Value}
+use Rattle.rex_cluster.specs.Lanes.{CallHere}
+use Rattle.rex_cluster.specs.World.{World as ModelWorld, Row, node_at, if_up, with_handed, deliver_found, step, steps, waiting_from, sent_from}
 use Rattle.rex_world.specs.declared.told.Told.{Told}
 use Rattle.rex_world.specs.declared.world.World.{World}
 use Rattle.rex_world.specs.World.{nodes_of}

@@ -2,8 +2,8 @@
 use Rattle.std.proofs.Common.{◌≡◌, ℕ, ◌+◌, true, List, length, sym, ◌∙◌, ap, length-append}
 use Rattle.rex_syntax.specs.declared.service.Declarations.{Declarations}
 use Rattle.rex_traits.specs.Keeping.{KeeperValue}
-use Rattle.rex_safety.specs.Records.{known}
-use Rattle.rex_safety.specs.Values.{Value}
+use Rattle.rex_cluster.specs.Records.{known}
+use Rattle.rex_cluster.specs.Values.{Value}
 use Rattle.rex_log.specs.Log.{first}
 use Rattle.rex_log.proofs.Firsts.{first_length}
 use Rattle.rex_node.specs.Parts.{NodeValue, IsNode, count_of, here_of, knows}

@@ -13,7 +13,7 @@ use Rattle.rex_durable.specs.declared.records.Rec.TheVariants as rec
 use Rattle.rex_durable.specs.declared.records.Standing.{Standing}
 use Rattle.rex_durable.specs.Reading.{promised_at, accepted_at, known_at, checkpoint_at, dropped_at, transferred_at, content_at, record_at, record_in}
 use Rattle.rex_durable.proofs.Allowed.{next-true}
-use Rattle.rex_safety.specs.Values.{Value}
+use Rattle.rex_cluster.specs.Values.{Value}
 use Rattle.rex_world.specs.Agreed.{gives_next, instance_in, learned, learned_in, value_in}
 use Rattle.std.proofs.Math.ListN.{drop_of_length-le}
 use Rattle.std.proofs.Math.Seq.{drop-cons}

@@ -11,14 +11,14 @@ use Rattle.rex_msg.specs.declared.message.Content.{Content as Says}
 use Rattle.rex_msg.specs.declared.message.Content.TheVariants as says
 use Rattle.rex_msg.specs.Spelling as message
 use Rattle.rex_syntax.specs.declared.service.Declarations.{Declarations}
-use Rattle.rex_safety.specs.Records.{Proposal}
-use Rattle.rex_safety.specs.Quorum.{IsNode}
-use Rattle.rex_safety.specs.Node.{Content, Message}
-use Rattle.rex_safety.specs.Node.Content.{Promise, Accept, Chosen}
-use Rattle.rex_safety.specs.Invariant.{IsIn}
-use Rattle.rex_safety.specs.Ranges.{IsBallot, IsInstance, IsFirst, AreRising, ProposalFits, ContentFits, MessageFits}
-use Rattle.rex_safety.specs.Values.{Value, greatest_value}
-use Rattle.rex_safety.specs.World.{World}
+use Rattle.rex_cluster.specs.Records.{Proposal}
+use Rattle.rex_cluster.specs.Quorum.{IsNode}
+use Rattle.rex_cluster.specs.Node.{Content, Message}
+use Rattle.rex_cluster.specs.Node.Content.{Promise, Accept, Chosen}
+use Rattle.rex_cluster.specs.Invariant.{IsIn}
+use Rattle.rex_cluster.specs.Ranges.{IsBallot, IsInstance, IsFirst, AreRising, ProposalFits, ContentFits, MessageFits}
+use Rattle.rex_cluster.specs.Values.{Value, greatest_value}
+use Rattle.rex_cluster.specs.World.{World}
 use Rattle.rex_safety.specs.Laws.{NumbersFit, ValuesAreShort}
 use Rattle.rex_log.specs.Log.{first, proposal_in}
 use Rattle.rex_log.proofs.Firsts.{first_length}

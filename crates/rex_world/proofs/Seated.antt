@@ -4,11 +4,11 @@ use Rattle.std.specs.Prelude.{IfOk, Result, slice_index_or, slice_set}
 use Rattle.std.proofs.lemmas.Bool.{ne_eqb}
 use Rattle.std.proofs.lemmas.List.{get_or-set_same}
 use Rattle.rex_syntax.specs.declared.service.Declarations.{Declarations}
-use Rattle.rex_scenario.specs.Fits.{IsNode}
-use Rattle.rex_safety.specs.Invariant.{Begins}
-use Rattle.rex_safety.specs.Lanes.{Here, CallHere}
-use Rattle.rex_safety.specs.Values.{Value, service_of}
-use Rattle.rex_safety.specs.World.{node_at, put}
+use Rattle.rex_schedule.specs.Fits.{IsNode}
+use Rattle.rex_cluster.specs.Invariant.{Begins}
+use Rattle.rex_cluster.specs.Lanes.{Here, CallHere}
+use Rattle.rex_cluster.specs.Values.{Value, service_of}
+use Rattle.rex_cluster.specs.World.{node_at, put}
 use Rattle.rex_node.specs.declared.refusal.Refusal.{Refusal}
 use Rattle.rex_node.specs.declared.step.Step.{Step}
 use Rattle.rex_node.specs.Telling.{AreTold}

@@ -8,9 +8,9 @@ use Rattle.rex_report.specs.declared.effect.Effect.{Effect}
 use Rattle.rex_report.specs.declared.effect.Effect.TheVariants.{Sent}
 use Rattle.rex_msg.specs.declared.message.Message.{Message as Said}
 use Rattle.rex_msg.specs.Spelling.{HasSpelling, spelling_of}
-use Rattle.rex_safety.specs.Node.{Message, kind_of}
-use Rattle.rex_safety.specs.Values.{Value}
-use Rattle.rex_safety.specs.World.{sent_from}
+use Rattle.rex_cluster.specs.Node.{Message, kind_of}
+use Rattle.rex_cluster.specs.Values.{Value}
+use Rattle.rex_cluster.specs.World.{sent_from}
 use Rattle.rex_msg.specs.declared.message.Content.{Content as Says}
 use Rattle.rex_msg.specs.declared.message.Content.TheVariants as says
 use Rattle.rex_report.specs.declared.effect.MessageKind.{MessageKind}

@@ -8,12 +8,12 @@ use Rattle.rex_report.specs.declared.effect.Effect.{Effect}
 use Rattle.rex_msg.specs.declared.message.Message.{Message as Said}
 use Rattle.rex_state.specs.Value.{StateValue}
 use Rattle.rex_version.specs.declared.version.Version.{Version}
-use Rattle.rex_safety.specs.Records.{Rec, base, known, offset}
-use Rattle.rex_safety.specs.Node.{Failure, Service, is_active}
-use Rattle.rex_safety.specs.Node.Failure.{After}
-use Rattle.rex_safety.specs.Calls.{append, begin, checkpoint, drop_known, replay, say}
-use Rattle.rex_safety.specs.Values.{Value}
-use Rattle.rex_safety.specs.Lanes.{Here, CallHere, active_only, lane_turn, submit_request}
+use Rattle.rex_cluster.specs.Records.{Rec, base, known, offset}
+use Rattle.rex_cluster.specs.Node.{Failure, Service, is_active}
+use Rattle.rex_cluster.specs.Node.Failure.{After}
+use Rattle.rex_cluster.specs.Calls.{append, begin, checkpoint, drop_known, replay, say}
+use Rattle.rex_cluster.specs.Values.{Value}
+use Rattle.rex_cluster.specs.Lanes.{Here, CallHere, active_only, lane_turn, submit_request}
 use Rattle.rex_node.specs.declared.refusal.Refusal.{Refusal}
 use Rattle.rex_node.specs.declared.step.Step.{Step}
 use Rattle.rex_node.specs.Telling.{AreTold, IsTold}

@@ -10,28 +10,28 @@ use Rattle.rex_ballot.specs.Limits.{most_nodes}
 use Rattle.rex_syntax.specs.declared.request.Request.{Request}
 use Rattle.rex_syntax.specs.declared.service.Declarations.{Declarations}
 use Rattle.rex_msg.specs.Spelling.{IsMessage}
-use Rattle.rex_scenario.specs.declared.scenario.ScheduleLine.{ScheduleLine}
-use Rattle.rex_scenario.specs.declared.scenario.ScheduleLine.TheVariants as line
-use Rattle.rex_scenario.specs.Fits.{IsNode, LineFits}
+use Rattle.rex_schedule.specs.declared.scenario.ScheduleLine.{ScheduleLine}
+use Rattle.rex_schedule.specs.declared.scenario.ScheduleLine.TheVariants as line
+use Rattle.rex_schedule.specs.Fits.{IsNode, LineFits}
 use Rattle.rex_state.specs.Value.{StateValue}
-use Rattle.rex_safety.specs.Records.{known, offset}
-use Rattle.rex_safety.specs.Node.{Service, Message, is_active}
-use Rattle.rex_safety.specs.Calls as calls
-use Rattle.rex_safety.specs.Calls.{begin}
-use Rattle.rex_safety.specs.Values.{Value, values_fit, service_of}
+use Rattle.rex_cluster.specs.Records.{known, offset}
+use Rattle.rex_cluster.specs.Node.{Service, Message, is_active}
+use Rattle.rex_cluster.specs.Calls as calls
+use Rattle.rex_cluster.specs.Calls.{begin}
+use Rattle.rex_cluster.specs.Values.{Value, values_fit, service_of}
 use Rattle.rex_safety.proofs.Agreeing.{base_is_right, known_begins}
-use Rattle.rex_safety.proofs.Lists.{offset_known}
+use Rattle.rex_cluster.proofs.Lists.{offset_known}
 use Rattle.rex_log.specs.Log.{first}
 use Rattle.rex_log.proofs.Firsts.{first_longer, first_take}
 use Rattle.rex_node.specs.Restarting.{HasForgotten}
-use Rattle.rex_safety.specs.Lanes as lanes
-use Rattle.rex_safety.specs.Lanes.{Here, CallHere}
+use Rattle.rex_cluster.specs.Lanes as lanes
+use Rattle.rex_cluster.specs.Lanes.{Here, CallHere}
 use Rattle.rex_state.specs.Machine.{lane_of}
-use Rattle.rex_safety.specs.World.{World as ModelWorld, Row, node_at, logs, put, after, if_up, at_node}
-use Rattle.rex_safety.specs.Invariant.{Begins, IsIn, KeepsAll}
+use Rattle.rex_cluster.specs.World.{World as ModelWorld, Row, node_at, logs, put, after, if_up, at_node}
+use Rattle.rex_cluster.specs.Invariant.{Begins, IsIn, KeepsAll}
 use Rattle.rex_safety.specs.Kept.{roles, IsWorld, IsKept}
 use Rattle.rex_safety.proofs.Nodes.{node_put}
-use Rattle.rex_safety.proofs.Calls.{elect_good}
+use Rattle.rex_cluster.proofs.Calls.{elect_good}
 use Rattle.rex_safety.proofs.Worlds.{called}
 use Rattle.rex_safety.proofs.Steps.{cut_good}
 use Rattle.rex_safety.proofs.Nexts.{next_fits}

@@ -6,11 +6,11 @@ use Rattle.rex_state.specs.Value.{StateValue}
 use Rattle.rex_state.specs.Start.{start_of}
 use Rattle.rex_state.specs.Machine.{run}
 use Rattle.rex_report.specs.declared.effect.Effect.{Effect}
-use Rattle.rex_scenario.specs.declared.scenario.Scenario.{Scenario}
-use Rattle.rex_safety.specs.Values.{Value, trace_of, state_after, values_fit}
-use Rattle.rex_safety.specs.Agreed.{agreed}
-use Rattle.rex_safety.specs.Quorum.{IsNode}
-use Rattle.rex_safety.specs.World.{World as ModelWorld, beginning, after_lines}
+use Rattle.rex_schedule.specs.declared.scenario.Scenario.{Scenario}
+use Rattle.rex_cluster.specs.Values.{Value, trace_of, state_after, values_fit}
+use Rattle.rex_cluster.specs.Agreed.{agreed}
+use Rattle.rex_cluster.specs.Quorum.{IsNode}
+use Rattle.rex_cluster.specs.World.{World as ModelWorld, beginning, after_lines}
 use Rattle.rex_safety.specs.Keeping.{KeptValuesFit}
 use Rattle.rex_world.specs.declared.summary.Summary.{Summary}
 use Rattle.rex_world.specs.declared.world.World.{World}

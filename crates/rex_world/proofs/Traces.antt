@@ -4,10 +4,10 @@ use Rattle.std.proofs.lemmas.List.{length-take-le, take_more}
 use Rattle.rex_syntax.specs.declared.service.Declarations.{Declarations}
 use Rattle.rex_syntax.specs.declared.request.Request.{Request}
 use Rattle.rex_report.specs.Trace.{delta_text}
-use Rattle.rex_scenario.specs.declared.scenario.ScheduleLine.{ScheduleLine}
-use Rattle.rex_safety.specs.Values.{Value, delta_of}
-use Rattle.rex_scenario.specs.declared.scenario.Scenario.{Scenario}
-use Rattle.rex_safety.specs.World.{World as ModelWorld, after_lines}
+use Rattle.rex_schedule.specs.declared.scenario.ScheduleLine.{ScheduleLine}
+use Rattle.rex_cluster.specs.Values.{Value, delta_of}
+use Rattle.rex_schedule.specs.declared.scenario.Scenario.{Scenario}
+use Rattle.rex_cluster.specs.World.{World as ModelWorld, after_lines}
 use Rattle.rex_world.specs.declared.world.World.{World}
 use Rattle.rex_world.specs.Kept.{IsOf}
 use Rattle.rex_world.specs.World.{nodes_of, world_of}

@@ -8,20 +8,20 @@ use Rattle.rex_syntax.specs.declared.service.Declarations.{Declarations}
 use Rattle.rex_event.specs.declared.event.Event.{Event}
 use Rattle.rex_event.specs.Cuts.{below}
 use Rattle.rex_cut.specs.Greatest.{greatest_cut}
-use Rattle.rex_scenario.specs.Fits.{IsNode}
+use Rattle.rex_schedule.specs.Fits.{IsNode}
 use Rattle.rex_paxos.specs.Acceptor.{AcceptorValue}
 use Rattle.rex_paxos.specs.Proposer.{ProposerValue}
 use Rattle.rex_state.specs.Value.{StateValue}
 use Rattle.rex_state.specs.Start.{start_of}
 use Rattle.rex_state.specs.Machine.{lane_of}
-use Rattle.rex_safety.specs.Records.{known}
-use Rattle.rex_safety.specs.Node.{Lead, Role, Work}
-use Rattle.rex_safety.specs.Node.Role.{Leads}
-use Rattle.rex_safety.specs.Values.{Value, spells, runs, trace_of, state_after, values_fit}
-use Rattle.rex_safety.specs.Lanes.{Here, live_state, node_trace}
-use Rattle.rex_safety.specs.World.{node_at}
+use Rattle.rex_cluster.specs.Records.{known}
+use Rattle.rex_cluster.specs.Node.{Lead, Role, Work}
+use Rattle.rex_cluster.specs.Node.Role.{Leads}
+use Rattle.rex_cluster.specs.Values.{Value, spells, runs, trace_of, state_after, values_fit}
+use Rattle.rex_cluster.specs.Lanes.{Here, live_state, node_trace}
+use Rattle.rex_cluster.specs.World.{node_at}
 use Rattle.rex_safety.specs.Keeping.{AreCounts}
-use Rattle.rex_safety.proofs.Few.{counts_are_few}
+use Rattle.rex_cluster.proofs.Few.{counts_are_few}
 use Rattle.rex_safety.proofs.Nexts.{next_fits}
 use Rattle.rex_safety.proofs.Spelled.{kept_room, kept_cut}
 use Rattle.rex_node.specs.Parts.{ActingValue, IsActing, knows, role_of, work_of}

@@ -1,7 +1,7 @@
 -- How the agreed values grow.
 use Rattle.std.specs.Int.{w32, from_be_bytes}
 use Rattle.std.specs.Prelude.{◌==◌, ◌&&◌, ◌+◌, ℕ, Bool, List, [], ◌∷◌, ◌++◌, drop, fold, get_or, length, nat_le, take, if◌then◌else◌}
-use Rattle.rex_safety.specs.Values.{Value}
+use Rattle.rex_cluster.specs.Values.{Value}
 
 -- in the bytes of a known value's record its instance stands behind the kind, in 4 bytes; and the value behind its length, in 4 bytes more
 abbrev pub instance_in : List ℕ → ℕ

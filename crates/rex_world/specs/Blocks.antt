@@ -2,11 +2,11 @@
 use Rattle.std.specs.Prelude.{◌≡◌, ℕ, List, [], ◌∷◌, length, Result, OnOk, OnErr}
 use Rattle.rex_syntax.specs.declared.service.Declarations.{Declarations}
 use Rattle.rex_event.specs.declared.event.Event.{Event}
-use Rattle.rex_safety.specs.Values.{Value}
-use Rattle.rex_safety.specs.Lanes.{Here}
-use Rattle.rex_safety.specs.Takes.{Doing}
-use Rattle.rex_safety.specs.Takes.Doing.{Takes}
-use Rattle.rex_safety.specs.World.{node_at, put}
+use Rattle.rex_cluster.specs.Values.{Value}
+use Rattle.rex_cluster.specs.Lanes.{Here}
+use Rattle.rex_cluster.specs.Takes.{Doing}
+use Rattle.rex_cluster.specs.Takes.Doing.{Takes}
+use Rattle.rex_cluster.specs.World.{node_at, put}
 use Rattle.rex_node.specs.declared.refusal.Refusal.{Refusal}
 use Rattle.rex_node.specs.Blocks.{take_each}
 use Rattle.rex_node.specs.Calls.{LeadsTo, Refuses, refusal_active}

@@ -6,17 +6,17 @@ use Rattle.rex_syntax.specs.declared.service.Declarations.{Declarations}
 use Rattle.rex_report.specs.declared.effect.Effect.{Effect}
 use Rattle.rex_report.specs.declared.effect.Effect.TheVariants as effect
 use Rattle.rex_state.specs.Value.{StateValue}
-use Rattle.rex_safety.specs.Records.{known, promise}
-use Rattle.rex_safety.specs.Node.{Service, is_active}
-use Rattle.rex_safety.specs.Calls.{begin, migrate, say, start}
-use Rattle.rex_safety.specs.Values.{Value, values_fit}
-use Rattle.rex_safety.specs.Lanes.{Here, CallHere}
+use Rattle.rex_cluster.specs.Records.{known, promise}
+use Rattle.rex_cluster.specs.Node.{Service, is_active}
+use Rattle.rex_cluster.specs.Calls.{begin, migrate, say, start}
+use Rattle.rex_cluster.specs.Values.{Value, values_fit}
+use Rattle.rex_cluster.specs.Lanes.{Here, CallHere}
 use Rattle.rex_syntax.specs.declared.request.Request.{Request}
-use Rattle.rex_scenario.specs.declared.scenario.ScheduleLine.{ScheduleLine}
-use Rattle.rex_scenario.specs.declared.scenario.ScheduleLine.TheVariants.{Cut, CutBelow, Deliver, Flush, KeepFail}
-use Rattle.rex_safety.specs.World.{World as ModelWorld, Row, node_at, step, steps, sent_from}
-use Rattle.rex_safety.specs.Reading.{seen_by_releases, stamp_at}
-use Rattle.rex_safety.specs.Releases.{IsAmong}
+use Rattle.rex_schedule.specs.declared.scenario.ScheduleLine.{ScheduleLine}
+use Rattle.rex_schedule.specs.declared.scenario.ScheduleLine.TheVariants.{Cut, CutBelow, Deliver, Flush, KeepFail}
+use Rattle.rex_cluster.specs.World.{World as ModelWorld, Row, node_at, step, steps, sent_from}
+use Rattle.rex_cluster.specs.Reading.{seen_by_releases, stamp_at}
+use Rattle.rex_cluster.specs.Releases.{IsAmong}
 use Rattle.rex_msg.specs.declared.message.Message.{Message as Sent}
 use Rattle.rex_msg.specs.Spelling.{HasSpelling, IsMessage, spelling_of}
 use Rattle.rex_node.specs.declared.refusal.Refusal.{Refusal}

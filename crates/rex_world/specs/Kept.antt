@@ -5,9 +5,9 @@ use Rattle.rex_ballot.specs.Limits.{most_nodes}
 use Rattle.rex_syntax.specs.declared.service.Declarations.{Declarations}
 use Rattle.rex_syntax.specs.Service.{IsService}
 use Rattle.rex_syntax.specs.Check.{IsChecked}
-use Rattle.rex_scenario.specs.Fits.{RequestFits}
-use Rattle.rex_scenario.specs.declared.scenario.Scenario.{Scenario}
-use Rattle.rex_safety.specs.Agreed.{agreed}
+use Rattle.rex_schedule.specs.Fits.{RequestFits}
+use Rattle.rex_schedule.specs.declared.scenario.Scenario.{Scenario}
+use Rattle.rex_cluster.specs.Agreed.{agreed}
 use Rattle.rex_safety.specs.Kept.{IsKept}
 use Rattle.rex_world.specs.declared.world.World.{World}
 use Rattle.rex_world.specs.Seats.{AreSeats, AreWithin}

@@ -11,23 +11,23 @@ use Rattle.rex_state.specs.Value.{StateValue}
 use Rattle.rex_state.specs.Start.{start_of}
 use Rattle.rex_state.specs.Machine.{run}
 use Rattle.rex_state.specs.Commute.{GoesFirst}
-use Rattle.rex_scenario.specs.declared.scenario.ScheduleLine.{ScheduleLine}
-use Rattle.rex_scenario.specs.declared.scenario.ScheduleLine.TheVariants.{ReadVariable}
-use Rattle.rex_scenario.specs.Fits.{RequestFits}
+use Rattle.rex_schedule.specs.declared.scenario.ScheduleLine.{ScheduleLine}
+use Rattle.rex_schedule.specs.declared.scenario.ScheduleLine.TheVariants.{ReadVariable}
+use Rattle.rex_schedule.specs.Fits.{RequestFits}
 use Rattle.rex_reduce.specs.Reduced.{AreLeast}
 use Rattle.rex_order.specs.Laws.{CutRunsAlike, AllowExtensions}
 use Rattle.rex_order.specs.Edges.{HasEdge}
 use Rattle.rex_report.specs.declared.effect.Effect.TheVariants.{Released}
-use Rattle.rex_safety.specs.Quorum.{IsNode}
+use Rattle.rex_cluster.specs.Quorum.{IsNode}
 use Rattle.rex_safety.specs.Rounds.{greatest_round, NoneIsSpent}
-use Rattle.rex_safety.specs.Values.{Value, delta_of, trace_of}
-use Rattle.rex_safety.specs.Invariant.{IsIn, Begins}
-use Rattle.rex_safety.specs.World.{node_at, beginning, effects_of}
-use Rattle.rex_safety.specs.Agreed.{world_after, known_at, agreed, trace_at}
-use Rattle.rex_safety.specs.Lanes.{node_trace}
+use Rattle.rex_cluster.specs.Values.{Value, delta_of, trace_of}
+use Rattle.rex_cluster.specs.Invariant.{IsIn, Begins}
+use Rattle.rex_cluster.specs.World.{node_at, beginning, effects_of}
+use Rattle.rex_cluster.specs.Agreed.{world_after, known_at, agreed, trace_at}
+use Rattle.rex_cluster.specs.Lanes.{node_trace}
 use Rattle.rex_safety.specs.Once.{IsOnce}
-use Rattle.rex_safety.specs.Releases.{Moment, moments, IsAmong, IsReleased, IsLeader, IsLater}
-use Rattle.rex_safety.specs.Stands.{Stands}
+use Rattle.rex_cluster.specs.Releases.{Moment, moments, IsAmong, IsReleased, IsLeader, IsLater}
+use Rattle.rex_cluster.specs.Stands.{Stands}
 use Rattle.rex_safety.specs.Seeing.{IsTold, ReportsWhatIsTold, TellsAgreed}
 
 -- a front of the schedule is the world after it

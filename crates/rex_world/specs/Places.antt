@@ -4,11 +4,11 @@ use Rattle.rex_syntax.specs.declared.service.Declarations.{Declarations}
 use Rattle.rex_event.specs.declared.event.Event.{Event}
 use Rattle.rex_record.specs.declared.turns.Turn.{Turn}
 use Rattle.rex_traits.specs.declared.mem_keeper.Fate.{Fate}
-use Rattle.rex_safety.specs.Lanes.{Here, CallHere}
-use Rattle.rex_safety.specs.Takes.{taken, taken_in}
-use Rattle.rex_safety.specs.Invariant.{Begins}
-use Rattle.rex_safety.specs.Values.{Value, service_of}
-use Rattle.rex_safety.specs.World.{node_at, put}
+use Rattle.rex_cluster.specs.Lanes.{Here, CallHere}
+use Rattle.rex_cluster.specs.Takes.{taken, taken_in}
+use Rattle.rex_cluster.specs.Invariant.{Begins}
+use Rattle.rex_cluster.specs.Values.{Value, service_of}
+use Rattle.rex_cluster.specs.World.{node_at, put}
 use Rattle.rex_node.specs.declared.refusal.Refusal.{Refusal}
 use Rattle.rex_node.specs.declared.step.Step.{Step}
 use Rattle.rex_node.specs.Telling.{AreTold}

@@ -8,14 +8,14 @@ use Rattle.rex_report.specs.declared.ends.End.TheVariants.{Up, Down}
 use Rattle.rex_report.specs.declared.ends.UpEnd.{UpEnd}
 use Rattle.rex_report.specs.Rows.{row_text}
 use Rattle.rex_report.specs.Ends.{end_text}
-use Rattle.rex_scenario.specs.declared.scenario.Scenario.{Scenario}
-use Rattle.rex_scenario.specs.declared.scenario.ScheduleLine.{ScheduleLine}
-use Rattle.rex_safety.specs.Records.{promise, known}
-use Rattle.rex_safety.specs.Node.{role_name, is_active}
-use Rattle.rex_safety.specs.Values.{Value, trace_of, state_after}
+use Rattle.rex_schedule.specs.declared.scenario.Scenario.{Scenario}
+use Rattle.rex_schedule.specs.declared.scenario.ScheduleLine.{ScheduleLine}
+use Rattle.rex_cluster.specs.Records.{promise, known}
+use Rattle.rex_cluster.specs.Node.{role_name, is_active}
+use Rattle.rex_cluster.specs.Values.{Value, trace_of, state_after}
 use Rattle.rex_state.specs.Value.{StateValue}
-use Rattle.rex_safety.specs.Lanes.{Here, live_state}
-use Rattle.rex_safety.specs.World.{World, beginning, row}
+use Rattle.rex_cluster.specs.Lanes.{Here, live_state}
+use Rattle.rex_cluster.specs.World.{World, beginning, row}
 use Rattle.rex_node.specs.Parts as parts
 use Rattle.rex_node.specs.Parts.{NodeValue, IsNode, role_of, work_of}
 use Rattle.rex_world.specs.declared.seats.Seat.{Seat}

@@ -1,8 +1,8 @@
 -- What a run leaves of a world.
 use Rattle.std.specs.Prelude.{◌≡◌, ◌+◌, length}
 use Rattle.rex_syntax.specs.declared.service.Declarations.{Declarations}
-use Rattle.rex_scenario.specs.declared.scenario.Scenario.{Scenario}
-use Rattle.rex_safety.specs.World.{after_lines}
+use Rattle.rex_schedule.specs.declared.scenario.Scenario.{Scenario}
+use Rattle.rex_cluster.specs.World.{after_lines}
 use Rattle.rex_world.specs.declared.world.World.{World}
 use Rattle.rex_world.specs.Kept.{IsRunning, IsSame}
 use Rattle.rex_world.specs.World.{world_of}

@@ -5,11 +5,11 @@ use Rattle.rex_traits.specs.Keeping.{KeeperValue, armed_to, unused_keeper}
 use Rattle.rex_traits.specs.Stores.{StoreValue, fresh_store}
 use Rattle.rex_traits.specs.declared.mem_keeper.Fate.{Fate}
 use Rattle.rex_traits.specs.declared.mem_keeper.Fate.TheVariants.{Kept, Lost}
-use Rattle.rex_safety.specs.Node.{Failure, down_node}
-use Rattle.rex_safety.specs.Node.Failure.{After}
-use Rattle.rex_safety.specs.Invariant.{Begins}
-use Rattle.rex_safety.specs.Lanes.{Here}
-use Rattle.rex_safety.specs.Values.{Value}
+use Rattle.rex_cluster.specs.Node.{Failure, down_node}
+use Rattle.rex_cluster.specs.Node.Failure.{After}
+use Rattle.rex_cluster.specs.Invariant.{Begins}
+use Rattle.rex_cluster.specs.Lanes.{Here}
+use Rattle.rex_cluster.specs.Values.{Value}
 use Rattle.rex_log.specs.Log.{AreRead, log_of}
 use Rattle.rex_node.specs.Parts.{NodeValue, IsNode, here_of}
 use Rattle.rex_node.specs.Stated.{AreStated}
@@ -51,6 +51,10 @@ abbrev pub keeper_in : {S : Type 0} → Seat S → KeeperValue
 keeper_in (Running node) = node.keeper
 keeper_in (Stopped keeper) = keeper
 keeper_in Empty = unused_keeper
+
+-- the same keeper, which needn't be reopened
+abbrev pub reopened : KeeperValue → KeeperValue
+reopened k = record k { broken = false }
 
 -- the records of the node of this number
 abbrev pub records_at : {S : Type 0} → List (Seat S) → ℕ → List (List ℕ)

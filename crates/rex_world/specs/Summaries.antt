@@ -3,11 +3,11 @@ use Rattle.std.specs.Prelude.{Bool, true, false, List, filter, length}
 use Rattle.rex_syntax.specs.declared.service.Declarations.{Declarations}
 use Rattle.rex_report.specs.declared.effect.Effect.{Effect}
 use Rattle.rex_report.specs.declared.effect.Effect.TheVariants.{Released}
-use Rattle.rex_scenario.specs.declared.scenario.Scenario.{Scenario}
-use Rattle.rex_scenario.specs.declared.scenario.ScheduleLine.{ScheduleLine}
-use Rattle.rex_safety.specs.Values.{trace_of, state_after}
-use Rattle.rex_safety.specs.Agreed.{agreed, world_after}
-use Rattle.rex_safety.specs.World.{World, beginning, effects_of}
+use Rattle.rex_schedule.specs.declared.scenario.Scenario.{Scenario}
+use Rattle.rex_schedule.specs.declared.scenario.ScheduleLine.{ScheduleLine}
+use Rattle.rex_cluster.specs.Values.{trace_of, state_after}
+use Rattle.rex_cluster.specs.Agreed.{agreed, world_after}
+use Rattle.rex_cluster.specs.World.{World, beginning, effects_of}
 use Rattle.rex_world.specs.declared.summary.Summary.{Summary}
 
 -- the effect is the release of a reply

@@ -2,9 +2,9 @@
 use Rattle.std.specs.Prelude.{ℕ, suc, List, [], ◌∷◌, ◌++◌}
 use Rattle.rex_syntax.specs.declared.service.Declarations.{Declarations}
 use Rattle.rex_report.specs.Trace.{delta_text}
-use Rattle.rex_scenario.specs.declared.scenario.Scenario.{Scenario}
-use Rattle.rex_safety.specs.Values.{Value, delta_of}
-use Rattle.rex_safety.specs.Agreed.{agreed, world_after}
+use Rattle.rex_schedule.specs.declared.scenario.Scenario.{Scenario}
+use Rattle.rex_cluster.specs.Values.{Value, delta_of}
+use Rattle.rex_cluster.specs.Agreed.{agreed, world_after}
 
 -- the lines of agreed values, of which the first has this instance
 abbrev pub values_text : Declarations → ℕ → List Value → List ℕ

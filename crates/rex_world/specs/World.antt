@@ -4,10 +4,10 @@ use Rattle.rex_syntax.specs.declared.service.Declarations.{Declarations}
 use Rattle.rex_msg.specs.declared.message.Message.{Message as Sent}
 use Rattle.rex_msg.specs.Spelling.{HasSpelling, spelling_of}
 use Rattle.rex_msg.specs.Reading.{message_in as read_in}
-use Rattle.rex_safety.specs.Node.{Message}
-use Rattle.rex_safety.specs.Node.Content.{Ask}
-use Rattle.rex_safety.specs.Values.{Value}
-use Rattle.rex_safety.specs.World.{World as ModelWorld}
+use Rattle.rex_cluster.specs.Node.{Message}
+use Rattle.rex_cluster.specs.Node.Content.{Ask}
+use Rattle.rex_cluster.specs.Values.{Value}
+use Rattle.rex_cluster.specs.World.{World as ModelWorld}
 use Rattle.rex_log.specs.Messages.{message_in}
 use Rattle.rex_node.specs.Telling.{IsTold}
 use Rattle.rex_world.specs.declared.world.World.{World}

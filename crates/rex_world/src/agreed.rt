@@ -1,9 +1,9 @@
 //! What the nodes of a world agreed on. The world keeps it: it grows by what the records of nodes say that they know.
 
 ghost use Rattle.std.specs.Prelude.{◌≡◌, ◌≤◌, drop, length, IfOk, OnOk};
-ghost use Rattle.rex_scenario.specs.Fits.{IsNode};
+ghost use Rattle.rex_schedule.specs.Fits.{IsNode};
 ghost use Rattle.rex_syntax.specs.declared.service.Declarations.{Declarations};
-ghost use Rattle.rex_safety.specs.Agreed as model;
+ghost use Rattle.rex_cluster.specs.Agreed as model;
 ghost use Rattle.rex_world.specs.Agreed as specs;
 ghost use Rattle.rex_world.specs.Agreed.{learned, learned_in};
 ghost use Rattle.rex_world.specs.Calls.{CanBeTold, IsSettled};

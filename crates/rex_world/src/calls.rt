@@ -3,8 +3,8 @@
 ghost use Rattle.std.specs.Prelude.{◌≡◌, ◌++◌, ◌∷◌, [], suc, length, map, IfOk, OnOk};
 ghost use Rattle.std.specs.List.{All};
 ghost use Rattle.rex_msg.specs.Spelling.{IsMessage, HasSpelling, spelling_of};
-ghost use Rattle.rex_safety.specs.Node as model;
-ghost use Rattle.rex_safety.specs.Reading as reading;
+ghost use Rattle.rex_cluster.specs.Node as model;
+ghost use Rattle.rex_cluster.specs.Reading as reading;
 ghost use Rattle.rex_log.specs.Messages.{content_in};
 ghost use Rattle.rex_world.specs.Calls as calls;
 ghost use Rattle.rex_world.specs.Calls.{Sends};

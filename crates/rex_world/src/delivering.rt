@@ -1,8 +1,8 @@
 //! How messages are handed over.
 
 ghost use Rattle.std.specs.Prelude.{◌≡◌, ◌<◌, length, IfOk, OnOk};
-ghost use Rattle.rex_safety.specs.World as model;
-ghost use Rattle.rex_scenario.specs.declared.scenario.ScheduleLine.TheVariants as line;
+ghost use Rattle.rex_cluster.specs.World as model;
+ghost use Rattle.rex_schedule.specs.declared.scenario.ScheduleLine.TheVariants as line;
 ghost use Rattle.rex_world.specs.World.{nodes_of, world_of};
 ghost use Rattle.rex_world.specs.Kept.{IsRunning, IsSame};
 ghost use Rattle.rex_world.specs.Calls.{Did, DidSteps};

@@ -3,7 +3,7 @@
 ghost use Rattle.std.specs.Prelude.{◌≡◌, ◌<◌, ◌≤◌, ◌-◌, true, length, slice_set, IfOk, OnOk};
 ghost use Rattle.std.specs.List.{All};
 ghost use Rattle.rex_msg.specs.Spelling.{HasSpelling, spelling_of};
-ghost use Rattle.rex_scenario.specs.declared.scenario.ScheduleLine.TheVariants as line;
+ghost use Rattle.rex_schedule.specs.declared.scenario.ScheduleLine.TheVariants as line;
 ghost use Rattle.rex_world.specs.Kept.{IsRunning};
 ghost use Rattle.rex_world.specs.World.{IsSpelled};
 ghost use Rattle.rex_world.specs.Calls.{Comes};

@@ -1,8 +1,8 @@
 //! A run whose report isn't written.
 
 ghost use Rattle.std.specs.Prelude.{◌≡◌, ◌<◌, ◌+◌, ◌^◌, ◌++◌, filter, length, IfOk, OnOk};
-ghost use Rattle.rex_scenario.specs.Fits.{ScenarioFits};
-ghost use Rattle.rex_safety.specs.World.{after_lines};
+ghost use Rattle.rex_schedule.specs.Fits.{ScenarioFits};
+ghost use Rattle.rex_cluster.specs.World.{after_lines};
 ghost use Rattle.rex_world.specs.Kept.{IsOf, IsRunning};
 ghost use Rattle.rex_world.specs.Summaries as spec;
 ghost use Rattle.rex_world.specs.World.{world_of};
@@ -11,7 +11,7 @@ use crate::world::World;
 use rex_event::{Event, Kind};
 use rex_replay::Replayer;
 use rex_report::Effect;
-use rex_scenario::Scenario;
+use rex_schedule::Scenario;
 use rex_syntax::checked::Checked;
 use rex_traits::Store;
 use std::alloc::AllocError;

@@ -1,21 +1,21 @@
 //! The places of nodes: a node that was started, or the keeper of one that was stopped.
 
-ghost use Rattle.std.specs.Prelude.{◌≡◌, ◌<◌, ◌≤◌, ◌+◌, ◌^◌, ◌∷◌, ◌++◌, [], length, true, Some, IfOk, IfErr};
+ghost use Rattle.std.specs.Prelude.{◌≡◌, ◌<◌, ◌≤◌, ◌+◌, ◌^◌, ◌∷◌, ◌++◌, [], length, true, false, Some, IfOk, IfErr};
 ghost use Rattle.std.specs.Option.{option_copied};
 ghost use Rattle.rex_ballot.specs.Limits.{most_nodes};
 ghost use Rattle.rex_msg.specs.Spelling.{HasSpelling};
 ghost use Rattle.rex_version.specs.Versions.{has_version};
-ghost use Rattle.rex_scenario.specs.Fits.{RequestFits};
+ghost use Rattle.rex_schedule.specs.Fits.{RequestFits};
 ghost use Rattle.rex_state.specs.Machine.{lane_of, run};
 ghost use Rattle.rex_state.specs.Counts.{AreCounted};
-ghost use Rattle.rex_safety.specs.Node.{is_active};
-ghost use Rattle.rex_safety.specs.Invariant.{Begins};
-ghost use Rattle.rex_safety.specs.Records.{known, promise};
-ghost use Rattle.rex_safety.specs.Calls as calls;
-ghost use Rattle.rex_safety.specs.Calls.{begin};
-ghost use Rattle.rex_safety.specs.Lanes as lanes;
-ghost use Rattle.rex_safety.specs.Ranges.{MessageFits};
-ghost use Rattle.rex_safety.specs.Values.{service_of};
+ghost use Rattle.rex_cluster.specs.Node.{is_active};
+ghost use Rattle.rex_cluster.specs.Invariant.{Begins};
+ghost use Rattle.rex_cluster.specs.Records.{known, promise};
+ghost use Rattle.rex_cluster.specs.Calls as calls;
+ghost use Rattle.rex_cluster.specs.Calls.{begin};
+ghost use Rattle.rex_cluster.specs.Lanes as lanes;
+ghost use Rattle.rex_cluster.specs.Ranges.{MessageFits};
+ghost use Rattle.rex_cluster.specs.Values.{service_of};
 ghost use Rattle.rex_node.specs.Calls.{AreLimits, CanBeCut, counts_for};
 ghost use Rattle.rex_node.specs.Going.{RunsOn};
 ghost use Rattle.rex_log.specs.Messages.{content_in, message_in};
@@ -92,6 +92,7 @@ fn come_back<P: Past, S: Store>(
     ensures back { IfOk result (CameBack (service_of svc.now seed) number (here_at svc.now P.past node.old) (here_at svc.now P.past node.new)) }
     ensures memory { IfErr result (λ e. e ≡ Refusal.OutOfMemory) }
     ensures stays { IsWhole result → StaysRunner svc.now P.past seed nodes number node.old node.new }
+    ensures whole { IsWhole result → node.old.keeper.broken ≡ false → node.new.up ≡ true → node.new.keeper.broken ≡ false }
 {
     let step = started::<P, S>(alloc, svc, seed, nodes, number, node)?;
     if !node.has_old_base() {
@@ -433,6 +434,7 @@ impl<S: Store> Seat<S> {
         requires seat { IsSeat svc.now P.past seed nodes number self.old }
         requires runs { Starts svc.now P.past (here_in svc.now P.past self.old) }
         ensures starts { IsStarted (service_of svc.now seed) number (here_in svc.now P.past self.old) (here_in svc.now P.past self.new) result }
+        ensures whole { IsWhole result → is_up_in self.old ≡ false → is_up_in self.new ≡ true → (keeper_in self.new).broken ≡ false }
         ensures seat { IsWhole result → StaysSeat svc.now P.past seed nodes number self.old self.new }
     {
         if self.is_up() {

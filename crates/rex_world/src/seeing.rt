@@ -2,10 +2,10 @@
 
 ghost use Rattle.std.specs.Prelude.{◌≡◌, ◌≤◌, ◌∷◌, [], true, length, replicate, IfOk};
 ghost use Rattle.rex_reads.specs.Reads.{seen_after};
-ghost use Rattle.rex_safety.specs.Node.{is_active};
-ghost use Rattle.rex_safety.specs.Reading.{read_at, released_to, seen_by_release, seen_by_releases, seen_more, stamp_at};
-ghost use Rattle.rex_safety.specs.World.{node_at};
-ghost use Rattle.rex_scenario.specs.Fits.{IsNode};
+ghost use Rattle.rex_cluster.specs.Node.{is_active};
+ghost use Rattle.rex_cluster.specs.Reading.{read_at, released_to, seen_by_release, seen_by_releases, seen_more, stamp_at};
+ghost use Rattle.rex_cluster.specs.World.{node_at};
+ghost use Rattle.rex_schedule.specs.Fits.{IsNode};
 ghost use Rattle.rex_world.specs.Calls.{AreReleased, CanBeTold, seen_by};
 ghost use Rattle.rex_world.specs.Seats.{IsSeat, here_in, heres};
 ghost use Rattle.rex_world.specs.World.{nodes_of};

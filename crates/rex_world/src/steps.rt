@@ -1,8 +1,8 @@
 //! The steps that a seat makes of what its node answered.
 
 ghost use Rattle.std.specs.Prelude.{◌≡◌, ◌∷◌, ◌++◌, [], IfOk, IfErr};
-ghost use Rattle.rex_safety.specs.Lanes as lanes;
-ghost use Rattle.rex_safety.specs.Lanes.{effect_of};
+ghost use Rattle.rex_cluster.specs.Lanes as lanes;
+ghost use Rattle.rex_cluster.specs.Lanes.{effect_of};
 ghost use Rattle.rex_world.specs.Calls.{TellsOf};
 
 use rex_event::{Event, Kind};

@@ -1,7 +1,7 @@
 //! What a run comes to, in numbers.
 
 ghost use Rattle.std.specs.Prelude.{◌≡◌, IfOk};
-ghost use Rattle.rex_scenario.specs.Fits.{ScenarioFits};
+ghost use Rattle.rex_schedule.specs.Fits.{ScenarioFits};
 ghost use Rattle.rex_world.specs.Summaries as spec;
 
 use crate::world::World;
@@ -9,7 +9,7 @@ use rex_list::List;
 use rex_node::replay_values;
 use rex_replay::Replayer;
 use rex_safety::laws::kept_values_fit;
-use rex_scenario::Scenario;
+use rex_schedule::Scenario;
 use rex_state::state::State;
 use rex_syntax::checked::Checked;
 use std::alloc::{AllocError, Global};

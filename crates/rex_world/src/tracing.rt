@@ -2,10 +2,10 @@
 
 ghost use Rattle.std.specs.Prelude.{◌≡◌, ◌≤◌, ◌++◌, length, IfOk, OnOk};
 ghost use Rattle.rex_report.specs.Trace.{delta_text};
-ghost use Rattle.rex_scenario.specs.Fits.{ScenarioFits};
-ghost use Rattle.rex_safety.specs.Agreed.{agreed};
-ghost use Rattle.rex_safety.specs.Values as values;
-ghost use Rattle.rex_safety.specs.Values.{delta_of};
+ghost use Rattle.rex_schedule.specs.Fits.{ScenarioFits};
+ghost use Rattle.rex_cluster.specs.Agreed.{agreed};
+ghost use Rattle.rex_cluster.specs.Values as values;
+ghost use Rattle.rex_cluster.specs.Values.{delta_of};
 ghost use Rattle.rex_world.specs.Kept.{IsRunning};
 ghost use Rattle.rex_world.specs.Tracing.{trace_text, values_text};
 ghost use Rattle.rex_world.specs.World.{world_of};
@@ -17,7 +17,7 @@ use rex_event::Delta;
 use rex_list::List;
 use rex_replay::Replayer;
 use rex_report::push_delta;
-use rex_scenario::Scenario;
+use rex_schedule::Scenario;
 use rex_syntax::checked::Checked;
 use rex_syntax::service::Declarations;
 use rex_traits::Store;

@@ -15,8 +15,8 @@ use Rattle.rex_event.specs.Order.{Has}
 use Rattle.rex_state.specs.Start.{start_of}
 use Rattle.rex_state.specs.Machine.{run}
 use Rattle.rex_scenario.specs.Beyond.{IsPlain}
-use Rattle.rex_scenario.specs.Fits.{RequestFits}
-use Rattle.rex_safety.specs.Takes.{KindBeginsInRange, BeginsInRange}
+use Rattle.rex_schedule.specs.Fits.{RequestFits}
+use Rattle.rex_cluster.specs.Takes.{KindBeginsInRange, BeginsInRange}
 use Rattle.rex_words.specs.declared.assignment.Assignment.{Assignment}
 use Rattle.rex_words.specs.declared.seat.WordSeat.{WordSeat}
 use Rattle.rex_words.specs.declared.stamped.Stamped.{Stamped}

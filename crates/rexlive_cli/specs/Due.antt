@@ -5,7 +5,7 @@ use Rattle.rex_parse.specs.After.{service_of}
 use Rattle.rex_event.specs.declared.event.Event.{Event}
 use Rattle.rex_scenario.specs.Beyond.{beyond_words}
 use Rattle.rex_scenario.specs.Reading.{unscheduled_answer_of, scenario_of}
-use Rattle.rex_scenario.specs.declared.scenario.Scenario.{Scenario}
+use Rattle.rex_schedule.specs.declared.scenario.Scenario.{Scenario}
 use Rattle.rex_scenario.specs.declared.scenario.ScenarioCode.{ScenarioCode}
 use Rattle.rex_scenario.specs.declared.scenario.Sections.{Sections}
 use Rattle.rex_lockset.specs.Refusal.{refusal_of}

@@ -1,6 +1,6 @@
 //! The top call.
 
-ghost use Rattle.std.specs.Prelude.{◌≡◌, ◌≤◌, ◌<◌, ◌⊎◌, ℕ, IfOk, IfSome, IsErrOf, Some, None, map, string_bytes};
+ghost use Rattle.std.specs.Prelude.{◌≡◌, ◌≤◌, ◌<◌, ◌+◌, ◌⊎◌, ℕ, IfOk, IfSome, IsErrOf, Some, None, map, string_bytes};
 ghost use Rattle.std.specs.Io.KnownBytes.{IsAtEnd};
 ghost use Rattle.rex_traits.specs.Causes.{Rose};
 ghost use Rattle.rex_syntax.specs.declared.service.Declarations.{Declarations};
@@ -36,6 +36,7 @@ fn read_and_answer<R: Threads + Sync, W: Wait + Sync, S: Source, G: Gate + Sync>
     ensures low { IfOk result (λ a. a.status < 4) }
     ensures used { IfOk result (λ a. a.status ≡ 2 → ⊥) }
     ensures later { S.faults source.old ≤ S.faults source.new }
+    ensures reads { S.calls source.new ≤ S.calls source.old + 4194305 }
     ensures failed { IsErrOf result fault.Failed → Rose (S.faults source.old) (S.faults source.new) }
 {
     match read_input(alloc, source) {
@@ -60,6 +61,7 @@ fn play_input<R: Threads + Sync, W: Wait + Sync, S: Source, K: Sink, G: Gate + S
     ensures run { IfSome (S.left source.old) (λ input. GivesSome (due.IsDue recording input) (K.held sink.old) (K.held sink.new) result) }
     ensures causes { result < 4 → IfSome (S.left source.old) (λ input. IsCaused (played_service recording input) result) }
     ensures whole { result ≡ 0 → IsAtEnd (S.left source.new) }
+    ensures reads { S.calls source.new ≤ S.calls source.old + 4194305 }
     ensures read_fault { result ≡ 4 → Rose (S.faults source.old) (S.faults source.new) }
     ensures write_fault { result ≡ 5 → Rose (K.faults sink.old) (K.faults sink.new) }
     ensures known { result ≤ 6 }
@@ -107,6 +109,9 @@ pub fn live_main<R: Threads + Sync, W: Wait + Sync, S: Source, K: Sink, G: Gate 
 
     // At 0 the input was read to its end.
     ensures whole { result ≡ 0 → IsAtEnd (S.left source.new) }
+
+    // At most 4,194,305 reads are made.
+    ensures reads { S.calls source.new ≤ S.calls source.old + 4194305 }
 
     // A fault is answered only where it was counted.
     ensures read_fault { result ≡ 4 → Rose (S.faults source.old) (S.faults source.new) }

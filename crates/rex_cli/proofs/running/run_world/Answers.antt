@@ -1,7 +1,7 @@
 use Rattle.std.proofs.Common.{ℕ, List, refl, ap, subst, arith}
 use Rattle.std.specs.Io.KnownBytes.{Appends}
 use Rattle.rex_streams.specs.Front.{AppendsFront}
-use Rattle.rex_safety.specs.World.{World as ModelWorld}
+use Rattle.rex_cluster.specs.World.{World as ModelWorld}
 use Rattle.rex_world.specs.Report.{report_from}
 use Rattle.rex_cli.proofs.running.run_world.Goals as goal
 

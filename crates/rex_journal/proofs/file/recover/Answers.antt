@@ -2,8 +2,10 @@ use Rattle.std.proofs.Common.{IsTrue, [], ◌∷◌, ◌++◌, sym, ◌∙◌, a
 use Rattle.rex_journal.specs.Journal.{StandsFor}
 use Rattle.rex_journal.specs.Opening.{IsFound}
 use Rattle.rex_journal.proofs.Closing.{closing_keeps, found_front}
-use Rattle.rex_journal.proofs.Making.{goes_ends, goes_then, opens_failed}
+use Rattle.rex_journal.proofs.Making.{goes_then, looks_go, opens_failed, write_ends}
 use Rattle.rex_journal.proofs.Moments.{moves_on, widen}
+use Rattle.rex_journal.proofs.Refusing.{fails_good}
+use Rattle.rex_journal.proofs.BytesLaws.{bad_none}
 use Rattle.rex_journal.proofs.file.recover.Goals as goal
 
 pub returns-in_err-close_gate-clause-any_moment : goal.returns-in_err-close_gate-clause-any_moment
@@ -42,7 +44,12 @@ returns-clause-settled g c = record {
 
 pub returns-in_err-close_gate-clause-calls : goal.returns-in_err-close_gate-clause-calls
 returns-in_err-close_gate-clause-calls g c = opens_failed g.D.Disk.gives c.args.disk.now c.close_gate.new.disk c.from_residual-in_err-close_gate.result c.from_residual-in_err-close_gate.ensures.1
-    (goes_ends g.D.Disk.gives c.args.disk.now c.read_synced.new.disk c.close_gate.new.disk c.in_ok-bytes.ensures.calls c.in_err-close_gate.ensures.calls)
+    (write_ends g.D.Disk.gives c.in_ok-found.found.gate c.args.disk.now c.read_synced.new.disk c.close_gate.new.disk c.in_ok-bytes.ensures.calls c.in_err-close_gate.ensures.calls)
 
 pub returns-clause-calls : goal.returns-clause-calls
-returns-clause-calls g c = goes_then g.D.Disk.gives c.args.disk.now c.read_synced.new.disk c.close_gate.new.disk c.in_ok-bytes.ensures.calls c.in_ok-close_gate.ensures.calls
+returns-clause-calls g c = goes_then g.D.Disk.gives c.args.disk.now c.read_synced.new.disk c.close_gate.new.disk (looks_go g.D.Disk.gives c.args.disk.now c.read_synced.new.disk c.in_ok-bytes.ensures.calls) c.in_ok-close_gate.ensures.calls
+
+pub returns-in_err-close_gate-clause-unread : goal.returns-in_err-close_gate-clause-unread
+returns-in_err-close_gate-clause-unread g c = λ meets.
+    let found = subst (λ l. IsFound l c.in_ok-found.found.records.items c.in_ok-found.found.gate) (c.deref.ensures.value ∙ c.in_ok-bytes.ensures.bytes meets) c.in_ok-found.ensures.found in
+    fails_good _ _ (λ at bad. bad_none (g.D.Disk.seen c.args.disk.now) at c.in_ok-found.found.records.items bad found.holds) c.from_residual-in_err-close_gate.result c.from_residual-in_err-close_gate.ensures.1

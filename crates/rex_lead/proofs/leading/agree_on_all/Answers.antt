@@ -6,7 +6,7 @@ use Rattle.std.proofs.lemmas.List.{map-append, length-map, length_push}
 use Rattle.rex_event.specs.declared.event.Event.{Event}
 use Rattle.rex_state.specs.Start.{start_of}
 use Rattle.rex_state.specs.Machine.{run}
-use Rattle.rex_safety.specs.Takes.{BeginsInRange}
+use Rattle.rex_cluster.specs.Takes.{BeginsInRange}
 use Rattle.rex_steady.specs.Blocks.{joined}
 use Rattle.rex_steady.specs.Schedule.{agreements}
 use Rattle.rex_world.specs.declared.world.World.{World}

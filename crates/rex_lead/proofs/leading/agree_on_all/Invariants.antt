@@ -5,7 +5,7 @@ use Rattle.std.specs.Slice.Iter.{chunks_rest, chunks_size}
 use Rattle.rex_state.specs.Start.{start_of}
 use Rattle.rex_state.specs.Machine.{run}
 use Rattle.rex_state.specs.Sound.{IsSound}
-use Rattle.rex_safety.specs.Takes.{BeginsInRange}
+use Rattle.rex_cluster.specs.Takes.{BeginsInRange}
 use Rattle.rex_steady.specs.Blocks.{joined}
 use Rattle.rex_steady.specs.Schedule.{agreements}
 use Rattle.rex_lead.specs.Doing.{Did}

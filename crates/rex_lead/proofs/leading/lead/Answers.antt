@@ -1,5 +1,5 @@
 use Rattle.std.proofs.Common.{◌≡◌, IfOk, subst}
-use Rattle.rex_safety.specs.World.{World as ModelWorld}
+use Rattle.rex_cluster.specs.World.{World as ModelWorld}
 use Rattle.rex_lead.specs.Lead.{blocks_of, world_text}
 use Rattle.rex_lead.proofs.Next.{led_is}
 use Rattle.rex_lead.proofs.leading.lead.Goals as goal

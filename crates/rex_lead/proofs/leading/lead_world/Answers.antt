@@ -1,5 +1,5 @@
 use Rattle.std.proofs.Common.{◌++◌, ap, arith}
-use Rattle.rex_safety.specs.World.{World as ModelWorld}
+use Rattle.rex_cluster.specs.World.{World as ModelWorld}
 use Rattle.rex_steady.specs.Schedule.{agreements, election, replays}
 use Rattle.rex_lead.specs.Lead.{blocks_of}
 use Rattle.rex_lead.proofs.Blocks.{few_blocks}

@@ -1,6 +1,6 @@
 use Rattle.std.proofs.Common.{◌+◌, ◌∷◌, [], sym, arith}
-use Rattle.rex_scenario.specs.declared.scenario.ScheduleLine.TheVariants.{Replay}
-use Rattle.rex_safety.specs.Takes.Doing.{Does}
+use Rattle.rex_schedule.specs.declared.scenario.ScheduleLine.TheVariants.{Replay}
+use Rattle.rex_cluster.specs.Takes.Doing.{Does}
 use Rattle.rex_steady.specs.Schedule.{replays}
 use Rattle.rex_lead.proofs.Doings.{did_as, did_both, replays_next}
 use Rattle.rex_lead.proofs.leading.replay.Goals as goal

@@ -1,5 +1,5 @@
 use Rattle.std.proofs.Common.{◌++◌, List, ap, ◌∙◌}
-use Rattle.rex_safety.specs.Values.{events_of}
+use Rattle.rex_cluster.specs.Values.{events_of}
 use Rattle.rex_node.proofs.Replays.{joined_more}
 use Rattle.rex_node.proofs.values.joined.Goals as goal
 

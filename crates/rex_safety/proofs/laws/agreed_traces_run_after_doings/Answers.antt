@@ -1,6 +1,6 @@
 use Rattle.rex_safety.proofs.Agreeing.{agreed_fits}
 use Rattle.rex_safety.proofs.Doings.{doings_reached}
-use Rattle.rex_safety.specs.Values.{service_of}
+use Rattle.rex_cluster.specs.Values.{service_of}
 use Rattle.std.proofs.Common.{refl}
 use Rattle.rex_safety.proofs.laws.agreed_traces_run_after_doings.Goals as goal
 

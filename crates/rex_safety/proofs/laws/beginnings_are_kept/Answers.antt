@@ -1,6 +1,6 @@
 use Rattle.std.proofs.Common.{[]}
 use Rattle.std.proofs.lemmas.List.Elements.{All-nil}
-use Rattle.rex_scenario.specs.Fits.{RequestFits}
+use Rattle.rex_schedule.specs.Fits.{RequestFits}
 use Rattle.rex_safety.proofs.Keeps.{beginning_kept}
 use Rattle.rex_safety.proofs.laws.beginnings_are_kept.Goals as goal
 

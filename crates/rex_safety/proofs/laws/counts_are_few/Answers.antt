@@ -1,4 +1,4 @@
-use Rattle.rex_safety.proofs.Few.{counts_are_few}
+use Rattle.rex_cluster.proofs.Few.{counts_are_few}
 use Rattle.rex_safety.proofs.laws.counts_are_few.Goals as goal
 
 pub returns : goal.returns

@@ -1,6 +1,6 @@
 use Rattle.rex_safety.proofs.Agreeing.{known_begins}
 use Rattle.rex_safety.proofs.Doings.{doings_reached}
-use Rattle.rex_safety.specs.Values.{service_of}
+use Rattle.rex_cluster.specs.Values.{service_of}
 use Rattle.rex_safety.proofs.laws.known_begins_agreed_after_doings.Goals as goal
 
 pub returns : goal.returns

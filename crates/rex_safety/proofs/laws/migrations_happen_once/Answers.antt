@@ -1,8 +1,8 @@
 use Rattle.std.proofs.Common.{◌≡◌, false, Option, refl, sym, subst}
-use Rattle.rex_safety.specs.Records.{has_old_base}
-use Rattle.rex_safety.specs.Node.{Failure}
-use Rattle.rex_safety.specs.Values.{service_of}
-use Rattle.rex_safety.proofs.Migrated.{log_after, ends_new}
+use Rattle.rex_cluster.specs.Records.{has_old_base}
+use Rattle.rex_cluster.specs.Node.{Failure}
+use Rattle.rex_cluster.specs.Values.{service_of}
+use Rattle.rex_cluster.proofs.Migrated.{log_after, ends_new}
 use Rattle.rex_safety.proofs.laws.migrations_happen_once.Goals as goal
 
 pub returns : goal.returns

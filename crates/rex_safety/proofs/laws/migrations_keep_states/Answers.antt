@@ -1,6 +1,6 @@
-use Rattle.rex_safety.specs.Records.{has_old_base}
-use Rattle.rex_safety.specs.Values.{service_of}
-use Rattle.rex_safety.proofs.Migrated.{keeps_state}
+use Rattle.rex_cluster.specs.Records.{has_old_base}
+use Rattle.rex_cluster.specs.Values.{service_of}
+use Rattle.rex_cluster.proofs.Migrated.{keeps_state}
 use Rattle.rex_safety.proofs.laws.migrations_keep_states.Goals as goal
 
 pub returns : goal.returns

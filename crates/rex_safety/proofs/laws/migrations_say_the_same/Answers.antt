@@ -1,6 +1,6 @@
-use Rattle.rex_safety.specs.Records.{has_old_base}
-use Rattle.rex_safety.specs.Values.{service_of}
-use Rattle.rex_safety.proofs.Migrated.{says_same}
+use Rattle.rex_cluster.specs.Records.{has_old_base}
+use Rattle.rex_cluster.specs.Values.{service_of}
+use Rattle.rex_cluster.proofs.Migrated.{says_same}
 use Rattle.rex_safety.proofs.laws.migrations_say_the_same.Goals as goal
 
 pub returns : goal.returns

@@ -1,4 +1,4 @@
-use Rattle.rex_safety.specs.Agreed.{world_after}
+use Rattle.rex_cluster.specs.Agreed.{world_after}
 use Rattle.rex_safety.proofs.Steps.{reached_ok}
 use Rattle.rex_safety.proofs.Readings.{tells_agreed}
 use Rattle.rex_safety.proofs.laws.reads_are_of_the_agreed.Goals as goal

@@ -1,4 +1,4 @@
-use Rattle.rex_safety.specs.Agreed.{world_after}
+use Rattle.rex_cluster.specs.Agreed.{world_after}
 use Rattle.rex_safety.proofs.Readings.{reports}
 use Rattle.rex_safety.proofs.laws.reads_are_reported.Goals as goal
 

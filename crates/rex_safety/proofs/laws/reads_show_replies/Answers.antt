@@ -1,4 +1,4 @@
-use Rattle.rex_safety.specs.Agreed.{world_after}
+use Rattle.rex_cluster.specs.Agreed.{world_after}
 use Rattle.rex_safety.proofs.Showing.{replies_show, told_shows}
 use Rattle.rex_safety.proofs.laws.reads_show_replies.Goals as goal
 

@@ -1,4 +1,4 @@
-use Rattle.rex_safety.proofs.Limits.{values_limited}
+use Rattle.rex_cluster.proofs.Limits.{values_limited}
 use Rattle.rex_safety.proofs.laws.values_lead_to_limited_states.Goals as goal
 
 pub returns : goal.returns

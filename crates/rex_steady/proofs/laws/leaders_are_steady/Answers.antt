@@ -1,6 +1,6 @@
 use Rattle.std.proofs.Common.{[]}
 use Rattle.std.proofs.lemmas.List.Elements.{All-nil}
-use Rattle.rex_scenario.specs.Fits.{RequestFits}
+use Rattle.rex_schedule.specs.Fits.{RequestFits}
 use Rattle.rex_safety.proofs.Takes.{take_kept}
 use Rattle.rex_steady.proofs.Ends.{steady}
 use Rattle.rex_steady.proofs.laws.leaders_are_steady.Goals as goal

@@ -1,8 +1,8 @@
 use Rattle.std.proofs.Common.{length}
-use Rattle.rex_safety.specs.Values.{service_of}
+use Rattle.rex_cluster.specs.Values.{service_of}
 use Rattle.std.proofs.Common.{◌-◌, slice_index_or}
 use Rattle.rex_world.specs.Seats.{here_in}
-use Rattle.rex_safety.specs.Calls.{checkpoint}
+use Rattle.rex_cluster.specs.Calls.{checkpoint}
 use Rattle.rex_world.proofs.Silent.{checkpoint_silent, silent}
 use Rattle.rex_world.proofs.Seated.{seat_is, acts_at}
 use Rattle.rex_world.proofs.places.checkpoint_at.Goals as goal

@@ -1,12 +1,12 @@
 use Rattle.std.proofs.Common.{length, sym, subst}
-use Rattle.rex_safety.specs.Lanes.{Here}
-use Rattle.rex_safety.specs.Calls.{begin}
+use Rattle.rex_cluster.specs.Lanes.{Here}
+use Rattle.rex_cluster.specs.Calls.{begin}
 use Rattle.rex_node.specs.Going.{RunsOn}
 use Rattle.std.proofs.Common.{◌≡◌, ◌-◌, true, slice_index_or}
 use Rattle.rex_world.specs.Seats.{disarmed, here_in}
 use Rattle.rex_world.specs.Calls.{Acts}
 use Rattle.std.specs.Option.{option_copied}
-use Rattle.rex_safety.specs.Lanes.{cut}
+use Rattle.rex_cluster.specs.Lanes.{cut}
 use Rattle.rex_node.specs.Calls.{CanBeCut, counts_for}
 use Rattle.rex_world.proofs.Seated.{here_is, seat_is, acts_at}
 use Rattle.rex_world.proofs.places.cut_at.Goals as goal

@@ -1,10 +1,10 @@
 use Rattle.std.proofs.Common.{length, subst}
-use Rattle.rex_safety.specs.Invariant.{Begins}
-use Rattle.rex_safety.specs.Lanes.{Here}
-use Rattle.rex_safety.specs.Records.{known}
+use Rattle.rex_cluster.specs.Invariant.{Begins}
+use Rattle.rex_cluster.specs.Lanes.{Here}
+use Rattle.rex_cluster.specs.Records.{known}
 use Rattle.std.proofs.Common.{◌-◌, slice_index_or}
 use Rattle.rex_world.specs.Seats.{here_in}
-use Rattle.rex_safety.specs.Calls.{drop_known}
+use Rattle.rex_cluster.specs.Calls.{drop_known}
 use Rattle.rex_world.proofs.Silent.{drop_silent, silent}
 use Rattle.rex_world.proofs.Seated.{here_is, seat_is, acts_at}
 use Rattle.rex_world.proofs.places.drop_at.Goals as goal

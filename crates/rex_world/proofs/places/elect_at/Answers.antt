@@ -1,9 +1,9 @@
 use Rattle.std.proofs.Common.{length, subst}
-use Rattle.rex_safety.specs.Lanes.{Here}
-use Rattle.rex_safety.specs.Calls.{begin}
+use Rattle.rex_cluster.specs.Lanes.{Here}
+use Rattle.rex_cluster.specs.Calls.{begin}
 use Rattle.rex_node.specs.Going.{RunsOn}
-use Rattle.rex_safety.specs.Calls as calls
-use Rattle.rex_safety.specs.Values.{service_of}
+use Rattle.rex_cluster.specs.Calls as calls
+use Rattle.rex_cluster.specs.Values.{service_of}
 use Rattle.rex_world.specs.Seats.{disarmed}
 use Rattle.rex_world.proofs.Seated.{here_is, seat_is, acts_at}
 use Rattle.rex_world.proofs.places.elect_at.Goals as goal

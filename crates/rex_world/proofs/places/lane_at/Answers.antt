@@ -1,12 +1,12 @@
 use Rattle.std.proofs.Common.{length, subst}
-use Rattle.rex_safety.specs.Lanes.{Here}
+use Rattle.rex_cluster.specs.Lanes.{Here}
 use Rattle.std.proofs.Common.{◌≡◌, ◌<◌, ◌+◌, ◌^◌, true}
 use Rattle.rex_state.specs.Machine.{lane_of}
-use Rattle.rex_safety.specs.Lanes.{live_state}
+use Rattle.rex_cluster.specs.Lanes.{live_state}
 use Rattle.std.proofs.Common.{◌-◌, slice_index_or}
 use Rattle.rex_world.specs.Seats.{here_in}
-use Rattle.rex_safety.specs.Node.{is_active}
-use Rattle.rex_safety.specs.Lanes.{CallHere, active_only, lane_turn}
+use Rattle.rex_cluster.specs.Node.{is_active}
+use Rattle.rex_cluster.specs.Lanes.{CallHere, active_only, lane_turn}
 use Rattle.rex_world.proofs.Silent.{lane_silent, silent}
 use Rattle.rex_world.proofs.Seated.{here_is, seat_is, acts_at}
 use Rattle.rex_world.proofs.places.lane_at.Goals as goal

@@ -1,7 +1,7 @@
 use Rattle.std.proofs.Common.{length}
 use Rattle.std.proofs.Common.{◌-◌, slice_index_or}
 use Rattle.rex_world.specs.Seats.{here_in}
-use Rattle.rex_safety.specs.Calls.{replay}
+use Rattle.rex_cluster.specs.Calls.{replay}
 use Rattle.rex_world.proofs.Silent.{replay_silent, silent}
 use Rattle.rex_world.proofs.Seated.{seat_is, acts_at}
 use Rattle.rex_world.proofs.places.replay_at.Goals as goal

@@ -1,6 +1,6 @@
 use Rattle.std.proofs.Common.{length, ap, subst, sym, ◌∙◌}
-use Rattle.rex_safety.specs.Lanes.{Here}
-use Rattle.rex_safety.specs.Reading.{seen_by_releases, stamp_at}
+use Rattle.rex_cluster.specs.Lanes.{Here}
+use Rattle.rex_cluster.specs.Reading.{seen_by_releases, stamp_at}
 use Rattle.rex_world.specs.Seats.{IsSeat, here_in}
 use Rattle.rex_world.specs.Calls.{AreReleased}
 use Rattle.rex_world.proofs.Seated.{here_is, seat_is}

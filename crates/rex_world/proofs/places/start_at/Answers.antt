@@ -1,5 +1,5 @@
 use Rattle.std.proofs.Common.{length, subst}
-use Rattle.rex_safety.specs.Lanes.{Here}
+use Rattle.rex_cluster.specs.Lanes.{Here}
 use Rattle.rex_world.specs.Calls.{Starts}
 use Rattle.rex_world.proofs.Seated.{here_is, seat_is, starts_at}
 use Rattle.rex_world.proofs.places.start_at.Goals as goal

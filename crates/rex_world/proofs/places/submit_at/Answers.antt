@@ -1,8 +1,8 @@
 use Rattle.std.proofs.Common.{length}
 use Rattle.std.proofs.Common.{◌-◌, Some, slice_index_or}
 use Rattle.rex_world.specs.Seats.{here_in}
-use Rattle.rex_safety.specs.Node.{is_active}
-use Rattle.rex_safety.specs.Lanes.{CallHere, active_only, submit_request}
+use Rattle.rex_cluster.specs.Node.{is_active}
+use Rattle.rex_cluster.specs.Lanes.{CallHere, active_only, submit_request}
 use Rattle.rex_world.proofs.Silent.{submit_silent, silent}
 use Rattle.rex_world.proofs.Seated.{seat_is, acts_at}
 use Rattle.rex_world.proofs.places.submit_at.Goals as goal

@@ -1,6 +1,6 @@
 use Rattle.std.proofs.Common.{◌≡◌, ◌<◌, ◌+◌, ◌-◌, ◌^◌, true, length, subst, arith, rules}
 use Rattle.rex_state.specs.Machine.{lane_of}
-use Rattle.rex_safety.specs.Lanes.{Here, live_state}
+use Rattle.rex_cluster.specs.Lanes.{Here, live_state}
 use Rattle.rex_world.proofs.Seated.{here_is, seat_is}
 use Rattle.rex_world.proofs.Given.{handed_at}
 use Rattle.rex_world.proofs.places.take_at.Goals as goal

@@ -1,7 +1,7 @@
 use Rattle.std.proofs.Common.{◌≡◌, ◌<◌, ◌-◌, true, length, subst, arith, rules}
 use Rattle.std.specs.Prelude.{Some}
 use Rattle.rex_state.specs.Machine.{run}
-use Rattle.rex_safety.specs.Lanes.{Here, live_state}
+use Rattle.rex_cluster.specs.Lanes.{Here, live_state}
 use Rattle.rex_world.proofs.Blocks.{block_at}
 use Rattle.rex_world.proofs.Seated.{here_is, seat_is}
 use Rattle.rex_world.proofs.places.take_block_at.Goals as goal

@@ -1,6 +1,6 @@
 use Rattle.std.proofs.Common.{◌+◌, ◌++◌, ap, ◌∙◌}
 use Rattle.rex_report.specs.Trace.{delta_text}
-use Rattle.rex_safety.specs.Values.{Value, delta_of}
+use Rattle.rex_cluster.specs.Values.{Value, delta_of}
 use Rattle.rex_world.proofs.Traces.{values_more}
 use Rattle.rex_world.proofs.tracing.push_values.Goals as goal
 

@@ -6,7 +6,7 @@ use Rattle.rex_state.specs.Start.{start_of}
 use Rattle.rex_event.specs.declared.event.Event.{Event}
 use Rattle.rex_syntax.specs.declared.request.Request.{Request}
 use Rattle.rex_delta.specs.Spelling.{HasTypedKind}
-use Rattle.rex_safety.specs.Takes.{BeginsInRange}
+use Rattle.rex_cluster.specs.Takes.{BeginsInRange}
 use Rattle.rex_lead.specs.Lead.{blocks_of, live_text}
 use Rattle.rex_words.specs.Dealing.{CanRecord}
 use Rattle.rexlive_cli.specs.Recording.{IsHistoryBy}

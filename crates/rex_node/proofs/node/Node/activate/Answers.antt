@@ -1,7 +1,7 @@
 use Rattle.std.proofs.Common.{◌≡◌, List, length, ap, sym, ◌∙◌}
 use Rattle.std.specs.Prelude.{unwrap_or}
 use Rattle.rex_state.specs.Start.{start_of}
-use Rattle.rex_safety.specs.Values.{Value, trace_of}
+use Rattle.rex_cluster.specs.Values.{Value, trace_of}
 use Rattle.rex_state.proofs.Sounds.{run_keeps, start_keeps}
 use Rattle.rex_gate.proofs.Noted.{some_entries}
 use Rattle.rex_node.specs.Parts.{NodeValue, whole, knows}

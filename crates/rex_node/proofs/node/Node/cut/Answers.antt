@@ -1,7 +1,7 @@
 use Rattle.std.proofs.Common.{length, ap, ◌∙◌, refl}
 use Rattle.std.specs.Option.{option_copied}
-use Rattle.rex_safety.specs.Lanes.{cut}
-use Rattle.rex_safety.specs.Calls.{begin}
+use Rattle.rex_cluster.specs.Lanes.{cut}
+use Rattle.rex_cluster.specs.Calls.{begin}
 use Rattle.rex_node.specs.Calls.{counts_for}
 use Rattle.rex_node.specs.Cutting.{ProposesPiece, ProposesPieceShort}
 use Rattle.rex_node.specs.Going.{Ends, IsStuck}
@@ -12,7 +12,7 @@ use Rattle.rex_node.proofs.ProposedCuts.{on_error}
 use Rattle.rex_node.proofs.Quiet.{cut_well}
 use Rattle.rex_node.proofs.Told.{steps_tell}
 use Rattle.rex_node.specs.Calls.{armed_with}
-use Rattle.rex_safety.proofs.TellNone.{cut_tells_none}
+use Rattle.rex_cluster.proofs.TellNone.{cut_tells_none}
 use Rattle.rex_node.proofs.node.Node.cut.Given.{Over}
 use Rattle.rex_node.proofs.node.Node.cut.Goals as goal
 

@@ -1,7 +1,7 @@
 use Rattle.std.proofs.Common.{ap, sym, ◌∙◌, length}
-use Rattle.rex_safety.specs.Calls.{begin, elect}
-use Rattle.rex_safety.proofs.TellNone.{elect_tells_none}
-use Rattle.rex_safety.specs.Values.{service_of}
+use Rattle.rex_cluster.specs.Calls.{begin, elect}
+use Rattle.rex_cluster.proofs.TellNone.{elect_tells_none}
+use Rattle.rex_cluster.specs.Values.{service_of}
 use Rattle.rex_node.specs.Parts.{NodeValue, here_of, whole}
 use Rattle.rex_node.specs.Calls.{armed_with}
 use Rattle.rex_node.proofs.Candidates.{elect_quiet, elected}

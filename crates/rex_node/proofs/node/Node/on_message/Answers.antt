@@ -1,8 +1,8 @@
 use Rattle.std.proofs.Common.{◌≡◌, length, true, refl, sym, ap, subst, ◌∙◌}
-use Rattle.rex_safety.specs.Calls.{receive}
-use Rattle.rex_safety.specs.Lanes.{CallHere}
-use Rattle.rex_safety.specs.Records.{known}
-use Rattle.rex_safety.specs.Values.{service_of, values_fit}
+use Rattle.rex_cluster.specs.Calls.{receive}
+use Rattle.rex_cluster.specs.Lanes.{CallHere}
+use Rattle.rex_cluster.specs.Records.{known}
+use Rattle.rex_cluster.specs.Values.{service_of, values_fit}
 use Rattle.rex_log.specs.Messages.{content_in}
 use Rattle.rex_node.specs.Parts.{NodeValue, whole}
 use Rattle.rex_node.proofs.Ending.{HasCome, begins, told, down, left, kept}

@@ -4,8 +4,8 @@ use Rattle.rex_node.proofs.Counts.{counts_many, counts_to, promise_back, promise
 use Rattle.rex_node.proofs.node.Node.on_promise.Goals as goal
 use Rattle.rex_node.specs.Going.{IsStuck}
 use Rattle.rex_node.specs.Parts.{NodeValue, whole}
-use Rattle.rex_safety.specs.Calls.{on_promise}
-use Rattle.rex_safety.specs.Values.{service_of}
+use Rattle.rex_cluster.specs.Calls.{on_promise}
+use Rattle.rex_cluster.specs.Values.{service_of}
 use Rattle.rex_log.specs.Log.{proposal_in}
 use Rattle.rex_node.proofs.Stuck.{stands_same}
 use Rattle.rex_node.proofs.Written.{on_err}

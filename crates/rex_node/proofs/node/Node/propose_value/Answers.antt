@@ -1,5 +1,5 @@
 use Rattle.std.proofs.Common.{◌≡◌, ◌+◌, ◌<◌, ◌-◌, ◌^◌, ℕ, length, ap, sym, subst, ◌∙◌}
-use Rattle.rex_safety.proofs.Replies.{some_of}
+use Rattle.rex_cluster.proofs.Replies.{some_of}
 use Rattle.rex_node.specs.Cutting.{ProposesCut, ProposesCutShort}
 use Rattle.rex_node.specs.Leading.{HasLearned, Learns, LearnsShort}
 use Rattle.rex_node.specs.Parts.{NodeValue, whole, knows}

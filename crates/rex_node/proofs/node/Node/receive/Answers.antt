@@ -1,8 +1,8 @@
 use Rattle.std.specs.Prelude.{map}
-use Rattle.rex_safety.specs.Calls.{receive}
-use Rattle.rex_safety.specs.Node.Content.{Promise, Accepted as Voted, Chosen as Chose, Nack, Snapshot}
-use Rattle.rex_safety.specs.Values.{service_of}
-use Rattle.rex_safety.proofs.TellNone.{receive_tells_none}
+use Rattle.rex_cluster.specs.Calls.{receive}
+use Rattle.rex_cluster.specs.Node.Content.{Promise, Accepted as Voted, Chosen as Chose, Nack, Snapshot}
+use Rattle.rex_cluster.specs.Values.{service_of}
+use Rattle.rex_cluster.proofs.TellNone.{receive_tells_none}
 use Rattle.rex_log.specs.Log.{first, proposal_in}
 use Rattle.rex_node.specs.Calls.{armed_with}
 use Rattle.rex_node.specs.Going.{so_far}

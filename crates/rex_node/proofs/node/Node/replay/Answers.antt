@@ -2,7 +2,7 @@ use Rattle.std.proofs.Common.{◌≡◌, length, true, None, Some, ap, sym, subs
 use Rattle.std.proofs.lemmas.Bool.{ne_eqb}
 use Rattle.rex_node.specs.Calls.{Does}
 use Rattle.rex_node.specs.Parts.{NodeValue, StaysNode, whole, knows}
-use Rattle.rex_safety.specs.Calls.{replay}
+use Rattle.rex_cluster.specs.Calls.{replay}
 use Rattle.rex_node.proofs.ReplayLemmas.{none_there, replay_does, replay_stays}
 use Rattle.rex_node.proofs.node.Node.replay.Goals as goal
 

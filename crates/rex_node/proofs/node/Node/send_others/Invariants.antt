@@ -1,7 +1,7 @@
 use Rattle.std.proofs.Common.{◌≡◌, ◌++◌, map, List}
-use Rattle.rex_safety.specs.Node.{Message}
-use Rattle.rex_safety.specs.Calls.{others}
-use Rattle.rex_safety.specs.Values.{Value}
+use Rattle.rex_cluster.specs.Node.{Message}
+use Rattle.rex_cluster.specs.Calls.{others}
+use Rattle.rex_cluster.specs.Values.{Value}
 use Rattle.rex_log.specs.Messages.{content_in, message_in}
 use Rattle.rex_report.specs.declared.effect.Effect.{Effect}
 use Rattle.rex_node.proofs.node.Node.send_others.Given as goal

@@ -5,7 +5,7 @@ use Rattle.rex_node.specs.Going.{Tells}
 use Rattle.rex_paxos.specs.Acceptor.{forgetting}
 use Rattle.rex_report.specs.declared.effect.Effect.{Effect}
 use Rattle.rex_report.specs.declared.effect.Effect.TheVariants as effect
-use Rattle.rex_safety.specs.Calls.{followed}
+use Rattle.rex_cluster.specs.Calls.{followed}
 use Rattle.rex_node.specs.Telling.{fallen_moved}
 use Rattle.rex_node.proofs.Knows.{many_known}
 use Rattle.rex_node.proofs.Moving.{followed_same, moved_down, moved_on, moved_stuck}

@@ -1,6 +1,6 @@
 use Rattle.std.proofs.Common.{subst, sym}
-use Rattle.rex_safety.specs.Calls.{checkpoint}
-use Rattle.rex_safety.specs.Values.{service_of}
+use Rattle.rex_cluster.specs.Calls.{checkpoint}
+use Rattle.rex_cluster.specs.Values.{service_of}
 use Rattle.rex_world.specs.declared.seats.Seat.{Seat}
 use Rattle.rex_world.specs.Seats.{IsSeat, here_at, here_in}
 use Rattle.rex_world.specs.Calls.{Acts}

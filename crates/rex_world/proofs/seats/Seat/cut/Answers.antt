@@ -1,6 +1,6 @@
 use Rattle.std.proofs.Common.{◌≡◌, true, subst, sym, ap, ◌∙◌}
 use Rattle.std.specs.Option.{option_copied}
-use Rattle.rex_safety.specs.Lanes.{cut}
+use Rattle.rex_cluster.specs.Lanes.{cut}
 use Rattle.rex_node.specs.Calls.{counts_for}
 use Rattle.rex_world.specs.declared.seats.Seat.{Seat}
 use Rattle.rex_world.specs.Seats.{IsSeat, here_at, here_in, is_up_in}

@@ -1,5 +1,5 @@
 use Rattle.std.proofs.Common.{subst, sym}
-use Rattle.rex_safety.specs.Calls.{drop_known}
+use Rattle.rex_cluster.specs.Calls.{drop_known}
 use Rattle.rex_world.specs.declared.seats.Seat.{Seat}
 use Rattle.rex_world.specs.Seats.{IsSeat, here_at, here_in}
 use Rattle.rex_world.specs.Calls.{Acts}

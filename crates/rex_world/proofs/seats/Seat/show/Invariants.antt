@@ -1,5 +1,5 @@
 use Rattle.std.proofs.Common.{◌≡◌, drop, length}
-use Rattle.rex_safety.specs.Reading.{seen_by_releases, stamp_at}
+use Rattle.rex_cluster.specs.Reading.{seen_by_releases, stamp_at}
 use Rattle.rex_world.specs.Seats.{here_in}
 use Rattle.rex_world.proofs.seats.Seat.show.Given as goal
 

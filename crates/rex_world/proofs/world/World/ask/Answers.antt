@@ -1,7 +1,7 @@
-use Rattle.rex_scenario.specs.declared.scenario.ScheduleLine.TheVariants as line
+use Rattle.rex_schedule.specs.declared.scenario.ScheduleLine.TheVariants as line
 use Rattle.std.proofs.Common.{List}
 use Rattle.rex_world.specs.declared.seats.Seat.{Seat}
-use Rattle.rex_safety.specs.Calls as calls
+use Rattle.rex_cluster.specs.Calls as calls
 use Rattle.rex_world.specs.World.{nodes_of}
 use Rattle.rex_world.proofs.Shown.{ask_releases}
 use Rattle.rex_world.proofs.Stepping.{kept_next, call_tells, came, still_there}

@@ -1,6 +1,6 @@
 use Rattle.std.proofs.Common.{List, length, option_copied}
-use Rattle.rex_safety.specs.Lanes as lanes
-use Rattle.rex_safety.specs.World.{node_at}
+use Rattle.rex_cluster.specs.Lanes as lanes
+use Rattle.rex_cluster.specs.World.{node_at}
 use Rattle.rex_node.specs.Calls.{counts_for}
 use Rattle.rex_world.specs.declared.seats.Seat.{Seat}
 use Rattle.rex_world.specs.Seats.{heres}

@@ -1,8 +1,8 @@
-use Rattle.rex_scenario.specs.declared.scenario.ScheduleLine.TheVariants as line
+use Rattle.rex_schedule.specs.declared.scenario.ScheduleLine.TheVariants as line
 use Rattle.std.proofs.Common.{List, length}
 use Rattle.rex_world.specs.declared.seats.Seat.{Seat}
-use Rattle.rex_safety.specs.Calls as calls
-use Rattle.rex_safety.specs.Values.{service_of}
+use Rattle.rex_cluster.specs.Calls as calls
+use Rattle.rex_cluster.specs.Values.{service_of}
 use Rattle.rex_world.specs.World.{nodes_of}
 use Rattle.rex_world.proofs.Shown.{elect_releases}
 use Rattle.rex_world.proofs.Stepping.{kept_next, call_tells, came, still_there, elect_runs}

@@ -1,5 +1,5 @@
 use Rattle.std.proofs.Common.{◌≡◌, ◌+◌, ◌++◌, drop}
-use Rattle.rex_safety.specs.World.{after_lines}
+use Rattle.rex_cluster.specs.World.{after_lines}
 use Rattle.rex_world.specs.Kept.{IsOf, IsRunning}
 use Rattle.rex_world.specs.Summaries.{releases_from}
 use Rattle.rex_world.specs.World.{world_of}

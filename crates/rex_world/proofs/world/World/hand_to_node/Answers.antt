@@ -1,8 +1,8 @@
 use Rattle.std.proofs.Common.{◌∙◌, ◌++◌, List, [], ◌∷◌, ap, refl, length}
 use Rattle.rex_report.specs.declared.effect.Effect.TheVariants.{Delivered}
 use Rattle.rex_report.specs.declared.effect.MessageKind.{MessageKind}
-use Rattle.rex_safety.specs.Calls.{receive}
-use Rattle.rex_safety.specs.Values.{service_of}
+use Rattle.rex_cluster.specs.Calls.{receive}
+use Rattle.rex_cluster.specs.Values.{service_of}
 use Rattle.rex_log.specs.Messages.{content_in}
 use Rattle.rex_world.specs.declared.seats.Seat.{Seat}
 use Rattle.rex_world.specs.World.{nodes_of}

@@ -1,9 +1,9 @@
-use Rattle.rex_scenario.specs.declared.scenario.ScheduleLine.TheVariants as line
+use Rattle.rex_schedule.specs.declared.scenario.ScheduleLine.TheVariants as line
 use Rattle.std.proofs.Common.{List}
 use Rattle.rex_world.specs.declared.seats.Seat.{Seat}
-use Rattle.rex_safety.specs.Lanes as lanes
-use Rattle.rex_safety.specs.Node.{is_active}
-use Rattle.rex_safety.specs.Lanes.{CallHere}
+use Rattle.rex_cluster.specs.Lanes as lanes
+use Rattle.rex_cluster.specs.Node.{is_active}
+use Rattle.rex_cluster.specs.Lanes.{CallHere}
 use Rattle.rex_world.specs.World.{nodes_of}
 use Rattle.rex_world.proofs.Shown.{lane_releases}
 use Rattle.rex_world.proofs.Stepping.{kept_next, call_tells, came, still_there, has_room}

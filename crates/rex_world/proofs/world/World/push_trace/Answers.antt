@@ -1,5 +1,5 @@
 use Rattle.std.proofs.Common.{◌≤◌, length, sym, subst, List}
-use Rattle.rex_safety.specs.Values.{Value}
+use Rattle.rex_cluster.specs.Values.{Value}
 use Rattle.rex_world.proofs.Agreeing.{agreed_few}
 use Rattle.rex_world.proofs.world.World.push_trace.Goals as goal
 

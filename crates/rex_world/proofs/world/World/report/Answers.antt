@@ -1,6 +1,6 @@
 use Rattle.std.proofs.Common.{ℕ, ◌+◌, [], drop, length, sym, ap, subst, ◌∙◌, arith, append-nil}
 use Rattle.std.proofs.lemmas.Result.{on_ok_weaker}
-use Rattle.rex_safety.specs.World.{World as ModelWorld, after_lines, row}
+use Rattle.rex_cluster.specs.World.{World as ModelWorld, after_lines, row}
 use Rattle.rex_world.specs.Report.{effects_text, ends_text, report_from}
 use Rattle.rex_world.specs.World.{nodes_of, world_of}
 use Rattle.rex_world.specs.Writing.{IsWritten}

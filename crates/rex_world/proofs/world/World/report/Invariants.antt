@@ -1,6 +1,6 @@
 use Rattle.std.proofs.Common.{◌≡◌, ◌+◌, ◌≤◌, drop}
 use Rattle.rex_traits.specs.Causes.{TellsAlike}
-use Rattle.rex_safety.specs.World.{after_lines}
+use Rattle.rex_cluster.specs.World.{after_lines}
 use Rattle.rex_world.specs.Kept.{IsOf, IsRunning, IsSame}
 use Rattle.rex_world.specs.Report.{report_from}
 use Rattle.rex_world.specs.World.{world_of}

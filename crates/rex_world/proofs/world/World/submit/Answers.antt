@@ -1,11 +1,11 @@
-use Rattle.rex_scenario.specs.declared.scenario.ScheduleLine.TheVariants as line
+use Rattle.rex_schedule.specs.declared.scenario.ScheduleLine.TheVariants as line
 use Rattle.std.proofs.Common.{◌∙◌, List, ap, slice_get, subst, sym}
 use Rattle.std.specs.Prelude.{slice_index_or}
 use Rattle.rex_syntax.specs.declared.request.Request.{Request}
-use Rattle.rex_scenario.specs.Fits.{RequestFits}
-use Rattle.rex_safety.specs.Lanes as lanes
-use Rattle.rex_safety.specs.Lanes.{CallHere}
-use Rattle.rex_safety.specs.Node.{is_active}
+use Rattle.rex_schedule.specs.Fits.{RequestFits}
+use Rattle.rex_cluster.specs.Lanes as lanes
+use Rattle.rex_cluster.specs.Lanes.{CallHere}
+use Rattle.rex_cluster.specs.Node.{is_active}
 use Rattle.rex_world.specs.declared.seats.Seat.{Seat}
 use Rattle.rex_world.specs.World.{nodes_of}
 use Rattle.rex_world.proofs.Shown.{submit_releases}

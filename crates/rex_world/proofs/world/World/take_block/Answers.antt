@@ -2,8 +2,8 @@ use Rattle.std.proofs.Common.{◌≡◌, List, Bool, true, sym, subst, ◌∙◌
 use Rattle.std.specs.Prelude.{Some}
 use Rattle.std.specs.Vec.{with_items}
 use Rattle.rex_state.specs.Machine.{run}
-use Rattle.rex_safety.specs.Lanes.{live_state}
-use Rattle.rex_safety.specs.World.{node_at}
+use Rattle.rex_cluster.specs.Lanes.{live_state}
+use Rattle.rex_cluster.specs.World.{node_at}
 use Rattle.rex_world.specs.Seats.{heres}
 use Rattle.rex_world.specs.declared.seats.Seat.{Seat}
 use Rattle.rex_world.specs.declared.world.World.{World}

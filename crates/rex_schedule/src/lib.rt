@@ -1,0 +1,6 @@
+//! What a scenario has, and what it may name.
+#![tactic(auto)]
+
+mod scenario;
+
+pub use scenario::{Scenario, ScheduleLine};
