@@ -132,7 +132,7 @@ def fate(message, until):
     if time is None:
         return f"{what} was " + (f"handed over later, at line {message.times[0].line}" if message.times else "never handed over")
     if time.met in ("is down", "down"):
-        return f"{what} came at line {time.line}, and {'node' if time.met == 'is down' else 'the keeper of node'} {message.receiver} {'was down' if time.met == 'is down' else 'failed'}"
+        return f"{what} came at line {time.line}, and " + (f"{to} was down" if time.met == "is down" else f"the keeper of {to} failed")
     if time.met == "refused":
         return f"{to} refused message {message.number}, {message.named()}, at line {time.line}: it had promised ballot {time.promised}"
     answer = time.answer
