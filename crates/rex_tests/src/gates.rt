@@ -163,13 +163,13 @@ impl Gate for CountingGate {
 }
 
 /// A gate at which lanes that wait for what lane 0 gives up fall asleep. The other workers stay at it until worker 0 enters with
-/// an index; there worker 0 lets them run for a while.
+/// an index, up to a bound; there worker 0 lets them run for a while.
 #[derive(Drop)]
 pub struct SleepingGate {
     index: u32,
     /// Whether it says that it is open.
     open: bool,
-    /// Whether worker 0 entered with the index: 1, or else 0.
+    /// Whether worker 0 entered with the index, or another one looked for that as often as it may: 1, or else 0.
     came: AtomicU64,
 }
 
@@ -187,7 +187,9 @@ impl SleepingGate {
 impl Gate for SleepingGate {
     fn enter(&self, worker: u8, _lane: u8, index: u32) {
         if worker > 0 {
-            let _came = is_seen(&self.came);
+            if !is_seen(&self.came) {
+                self.came.store(1, Ordering::SeqCst);
+            }
         } else if index == self.index {
             self.came.store(1, Ordering::SeqCst);
             for _ in 0..TURNS {

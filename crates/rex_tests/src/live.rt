@@ -174,7 +174,7 @@ reply 0
 
 /// Runs the program with these words over memory, behind a gate. The read and the write of these numbers, from 1, fail; 0
 /// is none.
-fn live<R: Threads + Wait + Sync + AllocGlobal, G: Gate + Sync>(
+fn run<R: Threads + Wait + Sync + AllocGlobal, G: Gate + Sync>(
     rt: &R,
     line: &str,
     input: &[u8],
@@ -192,6 +192,38 @@ fn live<R: Threads + Wait + Sync + AllocGlobal, G: Gate + Sync>(
     let status = live_main(rt, rt, alloc, &words, &mut source, &mut sink, gate);
     let written = Vec::from_slice(alloc, sink.held())?;
     Ok(Outcome { status, written })
+}
+
+/// How often it is looked at most whether a run has ended.
+const LOOKS: u32 = 1 << 24;
+
+/// Waits until a run has ended. One that doesn't, since all its lanes sleep, ends the test.
+fn watch(rt: &impl Abort, ended: &AtomicU64) {
+    for _ in 0..LOOKS {
+        if ended.load(Ordering::SeqCst) > 0 {
+            return;
+        }
+        yield_now();
+    }
+    panic!(rt; "the run doesn't end");
+}
+
+/// Runs it so, while another thread looks whether it ends.
+fn live<R: Threads + Wait + Sync + AllocGlobal + Abort, G: Gate + Sync>(
+    rt: &R,
+    line: &str,
+    input: &[u8],
+    faults: (u64, u64),
+    gate: &G,
+) -> Result<Outcome, Fail> {
+    let ended = AtomicU64::new(0);
+    let watched = || -> Result<Outcome, Fail> {
+        let outcome = run(rt, line, input, faults, gate);
+        ended.store(1, Ordering::SeqCst);
+        outcome
+    };
+    let (outcome, ()) = both(rt, watched, || watch(rt, &ended));
+    outcome
 }
 
 /// Words, an input, the read and the write that fail, the status, and the output.
@@ -327,41 +359,13 @@ fn an_open_gate_is_passed_again_and_again(rt: HostRuntime) -> Result<(), Fail> {
     Ok(())
 }
 
-/// How often a test looks at most whether a run has ended.
-const LOOKS: u32 = 1 << 24;
-
-/// Waits until a run has ended. One that doesn't ends the test.
-fn watch(rt: &impl Abort, ended: &AtomicU64) {
-    for _ in 0..LOOKS {
-        if ended.load(Ordering::SeqCst) > 0 {
-            return;
-        }
-        yield_now();
-    }
-    panic!(rt; "lanes sleep, and nobody wakes them");
-}
-
-/// Two lanes of which one sleeps until the other one's event wakes it.
-fn live_woken<R: Threads + Wait + Sync + AllocGlobal + Abort>(
-    rt: &R,
-    input: &[u8],
-    gate: &SleepingGate,
-) -> Result<Outcome, Fail> {
-    let ended = AtomicU64::new(0);
-    let run = || -> Result<Outcome, Fail> {
-        let outcome = live(rt, "rexlive", input, (0, 0), gate);
-        ended.store(1, Ordering::SeqCst);
-        outcome
-    };
-    let (outcome, ()) = both(rt, run, || watch(rt, &ended));
-    outcome
-}
-
+/// A lane that sleeps is woken by the event of another one that lets it go on.
 #[test]
 fn lanes_that_sleep_are_woken(rt: HostRuntime) -> Result<(), Fail> {
     for (input, index) in &WAITS {
         for open in [false, true] {
-            let outcome = live_woken(&rt, input, &SleepingGate::new(*index, open))?;
+            let gate = SleepingGate::new(*index, open);
+            let outcome = live(&rt, "rexlive", input, (0, 0), &gate)?;
             assert_eq!(rt; outcome.status, 0);
         }
     }
