@@ -1,6 +1,6 @@
 -- What a recording says of its lanes' ends says of its history.
 use Rattle.std.proofs.Common.{◌≡◌, ◌≢◌, ◌⊎◌, ⊎_elim, inl, inr, ℕ, ◌<◌, arith, Bool, true, false, List, [], ◌∷◌, length, refl, ap, sym, ◌∙◌, subst}
-use Rattle.std.specs.Prelude.{if◌then◌else◌, nat_eq, slice_get, Option, None}
+use Rattle.std.specs.Prelude.{if◌then◌else◌, nat_eq, slice_get, None}
 use Rattle.std.specs.List.{filter}
 use Rattle.std.proofs.lemmas.List.{length-map}
 use Rattle.rex_syntax.specs.declared.request.Request.{Request}
