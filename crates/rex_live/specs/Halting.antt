@@ -4,8 +4,8 @@ use Rattle.rex_syntax.specs.declared.request.Request.{Request}
 use Rattle.rex_syntax.specs.declared.service.Declarations.{Declarations}
 use Rattle.rex_live.specs.Floor.{IsOver}
 use Rattle.rex_live.specs.Desk.{DeskValue, MayGoOn, IsAbsent, NoneIsAbsent}
-use Rattle.rex_live.specs.declared.desk.Halt.{Halt}
-use Rattle.rex_live.specs.declared.desk.Halt.TheVariants.{Absent, Stays, Over, GaveUp}
+use Rattle.rex_live.specs.declared.tries.Halt.{Halt}
+use Rattle.rex_live.specs.declared.tries.Halt.TheVariants.{Absent, Stays, Over, GaveUp}
 
 -- that lane may go on, whose thread hasn't begun; a lane may go on, and none whose thread hasn't begun; no lane can go on, or the history is as long as may be; a lane found no memory
 abbrev pub Halts : Declarations → List Request → DeskValue → Halt → Type 0

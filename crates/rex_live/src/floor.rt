@@ -5,10 +5,11 @@ ghost use Rattle.rex_live.specs.Floor as spec;
 ghost use Rattle.rex_live.specs.Halting.{Halts};
 ghost use Rattle.rex_live.specs.Tally.{Tally};
 
-use crate::desk::{Desk, Halt, Made};
+use crate::desk::Desk;
 use crate::permits::Permits;
 use crate::segment::{Brought, Segment};
 use crate::setting::Setting;
+use crate::tries::{Halt, Made};
 use crate::wakers::Wakers;
 use crossbeam_utils::CachePadded;
 use rex_event::Event;

@@ -12,6 +12,7 @@ mod permits;
 mod places;
 mod segment;
 mod setting;
+mod tries;
 mod wakers;
 
 pub use desk::LONGEST;

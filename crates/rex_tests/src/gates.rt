@@ -2,9 +2,13 @@
 
 use rex_traits::Gate;
 use std::sync::atomic::{AtomicU64, Ordering};
+use std::thread::yield_now;
 
 /// How often a worker that is held looks at most whether it may go on. One that looked so often goes on, and that is noted.
 const LOOKS: u64 = 1 << 30;
+
+/// How often a worker lets other threads run before it gives up what they wait for, so that they are asleep by then.
+const TURNS: u32 = 1 << 16;
 
 /// A gate for two lanes that begin with no events done. It holds one worker until another one enters with index 1: the
 /// second event of its lane. There the other one stays until the first one has entered, so that it is held.
@@ -30,6 +34,16 @@ pub struct HoldingGate {
 
 fn zero() -> AtomicU64 {
     AtomicU64::new(0)
+}
+
+/// Looks until a word isn't 0, up to a bound, and whether it then isn't.
+fn is_seen(word: &AtomicU64) -> bool {
+    for _ in 0..LOOKS {
+        if word.load(Ordering::SeqCst) > 0 {
+            return true;
+        }
+    }
+    false
 }
 
 impl HoldingGate {
@@ -60,15 +74,9 @@ impl HoldingGate {
 
     /// Waits until another worker was seen, up to a bound.
     fn hold(&self, seen: &AtomicU64) {
-        if self.gave_up.load(Ordering::SeqCst) > 0 {
-            return;
+        if self.gave_up.load(Ordering::SeqCst) == 0 && !is_seen(seen) {
+            self.gave_up.fetch_add(1, Ordering::SeqCst);
         }
-        for _ in 0..LOOKS {
-            if seen.load(Ordering::SeqCst) > 0 {
-                return;
-            }
-        }
-        self.gave_up.fetch_add(1, Ordering::SeqCst);
     }
 
     /// Notes that an event of a lane was entered.
@@ -151,5 +159,46 @@ impl Gate for CountingGate {
 
     fn is_open(&self) -> bool {
         true
+    }
+}
+
+/// A gate at which lanes that wait for what lane 0 gives up fall asleep. The other workers stay at it until worker 0 enters with
+/// an index, up to a bound; there worker 0 lets them run for a while.
+#[derive(Drop)]
+pub struct SleepingGate {
+    index: u32,
+    /// Whether it says that it is open.
+    open: bool,
+    /// Whether worker 0 entered with the index, or another one looked for that as often as it may: 1, or else 0.
+    came: AtomicU64,
+}
+
+impl SleepingGate {
+    /// A gate at which worker 0 lets others run before its event of this index.
+    pub fn new(index: u32, open: bool) -> SleepingGate {
+        SleepingGate {
+            index,
+            open,
+            came: zero(),
+        }
+    }
+}
+
+impl Gate for SleepingGate {
+    fn enter(&self, worker: u8, _lane: u8, index: u32) {
+        if worker > 0 {
+            if !is_seen(&self.came) {
+                self.came.store(1, Ordering::SeqCst);
+            }
+        } else if index == self.index {
+            self.came.store(1, Ordering::SeqCst);
+            for _ in 0..TURNS {
+                yield_now();
+            }
+        }
+    }
+
+    fn is_open(&self) -> bool {
+        self.open
     }
 }

@@ -1,13 +1,14 @@
-use crate::gates::{CountingGate, HoldingGate};
+use crate::gates::{CountingGate, HoldingGate, SleepingGate};
 use crate::runs::Outcome;
-use rex_threads::processors;
+use rex_threads::{both, processors};
 use rex_traits::{Gate, MemSink, MemSource, OpenGate};
 use rexlive_cli::live_main;
 use std::alloc::AllocGlobal;
 use std::process::Abort;
 use std::sync::Wait;
+use std::sync::atomic::{AtomicU64, Ordering};
 use std::test::*;
-use std::thread::Threads;
+use std::thread::{Threads, yield_now};
 
 /// Two lanes that add to a variable under its lock, and two requests.
 const BOTH: &[u8] = b"%nodes 1
@@ -58,7 +59,7 @@ end node 2 follower promised 17 known 1 replayed 1 a=5
 end node 3 follower promised 17 known 1 replayed 1 a=5
 ";
 
-/// Requests of 42 events each, with no line to run between two of them: one request.
+/// A request of 18 events, with no line to run between two of them.
 const LONG: &[u8] = b"%nodes 1
 %service
 lanes 1
@@ -80,88 +81,79 @@ acquire L
 release L
 acquire L
 release L
-acquire L
-release L
-acquire L
-release L
-acquire L
-release L
-acquire L
-release L
-acquire L
-release L
-acquire L
-release L
-acquire L
-release L
-acquire L
-release L
-acquire L
-release L
-acquire L
-release L
-acquire L
-release L
-acquire L
-release L
 reply 0
 %requests
 1 1 many
 %schedule
 ";
 
-/// Two requests, and two lanes.
-const LONG_BOTH: &[u8] = b"%nodes 1
+/// Lane 1 waits for the share that lane 0 gives up at its event 2.
+const SHARING: &[u8] = b"%nodes 1
+%service
+lanes 2
+rwlock M
+var a on M = 4
+handler get
+share M
+let r = a
+release M
+reply r
+handler put x
+acquire M
+set a = x
+release M
+reply x
+%requests
+1 1 get
+2 1 put 9
+%schedule
+";
+
+/// Lane 1 waits for the lock that lane 0 gives up at its event 2 to wait for a signal of lane 1.
+const SIGNALLING: &[u8] = b"%nodes 1
 %service
 lanes 2
 lock L
-handler many
+var a on L = 0
+cond C on L
+handler take
 acquire L
+let r = a
+wait C while a == 0
 release L
+reply r
+handler put
 acquire L
-release L
-acquire L
-release L
-acquire L
-release L
-acquire L
-release L
-acquire L
-release L
-acquire L
-release L
-acquire L
-release L
-acquire L
-release L
-acquire L
-release L
-acquire L
-release L
-acquire L
-release L
-acquire L
-release L
-acquire L
-release L
-acquire L
-release L
-acquire L
-release L
-acquire L
-release L
-acquire L
-release L
-acquire L
-release L
-acquire L
+set a = 1
+signal C
 release L
 reply 0
 %requests
-1 1 many
-2 1 many
+1 1 take
+2 1 put
 %schedule
 ";
+
+/// Lane 1 waits for the semaphore that lane 0 raises at its event 1.
+const RAISING: &[u8] = b"%nodes 1
+%service
+lanes 2
+sem S = 0
+handler raise
+let r = 1
+up S
+reply r
+handler lower
+down S
+reply 0
+%requests
+1 1 raise
+2 1 lower
+%schedule
+";
+
+/// Services and requests of two lanes of which one waits for the other, and the index of the event by which that one ends the wait.
+static WAITS: [(&[u8], u32); 4] = [(BOTH, 2), (SHARING, 2), (SIGNALLING, 2), (RAISING, 1)];
 
 /// A service with a condition, at line 6.
 const WAITING: &[u8] = b"%nodes 1
@@ -182,7 +174,7 @@ reply 0
 
 /// Runs the program with these words over memory, behind a gate. The read and the write of these numbers, from 1, fail; 0
 /// is none.
-fn live<R: Threads + Wait + Sync + AllocGlobal, G: Gate + Sync>(
+fn run<R: Threads + Wait + Sync + AllocGlobal, G: Gate + Sync>(
     rt: &R,
     line: &str,
     input: &[u8],
@@ -200,6 +192,38 @@ fn live<R: Threads + Wait + Sync + AllocGlobal, G: Gate + Sync>(
     let status = live_main(rt, rt, alloc, &words, &mut source, &mut sink, gate);
     let written = Vec::from_slice(alloc, sink.held())?;
     Ok(Outcome { status, written })
+}
+
+/// How often it is looked at most whether a run has ended.
+const LOOKS: u32 = 1 << 24;
+
+/// Waits until a run has ended. One that doesn't, since all its lanes sleep, ends the test.
+fn watch(rt: &impl Abort, ended: &AtomicU64) {
+    for _ in 0..LOOKS {
+        if ended.load(Ordering::SeqCst) > 0 {
+            return;
+        }
+        yield_now();
+    }
+    panic!(rt; "the run doesn't end");
+}
+
+/// Runs it so, while another thread looks whether it ends.
+fn live<R: Threads + Wait + Sync + AllocGlobal + Abort, G: Gate + Sync>(
+    rt: &R,
+    line: &str,
+    input: &[u8],
+    faults: (u64, u64),
+    gate: &G,
+) -> Result<Outcome, Fail> {
+    let ended = AtomicU64::new(0);
+    let watched = || -> Result<Outcome, Fail> {
+        let outcome = run(rt, line, input, faults, gate);
+        ended.store(1, Ordering::SeqCst);
+        outcome
+    };
+    let (outcome, ()) = both(rt, watched, || watch(rt, &ended));
+    outcome
 }
 
 /// Words, an input, the read and the write that fail, the status, and the output.
@@ -290,38 +314,27 @@ fn two_lanes_end_alike(rt: HostRuntime) -> Result<(), Fail> {
     Ok(())
 }
 
-/// Two lanes, of which one's thread is held until the other one tries its second event.
+/// Two lanes, of which one's thread is held by this gate until the other one tries its second event.
 fn live_held<R: Threads + Wait + Sync + AllocGlobal + Abort>(
     rt: &R,
     way: &str,
-    held: u8,
-    until: u8,
+    gate: &HoldingGate,
 ) -> Result<(), Fail> {
-    let gate = HoldingGate::new(held, until);
-    let outcome = live(rt, way, BOTH, (0, 0), &gate)?;
+    let outcome = live(rt, way, BOTH, (0, 0), gate)?;
     assert!(rt;
         outcome.status == 0 && outcome.written.ends_with(BOTH_END),
         "{way}"
     );
-    assert!(rt; gate.is_kept(), "{way}: {held} was held");
+    assert!(rt; gate.is_kept(), "{way}: a lane was held");
     Ok(())
 }
 
 #[test]
 fn lanes_run_beside_each_other(rt: HostRuntime) -> Result<(), Fail> {
     for way in WAYS {
-        live_held(&rt, way, 0, 1)?;
-        live_held(&rt, way, 1, 0)?;
+        live_held(&rt, way, &HoldingGate::new(0, 1))?;
+        live_held(&rt, way, &HoldingGate::new(1, 0))?;
     }
-    Ok(())
-}
-
-/// Behind an open gate a lane makes no more than 16 tries between two passages.
-#[test]
-fn an_open_gate_is_passed_again_and_again(rt: HostRuntime) -> Result<(), Fail> {
-    let gate = CountingGate::new();
-    let outcome = live(&rt, "rexlive", LONG, (0, 0), &gate)?;
-    assert!(rt; outcome.status == 0 && gate.entries() >= 3);
     Ok(())
 }
 
@@ -332,9 +345,29 @@ fn lanes_run_beside_each_other_behind_an_open_gate(rt: HostRuntime) -> Result<()
         return Ok(());
     }
     for (held, until) in [(0, 1), (1, 0)] {
-        let gate = HoldingGate::open(held, until);
-        let outcome = live(&rt, "rexlive", LONG_BOTH, (0, 0), &gate)?;
-        assert!(rt; outcome.status == 0 && gate.is_kept(), "{held} was held");
+        live_held(&rt, "rexlive", &HoldingGate::open(held, until))?;
+    }
+    Ok(())
+}
+
+/// Behind an open gate a lane makes no more than 16 tries between two passages.
+#[test]
+fn an_open_gate_is_passed_again_and_again(rt: HostRuntime) -> Result<(), Fail> {
+    let gate = CountingGate::new();
+    let outcome = live(&rt, "rexlive", LONG, (0, 0), &gate)?;
+    assert!(rt; outcome.status == 0 && gate.entries() >= 2);
+    Ok(())
+}
+
+/// A lane that sleeps is woken by the event of another one that lets it go on.
+#[test]
+fn lanes_that_sleep_are_woken(rt: HostRuntime) -> Result<(), Fail> {
+    for (input, index) in &WAITS {
+        for open in [false, true] {
+            let gate = SleepingGate::new(*index, open);
+            let outcome = live(&rt, "rexlive", input, (0, 0), &gate)?;
+            assert_eq!(rt; outcome.status, 0);
+        }
     }
     Ok(())
 }

@@ -31,5 +31,6 @@ pub mod Dealt
 pub mod Merging
 pub mod Collecting
 pub mod Ending
+pub mod Final
 pub mod Over
 pub mod Momentary

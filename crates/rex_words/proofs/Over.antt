@@ -41,20 +41,32 @@ module _ (w : Words) (n : ℕ) (ms ns : List WordSeat) (dealt : AreDealt (assign
   come_back lanes e = subst (λ (x : ℕ). AreSeats (assignment_of w) (table_of w) x ns) (sym e) (record { count = long ∙ dealt.count; each = seat_at })
 
   module _ (words : IsWords w) (history : List Event) (recorded : IsHistoryOf (assignment_of w) ns history) where
-    sound : IsSound (service_of (assignment_of w)) recorded.state
-    sound = let a = words.whole.right in run_keeps (service_of (assignment_of w)) (start_of (service_of (assignment_of w))) recorded.state history a.good (start_keeps (service_of (assignment_of w)) a.good a.checked) recorded.runs
+    abbrev svc : Declarations
+    svc = service_of (assignment_of w)
 
-    ended : (lane : ℕ) → lane < n → lane < (service_of (assignment_of w)).lanes → HasEnded (assignment_of w) recorded.state lane (lane_list recorded.list lane)
+    sound : IsSound svc recorded.state
+    sound =
+        let a = words.whole.right in
+        run_keeps svc (start_of svc) recorded.state history a.good (start_keeps svc a.good a.checked) recorded.runs
+
+    ended : (lane : ℕ) → lane < n → lane < svc.lanes → HasEnded (assignment_of w) recorded.state lane (lane_list recorded.list lane)
     ended lane h there =
         let p = at_place ns lane (subst (λ (x : ℕ). lane < x) (sym long) (inside lane h)) in
-        let at : IsSeatAt (assignment_of w) (table_of w) lane p.seat = subst (IsSeatAt (assignment_of w) (table_of w) lane) (p.is p.seat) (seat_at lane p.seat h) in
-        let own : IsOwn (service_of (assignment_of w)) lane p.seat.state recorded.state = subst (λ (m : WordSeat). IsOwn (service_of (assignment_of w)) lane m.state recorded.state) (p.is p.seat) (recorded.own lane p.seat there) in
-        let mine : lane_list recorded.list lane ≡ p.seat.events.items = recorded.mine lane p.seat there ∙ ap (λ (m : WordSeat). m.events.items) (p.is p.seat) in
-        let end : IsIdle (assignment_of w) p.seat ⊎ IsFull (assignment_of w) p.seat = subst (λ (m : WordSeat). IsIdle (assignment_of w) m ⊎ IsFull (assignment_of w) m) (p.is p.seat) (over lane p.seat p.seat (inside lane h)).over in
+        let at : IsSeatAt (assignment_of w) (table_of w) lane p.seat =
+        subst (IsSeatAt (assignment_of w) (table_of w) lane) (p.is p.seat) (seat_at lane p.seat h) in
+        let own : IsOwn svc lane p.seat.state recorded.state =
+        subst (λ (m : WordSeat). IsOwn svc lane m.state recorded.state) (p.is p.seat) (recorded.own lane p.seat there) in
+        let mine : lane_list recorded.list lane ≡ p.seat.events.items =
+        recorded.mine lane p.seat there ∙ ap (λ (m : WordSeat). m.events.items) (p.is p.seat) in
+        let end : IsIdle (assignment_of w) p.seat ⊎ IsFull (assignment_of w) p.seat =
+        subst (λ (m : WordSeat). IsIdle (assignment_of w) m ⊎ IsFull (assignment_of w) m) (p.is p.seat) (over lane p.seat p.seat (inside lane h)).over in
+        let here : IsOwn svc p.seat.lane p.seat.state recorded.state =
+        subst (λ (x : ℕ). IsOwn svc x p.seat.state recorded.state) (sym at.lane_is) own in
         subst (λ (x : ℕ). HasEnded (assignment_of w) recorded.state x (lane_list recorded.list lane)) at.lane_is
-        (has_ended (assignment_of w) recorded.state sound p.seat at.seat.lane (subst (λ (x : ℕ). IsOwn (service_of (assignment_of w)) x p.seat.state recorded.state) (sym at.lane_is) own) (lane_list recorded.list lane) mine end)
+        (has_ended (assignment_of w) recorded.state sound p.seat at.seat.lane here (lane_list recorded.list lane) mine end)
 
-  pub all_over : (service : Declarations) (requests : List Request) (seed : ℕ) (history : List Event) → service.lanes ≡ n → IsWords w → IsAssignmentOf (assignment_of w) service requests seed → IsHistoryOf (assignment_of w) ns history → IsRecording service requests seed history
+  pub all_over : (service : Declarations) (requests : List Request) (seed : ℕ) (history : List Event) → service.lanes ≡ n → IsWords w
+      → IsAssignmentOf (assignment_of w) service requests seed → IsHistoryOf (assignment_of w) ns history → IsRecording service requests seed history
   all_over service requests seed history e words of recorded = record {
     assignment = assignment_of w;
     of = of;
@@ -62,5 +74,6 @@ module _ (w : Words) (n : ℕ) (ms ns : List WordSeat) (dealt : AreDealt (assign
     table = table_of w;
     recorded = recorded;
     over = λ lane d h. let inside' : lane < n = subst (λ (x : ℕ). lane < x) e h in record { at = seat_at lane d inside'; over = (over lane d d (inside lane inside')).over };
-    ends = λ lane h. ended words history recorded lane (subst (λ (x : ℕ). lane < x) e h) (subst (λ (x : Declarations). lane < x.lanes) (sym of.service_is) h);
+    ends = λ lane h.
+        ended words history recorded lane (subst (λ (x : ℕ). lane < x) e h) (subst (λ (x : Declarations). lane < x.lanes) (sym of.service_is) h);
   }

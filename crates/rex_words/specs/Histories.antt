@@ -36,7 +36,8 @@ pub record AreSeats (r : Assignment) (z : TableId) (n : ℕ) (seats : List WordS
   pub count : length seats ≡ n
   pub each : (lane : ℕ) (d : WordSeat) → lane < n → IsSeatAt r z lane (slice_index_or seats lane d)
 
--- the events of all seats' lanes, in order of stamp and then of lane, run from the service's start; those of a lane are just those of its seat, and say what they should; each seat's own state is its lane's in the state to which they run; there are at most 64,000,000
+-- the events of the seats' lanes, in order of stamp and then of lane, at most 64,000,000: they say what they should, and run from the service's
+-- start to a state with which each seat's own state agrees
 pub record IsHistoryOf (r : Assignment) (seats : List WordSeat) (history : List Event) : Type 0 where
   pub list : List Stamped
   pub order : IsInOrder list
@@ -60,7 +61,7 @@ pub record IsOver (r : Assignment) (z : TableId) (lane : ℕ) (m : WordSeat) : T
 abbrev pub open_in : Assignment → StateValue → ℕ → List Stamped → Option Kind
 open_in r s lane list = begin_next (service_of r) lane s (slice_get (lane_requests r lane) (begun_in list))
 
--- in this state of all lanes a lane is over that did these events: it is idle, and has no request that may begin, or one but more than 899,999 events
+-- in this state of all lanes a lane that did these events is over: it is idle, and has no request that may begin, or one but more than 899,999 events
 pub record HasEnded (r : Assignment) (s : StateValue) (lane : ℕ) (list : List Stamped) : Type 0 where
   pub idle : frame_at s lane ≡ None
   pub over : (open_in r s lane list ≡ None) ⊎ ((open_in r s lane list ≢ None) × (899999 < length list))

@@ -14,5 +14,6 @@ pub mod Turns
 pub mod Tables
 pub mod Dealing
 pub mod Histories
+pub mod Ends
 pub mod Jobs
 pub mod Moments

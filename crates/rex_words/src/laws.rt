@@ -1,6 +1,6 @@
 //! What stamps give. Each function is the statement that its contract makes, and does nothing.
 
-ghost use Rattle.rex_words.specs.Laws.{HoldersAreLast, NewEventsAreApart, EventsFindTheirPlace, GatheredListsAreOne, EmptyHistoriesBeginNothing};
+ghost use Rattle.rex_words.specs.Laws.{HoldersAreLast, NewEventsAreApart, EventsFindTheirPlace, GatheredListsAreOne, RecordingsEndOver, EmptyHistoriesBeginNothing};
 ghost use Rattle.rex_words.specs.Moments.{ViewsKnowWhatIsSo, LanesHaveOneView, FreshLanesDidNothing, MomentsRun};
 ghost use Rattle.rex_words.specs.Own.{OwnEventsGoAlong, OthersStayOwn};
 ghost use Rattle.rex_words.specs.Kept.{BeginningsHold, QuietEventsEnter, LooksKeep, FailuresKeep, LoadsKeep, StoresKeep, TakesKeep, ReleasesKeep};
@@ -51,6 +51,11 @@ pub fn own_events_go_along()
 /// An event of one lane leaves what the others have of the state of all lanes.
 pub fn others_stay_own()
     ensures { OthersStayOwn }
+{}
+
+/// At the end of a history that lanes recorded each is idle, and has no request that may begin, or has more than 899,999 events.
+pub fn recordings_end_over()
+    ensures { RecordingsEndOver }
 {}
 
 /// Lanes recorded nothing only where no lane has a first request that may begin: a run of lanes that does nothing is no
