@@ -51,3 +51,4 @@ pub mod Saved
 pub mod OldBase
 pub mod SavedAgain
 pub mod Alone
+pub mod AsTold

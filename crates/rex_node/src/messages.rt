@@ -9,7 +9,7 @@ ghost use Rattle.rex_cluster.specs.Values.{service_of};
 ghost use Rattle.rex_cluster.specs.Invariant.{Begins};
 ghost use Rattle.rex_cluster.specs.Records as records;
 ghost use Rattle.rex_node.specs.Parts.{count_of, here_of, IsNode, IsSame, StaysNode, whole, knows};
-ghost use Rattle.rex_node.specs.Telling.{AreTold, IsRight, IsToldState, RefusesContent, refusal_of_content};
+ghost use Rattle.rex_node.specs.Telling.{AreTold, IsRight, IsToldState, KeepsAsTold, RefusesContent, refusal_of_content};
 ghost use Rattle.rex_log.specs.Messages.{content_in, message_in};
 ghost use Rattle.rex_node.specs.Going.{Ends, IsStuck, RunsOn, so_far};
 ghost use Rattle.rex_node.specs.Calls.{Does, EndsDown, IsSpared, Leaves, Refuses, RefusesThen, if_up, refusal_up};
@@ -60,6 +60,7 @@ impl<K: Keeper> Node<K> {
         ensures same { IsSpared result self.old self.new }
         ensures kept { StaysNode K.records svc.now P.past self.old self.new }
         ensures ready { R.ready replayer.new }
+        ensures taken { KeepsAsTold message.now.content (K.records self.old.keeper) (K.records self.new.keeper) }
     {
         let _service = svc.declarations();
         if let Some(refusal) = self.up_refusal() {
@@ -117,6 +118,7 @@ impl<K: Keeper> Node<K> {
         ensures tells { draft.old.sends.items ≡ [] → OnOk result (AreTold svc.now P.past draft.new.sends.items) }
         ensures same { IsSame (whole P.past self.old) (whole P.past self.new) }
         ensures ready { R.ready replayer.new }
+        ensures taken { KeepsAsTold message.now.content (K.records self.old.keeper) (K.records self.new.keeper) }
     {
         let from = message.from;
         match &message.content {
