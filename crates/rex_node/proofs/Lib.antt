@@ -52,3 +52,4 @@ pub mod OldBase
 pub mod SavedAgain
 pub mod Alone
 pub mod AsTold
+pub mod Migrated

@@ -89,6 +89,10 @@ module _ {K : Type 0} (records : K → List (List ℕ)) (gives : K → List ℕ 
   u : IsUp service x h
   u = node.up f.up
 
+  -- the base is that of the records
+  pub base_there : x.base ≡ base log
+  base_there = u.base
+
   few : x.base ≤ length x.known
   few = (logged_of records service past x u).few
 
@@ -98,7 +102,7 @@ module _ {K : Type 0} (records : K → List (List ℕ)) (gives : K → List ℕ 
   pub spelling : HasSpelling r
   spelling = subst HasSpelling (sym rec.is) (record { in_range = (record { first = omega (arith, some); last = omega (arith, few, (logged_of records service past x u).numbers.few, ap length u.known) }, rec.short) })
 
-  is_due : IsDue (standing_in log) r
+  pub is_due : IsDue (standing_in log) r
   is_due = subst (IsDue (standing_in log)) (sym rec.is) (subst (λ (o : ℕ). o ≤ x.base) u.offset (omega (arith, u.low)), subst (λ (vs : List Value). x.base ≤ length vs) u.known few)
 
   stated : is_stated service (record_bytes r) ≡ true
