@@ -55,7 +55,7 @@ impl<K: Keeper> Node<K> {
         ensures refused { RefusesThen (refusal_up (here_of K.records svc.now P.past self.old)) (refusal_of_content svc.now (here_of K.records svc.now P.past self.old) message.now.content) result }
         ensures told { IfOk result (Does K.records K.append_gives K.faults svc.now P.past (calls.receive self.old.nodes (service_of svc.now self.old.seed) self.old.id message.now.from (content_in P.past message.now.content)) self.old self.new) }
         ensures tells { IfOk result (λ step. AreTold svc.now P.past step.sends) }
-        ensures down { IfOk result (EndsDown self.old.id (K.faults self.old.keeper) (K.faults self.new.keeper)) }
+        ensures down { IfOk result (EndsDown self.old.id (K.faults self.old.keeper) (K.faults self.new.keeper) self.new.up) }
         ensures left { Leaves K.records K.append_gives K.faults svc.now P.past (calls.receive self.old.nodes (service_of svc.now self.old.seed) self.old.id message.now.from (content_in P.past message.now.content)) result self.old self.new }
         ensures same { IsSpared result self.old self.new }
         ensures kept { StaysNode K.records svc.now P.past self.old self.new }
