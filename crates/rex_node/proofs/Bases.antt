@@ -53,6 +53,7 @@ module _ {K : Type 0} (records : K → List (List ℕ)) (service : Declarations)
   base_told before after to t = record {
     state = x.start;
     spelled = t.spelled;
+    version = t.version;
     leads = ap (λ (vs : List Value). run service (start_of service) (trace_of vs)) front ∙ u.start;
     there = base_there;
     short = t.short;

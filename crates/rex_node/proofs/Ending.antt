@@ -124,7 +124,7 @@ module _ {K : Type 0} (records : K → List (List ℕ)) (gives : K → List ℕ 
   told end (Err refusal) h = tt
   told (Err e) (Ok step) h = absurd h.finishes
 
-  pub down : (end : Result Going AllocError) (result : Result Step Refusal) → HasCome end result → IsQuiet (call (begin (here_of records service past x))).effects → IfOk result (EndsDown x.id (faults x.keeper) (faults z.keeper))
+  pub down : (end : Result Going AllocError) (result : Result Step Refusal) → HasCome end result → IsQuiet (call (begin (here_of records service past x))).effects → IfOk result (EndsDown x.id (faults x.keeper) (faults z.keeper) z.up)
   down (Ok On) (Ok step) h quiet =
       let l = h.ends.0.0 in
       let same : faults z.keeper ≡ faults x.keeper = ap (λ (n : NodeValue K). faults n.keeper) h.finishes.0 ∙ l.counted in
@@ -133,6 +133,7 @@ module _ {K : Type 0} (records : K → List (List ℕ)) (gives : K → List ℕ 
         down = λ more. absurd (omega arith);
         only = λ last. absurd (quiet x.id (subst (IsAmong (effect.Down x.id)) (sym effects) (last_among step.effects (effect.Down x.id) last)));
         quiet = λ more. absurd (omega arith);
+        falls = λ more. absurd (omega arith);
       }
   down (Ok Down) (Ok step) h quiet =
       let f = h.ends.0.0 in
@@ -140,6 +141,7 @@ module _ {K : Type 0} (records : K → List (List ℕ)) (gives : K → List ℕ 
         down = λ more. ap last_of (h.finishes.1 ∙ f.told) ∙ last_push f.front (effect.Down x.id);
         only = λ last. subst (λ (n : NodeValue K). faults x.keeper < faults n.keeper) (sym h.finishes.0) f.fails.counted;
         quiet = λ more. h.finishes.2 ∙ no_messages past draft.sends.items f.quiet;
+        falls = λ more. ap (λ (n : NodeValue K). n.up) h.finishes.0 ∙ h.ends.0.1;
       }
   down end (Err refusal) h quiet = tt
   down (Err e) (Ok step) h quiet = absurd h.finishes

@@ -51,3 +51,5 @@ pub mod Saved
 pub mod OldBase
 pub mod SavedAgain
 pub mod Alone
+pub mod AsTold
+pub mod Migrated

@@ -15,6 +15,7 @@ use Rattle.rex_snapshot.specs.Reading.{state_in}
 use Rattle.rex_paxos.specs.Acceptor.{AcceptorValue}
 use Rattle.rex_transfer.specs.Window.{WindowValue}
 use Rattle.rex_durable.specs.declared.recovery.Recovered.{Recovered}
+use Rattle.rex_durable.specs.Recovery.{recovered}
 use Rattle.rex_durable.specs.Laws.{HasSnapshot, MayBeAccepted}
 use Rattle.rex_cluster.specs.Records.{Rec, base, known}
 use Rattle.rex_cluster.specs.Agreed.{base_state}
@@ -23,7 +24,7 @@ use Rattle.rex_cluster.proofs.Replies.{state_is}
 use Rattle.rex_log.specs.Log.{first, log_of, read_state}
 use Rattle.rex_log.specs.Laws.{Says}
 use Rattle.rex_node.specs.Parts.{NodeValue, IsUp, IsNode, here_of, whole}
-use Rattle.rex_node.specs.Restarting.{CameUp, HasForgotten, HasRightBase, IsRecalled, IsSaved}
+use Rattle.rex_node.specs.Restarting.{CameUp, HasForgotten, HasRightBase, IsAsRecovered, IsRecalled, IsSaved}
 use Rattle.rex_node.proofs.Fronts.{front_runs}
 use Rattle.rex_node.proofs.Recalling.{old_base_is, recovered_says}
 
@@ -133,6 +134,21 @@ module _ {K : Type 0} (records : K → List (List ℕ)) (service : Declarations)
         ∙ ap (λ (ps : List Kept). node_with (record { promised = x.promised; accepted = ps }) window) (sym accepted_are)
         ∙ ap (λ (a : AcceptorValue). node_with a window) (sym acceptor_of)
 
+    -- each part is what was read
+    as_recovered : IsAsRecovered service (recovered h.found.rs) (node_with acceptor window)
+    as_recovered = record {
+      promised = ap (λ (a : AcceptorValue). a.promised) acceptor_of ∙ ap (λ (y : Recovered). y.promised) h.found.is;
+      accepted = ap (λ (a : AcceptorValue). a.accepted) acceptor_of ∙ accepted_are ∙ ap (λ (y : Recovered). y.accepted) h.found.is;
+      offset_is = ap (λ (w : WindowValue). w.offset) window_of ∙ ap (λ (y : Recovered). y.offset) h.found.is;
+      known_are = ap (λ (w : WindowValue). w.values) window_of ∙ ap (λ (y : Recovered). y.known) h.found.is;
+      base_is = ap (λ (y : Recovered). y.base) h.found.is;
+      start = subst (λ (y : Recovered). IsSaved service y.snapshot start) h.found.is h.start_is;
+      replayed = ap (λ (y : Recovered). y.base) h.found.is;
+      ahead = refl;
+      proposer = refl;
+      acting = refl;
+    }
+
     pub came_up : CameUp records service past id nodes seed keeper (node_with acceptor window)
     came_up = record {
       id_is = refl;
@@ -140,6 +156,8 @@ module _ {K : Type 0} (records : K → List (List ℕ)) (service : Declarations)
       seed_is = refl;
       keeper_is = refl;
       good = record { rs = h.found.rs; spelled = h.found.spelled; first = h.found.good };
+      recovered_is = as_recovered;
+      old_is = h.old_is;
       node = ap (λ (n : ℕ). record (here_of records service past (node_with acceptor window)) { replayed = n }) said.base;
     }
 

@@ -217,11 +217,12 @@ module _ {K : Type 0} (records : K → List (List ℕ)) (gives : K → List ℕ 
             is = appends None ∙ comes;
           })
 
-      pub saved_down : EndsDown x.id (faults x.keeper) (faults y.keeper) step
+      pub saved_down : EndsDown x.id (faults x.keeper) (faults y.keeper) y.up step
       saved_down = record {
         down = λ l. absurd (omega (arith, l, k.faults_are));
         only = λ e. absurd (other (sym (ap last_of effects) ∙ e));
         quiet = λ l. sends;
+        falls = λ l. absurd (omega (arith, l, k.faults_are));
       }
         where
           other : ◌≡◌ {A = Option Effect} (Some (effect.Checkpointed x.id x.replayed)) (Some (effect.Down x.id)) → ⊥
@@ -281,8 +282,8 @@ module _ {K : Type 0} (records : K → List (List ℕ)) (gives : K → List ℕ 
       fell_does =
           inr (fell_append records gives faults service call (say (effect.Checkpointed x.id x.replayed)) x.id said (begin h) appends x.keeper y.keeper (record_bytes r) stated k.kept k.answer k.records_are k.faults_are (call_of records service past y step) downs).fails
 
-      pub fell_down : EndsDown x.id (faults x.keeper) (faults y.keeper) step
-      fell_down = record { down = λ l. ap last_of effects; only = λ e. k.faults_are; quiet = λ l. sends }
+      pub fell_down : EndsDown x.id (faults x.keeper) (faults y.keeper) y.up step
+      fell_down = record { down = λ l. ap last_of effects; only = λ e. k.faults_are; quiet = λ l. sends; falls = λ l. ap (λ (n : NodeValue K). n.up) k.parts }
 
       pub fell_stays : StaysResting records service past x y
       fell_stays = subst (StaysResting records service past x) (sym k.parts) (record {

@@ -89,6 +89,10 @@ module _ {K : Type 0} (records : K → List (List ℕ)) (gives : K → List ℕ 
   u : IsUp service x h
   u = node.up f.up
 
+  -- the base is that of the records
+  pub base_there : x.base ≡ base log
+  base_there = u.base
+
   few : x.base ≤ length x.known
   few = (logged_of records service past x u).few
 
@@ -98,7 +102,7 @@ module _ {K : Type 0} (records : K → List (List ℕ)) (gives : K → List ℕ 
   pub spelling : HasSpelling r
   spelling = subst HasSpelling (sym rec.is) (record { in_range = (record { first = omega (arith, some); last = omega (arith, few, (logged_of records service past x u).numbers.few, ap length u.known) }, rec.short) })
 
-  is_due : IsDue (standing_in log) r
+  pub is_due : IsDue (standing_in log) r
   is_due = subst (IsDue (standing_in log)) (sym rec.is) (subst (λ (o : ℕ). o ≤ x.base) u.offset (omega (arith, u.low)), subst (λ (vs : List Value). x.base ≤ length vs) u.known few)
 
   stated : is_stated service (record_bytes r) ≡ true
@@ -152,11 +156,12 @@ module _ {K : Type 0} (records : K → List (List ℕ)) (gives : K → List ℕ 
             is = appends None ∙ comes;
           })
 
-      pub migrated_down : EndsDown x.id (faults x.keeper) (faults y.keeper) step
+      pub migrated_down : EndsDown x.id (faults x.keeper) (faults y.keeper) y.up step
       migrated_down = record {
         down = λ l. absurd (omega (arith, l, k.faults_are));
         only = λ e. absurd (other (sym (ap last_of effects) ∙ e));
         quiet = λ l. sends;
+        falls = λ l. absurd (omega (arith, l, k.faults_are));
       }
         where
           other : ◌≡◌ {A = Option Effect} (Some (effect.Migrated x.id x.base)) (Some (effect.Down x.id)) → ⊥
@@ -212,8 +217,8 @@ module _ {K : Type 0} (records : K → List (List ℕ)) (gives : K → List ℕ 
       fell_does =
           inr (fell_append records gives faults service call (say (effect.Migrated x.id x.base)) x.id said (begin h) appends x.keeper y.keeper (record_bytes r) stated k.kept k.answer k.records k.faults (call_of records service past y step) downs).fails
 
-      pub fell_down : EndsDown x.id (faults x.keeper) (faults y.keeper) step
-      fell_down = record { down = λ l. ap last_of effects; only = λ e. k.faults; quiet = λ l. sends }
+      pub fell_down : EndsDown x.id (faults x.keeper) (faults y.keeper) y.up step
+      fell_down = record { down = λ l. ap last_of effects; only = λ e. k.faults; quiet = λ l. sends; falls = λ l. ap (λ (n : NodeValue K). n.up) k.parts }
 
       pub fell_stays : StaysResting records service past x y
       fell_stays = subst (StaysResting records service past x) (sym k.parts) (record {

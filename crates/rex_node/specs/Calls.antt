@@ -84,11 +84,12 @@ last_of [] = None
 last_of (e ∷ []) = Some e
 last_of (e ∷ f ∷ es) = last_of (f ∷ es)
 
--- the step ends with its node down just where the keeper has failed; then it sends nothing
-pub record EndsDown (id before after : ℕ) (step : Step) : Type 0 where
+-- the step ends with its node down, and says so, just where the keeper has failed; then it sends nothing
+pub record EndsDown (id before after : ℕ) (up : Bool) (step : Step) : Type 0 where
   pub down : before < after → last_of step.effects ≡ Some (effect.Down id)
   pub only : last_of step.effects ≡ Some (effect.Down id) → before < after
   pub quiet : before < after → step.sends ≡ []
+  pub falls : before < after → up ≡ false
 
 -- ---- refusals
 

@@ -6,6 +6,8 @@ use Rattle.rex_msg.specs.declared.message.Message.{Message}
 use Rattle.rex_msg.specs.declared.message.Content.{Content}
 use Rattle.rex_msg.specs.declared.message.Content.TheVariants as sent
 use Rattle.rex_ballot.specs.Proposals.{IsValue}
+use Rattle.rex_version.specs.declared.version.Version.TheVariants.{Two}
+use Rattle.rex_snapshot.specs.Allowed.{version_in}
 use Rattle.rex_snapshot.specs.Reading.{state_in}
 use Rattle.rex_paxos.specs.Proposer.{ProposerValue}
 use Rattle.rex_syntax.specs.declared.service.Declarations.{Declarations}
@@ -47,10 +49,11 @@ pub record Sends (before after : Draft) (messages : List Message) : Type 0 where
 abbrev pub answering : ℕ → ℕ → Content → List Message
 answering from to content = record { from = from; to = to; content = content } ∷ []
 
--- the state at the base is told, by one message
+-- the state at the base is told, in the new version, by one message
 pub record TellsBase {K : Type 0} (service : Declarations) (x : NodeValue K) (to : ℕ) (before after : Draft) : Type 0 where
   pub snapshot : List ℕ
   pub spelled : state_in service snapshot ≡ Ok x.start
+  pub version : version_in snapshot ≡ Two
   pub short : IsValue snapshot
   pub sends : Sends before after (answering x.id to (sent.Snapshot x.base snapshot))
 

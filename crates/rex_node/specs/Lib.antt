@@ -5,6 +5,7 @@ pub mod Cutting
 pub mod Electing
 pub mod Going
 pub mod Leading
+pub mod Migrating
 pub mod Parts
 pub mod Restarting
 pub mod Stated

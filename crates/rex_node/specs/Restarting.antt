@@ -122,11 +122,26 @@ HasRightBase service log = (s : StateValue) → base_state log ≡ Some s → (b
 abbrev pub HasForgotten : List Value → List (ModelRec Value StateValue) → Type 0
 HasForgotten past log = first (offset_of log) past ≡ take (offset_of log) (known log)
 
--- the node of this number comes up with the keeper, none of whose records is bad: it is the one of the model that is started with them
+-- the node is what its records say: its acceptor, the values that it holds and of how many it holds none, its base and the state there; and it is a follower that has replayed the values up to its base, and no more
+pub record IsAsRecovered {K : Type 0} (service : Declarations) (said : Recovered) (x : NodeValue K) : Type 0 where
+  pub promised : x.acceptor.promised ≡ said.promised
+  pub accepted : x.acceptor.accepted ≡ said.accepted
+  pub offset_is : x.offset ≡ said.offset
+  pub known_are : x.known ≡ said.known
+  pub base_is : x.base ≡ said.base
+  pub start : IsSaved service said.snapshot x.start
+  pub replayed : x.replayed ≡ said.base
+  pub ahead : x.ahead ≡ None
+  pub proposer : x.proposer ≡ None
+  pub acting : x.acting ≡ None
+
+-- the node of this number comes up with the keeper, none of whose records is bad: it is what they say, and the one of the model that is started with them
 pub record CameUp {K : Type 0} (records : K → List (List ℕ)) (service : Declarations) (past : List Value) (id nodes seed : ℕ) (keeper : K) (x : NodeValue K) : Type 0 where
   pub id_is : x.id ≡ id
   pub nodes_are : x.nodes ≡ nodes
   pub seed_is : x.seed ≡ seed
   pub keeper_is : x.keeper ≡ keeper
   pub good : HasFirstBad service (records keeper) None
+  pub recovered_is : IsAsRecovered service (recovered good.rs) x
+  pub old_is : x.old_base ≡ ends_old good.rs
   pub node : here_of records service past x ≡ (restart id (begin (down_node (log_of service past (records keeper)) None))).node

@@ -1,5 +1,5 @@
 -- States that are told, or taken over, for values that a node doesn't hold.
-use Rattle.std.specs.Prelude.{◌≡◌, ℕ, ◌<◌, ◌≤◌, ◌-◌, Bool, List, [], drop, length, max, unwrap_or, Result, Ok, Err, Option, Some, None, nat_le, if◌then◌else◌}
+use Rattle.std.specs.Prelude.{◌≡◌, ◌⊎◌, ℕ, ◌<◌, ◌≤◌, ◌-◌, Bool, List, [], ◌∷◌, ◌++◌, drop, length, max, unwrap_or, Result, Ok, Err, Option, Some, None, nat_le, if◌then◌else◌}
 use Rattle.std.specs.List.{All}
 use Rattle.rex_ballot.specs.Proposals.{IsValue}
 use Rattle.rex_paxos.specs.Acceptor.{forgetting}
@@ -7,7 +7,11 @@ use Rattle.rex_syntax.specs.declared.service.Declarations.{Declarations}
 use Rattle.rex_state.specs.Value.{StateValue}
 use Rattle.rex_state.specs.Start.{start_of}
 use Rattle.rex_state.specs.Machine.{run}
+use Rattle.rex_version.specs.declared.version.Version.TheVariants.{Two}
+use Rattle.rex_snapshot.specs.Allowed.{version_in}
 use Rattle.rex_snapshot.specs.Reading.{state_in}
+use Rattle.rex_durable.specs.Spelling.{record_bytes}
+use Rattle.rex_durable.specs.declared.records.Rec.TheVariants.{Transferred}
 use Rattle.rex_gate.specs.Noted.{stamp_of}
 use Rattle.rex_msg.specs.declared.message.Message.{Message}
 use Rattle.rex_msg.specs.declared.message.Content.{Content}
@@ -29,10 +33,11 @@ abbrev pub IsRight : Declarations → List Value → Content → Type 0
 IsRight service past (sent.Snapshot k bytes) = (s : StateValue) → state_in service bytes ≡ Ok s → LeadTo service past k s
 IsRight service past _ = Unit {0}
 
--- so it is, and its bytes spell one; and the past has the values before it
+-- so it is, and its bytes spell one, in the new version; and the past has the values before it
 pub record TellsState (service : Declarations) (past : List Value) (k : ℕ) (bytes : List ℕ) : Type 0 where
   pub state : StateValue
   pub spelled : state_in service bytes ≡ Ok state
+  pub version : version_in bytes ≡ Two
   pub leads : LeadTo service past k state
   pub there : k ≤ length past
   pub short : IsValue bytes
@@ -44,6 +49,11 @@ IsTold service past _ = Unit {0}
 -- each message that tells a state does so
 abbrev pub AreTold : Declarations → List Value → List Message → Type 0
 AreTold service past ms = All (λ (m : Message). IsTold service past m.content) ms
+
+-- a message that tells a state adds no record, or the one that holds its own bytes
+abbrev pub KeepsAsTold : Content → List (List ℕ) → List (List ℕ) → Type 0
+KeepsAsTold (sent.Snapshot k bytes) before after = (after ≡ before) ⊎ (after ≡ before ++ record_bytes (Transferred k bytes) ∷ [])
+KeepsAsTold _ before after = Unit {0}
 
 -- a state that isn't read is refused for its first bad field, unless memory ran out
 abbrev pub RefusesState : Result StateValue ℕ → Refusal → Type 0

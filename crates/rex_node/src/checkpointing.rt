@@ -164,7 +164,7 @@ impl<K: Keeper> Node<K> {
         requires count { K.faults self.old.keeper < 2 ^ 64 - 1 }
         ensures refused { Refuses (refusal_of_checkpoint (here_of K.records svc.now P.past self.old)) result }
         ensures told { IfOk result (Does K.records K.append_gives K.faults svc.now P.past (calls.checkpoint Two (service_of svc.now self.old.seed) self.old.id) self.old self.new) }
-        ensures down { IfOk result (EndsDown self.old.id (K.faults self.old.keeper) (K.faults self.new.keeper)) }
+        ensures down { IfOk result (EndsDown self.old.id (K.faults self.old.keeper) (K.faults self.new.keeper) self.new.up) }
         ensures left { LeavesAll K.records K.append_gives K.faults result self.old self.new }
         ensures same { IsSpared result self.old self.new }
         ensures kept { StaysNode K.records svc.now P.past self.old self.new }
@@ -179,7 +179,7 @@ impl<K: Keeper> Node<K> {
         requires count { K.faults self.old.keeper < 2 ^ 64 - 1 }
         ensures refused { Refuses (refusal_of_checkpoint (here_of K.records svc.now P.past self.old)) result }
         ensures told { IfOk result (Does K.records K.append_gives K.faults svc.now P.past (calls.checkpoint One (service_of svc.now self.old.seed) self.old.id) self.old self.new) }
-        ensures down { IfOk result (EndsDown self.old.id (K.faults self.old.keeper) (K.faults self.new.keeper)) }
+        ensures down { IfOk result (EndsDown self.old.id (K.faults self.old.keeper) (K.faults self.new.keeper) self.new.up) }
         ensures left { LeavesAll K.records K.append_gives K.faults result self.old self.new }
         ensures same { IsSpared result self.old self.new }
         ensures kept { StaysNode K.records svc.now P.past self.old self.new }
@@ -198,7 +198,7 @@ impl<K: Keeper> Node<K> {
         requires count { K.faults self.old.keeper < 2 ^ 64 - 1 }
         ensures refused { Refuses (refusal_of_checkpoint (here_of K.records svc.now P.past self.old)) result }
         ensures told { IfOk result (Does K.records K.append_gives K.faults svc.now P.past (calls.checkpoint version (service_of svc.now self.old.seed) self.old.id) self.old self.new) }
-        ensures down { IfOk result (EndsDown self.old.id (K.faults self.old.keeper) (K.faults self.new.keeper)) }
+        ensures down { IfOk result (EndsDown self.old.id (K.faults self.old.keeper) (K.faults self.new.keeper) self.new.up) }
         ensures left { LeavesAll K.records K.append_gives K.faults result self.old self.new }
         ensures same { IsSpared result self.old self.new }
         ensures kept { StaysNode K.records svc.now P.past self.old self.new }

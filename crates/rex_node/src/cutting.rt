@@ -166,7 +166,7 @@ impl<K: Keeper> Node<K> {
         ensures refused { RefusesThen (refusal_of_cut (here_of K.records svc.now P.past self.old) (length (knows P.past self.old))) (refusal_of_none (below (greatest_cut (counts_for svc.now (here_of K.records svc.now P.past self.old) (option_copied limits.entry)) (here_of K.records svc.now P.past self.old).work.live) (here_of K.records svc.now P.past self.old).work.live)) result }
         ensures told { IfOk result (Does K.records K.append_gives K.faults svc.now P.past (lanes.cut svc.now self.old.seed self.old.nodes self.old.id (counts_for svc.now (here_of K.records svc.now P.past self.old) (option_copied limits.entry))) self.old self.new) }
         ensures tells { IfOk result (λ step. AreTold svc.now P.past step.sends) }
-        ensures down { IfOk result (EndsDown self.old.id (K.faults self.old.keeper) (K.faults self.new.keeper)) }
+        ensures down { IfOk result (EndsDown self.old.id (K.faults self.old.keeper) (K.faults self.new.keeper) self.new.up) }
         ensures left { Leaves K.records K.append_gives K.faults svc.now P.past (lanes.cut svc.now self.old.seed self.old.nodes self.old.id (counts_for svc.now (here_of K.records svc.now P.past self.old) (option_copied limits.entry))) result self.old self.new }
         ensures same { IsSpared result self.old self.new }
         ensures kept { StaysNode K.records svc.now P.past self.old self.new }

@@ -46,7 +46,7 @@ impl<K: Keeper> Node<K> {
         ensures refused { Refuses (refusal_of_elect self.old.id (here_of K.records svc.now P.past self.old)) result }
         ensures told { IfOk result (Does K.records K.append_gives K.faults svc.now P.past (calls.elect self.old.nodes (service_of svc.now self.old.seed) self.old.id) self.old self.new) }
         ensures tells { IfOk result (λ step. AreTold svc.now P.past step.sends) }
-        ensures down { IfOk result (EndsDown self.old.id (K.faults self.old.keeper) (K.faults self.new.keeper)) }
+        ensures down { IfOk result (EndsDown self.old.id (K.faults self.old.keeper) (K.faults self.new.keeper) self.new.up) }
         ensures left { Leaves K.records K.append_gives K.faults svc.now P.past (calls.elect self.old.nodes (service_of svc.now self.old.seed) self.old.id) result self.old self.new }
         ensures same { IsSpared result self.old self.new }
         ensures kept { StaysNode K.records svc.now P.past self.old self.new }

@@ -9,7 +9,7 @@ ghost use Rattle.rex_cluster.specs.Values.{service_of};
 ghost use Rattle.rex_cluster.specs.Invariant.{Begins};
 ghost use Rattle.rex_cluster.specs.Records as records;
 ghost use Rattle.rex_node.specs.Parts.{count_of, here_of, IsNode, IsSame, StaysNode, whole, knows};
-ghost use Rattle.rex_node.specs.Telling.{AreTold, IsRight, IsToldState, RefusesContent, refusal_of_content};
+ghost use Rattle.rex_node.specs.Telling.{AreTold, IsRight, IsToldState, KeepsAsTold, RefusesContent, refusal_of_content};
 ghost use Rattle.rex_log.specs.Messages.{content_in, message_in};
 ghost use Rattle.rex_node.specs.Going.{Ends, IsStuck, RunsOn, so_far};
 ghost use Rattle.rex_node.specs.Calls.{Does, EndsDown, IsSpared, Leaves, Refuses, RefusesThen, if_up, refusal_up};
@@ -55,11 +55,12 @@ impl<K: Keeper> Node<K> {
         ensures refused { RefusesThen (refusal_up (here_of K.records svc.now P.past self.old)) (refusal_of_content svc.now (here_of K.records svc.now P.past self.old) message.now.content) result }
         ensures told { IfOk result (Does K.records K.append_gives K.faults svc.now P.past (calls.receive self.old.nodes (service_of svc.now self.old.seed) self.old.id message.now.from (content_in P.past message.now.content)) self.old self.new) }
         ensures tells { IfOk result (λ step. AreTold svc.now P.past step.sends) }
-        ensures down { IfOk result (EndsDown self.old.id (K.faults self.old.keeper) (K.faults self.new.keeper)) }
+        ensures down { IfOk result (EndsDown self.old.id (K.faults self.old.keeper) (K.faults self.new.keeper) self.new.up) }
         ensures left { Leaves K.records K.append_gives K.faults svc.now P.past (calls.receive self.old.nodes (service_of svc.now self.old.seed) self.old.id message.now.from (content_in P.past message.now.content)) result self.old self.new }
         ensures same { IsSpared result self.old self.new }
         ensures kept { StaysNode K.records svc.now P.past self.old self.new }
         ensures ready { R.ready replayer.new }
+        ensures taken { KeepsAsTold message.now.content (K.records self.old.keeper) (K.records self.new.keeper) }
     {
         let _service = svc.declarations();
         if let Some(refusal) = self.up_refusal() {
@@ -117,6 +118,7 @@ impl<K: Keeper> Node<K> {
         ensures tells { draft.old.sends.items ≡ [] → OnOk result (AreTold svc.now P.past draft.new.sends.items) }
         ensures same { IsSame (whole P.past self.old) (whole P.past self.new) }
         ensures ready { R.ready replayer.new }
+        ensures taken { KeepsAsTold message.now.content (K.records self.old.keeper) (K.records self.new.keeper) }
     {
         let from = message.from;
         match &message.content {

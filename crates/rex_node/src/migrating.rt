@@ -6,6 +6,7 @@ ghost use Rattle.rex_cluster.specs.Calls as calls;
 ghost use Rattle.rex_cluster.specs.Values.{service_of};
 ghost use Rattle.rex_node.specs.Calls.{Does, EndsDown, IsSpared, LeavesAll, Refuses, refusal_of_migrate};
 ghost use Rattle.rex_node.specs.Checkpointing.{MigratesOr};
+ghost use Rattle.rex_node.specs.Migrating.{StillSay};
 ghost use Rattle.rex_node.specs.Parts.{IsNode, StaysNode, here_of, whole};
 
 use crate::checkpointing::{only, record_of};
@@ -56,10 +57,11 @@ impl<K: Keeper> Node<K> {
         requires count { K.faults self.old.keeper < 2 ^ 64 - 1 }
         ensures refused { Refuses (refusal_of_migrate (here_of K.records svc.now P.past self.old)) result }
         ensures told { IfOk result (Does K.records K.append_gives K.faults svc.now P.past (calls.migrate (service_of svc.now self.old.seed) self.old.id) self.old self.new) }
-        ensures down { IfOk result (EndsDown self.old.id (K.faults self.old.keeper) (K.faults self.new.keeper)) }
+        ensures down { IfOk result (EndsDown self.old.id (K.faults self.old.keeper) (K.faults self.new.keeper) self.new.up) }
         ensures left { LeavesAll K.records K.append_gives K.faults result self.old self.new }
         ensures same { IsSpared result self.old self.new }
         ensures kept { StaysNode K.records svc.now P.past self.old self.new }
+        ensures again { StillSay svc.now self.old.start (K.records self.old.keeper) (K.records self.new.keeper) }
     {
         let _service = svc.declarations();
         if let Some(refusal) = self.migrate_refusal::<P>(svc) {

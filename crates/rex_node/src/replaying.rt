@@ -39,6 +39,7 @@ impl<K: Keeper> Node<K> {
         ensures refused { Refuses (refusal_of_replay (here_of K.records svc.now P.past self.old)) result }
         ensures told { IfOk result (Does K.records K.append_gives K.faults svc.now P.past (calls.replay self.old.id) self.old self.new) }
         ensures same { OnErr result (self.new ≡ self.old) }
+        ensures keeper { self.new.keeper ≡ self.old.keeper }
         ensures kept { StaysNode K.records svc.now P.past self.old self.new }
         ensures ready { R.ready replayer.new }
     {

@@ -5,7 +5,11 @@ ghost use Rattle.rex_ballot.specs.Ballot.{IsInstance};
 ghost use Rattle.rex_ballot.specs.Proposals.{IsValue};
 ghost use Rattle.rex_msg.specs.declared.message.Content.TheVariants as sent;
 ghost use Rattle.rex_report.specs.declared.effect.Effect.TheVariants as effect;
+ghost use Rattle.rex_snapshot.specs.Allowed.{version_in};
 ghost use Rattle.rex_snapshot.specs.Reading.{state_in};
+ghost use Rattle.rex_snapshot.specs.Spelling.{IsLimited};
+ghost use Rattle.rex_state.specs.Sound.{IsSound};
+ghost use Rattle.rex_version.specs.declared.version.Version.TheVariants.{Two};
 ghost use Rattle.rex_log.specs.Log.{first};
 ghost use Rattle.rex_cluster.specs.Invariant.{Begins};
 ghost use Rattle.rex_cluster.specs.Records.{known};
@@ -16,7 +20,7 @@ ghost use Rattle.rex_node.specs.Parts.{IsNode, IsSame, StaysNode, count_of, here
 ghost use Rattle.rex_node.specs.Going.{Ends, IsStuck, RunsOn, Tells, TellsBase, so_far};
 ghost use Rattle.rex_node.specs.Calls.{Does, EndsDown, IsSpared, Leaves, Refuses, refusal_of_drop};
 ghost use Rattle.rex_node.specs.Telling as spec;
-ghost use Rattle.rex_node.specs.Telling.{IsRight, IsToldState, LeadTo, RefusesState};
+ghost use Rattle.rex_node.specs.Telling.{IsRight, IsToldState, KeepsAsTold, LeadTo, RefusesState};
 
 use crate::going::Going;
 use crate::node::Node;
@@ -46,6 +50,18 @@ pub(crate) fn decoded(alloc: Global, svc: &Checked, snapshot: &[u8]) -> Result<S
     }
 }
 
+// The bytes of a state as it is told: in the new version.
+fn told_bytes(alloc: Global, svc: &Checked, state: &State) -> Result<List<u8>, AllocError>
+    requires sound { IsSound svc.now state.now }
+    requires limited { IsLimited state.now }
+    ensures spelled { IfOk result (λ bytes. state_in svc.now bytes ≡ Ok state.now) }
+    ensures version { IfOk result (λ bytes. version_in bytes ≡ Two) }
+    ensures short { IfOk result IsValue }
+{
+    let bytes = encode(alloc, svc, state)?;
+    Ok(List::from_vec(bytes))
+}
+
 impl<K: Keeper> Node<K> {
     /// Forgets the values up to the base, and what was accepted for their instances. It takes memory for what is told alone.
     pub fn drop_known<P: Past>(&mut self, svc: &Checked) -> Result<Step, Refusal>
@@ -54,7 +70,7 @@ impl<K: Keeper> Node<K> {
         requires count { K.faults self.old.keeper < 2 ^ 64 - 1 }
         ensures refused { Refuses (refusal_of_drop (here_of K.records svc.now P.past self.old)) result }
         ensures told { IfOk result (Does K.records K.append_gives K.faults svc.now P.past (calls.drop_known self.old.id) self.old self.new) }
-        ensures down { IfOk result (EndsDown self.old.id (K.faults self.old.keeper) (K.faults self.new.keeper)) }
+        ensures down { IfOk result (EndsDown self.old.id (K.faults self.old.keeper) (K.faults self.new.keeper) self.new.up) }
         ensures left { Leaves K.records K.append_gives K.faults svc.now P.past (calls.drop_known self.old.id) result self.old self.new }
         ensures same { IsSpared result self.old self.new }
         ensures kept { StaysNode K.records svc.now P.past self.old self.new }
@@ -123,7 +139,7 @@ impl<K: Keeper> Node<K> {
         ensures { OnOk result (TellsBase svc.now (whole P.past self.now) to draft.old draft.new) }
     {
         let _service = svc.declarations();
-        let snapshot = List::from_vec(encode(self.alloc, svc, &self.start)?);
+        let snapshot = told_bytes(self.alloc, svc, &self.start)?;
         let deltas = self.base;
         draft.send(Message {
             from: self.id,
@@ -152,6 +168,7 @@ impl<K: Keeper> Node<K> {
         ensures ends { IfOk result (Ends K.records K.append_gives K.faults svc.now P.past (calls.on_snapshot (service_of svc.now self.old.seed) self.old.id (first deltas P.past)) (whole P.past self.old) (whole P.past self.new) draft.old draft.new) }
         ensures stuck { OnErr result (IsStuck K.records K.append_gives K.faults svc.now P.past (calls.on_snapshot (service_of svc.now self.old.seed) self.old.id (first deltas P.past)) (whole P.past self.old) (whole P.past self.new) draft.old) }
         ensures same { IsSame (whole P.past self.old) (whole P.past self.new) }
+        ensures taken { KeepsAsTold (sent.Snapshot deltas snapshot.now) (K.records self.old.keeper) (K.records self.new.keeper) }
     {
         let _service = svc.declarations();
         let Some(state) = told else {
@@ -185,6 +202,7 @@ impl<K: Keeper> Node<K> {
         ensures ends { IfOk result (Ends K.records K.append_gives K.faults svc.now P.past (calls.on_snapshot (service_of svc.now self.old.seed) self.old.id (first deltas P.past)) (whole P.past self.old) (whole P.past self.new) draft.old draft.new) }
         ensures stuck { OnErr result (IsStuck K.records K.append_gives K.faults svc.now P.past (calls.on_snapshot (service_of svc.now self.old.seed) self.old.id (first deltas P.past)) (whole P.past self.old) (whole P.past self.new) draft.old) }
         ensures same { IsSame (whole P.past self.old) (whole P.past self.new) }
+        ensures taken { KeepsAsTold (sent.Snapshot deltas snapshot.now) (K.records self.old.keeper) (K.records self.new.keeper) }
     {
         let _service = svc.declarations();
         let snapshot = copied(self.alloc, snapshot)?;

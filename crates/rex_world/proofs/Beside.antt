@@ -144,6 +144,7 @@ module _ (service : Declarations) (past : List Value) where
     told_grown (says.Snapshot k bytes) h = record {
       state = h.state;
       spelled = h.spelled;
+      version = h.version;
       leads = subst (λ (vs : List Value). run service (start_of service) (trace_of vs) ≡ Some h.state) (sym (first_grown k h.there)) h.leads;
       there = let l = h.there in omega (arith, l, longer_past);
       short = h.short;

@@ -8,6 +8,7 @@ use Rattle.rex_node.specs.Parts.{NodeValue, whole}
 use Rattle.rex_node.proofs.Ending.{HasCome, begins, told, down, left, kept}
 use Rattle.rex_node.proofs.Executing.{up_of}
 use Rattle.rex_node.proofs.Quiet.{receive_well, replies_quiet}
+use Rattle.rex_node.proofs.AsTold.{finish_keeps, none_kept, then_kept}
 use Rattle.rex_node.proofs.node.Node.on_message.Given as given
 use Rattle.rex_node.proofs.node.Node.on_message.Goals as goal
 
@@ -48,3 +49,15 @@ returns-clause-left g c = left g.K.Keeper.records g.K.Keeper.append_gives g.K.Ke
 
 pub returns-clause-kept : goal.returns-clause-kept
 returns-clause-kept g c = kept g.K.Keeper.records g.K.Keeper.append_gives g.K.Keeper.faults c.args.svc.now g.P.Past.past (call g c) (whole g.P.Past.past c.args.self.now) (whole g.P.Past.past c.receive-end.new.self) (whole g.P.Past.past c.finish.new.self) c.len-before.result c.new-draft.result c.receive-end.new.draft c.receive-end.result c.finish.result (come g c)
+
+pub returns-in-Some-clause-taken : goal.returns-in-Some-clause-taken
+returns-in-Some-clause-taken g c = none_kept c.args.message.now.content (g.K.Keeper.records c.args.self.now.keeper)
+
+pub returns-in_err-told-clause-taken : goal.returns-in_err-told-clause-taken
+returns-in_err-told-clause-taken g c = none_kept c.args.message.now.content (g.K.Keeper.records c.args.self.now.keeper)
+
+pub returns-clause-taken : goal.returns-clause-taken
+returns-clause-taken g c =
+    then_kept g.K.Keeper.records c.args.message.now.content (g.K.Keeper.records c.args.self.now.keeper) c.receive-end.new.self c.finish.new.self
+    (finish_keeps g.K.Keeper.records c.len-before.result c.receive-end.new.draft c.receive-end.result (whole g.P.Past.past c.receive-end.new.self) (whole g.P.Past.past c.finish.new.self) c.finish.result c.finish.ensures)
+    c.receive-end.ensures.taken

@@ -1,7 +1,8 @@
-use Rattle.std.proofs.Common.{nat_lt, List, ◌∷◌, is_some, length, ap, subst, ◌∙◌, arith}
+use Rattle.std.proofs.Common.{nat_lt, List, ◌∷◌, is_some, inl, length, ap, subst, ◌∙◌, arith}
 use Rattle.rex_durable.specs.declared.records.Rec.TheVariants as kept
 use Rattle.rex_node.specs.Parts.{NodeValue, leaving, role_of, whole}
 use Rattle.rex_node.specs.Going.{Tells}
+use Rattle.rex_node.specs.declared.going.Going.TheVariants.{On, Down}
 use Rattle.rex_paxos.specs.Acceptor.{forgetting}
 use Rattle.rex_report.specs.declared.effect.Effect.{Effect}
 use Rattle.rex_report.specs.declared.effect.Effect.TheVariants as effect
@@ -10,6 +11,8 @@ use Rattle.rex_node.specs.Telling.{fallen_moved}
 use Rattle.rex_node.proofs.Knows.{many_known}
 use Rattle.rex_node.proofs.Moving.{followed_same, moved_down, moved_on, moved_stuck}
 use Rattle.rex_node.proofs.Promises.{appends_at, on_err_anyway}
+use Rattle.rex_msg.specs.declared.message.Content.TheVariants as sent
+use Rattle.rex_node.proofs.AsTold.{append_kept, none_kept, then_kept}
 use Rattle.rex_node.proofs.node.Node.take_over.Goals as goal
 
 pub move_to-requires-clause-more : goal.move_to-requires-clause-more
@@ -38,3 +41,24 @@ returns-in_ok-tell_moved-in-On-clause-ends g c =
     (let y = c.append.new.self in
     subst (λ (es : List Effect). Tells c.append.new.draft c.tell_moved.new.draft (effect.Transferred y.id c.args.deltas ∷ es)) (followed_same y.id (forgetting y.acceptor c.args.deltas) y.acceptor y.proposer (is_some y.acting))
     (subst (λ (n : NodeValue _). Tells c.append.new.draft c.tell_moved.new.draft (effect.Transferred n.id c.args.deltas ∷ followed n.id (role_of n.acceptor n.proposer (is_some n.acting)))) c.move_to.ensures c.in_ok-tell_moved-in-On.ensures.told))
+
+pub returns-in_err-snapshot-clause-taken : goal.returns-in_err-snapshot-clause-taken
+returns-in_err-snapshot-clause-taken g c = none_kept (sent.Snapshot c.args.deltas c.args.snapshot.now) (g.K.Keeper.records c.args.self.now.keeper)
+
+pub returns-in_err-append-clause-taken : goal.returns-in_err-append-clause-taken
+returns-in_err-append-clause-taken g c = inl c.in_err-append.ensures.stands.records
+
+pub returns-in-Down-clause-taken : goal.returns-in-Down-clause-taken
+returns-in-Down-clause-taken g c =
+    then_kept g.K.Keeper.records (sent.Snapshot c.args.deltas c.args.snapshot.now) (g.K.Keeper.records c.args.self.now.keeper) c.append.new.self c.fall_moved.new.self (ap (λ (n : NodeValue _). n.keeper) c.fall_moved.ensures.fallen)
+    (append_kept g.K.Keeper.records g.K.Keeper.faults g.K.Keeper.append_gives (whole g.P.Past.past c.args.self.now) (whole g.P.Past.past c.append.new.self) c.args.draft.now c.append.new.draft c.args.deltas c.args.snapshot.now Down (appends_at g.K.Keeper.records g.K.Keeper.append_gives g.K.Keeper.faults (whole g.P.Past.past c.args.self.now) (whole g.P.Past.past c.append.new.self) c.args.draft.now c.append.new.draft (kept.Transferred c.args.deltas c.in_ok-snapshot.snapshot) _ c.in_ok-append.field-0 _ (ap (kept.Transferred c.args.deltas) c.in_ok-snapshot.ensures) c.in-Down.is c.in_ok-append.ensures.appends))
+
+pub returns-in_err-tell_moved-in-On-clause-taken : goal.returns-in_err-tell_moved-in-On-clause-taken
+returns-in_err-tell_moved-in-On-clause-taken g c =
+    then_kept g.K.Keeper.records (sent.Snapshot c.args.deltas c.args.snapshot.now) (g.K.Keeper.records c.args.self.now.keeper) c.append.new.self c.tell_moved.new.self (ap (λ (n : NodeValue _). n.keeper) c.in_err-tell_moved-in-On.ensures.err ∙ ap (λ (n : NodeValue _). n.keeper) c.move_to.ensures)
+    (append_kept g.K.Keeper.records g.K.Keeper.faults g.K.Keeper.append_gives (whole g.P.Past.past c.args.self.now) (whole g.P.Past.past c.append.new.self) c.args.draft.now c.append.new.draft c.args.deltas c.args.snapshot.now On (appends_at g.K.Keeper.records g.K.Keeper.append_gives g.K.Keeper.faults (whole g.P.Past.past c.args.self.now) (whole g.P.Past.past c.append.new.self) c.args.draft.now c.append.new.draft (kept.Transferred c.args.deltas c.in_ok-snapshot.snapshot) _ c.in_ok-append.field-0 _ (ap (kept.Transferred c.args.deltas) c.in_ok-snapshot.ensures) c.in-On.is c.in_ok-append.ensures.appends))
+
+pub returns-in_ok-tell_moved-in-On-clause-taken : goal.returns-in_ok-tell_moved-in-On-clause-taken
+returns-in_ok-tell_moved-in-On-clause-taken g c =
+    then_kept g.K.Keeper.records (sent.Snapshot c.args.deltas c.args.snapshot.now) (g.K.Keeper.records c.args.self.now.keeper) c.append.new.self c.tell_moved.new.self (ap (λ (n : NodeValue _). n.keeper) c.in_ok-tell_moved-in-On.ensures.ok ∙ ap (λ (n : NodeValue _). n.keeper) c.move_to.ensures)
+    (append_kept g.K.Keeper.records g.K.Keeper.faults g.K.Keeper.append_gives (whole g.P.Past.past c.args.self.now) (whole g.P.Past.past c.append.new.self) c.args.draft.now c.append.new.draft c.args.deltas c.args.snapshot.now On (appends_at g.K.Keeper.records g.K.Keeper.append_gives g.K.Keeper.faults (whole g.P.Past.past c.args.self.now) (whole g.P.Past.past c.append.new.self) c.args.draft.now c.append.new.draft (kept.Transferred c.args.deltas c.in_ok-snapshot.snapshot) _ c.in_ok-append.field-0 _ (ap (kept.Transferred c.args.deltas) c.in_ok-snapshot.ensures) c.in-On.is c.in_ok-append.ensures.appends))

@@ -5,12 +5,12 @@ use Rattle.rex_node.specs.Parts.{NodeValue, whole}
 use Rattle.rex_node.proofs.Bases.{start_limited, start_sound}
 use Rattle.rex_node.proofs.node.Node.tell_base.Goals as goal
 
-pub encode-requires-clause-sound : goal.encode-requires-clause-sound
-encode-requires-clause-sound g c =
+pub told_bytes-requires-clause-sound : goal.told_bytes-requires-clause-sound
+told_bytes-requires-clause-sound g c =
     subst (λ (x : NodeValue _). IsSound c.args.svc.now x.start) (sym c.self.view_is)
     (start_sound g.K.Keeper.records c.args.svc.now g.P.Past.past (whole g.P.Past.past c.args.self.now) (c.requires.node.up c.requires.up) c.declarations-service.ensures.sound c.declarations-service.ensures.checked)
 
-pub encode-requires-clause-limited : goal.encode-requires-clause-limited
-encode-requires-clause-limited g c =
+pub told_bytes-requires-clause-limited : goal.told_bytes-requires-clause-limited
+told_bytes-requires-clause-limited g c =
     subst (λ (x : NodeValue _). IsLimited x.start) (sym c.self.view_is)
     (start_limited g.K.Keeper.records c.args.svc.now g.P.Past.past (whole g.P.Past.past c.args.self.now) (c.requires.node.up c.requires.up) c.declarations-service.ensures.sound c.declarations-service.ensures.checked)
