@@ -1,5 +1,5 @@
 -- What a call of a node comes to.
-use Rattle.std.proofs.Common.{◌≡◌, ◌^◌, ◌-◌, ◌<◌, ℕ, Bool, true, false, List, [], ◌∷◌, length, Result, Ok, Err, Option, Some, None, IfOk, OnErr, nat_lt, nat_le, ◌≤◌, refl, sym, ap, subst, ◌∙◌, arith, le_refl, append-nil, if◌then◌else◌}
+use Rattle.std.proofs.Common.{◌≡◌, ◌^◌, ◌-◌, ◌<◌, ℕ, Bool, true, false, List, [], ◌∷◌, length, Result, Ok, Err, Option, Some, None, inl, inr, IfOk, OnErr, nat_lt, nat_le, ◌≤◌, refl, sym, ap, subst, ◌∙◌, arith, le_refl, append-nil, if◌then◌else◌}
 use Rattle.std.specs.Prelude.{◌==◌}
 use Rattle.rex_syntax.specs.declared.service.Declarations.{Declarations}
 use Rattle.rex_event.specs.declared.event.Event.{Event}
@@ -20,7 +20,7 @@ use Rattle.rex_node.specs.declared.refusal.Refusal.TheVariants as why
 use Rattle.rex_node.specs.declared.step.Step.{Step}
 use Rattle.rex_log.specs.Log.{log_of}
 use Rattle.rex_node.specs.Parts.{IsNode, NodeValue, StaysNode, knows}
-use Rattle.rex_node.specs.Calls.{Does, IsSpared, Refuses, RefusesThen, if_active, if_up, refusal_of_checkpoint, refusal_of_cut, refusal_of_drop, refusal_of_elect, refusal_of_lead, refusal_of_none, refusal_of_open, refusal_of_replay, refusal_up}
+use Rattle.rex_node.specs.Calls.{Does, EndsDown, IsSpared, Refuses, RefusesThen, if_active, if_up, refusal_of_checkpoint, refusal_of_cut, refusal_of_drop, refusal_of_elect, refusal_of_lead, refusal_of_none, refusal_of_open, refusal_of_replay, refusal_up}
 use Rattle.rex_snapshot.specs.Reading.{state_in}
 use Rattle.rex_msg.specs.declared.message.Content.{Content as Says}
 use Rattle.rex_msg.specs.declared.message.Content.TheVariants as sent
@@ -31,7 +31,7 @@ use Rattle.rex_world.specs.declared.seats.Seat.{Seat}
 use Rattle.rex_world.specs.declared.seats.Seat.TheVariants.{Running, Stopped, Empty}
 use Rattle.rex_world.specs.Seats.{HasKeeper, IsKeeping, IsRunner, IsSeat, StaysRunner, StaysSeat, faults_of, here_at, keeper_in, records_of, here_in, reopened}
 use Rattle.rex_world.specs.Calls.{Acts, IsDone, IsWhole, effect_of, Starts}
-use Rattle.rex_world.proofs.Failing.{follows, is_done, stays_grown, stays_keeping, stays_within}
+use Rattle.rex_world.proofs.Failing.{follows, is_done, stays_broken, stays_grown, stays_keeping, stays_within}
 use Rattle.rex_world.proofs.Unseen.{Goes, checkpoint_either, cut_either, drop_either, elect_either, receive_either, replay_either}
 
 -- ---- refusals
@@ -195,6 +195,17 @@ module _ (number : ℕ) (h : Here) where
 
 -- ---- a node that is kept
 
+-- only a node that is up does what it is asked
+pub was_up_then : {A : Type 0} → (up : Bool) (due late : Option Refusal) (result : Result A Refusal) → RefusesThen (if_up up due) late result → IfOk result (λ _. up ≡ true)
+was_up_then true due late (Ok x) h = refl
+was_up_then false due late (Ok x) h = absurd (cc)
+was_up_then up due late (Err refusal) h = tt
+
+pub was_up : {A : Type 0} → (up : Bool) (due : Option Refusal) (result : Result A Refusal) → Refuses (if_up up due) result → IfOk result (λ _. up ≡ true)
+was_up true due (Ok x) h = refl
+was_up false due (Ok x) h = absurd (cc)
+was_up up due (Err refusal) h = tt
+
 pub none_grown : (records : List (List ℕ)) → Begins records records
 none_grown records = ([], append-nil records)
 
@@ -234,43 +245,57 @@ module _ (service : Declarations) (past : List Value) (seed nodes number : ℕ) 
   unnamed P h = subst (λ (m : ℕ). P old.nodes old.seed m) (sym runner.id) (subst (λ (s : ℕ). P old.nodes s number) (sym runner.seed_is) (subst (λ (n : ℕ). P n seed number) (sym runner.nodes_are) h))
 
   module _ (new : NodeValue KeeperValue) where
-    pub stays_runner : StaysNode records_of service past old new → IsKeeping service past new.keeper → IsRunner service past seed nodes number new
-    stays_runner stays keeping = record {
+    pub stays_runner : StaysNode records_of service past old new → IsKeeping service past new.keeper → (new.up ≡ true → new.keeper.broken ≡ false) → IsRunner service past seed nodes number new
+    stays_runner stays keeping whole = record {
       id = stays.same.id ∙ runner.id;
       nodes_are = stays.same.nodes ∙ runner.nodes_are;
       seed_is = stays.same.seed ∙ runner.seed_is;
       node = stays.kept;
       keeping = keeping;
+      whole = whole;
     }
 
     still : new ≡ old → StaysRunner service past seed nodes number old new
     still same = subst (λ (x : NodeValue KeeperValue). StaysRunner service past seed nodes number old x) (sym same) (record { runner = runner; within = le_refl (faults_of old.keeper); grown = none_grown old.keeper.records })
 
     -- where the keeper is as it was
-    pub stays_same : StaysNode records_of service past old new → new.keeper ≡ old.keeper → StaysRunner service past seed nodes number old new
-    stays_same stays same = record {
-      runner = stays_runner stays (subst (IsKeeping service past) (sym same) runner.keeping);
+    same_up : StaysNode records_of service past old new → new.keeper ≡ old.keeper → old.up ≡ true → StaysRunner service past seed nodes number old new
+    same_up stays same up = record {
+      runner = stays_runner stays (subst (IsKeeping service past) (sym same) runner.keeping) (λ _. ap (λ (k : KeeperValue). k.broken) same ∙ runner.whole up);
       within = subst (λ (k : KeeperValue). faults_of k ≤ faults_of old.keeper) (sym same) (le_refl (faults_of old.keeper));
       grown = subst (λ (k : KeeperValue). Begins old.keeper.records k.records) (sym same) (none_grown old.keeper.records);
     }
 
+    -- a node that is down refuses such a call
+    pub stays_same : {A : Type 0} → (due : Option Refusal) (result : Result A Refusal) → Refuses (if_up old.up due) result → OnErr result (new ≡ old) → StaysNode records_of service past old new → new.keeper ≡ old.keeper → StaysRunner service past seed nodes number old new
+    stays_same due result refuses left stays same = by old.up refl refuses
+      where
+        by : (up : Bool) → old.up ≡ up → Refuses (if_up up due) result → StaysRunner service past seed nodes number old new
+        by true e h = same_up stays same e
+        by false e h = still (subst (λ (r : Result _ Refusal). OnErr r (new ≡ old)) h left)
+
+    -- where the node is still up no append has failed, so that its keeper needn't be reopened if it needn't before
+    unbroken : (call : CallHere → CallHere) (step : Step) → Does records_of follows (λ k. k.faults) service past call old new step → EndsDown old.id old.keeper.faults new.keeper.faults new.up step → old.up ≡ true → new.up ≡ true → new.keeper.broken ≡ false
+    unbroken call step (inl h) ends was up = stays_broken old.keeper new.keeper h.written h.appends ∙ runner.whole was
+    unbroken call step (inr h) ends was up = absurd (let no : false ≡ true = sym (ends.falls h.counted) ∙ up in cc)
+
     -- so it stays after a call, unless memory was short
-    pub stays_whole : (call : CallHere → CallHere) (result : Result Step Refusal) → ((f : Option Failure) → Goes f call) → StaysNode records_of service past old new → IfOk result (Does records_of follows (λ k. k.faults) service past call old new) → IsSpared result old new → IsWhole result → StaysRunner service past seed nodes number old new
-    stays_whole call (Ok step) goes stays does spared whole = record {
-      runner = stays_runner stays (stays_keeping service past call goes old new step runner.keeping does);
+    pub stays_whole : (call : CallHere → CallHere) (result : Result Step Refusal) → ((f : Option Failure) → Goes f call) → StaysNode records_of service past old new → IfOk result (Does records_of follows (λ k. k.faults) service past call old new) → IfOk result (EndsDown old.id old.keeper.faults new.keeper.faults new.up) → IfOk result (λ _. old.up ≡ true) → IsSpared result old new → IsWhole result → StaysRunner service past seed nodes number old new
+    stays_whole call (Ok step) goes stays does ends was spared whole = record {
+      runner = stays_runner stays (stays_keeping service past call goes old new step runner.keeping does) (unbroken call step does ends was);
       within = stays_within service past call goes old new step does;
       grown = stays_grown service past call goes old new step does;
     }
-    stays_whole call (Err why.OutOfMemory) goes stays does spared whole = absurd whole
-    stays_whole call (Err why.Down) goes stays does spared whole = still spared
-    stays_whole call (Err (why.NotActive role)) goes stays does spared whole = still spared
-    stays_whole call (Err (why.Open i)) goes stays does spared whole = still spared
-    stays_whole call (Err why.Ended) goes stays does spared whole = still spared
-    stays_whole call (Err why.Nothing) goes stays does spared whole = still spared
-    stays_whole call (Err (why.Live many)) goes stays does spared whole = still spared
-    stays_whole call (Err why.UpToDate) goes stays does spared whole = still spared
-    stays_whole call (Err why.Spent) goes stays does spared whole = still spared
-    stays_whole call (Err (why.BadSnapshot at)) goes stays does spared whole = still spared
+    stays_whole call (Err why.OutOfMemory) goes stays does ends was spared whole = absurd whole
+    stays_whole call (Err why.Down) goes stays does ends was spared whole = still spared
+    stays_whole call (Err (why.NotActive role)) goes stays does ends was spared whole = still spared
+    stays_whole call (Err (why.Open i)) goes stays does ends was spared whole = still spared
+    stays_whole call (Err why.Ended) goes stays does ends was spared whole = still spared
+    stays_whole call (Err why.Nothing) goes stays does ends was spared whole = still spared
+    stays_whole call (Err (why.Live many)) goes stays does ends was spared whole = still spared
+    stays_whole call (Err why.UpToDate) goes stays does ends was spared whole = still spared
+    stays_whole call (Err why.Spent) goes stays does ends was spared whole = still spared
+    stays_whole call (Err (why.BadSnapshot at)) goes stays does ends was spared whole = still spared
 
     pub done_if : (call : CallHere → CallHere) (result : Result Step Refusal) → ((f : Option Failure) → Goes f call) → IfOk result (Does records_of follows (λ k. k.faults) service past call old new) → old.up ≡ true → IfOk result (IsDone past call (here_at service past old) (here_at service past new))
     done_if call (Ok step) goes does up = is_done service past call goes old new step up does
@@ -403,6 +428,7 @@ comes_up service past seed nodes number seat node is up kept = record {
     seed_is = up.seed_is;
     node = kept;
     keeping = subst (IsKeeping service past) (sym up.keeper_is) (keeping_reopened service past (keeper_in seat) (keeping_in service past seed nodes number seat is));
+    whole = λ _. ap (λ (k : KeeperValue). k.broken) up.keeper_is;
   };
   within = subst (λ (k : KeeperValue). faults_of k ≤ faults_of (keeper_in seat)) (sym up.keeper_is) (le_refl (faults_of (keeper_in seat)));
   grown = subst (λ (k : KeeperValue). Begins (records_of (keeper_in seat)) k.records) (sym up.keeper_is) (none_grown (records_of (keeper_in seat)));

@@ -90,6 +90,7 @@ seat_armed service past seed nodes number f (Running node) h l = record {
   seed_is = h.seed_is;
   node = node_armed service past f node h.node;
   keeping = keeping_armed service past f node.keeper h.keeping l;
+  whole = h.whole;
 }
 seat_armed service past seed nodes number f (Stopped keeper) h l = keeping_armed service past f keeper h l
 seat_armed service past seed nodes number f Empty none l = absurd none

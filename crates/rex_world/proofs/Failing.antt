@@ -100,11 +100,6 @@ stays_broken old new (bytes ∷ later) h = by h.0 h.1 h.2 (λ k chain. stays_bro
     by (Ok x) k g next chain = next k chain ∙ (ap (λ (j : KeeperValue). j.broken) g.1 ∙ same_broken old.armed bytes old)
     by (Err e) k g next end = absurd (let no : done ≡ fault_of e = end.0 in cc)
 
--- where an append failed, it was the first one
-pub none_before : (armed : Option Fate) (old between : KeeperValue) (written : List (List ℕ)) → old.armed ≡ armed → AppendsInTurn follows old written done between → IsSome between.armed → written ≡ []
-none_before None old between written e chain some = absurd (armed_not between.armed (stays old between written e chain) some)
-none_before (Some fate) old between written e chain some = (none_written fate old between written e chain).0
-
 -- ---- a node's step is the model's call
 
 module _ (service : Declarations) (past : List Value) (call : CallHere → CallHere) (goes : (f : Option Failure) → Goes f call) (old new : NodeValue KeeperValue) (step : Step) where

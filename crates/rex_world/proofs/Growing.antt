@@ -193,6 +193,7 @@ module _ (service : Declarations) (past values : List Value) (fits : list_all (s
     seed_is = h.seed_is;
     node = node_grown node a h.node;
     keeping = keeping_grown node.keeper a.takes h.keeping;
+    whole = h.whole;
   }
   seat_grown seed nodes number (Stopped keeper) a h = keeping_grown keeper a.takes h
   seat_grown seed nodes number Empty a none = none

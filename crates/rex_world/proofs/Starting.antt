@@ -1,5 +1,5 @@
 -- A node that was started does as the model's.
-use Rattle.std.proofs.Common.{◌≡◌, ℕ, zero, suc, Bool, true, false, cond, List, [], ◌∷◌, ◌++◌, length, Option, Some, None, Result, Ok, Err, IfOk, inl, inr, refl, sym, ap, ◌∙◌, subst, append_assoc, arith, le_refl}
+use Rattle.std.proofs.Common.{◌≡◌, ℕ, zero, suc, Bool, true, false, cond, List, [], ◌∷◌, ◌++◌, length, Option, Some, None, Result, Ok, Err, IfOk, refl, sym, ap, ◌∙◌, subst, append_assoc, arith, le_refl}
 use Rattle.std.specs.Prelude.{map, take}
 use Rattle.rex_syntax.specs.declared.service.Declarations.{Declarations}
 use Rattle.rex_state.specs.Value.{StateValue}
@@ -23,7 +23,7 @@ use Rattle.rex_msg.specs.declared.message.Message.{Message as Sent}
 use Rattle.rex_node.specs.declared.refusal.Refusal.{Refusal}
 use Rattle.rex_node.specs.declared.refusal.Refusal.TheVariants as why
 use Rattle.rex_node.specs.declared.step.Step.{Step}
-use Rattle.rex_node.specs.Calls.{Does, Refuses, call_of, refusal_of_migrate}
+use Rattle.rex_node.specs.Calls.{Does, EndsDown, Refuses, refusal_of_migrate}
 use Rattle.rex_log.specs.Messages.{message_in}
 use Rattle.rex_node.specs.Restarting.{CameUp}
 use Rattle.rex_log.specs.Log.{log_of}
@@ -33,7 +33,7 @@ use Rattle.rex_world.specs.declared.seats.Seat.TheVariants.{Running, Stopped, Em
 use Rattle.rex_world.specs.Calls.{CameBack, HasStarted, IsDone, IsWhole, StartsIf}
 use Rattle.rex_world.specs.Seats.{IsRunner, StaysRunner, StaysSeat, armed_of, faults_of, here_at, here_in, is_up_in, keeper_in, records_of, reopened}
 use Rattle.rex_world.proofs.Acted.{done_if, none_grown, stays_whole}
-use Rattle.rex_world.proofs.Failing.{follows, none_before, stays_broken}
+use Rattle.rex_world.proofs.Failing.{follows}
 use Rattle.rex_world.proofs.Knowing.{count_known}
 use Rattle.rex_world.proofs.Unseen.{migrate_either}
 
@@ -45,12 +45,6 @@ pub not_whole : (P : Type 0) (refusal : Refusal) → refusal ≡ why.OutOfMemory
 not_whole P refusal e whole = absurd (subst (λ (r : Refusal). IsWhole (err_of r)) e whole)
 
 -- ---- the model's call
-
--- a call whose first append fails comes to an end with its node down, or else keeps the failure for a later one
-fell_if : (b kept : Bool) (me : ℕ) (r : Rec Value StateValue) (d : CallHere) (k : CallHere → CallHere) → (let f : Option Failure = Some (After 0 kept) in d.node.armed ≡ f)
-    → (cond b (append (Some (After 0 kept)) me r d k) d).node.up ≡ true → (cond b (append (Some (After 0 kept)) me r d k) d).node.armed ≡ None → ⊥
-fell_if true kept me r d k armed up none = let untrue : false ≡ true = up in cc
-fell_if false kept me r d k armed up none = let e : None ≡ Some (After 0 kept) = sym none ∙ armed in cc
 
 module _ (me : ℕ) (x : Here) (e m : Effect) (r : Rec Value StateValue) where
   -- what is told before stays before
@@ -149,20 +143,9 @@ module _ (service : Declarations) (past : List Value) (seed nodes number : ℕ) 
   migrates new migrated does =
       done_if service past seed nodes number old runner new (migrate (service_of service old.seed) old.id) (Ok migrated) (λ f. migrate_either f (service_of service old.seed) old.id) does up
 
-  -- where its append failed it is down, and else its keeper needs no reopening if it needed none before
-  pub migrate_whole : (new : NodeValue KeeperValue) (migrated : Step) → Does records_of follows (λ k. k.faults) service past (migrate (service_of service old.seed) old.id) old new migrated → old.keeper.broken ≡ false → new.up ≡ true → new.keeper.broken ≡ false
-  migrate_whole new migrated (inl h) whole is_up = stays_broken old.keeper new.keeper h.written h.appends ∙ whole
-  migrate_whole new migrated (inr h) whole is_up =
-      let none : h.written ≡ [] = none_before old.keeper.armed old.keeper h.between h.written refl h.appends h.fails.0 in
-      let b : Here = here_of records_of service past old in
-      let failure : Option Failure = Some (After 0 h.kept) in
-      let d : CallHere = begin (record b { armed = failure }) in
-      let is : migrate (service_of service old.seed) old.id d ≡ call_of records_of service past new migrated = ap (λ (ws : List (List ℕ)). let f : Option Failure = Some (After (length ws) h.kept) in migrate (service_of service old.seed) old.id (begin (record b { armed = f }))) (sym none) ∙ h.is in
-      absurd (fell_if (has_old_base b.log) h.kept old.id (Checkpoint Two (base b.log) ((service_of service old.seed).state (take (base b.log) (known b.log)))) d (say (effect.Migrated old.id (base b.log))) refl (ap (λ (c : CallHere). c.node.up) is ∙ is_up) (ap (λ (c : CallHere). c.node.armed) is))
-
-  pub migrate_stays : (new : NodeValue KeeperValue) (migrated : Step) → StaysNode records_of service past old new → Does records_of follows (λ k. k.faults) service past (migrate (service_of service old.seed) old.id) old new migrated → StaysRunner service past seed nodes number old new
-  migrate_stays new migrated stays does =
-      stays_whole service past seed nodes number old runner new (migrate (service_of service old.seed) old.id) (Ok migrated) (λ f. migrate_either f (service_of service old.seed) old.id) stays does tt tt
+  pub migrate_stays : (new : NodeValue KeeperValue) (migrated : Step) → StaysNode records_of service past old new → Does records_of follows (λ k. k.faults) service past (migrate (service_of service old.seed) old.id) old new migrated → EndsDown old.id old.keeper.faults new.keeper.faults new.up migrated → StaysRunner service past seed nodes number old new
+  migrate_stays new migrated stays does ends =
+      stays_whole service past seed nodes number old runner new (migrate (service_of service old.seed) old.id) (Ok migrated) (λ f. migrate_either f (service_of service old.seed) old.id) stays does ends up tt tt
 
   -- what both steps did
   pub joined_back : (new : NodeValue KeeperValue) (first migrated : Step) (result : Result Step Refusal) → Does records_of follows (λ k. k.faults) service past (migrate (service_of service old.seed) old.id) old new migrated
@@ -205,10 +188,6 @@ module _ {S : Type 0} (service : Declarations) (past : List Value) (seed nodes n
       ∙ ap (λ (k : KeeperValue). restarted (log_of service past (records_of (keeper_in seat))) (armed_of k.armed)) up.keeper_is
       ∙ ap (λ (log : List (Rec Value StateValue)). restarted log (armed_of (keeper_in seat).armed)) (sym (log_in_seat service past seat))
       ∙ ap (λ (a : Option Failure). restarted (here_in service past seat).log a) (sym (armed_in_seat service past seat))
-
-  -- its keeper was reopened
-  pub comes_whole : node.keeper.broken ≡ false
-  comes_whole = ap (λ (k : KeeperValue). k.broken) up.keeper_is
 
   pub starts_in : (new : NodeValue KeeperValue) (step : Step) → is_up_in seat ≡ false → CameBack (service_of service seed) number (here_at service past node) (here_at service past new) step
       → StartsIf (service_of service seed) (here_in service past seat).up number (here_in service past seat) (here_at service past new) step

@@ -91,13 +91,14 @@ pub record IsKeeping (service : Declarations) (past : List Value) (k : KeeperVal
   pub stated : AreStated service (records_of k)
   pub room : faults_of k < 2 ^ 64 - 1
 
--- a node of this number, among so many with this seed, is kept, and its keeper keeps its records
+-- a node of this number, among so many with this seed, is kept, and its keeper keeps its records, and needn't be reopened while the node is up
 pub record IsRunner (service : Declarations) (past : List Value) (seed nodes number : ℕ) (x : NodeValue KeeperValue) : Type 0 where
   pub id : x.id ≡ number
   pub nodes_are : x.nodes ≡ nodes
   pub seed_is : x.seed ≡ seed
   pub node : IsNode records_of service past x
   pub keeping : IsKeeping service past x.keeper
+  pub whole : x.up ≡ true → x.keeper.broken ≡ false
 
 -- the node of this number is kept, or the keeper of one that was stopped keeps its records; the seat isn't empty
 abbrev pub IsSeat : {S : Type 0} → Declarations → List Value → (seed nodes number : ℕ) → Seat S → Type 0

@@ -1,6 +1,6 @@
 //! The places of nodes: a node that was started, or the keeper of one that was stopped.
 
-ghost use Rattle.std.specs.Prelude.{◌≡◌, ◌<◌, ◌≤◌, ◌+◌, ◌^◌, ◌∷◌, ◌++◌, [], length, true, false, Some, IfOk, IfErr};
+ghost use Rattle.std.specs.Prelude.{◌≡◌, ◌<◌, ◌≤◌, ◌+◌, ◌^◌, ◌∷◌, ◌++◌, [], length, true, Some, IfOk, IfErr};
 ghost use Rattle.std.specs.Option.{option_copied};
 ghost use Rattle.rex_ballot.specs.Limits.{most_nodes};
 ghost use Rattle.rex_msg.specs.Spelling.{HasSpelling};
@@ -92,7 +92,6 @@ fn come_back<P: Past, S: Store>(
     ensures back { IfOk result (CameBack (service_of svc.now seed) number (here_at svc.now P.past node.old) (here_at svc.now P.past node.new)) }
     ensures memory { IfErr result (λ e. e ≡ Refusal.OutOfMemory) }
     ensures stays { IsWhole result → StaysRunner svc.now P.past seed nodes number node.old node.new }
-    ensures whole { IsWhole result → node.old.keeper.broken ≡ false → node.new.up ≡ true → node.new.keeper.broken ≡ false }
 {
     let step = started::<P, S>(alloc, svc, seed, nodes, number, node)?;
     if !node.has_old_base() {
@@ -434,7 +433,6 @@ impl<S: Store> Seat<S> {
         requires seat { IsSeat svc.now P.past seed nodes number self.old }
         requires runs { Starts svc.now P.past (here_in svc.now P.past self.old) }
         ensures starts { IsStarted (service_of svc.now seed) number (here_in svc.now P.past self.old) (here_in svc.now P.past self.new) result }
-        ensures whole { IsWhole result → is_up_in self.old ≡ false → is_up_in self.new ≡ true → (keeper_in self.new).broken ≡ false }
         ensures seat { IsWhole result → StaysSeat svc.now P.past seed nodes number self.old self.new }
     {
         if self.is_up() {

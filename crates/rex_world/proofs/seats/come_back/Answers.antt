@@ -1,4 +1,4 @@
-use Rattle.rex_world.proofs.Starting.{joined_back, migrate_stays, migrate_whole}
+use Rattle.rex_world.proofs.Starting.{joined_back, migrate_stays}
 use Rattle.rex_world.proofs.seats.come_back.Goals as goal
 
 pub returns-clause-back : goal.returns-clause-back
@@ -8,8 +8,4 @@ returns-clause-back g c =
 
 pub returns-clause-stays : goal.returns-clause-stays
 returns-clause-stays g c =
-    λ whole. migrate_stays c.args.svc.now g.P.Past.past c.args.seed c.args.nodes c.args.number c.args.node.now c.requires.runner c.requires.up c.migrate.new.self c.in_ok-migrated.migrated c.migrate.ensures.kept c.in_ok-migrated.ensures.told
-
-pub returns-clause-whole : goal.returns-clause-whole
-returns-clause-whole g c =
-    λ whole unbroken up. migrate_whole c.args.svc.now g.P.Past.past c.args.seed c.args.nodes c.args.number c.args.node.now c.requires.runner c.requires.up c.migrate.new.self c.in_ok-migrated.migrated c.in_ok-migrated.ensures.told unbroken up
+    λ whole. migrate_stays c.args.svc.now g.P.Past.past c.args.seed c.args.nodes c.args.number c.args.node.now c.requires.runner c.requires.up c.migrate.new.self c.in_ok-migrated.migrated c.migrate.ensures.kept c.in_ok-migrated.ensures.told c.in_ok-migrated.ensures.down

@@ -5,7 +5,7 @@ use Rattle.rex_node.specs.Calls.{counts_for}
 use Rattle.rex_world.specs.declared.seats.Seat.{Seat}
 use Rattle.rex_world.specs.Seats.{IsSeat, here_at, here_in, is_up_in}
 use Rattle.rex_world.specs.Calls.{Acts}
-use Rattle.rex_world.proofs.Acted.{cuts, in_seat, nothing_below, stays_whole}
+use Rattle.rex_world.proofs.Acted.{cuts, in_seat, nothing_below, stays_whole, was_up_then}
 use Rattle.rex_world.proofs.Unseen.{cut_either}
 use Rattle.rex_world.proofs.seats.Seat.cut.Goals as goal
 
@@ -24,4 +24,4 @@ returns-in-Running-clause-seat g c =
     let runner = subst (IsSeat c.args.svc.now g.P.Past.past c.args.seed c.args.nodes c.args.number) c.in-Running.is c.requires.seat in
     let counts = counts_for c.args.svc.now (here_at c.args.svc.now g.P.Past.past c.in-Running.node) (option_copied c.args.limits) in
     λ whole. in_seat c.args.svc.now g.P.Past.past c.args.seed c.args.nodes c.args.number c.args.self.now c.in-Running.node c.cut.new.self c.in-Running.is
-    (stays_whole c.args.svc.now g.P.Past.past c.args.seed c.args.nodes c.args.number c.in-Running.node runner c.cut.new.self (cut c.args.svc.now c.in-Running.node.seed c.in-Running.node.nodes c.in-Running.node.id counts) c.cut.result (λ f. cut_either f c.args.svc.now c.in-Running.node.seed c.in-Running.node.nodes c.in-Running.node.id counts) c.cut.ensures.kept c.cut.ensures.told c.cut.ensures.same whole)
+    (stays_whole c.args.svc.now g.P.Past.past c.args.seed c.args.nodes c.args.number c.in-Running.node runner c.cut.new.self (cut c.args.svc.now c.in-Running.node.seed c.in-Running.node.nodes c.in-Running.node.id counts) c.cut.result (λ f. cut_either f c.args.svc.now c.in-Running.node.seed c.in-Running.node.nodes c.in-Running.node.id counts) c.cut.ensures.kept c.cut.ensures.told c.cut.ensures.down (was_up_then c.in-Running.node.up _ _ c.cut.result c.cut.ensures.refused) c.cut.ensures.same whole)

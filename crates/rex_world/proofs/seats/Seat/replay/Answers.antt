@@ -3,8 +3,7 @@ use Rattle.rex_cluster.specs.Calls.{replay}
 use Rattle.rex_world.specs.declared.seats.Seat.{Seat}
 use Rattle.rex_world.specs.Seats.{IsSeat, here_at, here_in}
 use Rattle.rex_world.specs.Calls.{Acts}
-use Rattle.rex_world.proofs.Acted.{in_seat, replays, spared_if, stays_whole}
-use Rattle.rex_world.proofs.Unseen.{replay_either}
+use Rattle.rex_world.proofs.Acted.{in_seat, replays, spared_if, stays_same}
 use Rattle.rex_world.proofs.seats.Seat.replay.Goals as goal
 
 pub returns-in-Running-clause-acts : goal.returns-in-Running-clause-acts
@@ -17,4 +16,4 @@ pub returns-in-Running-clause-seat : goal.returns-in-Running-clause-seat
 returns-in-Running-clause-seat g c =
     let runner = subst (IsSeat c.args.svc.now g.P.Past.past c.args.seed c.args.nodes c.args.number) c.in-Running.is c.requires.seat in
     λ whole. in_seat c.args.svc.now g.P.Past.past c.args.seed c.args.nodes c.args.number c.args.self.now c.in-Running.node c.replay.new.self c.in-Running.is
-    (stays_whole c.args.svc.now g.P.Past.past c.args.seed c.args.nodes c.args.number c.in-Running.node runner c.replay.new.self (replay c.in-Running.node.id) c.replay.result (λ f. replay_either f c.in-Running.node.id) c.replay.ensures.kept c.replay.ensures.told (spared_if c.replay.result _ _ c.replay.ensures.same) whole)
+    (stays_same c.args.svc.now g.P.Past.past c.args.seed c.args.nodes c.args.number c.in-Running.node runner c.replay.new.self _ c.replay.result c.replay.ensures.refused c.replay.ensures.same c.replay.ensures.kept c.replay.ensures.keeper)

@@ -4,7 +4,7 @@ use Rattle.rex_node.specs.Parts.{IsNode}
 use Rattle.rex_node.specs.Restarting.{CameUp}
 use Rattle.rex_world.specs.Seats.{records_of, reopened}
 use Rattle.rex_world.proofs.Acted.{comes_up, has_keeper, has_room, starts_kept}
-use Rattle.rex_world.proofs.Starting.{comes_whole, starts_in, stays_on}
+use Rattle.rex_world.proofs.Starting.{starts_in, stays_on}
 use Rattle.rex_world.proofs.seats.Seat.start.Goals as goal
 
 pub take_keeper-requires : goal.take_keeper-requires
@@ -32,10 +32,3 @@ returns-in_ok-step-in-Ok-clause-seat g c =
     (subst (λ (k : KeeperValue). CameUp records_of c.args.svc.now g.P.Past.past c.args.number c.args.nodes c.args.seed k c.in-Ok.node) (c.in_ok-keeper.ensures ∙ ap reopened c.take_keeper.ensures) c.in-Ok.ensures.up)
     (starts_kept c.args.svc.now g.P.Past.past c.args.self.now c.in_ok-keeper.keeper (IsNode records_of c.args.svc.now g.P.Past.past c.in-Ok.node) (c.in_ok-keeper.ensures ∙ ap reopened c.take_keeper.ensures) c.requires.runs c.in-Ok.ensures.kept))
     (c.in_ok-step-in-Ok.ensures.stays tt)
-
-pub returns-in_ok-step-in-Ok-clause-whole : goal.returns-in_ok-step-in-Ok-clause-whole
-returns-in_ok-step-in-Ok-clause-whole g c =
-    λ whole down up. c.in_ok-step-in-Ok.ensures.whole tt
-    (comes_whole c.args.svc.now g.P.Past.past c.args.seed c.args.nodes c.args.number c.args.self.now c.in-Ok.node
-    (subst (λ (k : KeeperValue). CameUp records_of c.args.svc.now g.P.Past.past c.args.number c.args.nodes c.args.seed k c.in-Ok.node) (c.in_ok-keeper.ensures ∙ ap reopened c.take_keeper.ensures) c.in-Ok.ensures.up))
-    up
