@@ -1,14 +1,15 @@
 //! Gates that watch the workers of a crew, and hold one of them.
 
 use rex_traits::Gate;
+use std::hint::spin_loop;
 use std::sync::atomic::{AtomicU64, Ordering};
-use std::thread::yield_now;
 
 /// How often a worker that is held looks at most whether it may go on. One that looked so often goes on, and that is noted.
 const LOOKS: u64 = 1 << 30;
 
-/// How often a worker lets other threads run before it gives up what they wait for, so that they are asleep by then.
-const TURNS: u32 = 1 << 16;
+/// How many turns of a loop a worker stays before it gives up what others wait for, so that they are asleep by then: some ten
+/// milliseconds.
+const TURNS: u32 = 1 << 19;
 
 /// A gate for two lanes that begin with no events done. It holds one worker until another one enters with index 1: the
 /// second event of its lane. There the other one stays until the first one has entered, so that it is held.
@@ -163,7 +164,7 @@ impl Gate for CountingGate {
 }
 
 /// A gate at which lanes that wait for what lane 0 gives up fall asleep. The other workers stay at it until worker 0 enters with
-/// an index, up to a bound; there worker 0 lets them run for a while.
+/// an index, up to a bound; there worker 0 stays for a while.
 #[derive(Drop)]
 pub struct SleepingGate {
     index: u32,
@@ -174,7 +175,7 @@ pub struct SleepingGate {
 }
 
 impl SleepingGate {
-    /// A gate at which worker 0 lets others run before its event of this index.
+    /// A gate at which worker 0 stays for a while before its event of this index.
     pub fn new(index: u32, open: bool) -> SleepingGate {
         SleepingGate {
             index,
@@ -193,7 +194,7 @@ impl Gate for SleepingGate {
         } else if index == self.index {
             self.came.store(1, Ordering::SeqCst);
             for _ in 0..TURNS {
-                yield_now();
+                spin_loop();
             }
         }
     }

@@ -8,7 +8,8 @@ use std::process::Abort;
 use std::sync::Wait;
 use std::sync::atomic::{AtomicU64, Ordering};
 use std::test::*;
-use std::thread::{Threads, yield_now};
+use std::thread::{Threads, sleep};
+use std::time::{Clock, Duration};
 
 /// Two lanes that add to a variable under its lock, and two requests.
 const BOTH: &[u8] = b"%nodes 1
@@ -194,22 +195,22 @@ fn run<R: Threads + Wait + Sync + AllocGlobal, G: Gate + Sync>(
     Ok(Outcome { status, written })
 }
 
-/// How often it is looked at most whether a run has ended.
-const LOOKS: u32 = 1 << 24;
+/// How often it is looked at most whether a run has ended: for some twenty seconds, where a run takes a few milliseconds.
+const LOOKS: u32 = 20_000;
 
 /// Waits until a run has ended. One that doesn't, since all its lanes sleep, ends the test.
-fn watch(rt: &impl Abort, ended: &AtomicU64) {
+fn watch<R: Abort + Clock>(rt: &R, ended: &AtomicU64) {
     for _ in 0..LOOKS {
         if ended.load(Ordering::SeqCst) > 0 {
             return;
         }
-        yield_now();
+        sleep(rt, Duration::from_millis(1));
     }
     panic!(rt; "the run doesn't end");
 }
 
 /// Runs it so, while another thread looks whether it ends.
-fn live<R: Threads + Wait + Sync + AllocGlobal + Abort, G: Gate + Sync>(
+fn live<R: Threads + Wait + Sync + AllocGlobal + Abort + Clock, G: Gate + Sync>(
     rt: &R,
     line: &str,
     input: &[u8],
@@ -315,7 +316,7 @@ fn two_lanes_end_alike(rt: HostRuntime) -> Result<(), Fail> {
 }
 
 /// Two lanes, of which one's thread is held by this gate until the other one tries its second event.
-fn live_held<R: Threads + Wait + Sync + AllocGlobal + Abort>(
+fn live_held<R: Threads + Wait + Sync + AllocGlobal + Abort + Clock>(
     rt: &R,
     way: &str,
     gate: &HoldingGate,
