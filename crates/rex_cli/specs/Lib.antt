@@ -3,3 +3,4 @@ pub mod Due
 pub mod Causes
 pub mod Headline
 pub mod Response
+pub mod Worlds

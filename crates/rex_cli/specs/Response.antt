@@ -1,4 +1,5 @@
 -- What is due for a response.
+use Rattle.std.specs.Prelude.{◌≡◌, Bool}
 use Rattle.rex_schedule.specs.Fits.{ScenarioFits}
 use Rattle.rex_world.specs.Report.{report_of}
 use Rattle.rex_answer.specs.Due.{Due}
@@ -14,3 +15,8 @@ due_of (Run plan) = record { status = 0; text = report_of plan.service plan.scen
 abbrev pub MayRun : Response → Type 0
 MayRun (Told answer) = Unit {0}
 MayRun (Run plan) = ScenarioFits plan.service plan.scenario
+
+-- the nodes of a run keep their records in journals just where that is asked for
+abbrev pub IsKept : Bool → Response → Type 0
+IsKept in_journals (Told answer) = Unit {0}
+IsKept in_journals (Run plan) = plan.in_journals ≡ in_journals

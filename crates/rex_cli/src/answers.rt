@@ -10,7 +10,8 @@ ghost use Rattle.rex_report.specs.Pieces.{spaced};
 ghost use Rattle.rex_cli.specs.Due as due;
 ghost use Rattle.rex_cli.specs.Causes.{JudgesCommand, service_in};
 ghost use Rattle.rex_cli.specs.Headline.{Committed};
-ghost use Rattle.rex_cli.specs.Response.{MayRun, due_of};
+ghost use Rattle.rex_cli.specs.Commands.{keeps_journals};
+ghost use Rattle.rex_cli.specs.Response.{IsKept, MayRun, due_of};
 ghost use Rattle.rex_command.specs.Laws.{Fits};
 ghost use Rattle.rex_command.specs.declared.commands.Command.TheVariants as commands;
 
@@ -27,11 +28,12 @@ use rex_world::laws::headline_holds;
 use rex_world::trace;
 use std::alloc::{AllocError, Global};
 
-/// A scenario, and its checked service.
+/// A scenario, its checked service, and whether its nodes keep their records in journals or in lists.
 #[derive(Drop)]
 pub(crate) struct Plan {
     pub(crate) scenario: Scenario,
     pub(crate) service: Checked,
+    pub(crate) in_journals: bool,
 }
 
 /// What words and an input ask for: a text that is written before the program ends with its status, or a run, whose report
@@ -51,12 +53,18 @@ pub(crate) fn usage(alloc: Global) -> Result<Answer, AllocError>
 }
 
 // What a scenario asks for.
-fn run_scenario(alloc: Global, scenario: Scenario, service: Service) -> Result<Response, AllocError>
+fn run_scenario(
+    alloc: Global,
+    scenario: Scenario,
+    service: Service,
+    in_journals: bool,
+) -> Result<Response, AllocError>
     requires { ScenarioFits service scenario }
     ensures due { IfOk result (λ r. due_of r ≡ due.due_report scenario service (refusal service)) }
     ensures judges { IfOk result (λ r. Judges (Some service) (due_of r).status) }
     ensures headline { IfOk result (λ r. (due_of r).status ≡ 0 → Headline service scenario.requests scenario.seed scenario.nodes scenario.schedule) }
     ensures fits { IfOk result MayRun }
+    ensures kept { IfOk result (IsKept in_journals) }
 {
     headline_holds();
     if let Some(answer) = unchecked(alloc, service.declarations())? {
@@ -64,7 +72,11 @@ fn run_scenario(alloc: Global, scenario: Scenario, service: Service) -> Result<R
     }
     let service = Checked::of(service);
     let _service = service.declarations();
-    Ok(Response::Run(Plan { scenario, service }))
+    Ok(Response::Run(Plan {
+        scenario,
+        service,
+        in_journals,
+    }))
 }
 
 // What a scenario is answered that asks for its agreed trace.
@@ -96,15 +108,16 @@ fn trace_input(alloc: Global, input: &[u8]) -> Result<Answer, AllocError>
 }
 
 // What `run` asks for.
-fn run_input(alloc: Global, input: &[u8]) -> Result<Response, AllocError>
+fn run_input(alloc: Global, input: &[u8], in_journals: bool) -> Result<Response, AllocError>
     requires { length input.now ≤ 4194305 }
     ensures due { IfOk result (λ r. due_of r ≡ due.due_command (commands.Run 1 false) input.now) }
     ensures judges { IfOk result (λ r. Judges (service_in (commands.Run 1 false) input.now) (due_of r).status) }
     ensures headline { IfOk result (λ r. (due_of r).status ≡ 0 → Committed input.now) }
     ensures fits { IfOk result MayRun }
+    ensures kept { IfOk result (IsKept in_journals) }
 {
     match read_scenario(alloc, input) {
-        Ok((scenario, service)) => run_scenario(alloc, scenario, service),
+        Ok((scenario, service)) => run_scenario(alloc, scenario, service, in_journals),
         Err(ScenarioError::Refused { line, code }) => {
             let answer = refused(alloc, line, scenario_code(code))?;
             Ok(Response::Told(answer))
@@ -192,10 +205,11 @@ pub(crate) fn response_to<R: Replayer>(
     ensures judges { IfOk result (λ r. JudgesCommand command input.now (due_of r).status) }
     ensures headline { (workers : ℕ) (journal : Bool) → command ≡ commands.Run workers journal → IfOk result (λ r. (due_of r).status ≡ 0 → Committed input.now) }
     ensures fits { IfOk result MayRun }
+    ensures kept { IfOk result (IsKept (keeps_journals command)) }
     ensures ready { R.ready replayer.new }
 {
     let answer = match command {
-        Command::Run { .. } => return run_input(alloc, input),
+        Command::Run { journal, .. } => return run_input(alloc, input, journal),
         Command::Trace => trace_input(alloc, input)?,
         Command::Check => check_input(alloc, input)?,
         Command::Generate { seed, size } => generate(alloc, seed, size)?,

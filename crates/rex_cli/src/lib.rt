@@ -3,7 +3,7 @@
 
 mod answers;
 mod generated;
-mod journals;
 mod running;
+mod worlds;
 
 pub use running::rex_main;

@@ -13,7 +13,7 @@ ghost use Rattle.rex_cluster.specs.World.{beginning};
 ghost use Rattle.rex_world.specs.Kept.{IsOf, IsRunning};
 ghost use Rattle.rex_world.specs.Report.{report_of};
 ghost use Rattle.rex_world.specs.World.{world_of};
-ghost use Rattle.rex_cli.specs.Response.{MayRun, due_of};
+ghost use Rattle.rex_cli.specs.Response.{IsKept, MayRun, due_of};
 ghost use Rattle.rex_cli.specs.Headline.{Committed};
 ghost use Rattle.rex_state.specs.Counts.{AreCounted};
 ghost use Rattle.rex_state.specs.Machine.{run};
@@ -21,7 +21,7 @@ ghost use Rattle.rex_state.specs.Sound.{IsSound};
 ghost use Rattle.rex_streams.specs.declared.reading.ReadFault.TheVariants as fault;
 
 use crate::answers::{Plan, Response, response_to, usage};
-use crate::journals::journal_world;
+use crate::worlds::{KeptWorld, begin};
 use rex_command::{Command, command_of};
 use rex_crew::Crew;
 use rex_event::Event;
@@ -63,6 +63,7 @@ fn read_and_respond<R: Replayer, S: Source>(
     ensures headline { (workers : ℕ) (journal : Bool) → command ≡ commands.Run workers journal → IfOk result (λ r. (due_of r).status ≡ 0 → IfSome (S.left source.old) Committed) }
     ensures low { IfOk result (λ r. (due_of r).status < 4) }
     ensures fits { IfOk result MayRun }
+    ensures kept { IfOk result (IsKept (inputs.keeps_journals command)) }
     ensures later { S.faults source.old ≤ S.faults source.new }
     ensures reads { S.calls source.new ≤ S.calls source.old + 4194305 }
     ensures failed { IsErrOf result fault.Failed → Rose (S.faults source.old) (S.faults source.new) }
@@ -93,6 +94,7 @@ fn respond<R: Replayer, S: Source>(
     ensures headline { (workers : ℕ) (journal : Bool) → command ≡ Some (commands.Run workers journal) → IfOk result (λ r. (due_of r).status ≡ 0 → IfSome (S.left source.old) Committed) }
     ensures low { IfOk result (λ r. (due_of r).status < 4) }
     ensures fits { IfOk result MayRun }
+    ensures kept { IfOk result (IsKept (inputs.keeps_journals_for command)) }
     ensures later { S.faults source.old ≤ S.faults source.new }
     ensures reads { S.calls source.new ≤ S.calls source.old + 4194305 }
     ensures failed { IsErrOf result fault.Failed → Rose (S.faults source.old) (S.faults source.new) }
@@ -135,8 +137,8 @@ fn run_world<T: Store, R: Replayer, K: Sink>(
     }
 }
 
-// Runs a plan whose nodes keep their records in lists, and answers the status.
-fn run_in_memory<R: Replayer, K: Sink>(
+// Runs a plan, and answers the status.
+fn run_plan<R: Replayer, K: Sink>(
     alloc: Global,
     replayer: &mut R,
     plan: &Plan,
@@ -147,35 +149,17 @@ fn run_in_memory<R: Replayer, K: Sink>(
     ensures gives { Gives (record { status = 0; text = report_of plan.now.service plan.now.scenario }) (K.held sink.old) (K.held sink.new) result }
     ensures ends { Ends (record { status = 0; text = report_of plan.now.service plan.now.scenario }) (K.faults sink.old) (K.faults sink.new) result }
 {
-    match World::new(alloc, &plan.service, &plan.scenario) {
-        Ok(world) => run_world(world, replayer, plan, sink),
+    match begin(alloc, plan) {
+        Ok(KeptWorld::Lists(world)) => run_world(world, replayer, plan, sink),
+        Ok(KeptWorld::Journals(world)) => run_world(world, replayer, plan, sink),
         Err(_) => 6,
     }
 }
 
-// Runs a plan whose nodes keep their records in journals, and answers the status.
-fn run_in_journals<R: Replayer, K: Sink>(
-    alloc: Global,
-    replayer: &mut R,
-    plan: &Plan,
-    sink: &mut K,
-) -> u8
-    requires ready { R.ready replayer.old }
-    requires fits { ScenarioFits plan.now.service plan.now.scenario }
-    ensures gives { Gives (record { status = 0; text = report_of plan.now.service plan.now.scenario }) (K.held sink.old) (K.held sink.new) result }
-    ensures ends { Ends (record { status = 0; text = report_of plan.now.service plan.now.scenario }) (K.faults sink.old) (K.faults sink.new) result }
-{
-    match journal_world(alloc, plan) {
-        Ok(world) => run_world(world, replayer, plan, sink),
-        Err(_) => 6,
-    }
-}
-
-// Gives what was asked for: of a run, with the nodes' records in journals or not.
+// Gives what was asked for.
 fn give<R: Replayer, K: Sink>(
     alloc: Global,
     replayer: &mut R,
-    journal: bool,
     response: &Response,
     sink: &mut K,
 ) -> u8
@@ -187,13 +171,7 @@ fn give<R: Replayer, K: Sink>(
 {
     match response {
         Response::Told(answer) => answer.give(sink),
-        Response::Run(plan) => {
-            if journal {
-                run_in_journals(alloc, replayer, plan, sink)
-            } else {
-                run_in_memory(alloc, replayer, plan, sink)
-            }
-        }
+        Response::Run(plan) => run_plan(alloc, replayer, plan, sink),
     }
 }
 
@@ -221,27 +199,35 @@ fn obey<R: Replayer, S: Source, K: Sink>(
     ensures headline { (workers : ℕ) (journal : Bool) → command ≡ Some (commands.Run workers journal) → result ≡ 0 → IfSome (S.left source.old) Committed }
 {
     match respond(alloc, replayer, command, source) {
-        Ok(response) => give(alloc, replayer, has_journal(command), &response, sink),
+        Ok(response) => give(alloc, replayer, &response, sink),
         Err(ReadFault::Failed) => 4,
         Err(ReadFault::OutOfMemory) => 6,
     }
 }
 
-// Whether the nodes of a run keep their records in journals.
-fn has_journal(command: Option<Command>) -> bool {
-    matches!(command, Some(Command::Run { journal: true, .. }))
-}
-
 // How many workers replay.
 fn workers_for(command: Option<Command>) -> u8
     requires { IfSome command Fits }
-    ensures { (0 < result) × (result ≤ 16) }
+    ensures number { result ≡ inputs.workers_for command }
+    ensures few { (0 < result) × (result ≤ 16) }
 {
     match command {
         Some(Command::Run { workers, .. }) => workers,
         Some(Command::Soak { workers, .. }) => workers,
         _ => 1,
     }
+}
+
+// The crew that replays in a command's run.
+fn crew_for<'r, R: Threads + Sync, G: Gate + Sync>(
+    rt: &'r R,
+    command: Option<Command>,
+    gate: &'r G,
+) -> Crew<'r, R, G>
+    requires { IfSome command Fits }
+    ensures { result.workers ≡ inputs.workers_for command }
+{
+    Crew::new(rt, workers_for(command), gate)
 }
 
 /// Does all that the program `rex` does, and answers its status: 0 where all output was written; 1 where the input is no
@@ -292,7 +278,7 @@ pub fn rex_main<R: Threads + Sync, S: Source, K: Sink, G: Gate + Sync>(
 {
     match command_of(alloc, words) {
         Ok(command) => {
-            let crew = Crew::new(rt, workers_for(command), gate);
+            let crew = crew_for(rt, command, gate);
             let call = |alloc: Global, svc: &Checked, from: &State, events: &[Event]| -> Result<
                 State,
                 AllocError,

@@ -2,7 +2,7 @@ use Rattle.std.proofs.Common.{◌≡◌, length}
 use Rattle.std.specs.List.{All}
 use Rattle.rex_journal.specs.Storing.{journal_value}
 use Rattle.rex_world.specs.Seats.{IsFresh}
-use Rattle.rex_cli.proofs.journals.journals.Given as goal
+use Rattle.rex_cli.proofs.worlds.journals.Given as goal
 
 abbrev pub invariant-loop : goal.invariant-loop
 invariant-loop l = record {

@@ -1,22 +1,28 @@
-//! A run whose nodes keep their records in journals.
+//! The world of a run, whose nodes keep their records in lists or in journals.
 
 ghost use Rattle.std.specs.Prelude.{◌≡◌, IfOk, length};
 ghost use Rattle.std.specs.List.{All};
 ghost use Rattle.rex_journal.specs.Storing.{journal_value};
 ghost use Rattle.rex_schedule.specs.Fits.{ScenarioFits};
-ghost use Rattle.rex_cluster.specs.World.{beginning};
-ghost use Rattle.rex_world.specs.Kept.{IsOf, IsRunning};
 ghost use Rattle.rex_world.specs.Seats.{IsFresh};
-ghost use Rattle.rex_world.specs.World.{world_of};
+ghost use Rattle.rex_cli.specs.Worlds.{IsBegun, is_in_journals};
 
 use crate::answers::Plan;
 use rex_disk::MemDisk;
 use rex_journal::JournalKeeper;
+use rex_traits::MemKeeper;
 use rex_world::World;
 use std::alloc::{AllocError, Global};
 
 /// A keeper of records on a disk in memory.
 type Journal = JournalKeeper<MemDisk>;
+
+/// A world whose nodes keep their records in lists, or in journals on disks in memory.
+#[derive(Drop)]
+pub(crate) enum KeptWorld {
+    Lists(World<MemKeeper>),
+    Journals(World<Journal>),
+}
 
 // An empty journal for each node, each on a disk of its own.
 fn journals(alloc: Global, nodes: u8) -> Result<Vec<Journal>, AllocError>
@@ -31,13 +37,17 @@ fn journals(alloc: Global, nodes: u8) -> Result<Vec<Journal>, AllocError>
     Ok(keepers)
 }
 
-/// The world of a plan before the first line, whose nodes keep their records in journals.
-pub(crate) fn journal_world(alloc: Global, plan: &Plan) -> Result<World<Journal>, AllocError>
+/// The world of a plan before its first line.
+pub(crate) fn begin(alloc: Global, plan: &Plan) -> Result<KeptWorld, AllocError>
     requires { ScenarioFits plan.now.service plan.now.scenario }
-    ensures running { IfOk result (λ w. IsRunning plan.now.service w) }
-    ensures of { IfOk result (λ w. IsOf plan.now.scenario w) }
-    ensures begins { IfOk result (λ w. world_of plan.now.service w ≡ beginning plan.now.scenario.nodes) }
+    ensures kept { IfOk result (λ w. is_in_journals w ≡ plan.now.in_journals) }
+    ensures begun { IfOk result (IsBegun plan.now.service plan.now.scenario) }
 {
-    let keepers = journals(alloc, plan.scenario.nodes)?;
-    World::with_keepers(alloc, &plan.service, &plan.scenario, keepers)
+    if plan.in_journals {
+        let keepers = journals(alloc, plan.scenario.nodes)?;
+        let world = World::with_keepers(alloc, &plan.service, &plan.scenario, keepers)?;
+        return Ok(KeptWorld::Journals(world));
+    }
+    let world = World::new(alloc, &plan.service, &plan.scenario)?;
+    Ok(KeptWorld::Lists(world))
 }

@@ -5,7 +5,7 @@ use Rattle.rex_disk.specs.Memory.{DiskValue}
 use Rattle.rex_journal.specs.Keeping.{JournalValue}
 use Rattle.rex_journal.specs.Storing.{journal_value}
 use Rattle.rex_world.specs.Seats.{IsFresh}
-use Rattle.rex_cli.proofs.journals.journals.Goals as goal
+use Rattle.rex_cli.proofs.worlds.journals.Goals as goal
 
 pub loop-preserved : goal.loop-preserved
 loop-preserved c = record {
