@@ -138,12 +138,7 @@ fn run_world<T: Store, R: Replayer, K: Sink>(
 }
 
 // Runs a plan, and answers the status.
-fn run_plan<R: Replayer, K: Sink>(
-    alloc: Global,
-    replayer: &mut R,
-    plan: &Plan,
-    sink: &mut K,
-) -> u8
+fn run_plan<R: Replayer, K: Sink>(alloc: Global, replayer: &mut R, plan: &Plan, sink: &mut K) -> u8
     requires ready { R.ready replayer.old }
     requires fits { ScenarioFits plan.now.service plan.now.scenario }
     ensures gives { Gives (record { status = 0; text = report_of plan.now.service plan.now.scenario }) (K.held sink.old) (K.held sink.new) result }
