@@ -1,11 +1,14 @@
+use Rattle.std.proofs.Common.{OnErr, subst, sym}
 use Rattle.std.specs.Prelude.{map}
 use Rattle.rex_cluster.specs.Calls.{receive}
 use Rattle.rex_cluster.specs.Node.Content.{Promise, Accepted as Voted, Chosen as Chose, Nack, Snapshot}
 use Rattle.rex_cluster.specs.Values.{service_of}
 use Rattle.rex_cluster.proofs.TellNone.{receive_tells_none}
 use Rattle.rex_log.specs.Log.{first, proposal_in}
+use Rattle.rex_log.specs.Messages.{content_in}
+use Rattle.rex_msg.specs.declared.message.Content.{Content}
 use Rattle.rex_node.specs.Calls.{armed_with}
-use Rattle.rex_node.specs.Going.{so_far}
+use Rattle.rex_node.specs.Going.{IsStuck, so_far}
 use Rattle.rex_node.specs.Parts.{whole}
 use Rattle.rex_node.proofs.Told.{nothing_tells, ok_tells}
 use Rattle.rex_node.proofs.node.Node.receive.Goals as goal
@@ -49,3 +52,10 @@ returns-in-Snapshot-clause-tells g c none =
     ok_tells g.K.Keeper.records g.K.Keeper.append_gives g.K.Keeper.faults c.args.svc.now g.P.Past.past (receive x.nodes sv x.id c.args.message.now.from (Snapshot (first c.in-Snapshot.deltas g.P.Past.past))) (whole g.P.Past.past x) (whole g.P.Past.past c.on_snapshot.new.self) c.args.draft.now c.on_snapshot.new.draft c.on_snapshot.result
     (λ f. receive_tells_none x.nodes sv x.id c.args.message.now.from (Snapshot (first c.in-Snapshot.deltas g.P.Past.past)) tt (armed_with f (so_far g.K.Keeper.records c.args.svc.now g.P.Past.past (whole g.P.Past.past x) c.args.draft.now)) (nothing_tells g.K.Keeper.records c.args.svc.now g.P.Past.past (whole g.P.Past.past x) c.args.draft.now none f))
     c.on_snapshot.ensures.ends
+
+pub returns-in-Snapshot-clause-stuck : goal.returns-in-Snapshot-clause-stuck
+returns-in-Snapshot-clause-stuck g c =
+    let x = c.args.self.now in
+    subst
+    (λ (content : Content). OnErr c.on_snapshot.result (IsStuck g.K.Keeper.records g.K.Keeper.append_gives g.K.Keeper.faults c.args.svc.now g.P.Past.past (receive x.nodes (service_of c.args.svc.now x.seed) x.id c.args.message.now.from (content_in g.P.Past.past content)) (whole g.P.Past.past x) (whole g.P.Past.past c.on_snapshot.new.self) c.args.draft.now))
+    (sym c.in-Snapshot.is) c.on_snapshot.ensures.stuck
