@@ -1,9 +1,11 @@
-//! A world whose leader comes to the last instance.
+//! A world whose leader comes to the last instance, and one whose leader is handed an event.
 
 ghost use Rattle.rex_schedule.specs.Fits.{ScenarioFits};
 ghost use Rattle.rex_world.specs.Kept.{IsOf, IsRunning};
 
+use crate::node::first_begin;
 use rex_lockset::check;
+use rex_record::Turn;
 use rex_replay::OneThread;
 use rex_scenario::{Scenario, read_scenario};
 use rex_syntax::checked::Checked;
@@ -92,6 +94,42 @@ fn no_instance_comes_after_the_last(rt: HostRuntime) {
             let svc = check(rt.alloc(), service).ok().expect(&rt, "a service");
             let sink = twice(&rt, rt.alloc(), &svc, &scenario);
             assert!(rt; sink.held().ends_with(END));
+        }
+        Err(_) => panic!(rt; "no scenario"),
+    }
+}
+
+/// A node alone, which leads; no line hands it a request.
+const ALONE: &[u8] = b"%nodes 1
+%service
+lanes 1
+handler look
+reply 1
+%requests
+%schedule
+elect 1
+";
+
+/// Does the schedule, and hands the node an event, which it takes.
+fn takes_an_event(rt: &impl Abort, alloc: Global, svc: &Checked, scenario: &Scenario)
+    requires fits { ScenarioFits svc.now scenario.now }
+{
+    let none = Vec::new(alloc);
+    let mut sink = MemSink::new(alloc, none, 65_536);
+    let mut world = World::new(alloc, svc, scenario).expect(rt, "memory");
+    run(rt, &mut world, svc, scenario, &mut sink);
+    assert!(rt; scenario.nodes == 1);
+    let event = first_begin();
+    let taken = world.take_event(svc, 1, &event).ok();
+    assert!(rt; taken == Some(Turn::Done(event)));
+}
+
+#[test]
+fn an_active_node_takes_an_event(rt: HostRuntime) {
+    match read_scenario(rt.alloc(), ALONE) {
+        Ok((scenario, service)) => {
+            let svc = check(rt.alloc(), service).ok().expect(&rt, "a service");
+            takes_an_event(&rt, rt.alloc(), &svc, &scenario);
         }
         Err(_) => panic!(rt; "no scenario"),
     }
