@@ -1,13 +1,14 @@
 // The space-time picture: a row for each step that is shown, a bar for each node, and the ways of messages. What is in sight is drawn.
+// Texts stand at both sides of the bars, the schedule's at the left and what happened at the right, so that no way goes through one.
 
-const ROW = 22, BAR = 5, ABOVE = 6, MOST_WAYS = 600, MOST_PASSING = 12;
+const ROW = 22, BAR = 5, ABOVE = 6, BESIDE = 26, FAR = 84, NEAR = 24, MOST_WAYS = 600, MOST_PASSING = 12;
 const SIGNS = {
   role: ["M-5 0a5 5 0 1 0 10 0a5 5 0 1 0-10 0z", "--text"], vote: ["M-4 0a4 4 0 1 0 8 0a4 4 0 1 0-8 0z", "--offer"], known: ["M-5-5h10v10h-10z", "--chosen"],
   released: ["M0-6l6 6l-6 6l-6-6z", "--reply"], keep: ["M-5-4h10v8h-10z", "--ask"], stop: ["M-5-5h10v10h-10z", "--stop"], read: ["M0-6l6 6l-6 6l-6-6z", "--vote"],
 };
 const PLAIN = ["M-2.5 0a2.5 2.5 0 1 0 5 0a2.5 2.5 0 1 0-5 0z", "--text"];
 
-let shown = [], rowOf = new Int32Array(last + 1), widths = { gutter: 0, full: 0, x: [] }, cursor = 0, chosen = 0, found = new Uint8Array(last + 1);
+let shown = [], rowOf = new Int32Array(last + 1), widths = { gutter: 0, full: 0, x: [], texts: 0, heads: "" }, cursor = 0, chosen = 0, found = new Uint8Array(last + 1);
 
 // For each way of a message: the message, the places where it begins and ends, and whether it came before. A lost one ends where it begins.
 const ways = messages.slice(1).flatMap((message) => (message.handed.length ? message.handed.map((end, at) => ({ message, start: message.sent, end, again: at > 0, lost: false })) : [{ message, start: message.sent, end: message.sent, again: false, lost: true }]));
@@ -27,9 +28,9 @@ const shownAfter = (place) => shown[rowOf[place] + 1] ?? last;
 const shownBefore = (place) => (shown[rowOf[place]] < place ? shown[rowOf[place]] : shown[Math.max(0, rowOf[place] - 1)]);
 
 function layOut() {
-  const picture = byId("picture"), full = picture.clientWidth, gutter = Math.min(230, Math.max(120, full * 0.24));
-  const start = gutter + 34, end = full - 26;
-  widths = { gutter, full, x: [0, ...nodes.map((node) => (data.nodes === 1 ? start : start + ((end - start) * (node - 1)) / (data.nodes - 1)))] };
+  const full = byId("picture").clientWidth, gutter = Math.min(190, Math.max(130, full * 0.22)), start = gutter + BESIDE;
+  const way = Math.min(FAR, Math.max(NEAR, ((full - gutter) * 0.36) / Math.max(1, data.nodes - 1)));
+  widths = { gutter, full, x: [0, ...nodes.map((node) => start + way * (node - 1))], texts: start + way * (data.nodes - 1) + BESIDE + 8, heads: way < 66 ? "" : "node " };
   byId("canvas").style.height = `${shown.length * ROW + ROW}px`;
   drawHeads();
   drawPicture();
@@ -40,13 +41,11 @@ function drawHeads() {
   byId("heads").replaceChildren(make("span", { class: "places" }, "line"), ...nodes.map((node) => {
     const role = look.of(node, "role"), name = `node ${node}: ${role}${role === "active" ? ", leads" : ""}`;
     return make("button", {
-      class: `role ${role}${data.nodes > 1 && node === data.nodes ? " right" : ""}`, style: `left:${widths.x[node]}px`, "aria-pressed": `${chosen === node}`, "aria-label": `${name}. Choose it, and go to its next step`,
+      class: `role ${role}`, style: `left:${widths.x[node]}px`, "aria-pressed": `${chosen === node}`, "aria-label": `${name}. Choose it, and go to its next step`,
       title: `${name}: choose it, and go to its next step`, onclick: (click) => choose(node, click.shiftKey),
-    }, data.nodes > 5 ? `${node}` : `node ${node}`);
-  }));
+    }, `${widths.heads}${node}`);
+  }), make("span", { class: "places", style: `left:${widths.texts}px` }, "node: what happened"));
 }
-
-const textIsRight = (node) => 2 * node <= data.nodes + 1;
 
 function drawPicture() {
   const picture = byId("picture"), top = Math.max(0, Math.floor(picture.scrollTop / ROW) - 2);
@@ -70,7 +69,7 @@ function rowOfStep(place, row, y) {
   const style = ["row", place && steps[place].line % 2 ? "odd" : "", row === rowOf[cursor] ? "here" : "", found[place] ? "found" : "", place > cursor ? "after" : ""].join(" ");
   const isFirst = !place || place === firstPlace[steps[place].line];
   return make("div", { class: style, id: `step${place}`, role: "option", "aria-setsize": shown.length, "aria-posinset": row + 1, "aria-selected": `${row === rowOf[cursor]}`, "aria-label": toldOf(place), style: `top:${y}px`, onclick: () => go(place), title: toldOf(place) },
-    make("span", { class: "number" }, isFirst ? (place ? `${steps[place].line}` : "0") : ""), make("span", { class: "words quiet", style: `width:${widths.gutter - 8 - 46}px` }, `${isFirst ? wordsOf(place) : ""}${place && !steps[place].node ? `: ${steps[place].marks.map(([, label]) => label).join("; ")}` : ""}`));
+    make("span", { class: "number" }, isFirst ? (place ? `${steps[place].line}` : "0") : ""), make("span", { class: "words quiet", style: `width:${widths.gutter - 8 - 46}px` }, `${isFirst ? wordsOf(place) : ""}`));
 }
 
 // What happened in a step, in words.
@@ -81,8 +80,8 @@ function toldOf(place) {
 }
 
 function toldAt(place, y) {
-  if (!place || !steps[place].node) return null;
-  const { node, message, marks } = steps[place], isRight = textIsRight(node), parts = [];
+  if (!place) return null;
+  const { node, message, marks } = steps[place], parts = [];
   const lane = wordsOf(place).split(/\s+/);
   if (message) parts.push(make("span", { class: `kind ${messages[message].kind}` }, `${messages[message].kind} of ${messages[message].sender}`));
   for (const [kind, label] of marks) {
@@ -92,8 +91,7 @@ function toldAt(place, y) {
   const lost = sendsOf[place].filter((it) => !it.handed.length), lostKinds = [...new Set(lost.map((it) => it.kind))];
   if (lost.length) parts.push(make("span", { class: "quiet" }, `lost: ${lostKinds.map((kind) => `${kind} to ${lost.filter((it) => it.kind === kind).map((it) => it.receiver).join(" ")}`).join(", ")}`));
   const joined = parts.flatMap((part, index) => (index ? ["; ", part] : [part]));
-  const x = widths.x[node], room = isRight ? `left:${x + 20}px;max-width:${widths.full - x - 24}px` : `right:${widths.full - x + 20}px;max-width:${x - widths.gutter - 26}px`;
-  return make("div", { class: `told${isRight ? "" : " right"}${place > cursor ? " later" : ""}`, style: `top:${y}px;${room}` }, make("span", {}, joined));
+  return make("div", { class: `told${dim(place)}`, style: `top:${y}px;left:${widths.texts}px;max-width:${widths.full - widths.texts - 6}px` }, make("span", { class: "quiet" }, node ? `${node}: ` : ""), ...joined);
 }
 
 const dim = (place) => (place > cursor ? " later" : "");
