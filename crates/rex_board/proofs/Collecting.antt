@@ -28,9 +28,6 @@ use Rattle.rex_board.proofs.Placing.{no_event, done_last}
 
 -- ---- what a lane holds was stored
 
-pub none_published : (r : Recording) (m : LaneSeat) → IsPublished r m 0
-none_published r m = record { each = λ x lt. absurd (omega arith) }
-
 pub more_published : (r : Recording) (m n : LaneSeat) (i : ℕ) (wanted : Bool) → IsPublished r m i → IsPreparing m n → (HoldsAlone m.frame (guard r i) → wanted ≡ true) → (wanted ≡ true → Has i n.seat.me.0.knows.stored) → IsPublished r n (i + 1)
 more_published r m n i wanted a p is h = record {
   each = λ x lt held.

@@ -41,9 +41,6 @@ value_at [] i w h = absurd (some-ne-none w (sym h))
 value_at (x ∷ words) zero w h = some-injective x w h
 value_at (x ∷ words) (suc i) w h = value_at words i w h
 
-pub no_values : (words : List ℕ) (s : StateValue) → HasWordValues words 0 s s
-no_values words s = record { long = refl; each = λ x lt. absurd (omega arith); lanes = refl; queues = refl; semaphores = refl; clients = refl }
-
 pub more_values : (words : List ℕ) (n w : ℕ) (s t u : StateValue) → HasWordValues words n s t → n < length s.variables → get_elem? words (most_lanes + n) ≡ some w → u ≡ with_variable t n (cast_signed w64 w) → HasWordValues words (n + 1) s u
 more_values words n w s t u h there at is = record {
   long = ap (λ (x : StateValue). length x.variables) is ∙ length-set t.variables n _ ∙ h.long;

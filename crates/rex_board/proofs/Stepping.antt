@@ -41,9 +41,6 @@ module _ (r : Recording) (z : TableId) (service : Declarations) (state : StateVa
     event_is : (d : Event) → get_or es m.place d ≡ get_or (events_of r) m.place d
     event_is d = ap (λ (l : List Event). get_or l m.place d) b.events_are
 
-    pub causes_inside : m.place < length causes
-    causes_inside = omega (arith, inside, ap length b.causes_are, b.right.right.long)
-
     -- the event is the lane's next one
     pub next_is : (d : Event) → IsNext r m (get_or es m.place d)
     next_is d = subst (IsNext r m) (sym (event_is d)) (next_at r b.right m.lane m.done m.place q.placed d inside q.next)

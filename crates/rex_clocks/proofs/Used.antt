@@ -35,13 +35,6 @@ beyond_used (count ∷ counts) zero past = ⊎_elim (λ (n : IsNone count (used 
 beyond_used (count ∷ counts) (suc lane) past =
     beyond_used counts lane (⊎_elim (λ (n : IsNone count (used counts)). omega (arith, n.lanes_is)) (λ (s : IsSome count (used counts)). omega (arith, s.is, past)) (after_by count (used counts)))
 
-used_zeros : (n : ℕ) → used (replicate n 0) ≡ 0
-used_zeros zero = refl
-used_zeros (suc n) = ap (after_lane 0) (used_zeros n)
-
-pub used_none : used none ≡ 0
-used_none = used_zeros LANES
-
 -- one more event of a lane
 after_more : (count lanes : ℕ) → after_lane (count + 1) lanes ≡ max (after_lane count lanes) 1
 after_more count lanes =

@@ -57,9 +57,6 @@ module _ {V : Type 0} where
       go (inl e) = inl (subst (λ x. x.instance ≡ i) e h.at, subst (λ x. c ≤ x.ballot) e h.above)
       go (inr x) = inr (record { it = h.it; inside = x; at = h.at; above = h.above })
 
-  covers_cons : (p : Proposal V) (ps : List (Proposal V)) (i c : ℕ) → Covers ps i c → Covers (p ∷ ps) i c
-  covers_cons p ps i c h = record { it = h.it; inside = inr h.inside; at = h.at; above = h.above }
-
   abbrev pub BestOk : ℕ → List (Proposal V) → Option (Proposal V) → Type 0
   BestOk i ps None = (c : ℕ) → Covers ps i c → ⊥
   BestOk i ps (Some p) = IsIn p ps × (p.instance ≡ i) × ((c : ℕ) → Covers ps i c → c ≤ p.ballot)

@@ -5,8 +5,8 @@ use Rattle.std.proofs.lemmas.Bool.{eqb-false}
 use Rattle.rex_ballot.specs.Limits.{most_nodes}
 use Rattle.rex_report.specs.declared.effect.Effect.{Effect}
 use Rattle.rex_report.specs.declared.effect.Effect.TheVariants as effect
-use Rattle.rex_version.specs.declared.version.Version.{Version}
-use Rattle.rex_version.specs.declared.version.Version.TheVariants.{Two}
+use Rattle.rex_syntax.specs.declared.version.Version.{Version}
+use Rattle.rex_syntax.specs.declared.version.Version.TheVariants.{Two}
 use Rattle.rex_cluster.specs.Records.{Rec, Proposal, proposal_of, promise, placed, last_accepted, accepted, from_on, offset, known, base, HasAccepted, HasBallot, has_old_base}
 use Rattle.rex_cluster.specs.Records.Rec.{Promised, Accepted, Known, Checkpoint, Dropped, Transferred}
 use Rattle.rex_cluster.specs.Quorum.{IsNode, round_of, ballot_above, is_in, is_majority}

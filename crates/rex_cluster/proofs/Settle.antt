@@ -26,10 +26,6 @@ module _ {V S : Type 0} where
   by_chosen n L b k [] h = tt
   by_chosen n L b k (v ∷ vs) h = (record { ballot = h.0.ballot; quorum = h.0.quorum }, by_chosen n L b (suc k) vs h.1)
 
-  pub chosen_by_push : (n : ℕ) (L : Logs V S) (b k : ℕ) (vs : List V) (v : V) → AllChosenBy n L b k vs → ChosenBy n L b (k + length vs) v → AllChosenBy n L b k (vs ++ v ∷ [])
-  chosen_by_push n L b k [] v h c = (subst (λ j. ChosenBy n L b j v) (omega arith) c, tt)
-  chosen_by_push n L b k (x ∷ vs) v h c = (h.0, chosen_by_push n L b (suc k) vs v h.1 (subst (λ j. ChosenBy n L b j v) (omega arith) c))
-
   learned_push : (n : ℕ) (L : Logs V S) (b k : ℕ) (vs : List V) (v : V) → AllLearned n L b k vs → ChosenBy n L b (k + length vs) v → AllLearned n L b k (vs ++ v ∷ [])
   learned_push n L b k [] v h c = (inl (subst (λ j. ChosenBy n L b j v) (omega arith) c), tt)
   learned_push n L b k (x ∷ vs) v h c = (h.0, learned_push n L b (suc k) vs v h.1 (subst (λ j. ChosenBy n L b j v) (omega arith) c))

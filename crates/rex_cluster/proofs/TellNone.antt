@@ -7,7 +7,7 @@ use Rattle.rex_event.specs.Cuts.{below}
 use Rattle.rex_cut.specs.Greatest.{greatest_cut}
 use Rattle.rex_report.specs.declared.effect.Effect.{Effect}
 use Rattle.rex_report.specs.declared.effect.Effect.TheVariants as effect
-use Rattle.rex_version.specs.declared.version.Version.{Version}
+use Rattle.rex_syntax.specs.declared.version.Version.{Version}
 use Rattle.rex_cluster.specs.Records.{Rec, Proposal, promise, offset, known, base}
 use Rattle.rex_cluster.specs.Records.Rec.{Promised, Accepted, Known, Checkpoint, Dropped, Transferred}
 use Rattle.rex_cluster.specs.Quorum.{is_in, is_majority, ballot_above, round_of}
@@ -127,22 +127,7 @@ module _ {V S : Type 0} where
     receive_tells_none from (Ask first) a d h = absurd a
     receive_tells_none from (Snapshot values) a d h =
         if_tells_none (nat_le (length values) (length (known d.node.log))) _ _ h (append_tells_none d.node.armed me (Transferred values (sv.state values)) d _ (λ b. h))
-
     -- ---- schedule lines
-
-    pub checkpoint_tells_none : (version : Version) (d : Call V S) → TellsNone d → TellsNone (checkpoint version sv me d)
-    checkpoint_tells_none version d h =
-        if_tells_none (d.node.replayed == base d.node.log) _ _ h
-        (if_tells_none (nat_lt 0 (length d.node.work.live)) _ _ h (append_tells_none d.node.armed me (Checkpoint version d.node.replayed (sv.state (take d.node.replayed (known d.node.log)))) d _ (λ b. h)))
-
-  pub ask_tells_none : (me other : ℕ) (d : Call V S) → TellsNone d → TellsNone (ask me other d)
-  ask_tells_none me other d h = both_tell_none d.sends (record { from = me; to = other; content = Ask (suc (length (known d.node.log))) } ∷ []) h (tt, tt)
-
-  pub replay_tells_none : (me : ℕ) (d : Call V S) → TellsNone d → TellsNone (replay me d)
-  replay_tells_none me d h = if_tells_none _ _ _ h h
-
-  pub drop_tells_none : (me : ℕ) (d : Call V S) → TellsNone d → TellsNone (drop_known me d)
-  drop_tells_none me d h = if_tells_none (base d.node.log == offset d.node.log) _ _ h (append_tells_none d.node.armed me (Dropped (base d.node.log)) d _ (λ b. h))
 
 -- ---- cuts
 

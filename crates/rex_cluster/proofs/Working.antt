@@ -4,8 +4,8 @@ use Rattle.std.specs.Prelude.{take, ◌==◌, nat_lt, nat_le}
 use Rattle.std.proofs.lemmas.Bool.{false≢true}
 use Rattle.rex_report.specs.declared.effect.Effect.{Effect}
 use Rattle.rex_report.specs.declared.effect.Effect.TheVariants as effect
-use Rattle.rex_version.specs.declared.version.Version.{Version}
-use Rattle.rex_version.specs.declared.version.Version.TheVariants.{Two}
+use Rattle.rex_syntax.specs.declared.version.Version.{Version}
+use Rattle.rex_syntax.specs.declared.version.Version.TheVariants.{Two}
 use Rattle.rex_cluster.specs.Records.{Rec, Proposal, proposal_of, promise, accepted, offset, known, base, has_old_base}
 use Rattle.rex_cluster.specs.Records.Rec.{Promised, Accepted, Known, Checkpoint, Dropped, Transferred}
 use Rattle.rex_cluster.specs.Quorum.{round_of, ballot_above, is_in, is_majority}

@@ -35,20 +35,6 @@ either true b h = inl refl
 either false b h = inr h
 
 module _ (z : TableId) (t : Recording) (ms : List LaneSeat) where
-  pub none_so_far : AreSeatsOf z t ms → IsSoFar z t ms ms 0 false 0
-  none_so_far seats = record {
-    seats = seats;
-    lanes = refl;
-    counted = omega arith;
-    performed = omega arith;
-    more = λ d. absurd (true≢false (sym d));
-    rest = λ k le. refl;
-    rises = λ k m m' e e'. subst (IsLater m) (one_value ms k m m' e e') (later_refl m);
-    stuck = λ k m m' lt. absurd (omega arith);
-    finished = λ b k m lt. absurd (omega arith);
-    few = omega arith;
-  }
-
   pub one_more : (ns : List LaneSeat) (n : ℕ) (done : Bool) (blocked : ℕ) (d : Bool) (b : ℕ) (m m' : LaneSeat) → IsSoFar z t ms ns n done blocked → get_elem? ns n ≡ some m → IsTurn z t m m' d b
       → IsSoFar z t ms (set ns n m') (n + 1) (done || d) (blocked + b)
   one_more ns n done blocked d b m m' s at turn =

@@ -26,9 +26,6 @@ pub shorter : {X : Type 0} (xs ys : List X) (x : X) → xs ≡ ys ++ x ∷ [] �
 shorter xs ys x e = let a = ap length e in let b = one_more ys x in omega (arith, a, b)
 
 module _ (n w : ℕ) (ms : List LaneSeat) where
-  pub splits_none : IsSplit n w ms ms [] []
-  splits_none = record { left = λ m h. h; is_own = λ m h. absurd h; is_other = λ m h. absurd h; every = λ m h. inl h }
-
   module _ (rest own others : List LaneSeat) (x : LaneSeat) (s : IsSplit n w ms (rest ++ x ∷ []) own others) where
     still_left : (m : LaneSeat) → Has m rest → Has m ms
     still_left m h = s.left m (has_left m rest (x ∷ []) h)
@@ -59,9 +56,6 @@ module _ (n w : ℕ) (ms : List LaneSeat) where
     }
 
 module _ (n : ℕ) (ms : List LaneSeat) where
-  pub no_jobs : AreJobsSoFar n 0 ms ms []
-  no_jobs = record { left = λ m h. (h, omega arith); own = λ j m h k. absurd h; every = λ m h. inl h }
-
   module _ (k : ℕ) (rest own others : List LaneSeat) (js : List Job) (j : Job) (s : AreJobsSoFar n k ms rest js) (d : IsSplit n k rest [] own others) (worker : j.worker ≡ k) (seats : j.seats.items ≡ own) where
     last_own : (m : LaneSeat) → Has m j.seats.items → Has m ms × IsOwn n j.worker m
     last_own m h = let q = d.is_own m (subst (λ (l : List LaneSeat). Has m l) seats h) in ((s.left m q.0).0, subst (λ (l : ℕ). IsOwn n l m) (sym worker) q.1)
@@ -89,9 +83,6 @@ module _ (n : ℕ) (ms : List LaneSeat) where
   }
 
 module _ (vs : List (Vec LaneSeat Global)) where
-  pub gathers_none : AreGathered vs vs []
-  gathers_none = record { left = λ v h. h; each = λ m h. absurd h; every = λ v m h k. inl h }
-
   pub gathers_more : (rest : List (Vec LaneSeat Global)) (v : Vec LaneSeat Global) (ms : List LaneSeat) → AreGathered vs (rest ++ v ∷ []) ms → AreGathered vs rest (ms ++ v.items)
   gathers_more rest v ms g = record {
     left = λ u h. g.left u (has_left u rest (v ∷ []) h);

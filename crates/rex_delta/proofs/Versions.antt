@@ -87,9 +87,6 @@ least_most true zero = omega arith
 least_most true (suc n) = omega (arith, least_free true (suc n) (inr (omega arith)))
 least_most false n = omega arith
 
-pub least_last : least_kind true 0 ≡ 15
-least_last = refl
-
 pub most_few : (version : ℕ) → most_kind version ≤ 16
 most_few version = by (version == 2)
   where

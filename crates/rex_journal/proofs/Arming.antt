@@ -25,10 +25,3 @@ armed_is old new fate plan is set always =
     let parts = and_parts (is_empty old.disk.failing) (is_of_fate old.disk.plan && (are_within old.disk.first old.disk.done && not old.unsure)) always in
     let was : is_of_fate old.disk.plan ≡ true = (and_parts (is_of_fate old.disk.plan) (are_within old.disk.first old.disk.done && not old.unsure) parts.1).0 in
     ap value_of set ∙ rw (is, armed_as fate, of_fate fate, was) refl
-
-pub value_reopened : (old k new : JournalValue DiskValue) → IsReopened old k → new ≡ record k { disk = record k.disk { plan = old.disk.plan } } → fails_as_armed old ≡ true → value_of new ≡ reopened (value_of old)
-value_reopened old k new r set always =
-    let parts = and_parts (is_empty old.disk.failing) (is_of_fate old.disk.plan && (are_within old.disk.first old.disk.done && not old.unsure)) always in
-    let known = (and_parts (is_of_fate old.disk.plan) (are_within old.disk.first old.disk.done && not old.unsure) parts.1).1 in
-    let sure : not old.unsure ≡ true = (and_parts (are_within old.disk.first old.disk.done) (not old.unsure) known).1 in
-    ap value_of set ∙ rw (r.records, r.whole, r.sure, r.refused, r.faults, r.failing, r.model, sure) refl

@@ -13,9 +13,6 @@ module _ {D : Type 0} (gives : D → Call → Bool → D → Type 0) where
   calls_then [] ys old mid new first second = let same : mid ≡ old = first in rw (← same) second
   calls_then (x ∷ xs) ys old mid new first second = (first.0, first.1, calls_then xs ys first.0 mid new first.2 second)
 
-  pub goes_one : (call : Call) (old new : D) → gives old call false new → Goes gives old new
-  goes_one call old new h = (call ∷ [], (new, h, refl))
-
   pub goes_then : (old mid new : D) → Goes gives old mid → Goes gives mid new → Goes gives old new
   goes_then old mid new first second = (first.0 ++ second.0, calls_then first.0 second.0 old mid new first.1 second.1)
 
@@ -46,13 +43,6 @@ module _ {D : Type 0} (gives : D → Call → Bool → D → Type 0) where
   ends_calls old new (mid, looks, inl (call, look, of, h)) = (looks.0, call, of, record { between = mid; before = looks.2; fails = h })
   ends_calls old new (mid, looks, inr (gate, inl f)) = (looks.0 ++ [], Writes gate (0 ∷ []), tt, record { between = f.between; before = calls_then looks.0 [] old mid f.between looks.2 f.before; fails = f.fails })
   ends_calls old new (mid, looks, inr (gate, inr f)) = (looks.0 ++ Writes gate (0 ∷ []) ∷ [], Syncs, tt, record { between = f.between; before = calls_then looks.0 (Writes gate (0 ∷ []) ∷ []) old mid f.between looks.2 f.before; fails = f.fails })
-
-  -- an answer that says nothing of a failed disk
-  pub opens_looking : {T : Type 0} (old new : D) (r : Result T OpenFault) → IsErrAnd r (λ e. (e ≡ open_fault.Failed) → ⊥) → Looks gives old new → Opens gives old new r
-  opens_looking old new (Ok x) h looks = looks_go old new looks
-  opens_looking old new (Err open_fault.Failed) h looks = absurd (h refl)
-  opens_looking old new (Err (open_fault.BadJournal at)) h looks = looks
-  opens_looking old new (Err open_fault.OutOfMemory) h looks = tt
 
   pub opens_failed : {T : Type 0} (old new : D) (r : Result T OpenFault) → IsErrAnd r (λ e. e ≡ open_fault.Failed) → Ends gives old new → Opens gives old new r
   opens_failed old new r h ends = let p = err_from_is_err_and r h in rw (p.1, p.2) ends

@@ -2,7 +2,7 @@
 
 ghost use Rattle.std.specs.Prelude.{◌≡◌, ◌<◌, ◌≤◌, ◌+◌, ◌^◌, [], ◌∷◌, length, OnOk};
 ghost use Rattle.std.specs.List.{All};
-ghost use Rattle.rex_version.specs.Versions.{has_old_form};
+ghost use Rattle.rex_syntax.specs.Versions.{has_old_form};
 ghost use Rattle.rex_schedule.specs.Fits.{LineFits, FormFits};
 ghost use Rattle.rex_schedule.specs.declared.scenario.ScheduleLine.TheVariants.{Flush};
 ghost use Rattle.rex_cluster.specs.Takes.{BeginsInRange};

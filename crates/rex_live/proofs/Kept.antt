@@ -53,13 +53,6 @@ module _ (service : Declarations) (good : IsService service) (out : List Bool) (
   pub variables_kept : length kept.variables ≡ length service.variables
   variables_kept = lending.by.variables ∙ lending.by.sound.complete.variables
 
-  -- frames fit their handlers
-  pub fits_kept : (lane : ℕ) → IsFitting service kept lane
-  fits_kept lane = record { flows = lending.flows; right = lending.right; fits = lending.by.fits lane }
-
-  pub inside_kept : (lane : ℕ) → IfSome (frame_at kept lane) (FitsIn service)
-  inside_kept lane = lane_in (with_flows service lending.flows) (frame_at kept lane) (lending.by.fits lane)
-
   stands_by : (lane : ℕ) (o : Option Frame) → frame_at s lane ≡ o → IfSome o (StandsAt service kept)
   stands_by lane None is = tt
   stands_by lane (Some f) is =

@@ -59,17 +59,6 @@ is_recorded service requests dice f e good checked made few there is =
       };
     }
 
--- the floor with the event, as it is after the state's own change
-pub recorded_is : (service : Declarations) (f : FloorValue) (e : Event) (s : StateValue) → next service f.state e ≡ Some s → (recorded service f e).state ≡ s
-recorded_is service f e s h = ap (λ (o : Option StateValue). unwrap_or o f.state) h
-
--- the same, as the code finds it
-pub found_recorded : (service d : Declarations) (requests : List Request) (dice : Lcg) (f v : FloorValue) (e : Event) → d ≡ service → f ≡ v → IsService d → IsChecked d
-    → IsMade service requests dice f → length v.history < 268431360 → e.lane < service.lanes → next_event service requests v e.lane ≡ Some e → IsRecorded service requests dice f e
-found_recorded service d requests dice f v e same view good checked made few there is =
-    is_recorded service requests dice f e (subst IsService same good) (subst IsChecked same checked) made (subst (λ (x : FloorValue). length x.history < 268431360) (sym view) few) there
-    (subst (λ (x : FloorValue). next_event service requests x e.lane ≡ Some e) (sym view) is)
-
 -- a lane's event is the lane's own
 pub own_event : (service d : Declarations) (requests : List Request) (dice : Lcg) (f v : FloorValue) (lane : ℕ) (e : Event) → d ≡ service → f ≡ v → IsService d → IsChecked d
     → IsMade service requests dice f → lane < service.lanes → next_event service requests v lane ≡ Some e → e.lane ≡ lane
@@ -77,16 +66,3 @@ own_event service d requests dice f v lane e same view good checked made there i
     let good' = subst IsService same good in
     let r : Runs service f = made_runs service requests dice f good' (subst IsChecked same checked) made in
     (goes service requests f.state lane _ _ e good' r.sound there (subst (λ (x : FloorValue). next_event service requests x lane ≡ Some e) (sym view) is)).own
-
--- the floor with one more event, as its parts are after the call
-pub recorded_as : (service : Declarations) (f : FloorValue) (e : Event) (history : List Event) (s : StateValue) (dice : Lcg) → history ≡ f.history ++ e ∷ [] → next service f.state e ≡ Some s
-    → dice ≡ dice_behind service f e.lane → recorded service f e ≡ record { history = history; state = s; dice = dice }
-recorded_as service f e history s dice h n d =
-    ap (λ (x : List Event). let r : FloorValue = record { history = x; state = (recorded service f e).state; dice = dice_behind service f e.lane } in r) (sym h)
-    ∙ ap (λ (x : StateValue). let r : FloorValue = record { history = history; state = x; dice = dice_behind service f e.lane } in r) (recorded_is service f e s n)
-    ∙ ap (λ (x : Lcg). let r : FloorValue = record { history = history; state = s; dice = x } in r) (sym d)
-
--- the state of a floor is sound
-pub found_sound : (service d : Declarations) (requests : List Request) (dice : Lcg) (f : FloorValue) → d ≡ service → IsService d → IsChecked d → IsMade service requests dice f → IsSound d f.state
-found_sound service d requests dice f same good checked made =
-    subst (λ (x : Declarations). IsSound x f.state) (sym same) (made_runs service requests dice f (subst IsService same good) (subst IsChecked same checked) made).sound

@@ -188,14 +188,6 @@ module _ {K : Type 0} (records : K → List (List ℕ)) (gives : K → List ℕ 
   one_of : IsOneOf x.nodes from
   one_of = record { first = there.0; last = there.1 }
 
-  -- the sender is one of those that its proposer counts
-  pub promise_from : IfSome x.proposer (λ (p : ProposerValue). IsOneOf p.nodes from)
-  promise_from = go x.proposer u.proposer
-    where
-      go : (o : Option ProposerValue) → IsProposer x.nodes x.id x.acceptor o → IfSome o (λ (p : ProposerValue). IsOneOf p.nodes from)
-      go None h = tt
-      go (Some p) h = subst (λ (n : ℕ). IsOneOf n from) (sym h.nodes_are) one_of
-
   module _ (before : Draft) where
     abbrev begun : CallHere
     begun = so_far records service past x before

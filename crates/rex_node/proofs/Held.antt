@@ -162,9 +162,6 @@ module _ (service : Declarations) (offset : ℕ) (kept : List (List ℕ)) (back 
 pub record EndsSo (kept : List (List ℕ)) (index : ℕ) (old : Bool) : Type 0 where
   pub is : (rs : List Rec) → Spell kept rs → old ≡ ends_old (take index rs)
 
-pub ends_none : (kept : List (List ℕ)) → EndsSo kept 0 false
-ends_none kept = record { is = λ rs s. refl }
-
 pub ends_more : (kept : List (List ℕ)) (index : ℕ) (before after : Bool) (bytes : List ℕ) → EndsSo kept index before → index < length kept → bytes ≡ slice_index_or kept index []
     → after ≡ old_behind before (get_or bytes 0 0) (drop 9 bytes) → EndsSo kept (index + 1) after
 ends_more kept index before after bytes h lt bytes_are e = record { is = is }

@@ -16,10 +16,6 @@ use Rattle.rex_node.specs.Parts.{NodeValue, count_of, knows}
 pub many_known : {K : Type 0} (past : List Value) (x : NodeValue K) → length (knows past x) ≡ count_of x
 many_known past x = length-append (first x.offset past) x.known ∙ ap (λ (n : ℕ). n + length x.known) (first_length x.offset past)
 
--- one that holds more knows more
-pub knows_more : {K : Type 0} (past : List Value) (x : NodeValue K) (more : List Value) → first x.offset past ++ (x.known ++ more) ≡ knows past x ++ more
-knows_more past x more = sym (append_assoc (first x.offset past) x.known more)
-
 -- past the offset it knows what it holds
 pub drop_known : {K : Type 0} (past : List Value) (x : NodeValue K) (n : ℕ) → x.offset ≤ n → drop n (knows past x) ≡ drop (n - x.offset) x.known
 drop_known past x n le =

@@ -25,10 +25,3 @@ limits_more a b c i x y z there e k xe ye ze =
   where
     one : (ns : List ℕ) (n : ℕ) → i < length ns → n ≡ get_or ns i 0 → take (i + 1) ns ≡ take i ns ++ n ∷ []
     one ns n lt is = take_more ns i 0 lt ∙ ap (λ (m : ℕ). take i ns ++ m ∷ []) (sym is)
-
--- limits of all lanes
-pub limits_whole : (a b c : List ℕ) (i : ℕ) → length c ≤ i → length a ≡ length c → length b ≡ length c → limits_between (take i a) (take i b) (take i c) ≡ limits_between a b c
-limits_whole a b c i most e k =
-    ap (λ (ns : List ℕ). limits_between ns (take i b) (take i c)) (take_all i a (omega (arith, most, e)))
-    ∙ ap (λ (ns : List ℕ). limits_between a ns (take i c)) (take_all i b (omega (arith, most, k)))
-    ∙ ap (λ (ns : List ℕ). limits_between a b ns) (take_all i c most)

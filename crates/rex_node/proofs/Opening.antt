@@ -262,9 +262,6 @@ module _ {K : Type 0} (records : K → List (List ℕ)) (gives : K → List ℕ 
 module _ {K : Type 0} (records : K → List (List ℕ)) (gives : K → List ℕ → Answer → K → Type 0) (faults : K → ℕ) (service : Declarations) (past : List Value) (x : NodeValue K) (kept_so : IsKept records service past x) (up : x.up ≡ true) (leads : IsSome x.proposer)
     (i : ℕ) (v : Value) (next : i ≡ length x.known + 1) (there : ballots.IsInstance i) (short : IsValue v) (cut : IsOwnCut service x v)
     (b : ℕ) (b_is : b ≡ unwrap_or (option_map (λ (p : ProposerValue). p.ballot) x.proposer) 0) where
-  p_of : (p : ProposerValue) × (x.proposer ≡ Some p)
-  p_of = some_of x.proposer leads
-
   b_own : (p : ProposerValue) → x.proposer ≡ Some p → b ≡ p.ballot
   b_own p e = b_is ∙ ap (λ (o : Option ProposerValue). unwrap_or (option_map (λ (q : ProposerValue). q.ballot) o) 0) e
 

@@ -57,24 +57,6 @@ module _ {K : Type 0} (records : K → List (List ℕ)) (gives : K → List ℕ 
     abbrev prepare : CallHere → CallHere
     prepare = on_prepare x.id from b first
 
-    -- one below the promise is refused
-    pub prepare_refused : (after : Draft) → b < x.acceptor.promised → Sends before after (answering x.id from (sent.Nack b x.acceptor.promised)) → EndsWell records gives faults service past x x before after prepare
-    prepare_refused after less s =
-        ends_same records gives faults service past x x before after prepare refl node up
-        (λ f. ap (λ (t : Bool). cond t (nacks f) (others f)) (lt-ltb b (promise (here_of records service past x).log) (omega (arith, less, u.promised)))
-        ∙ ap (λ (p : ℕ). send (armed_with f (so_far records service past x before)) (answer x.id from (Nack b p))) (sym u.promised)
-        ∙ ap (armed_with f) (sym (sends_to records service past x before after from (sent.Nack b x.acceptor.promised) s)))
-      where
-        nacks : Option Failure → CallHere
-        nacks f = send (armed_with f (so_far records service past x before)) (answer x.id from (Nack b (promise (here_of records service past x).log)))
-
-        others : Option Failure → CallHere
-        others f =
-            cond (nat_le first (offset (here_of records service past x).log)) (answer_base x.id from (armed_with f (so_far records service past x before)))
-            (cond (nat_lt (promise (here_of records service past x).log) b)
-            (append f x.id (Promised b) (armed_with f (so_far records service past x before)) (λ e. promised x.id from b first (follow x.id (effect.Promised x.id b ∷ []) e)))
-            (promised x.id from b first (armed_with f (so_far records service past x before))))
-
     -- one from an instance on whose value isn't held is told the state at the base
     pub prepare_old : Begins (known (here_of records service past x).log) past → (after : Draft) → x.acceptor.promised ≤ b → first ≤ x.offset → TellsBase service x from before after → EndsWell records gives faults service past x x before after prepare
     prepare_old begins after more old t =

@@ -137,33 +137,4 @@ module _ (service : Declarations) where
 
 -- ---- a call leaves a keeper whose records are all read, and whose states are spelled
 
-failed_length : (kept : Bool) (old written : List (List ℕ)) (bytes : List ℕ) → length (failed_records kept (old ++ written) bytes) ≡ failed_many kept (length written) + length old
-failed_length true old written bytes = let e = length-append (old ++ written) (bytes ∷ []) in let f = length-append old written in omega arith
-failed_length false old written bytes = let f = length-append old written in omega arith
-
-failed_states : (service : Declarations) (kept : Bool) (old written : List (List ℕ)) (bytes : List ℕ) → AreStated service old → AreStated service (written ++ bytes ∷ []) → AreStated service (failed_records kept (old ++ written) bytes)
-failed_states service true old written bytes h k = subst (λ (lists : List (List ℕ)). AreStated service lists) (sym (append_assoc old written (bytes ∷ []))) (stated_both service old (written ++ bytes ∷ []) h k)
-failed_states service false old written bytes h k =
-    stated_both service old written h (and_parts (list_all (is_stated service) written) (list_all (is_stated service) (bytes ∷ [])) (sym (list_all-append (is_stated service) written (bytes ∷ [])) ∙ k)).0
-
 module _ {K : Type 0} (records : K → List (List ℕ)) (gives : K → List ℕ → Answer → K → Type 0) (faults : K → ℕ) (service : Declarations) (past : List Value) (call : CallHere → CallHere) (old new : NodeValue K) (step : Step) where
-  well_read : GoesWell records gives faults service call old.keeper new.keeper (begin (here_of records service past old)) (call_of records service past new step) → AreRead service past (records old.keeper) → AreRead service past (records new.keeper)
-  well_read h read =
-      h.many ∙ ap (λ (n : ℕ). length h.written + n) read
-      ∙ (let e = length-append (records old.keeper) h.written in let same : length h.written + length (records old.keeper) ≡ length (records old.keeper ++ h.written) = omega arith in same)
-      ∙ ap length (sym h.grown)
-
-  failed_read : FailsAfter records gives faults service call old.keeper new.keeper (begin (here_of records service past old)) (call_of records service past new step) → AreRead service past (records old.keeper) → AreRead service past (records new.keeper)
-  failed_read h read =
-      h.many ∙ ap (λ (n : ℕ). failed_many h.kept (length h.written) + n) read
-      ∙ sym (failed_length h.kept (records old.keeper) h.written h.bytes)
-      ∙ ap length (sym h.grown)
-
-  -- whatever the keeper is
-  pub does_read : Does records gives faults service past call old new step → AreRead service past (records old.keeper) → AreRead service past (records new.keeper)
-  does_read (inl h) = well_read h
-  does_read (inr h) = failed_read h
-
-  pub does_state : Does records gives faults service past call old new step → AreStated service (records old.keeper) → AreStated service (records new.keeper)
-  does_state (inl h) stated = subst (λ (lists : List (List ℕ)). AreStated service lists) (sym h.grown) (stated_both service (records old.keeper) h.written stated h.stated)
-  does_state (inr h) stated = subst (λ (lists : List (List ℕ)). AreStated service lists) (sym h.grown) (failed_states service h.kept (records old.keeper) h.written h.bytes stated h.stated)

@@ -21,7 +21,7 @@ use Rattle.rex_state.specs.declared.lane.Lane.{Lane}
 use Rattle.rex_report.specs.declared.effect.Effect.{Effect}
 use Rattle.rex_report.specs.declared.effect.Effect.TheVariants as effect
 use Rattle.rex_traits.specs.Chains.{Answer}
-use Rattle.rex_version.specs.declared.version.Version.{Version}
+use Rattle.rex_syntax.specs.declared.version.Version.{Version}
 use Rattle.rex_snapshot.specs.Allowed.{version_in}
 use Rattle.rex_cluster.specs.Records.{Rec, known, base}
 use Rattle.rex_cluster.specs.Records.Rec.{Checkpoint}
@@ -216,17 +216,6 @@ module _ {K : Type 0} (records : K → List (List ℕ)) (gives : K → List ℕ 
             many = ap length log_is ∙ (let e : suc (length log) ≡ 1 + length log = omega arith in e);
             is = appends None ∙ comes;
           })
-
-      pub saved_down : EndsDown x.id (faults x.keeper) (faults y.keeper) y.up step
-      saved_down = record {
-        down = λ l. absurd (omega (arith, l, k.faults_are));
-        only = λ e. absurd (other (sym (ap last_of effects) ∙ e));
-        quiet = λ l. sends;
-        falls = λ l. absurd (omega (arith, l, k.faults_are));
-      }
-        where
-          other : ◌≡◌ {A = Option Effect} (Some (effect.Checkpointed x.id x.replayed)) (Some (effect.Down x.id)) → ⊥
-          other e = cc
 
       z : NodeValue K
       z = record (rebased version x s) { keeper = y.keeper }

@@ -15,8 +15,8 @@ use Rattle.rex_snapshot.specs.Spelling.{IsLimited}
 use Rattle.rex_report.specs.declared.effect.Effect.{Effect}
 use Rattle.rex_report.specs.declared.effect.Effect.TheVariants as effect
 use Rattle.rex_traits.specs.Chains.{Answer}
-use Rattle.rex_version.specs.declared.version.Version.{Version}
-use Rattle.rex_version.specs.declared.version.Version.TheVariants.{Two}
+use Rattle.rex_syntax.specs.declared.version.Version.{Version}
+use Rattle.rex_syntax.specs.declared.version.Version.TheVariants.{Two}
 use Rattle.rex_snapshot.specs.Allowed.{version_in}
 use Rattle.rex_cluster.specs.Records.{Rec, known, base, has_old_base}
 use Rattle.rex_cluster.specs.Records.Rec.{Checkpoint}

@@ -121,12 +121,6 @@ pub breaks_as : {K : Type 0} (records : K → List (List ℕ)) (gives : K → Li
 breaks_as records gives faults service past whole same x z before e h =
     breaks_later records gives faults service past whole same x x z before before (leads_same records gives faults service whole same x.keeper (so_far records service past x before) (so_far records service past x before) refl e) h
 
--- where nothing has changed before it, a call is stuck where the rest of it is
-pub stuck_as : {K : Type 0} (records : K → List (List ℕ)) (gives : K → List ℕ → Answer → K → Type 0) (faults : K → ℕ) (service : Declarations) (past : List Value) (whole same : CallHere → CallHere) (x z : NodeValue K) (before : Draft)
-    → ((f : Option Failure) → whole (armed_with f (so_far records service past x before)) ≡ same (armed_with f (so_far records service past x before))) → IsStuck records gives faults service past same x z before → IsStuck records gives faults service past whole x z before
-stuck_as records gives faults service past whole same x z before e (inl s) = inl s
-stuck_as records gives faults service past whole same x z before e (inr b) = inr (breaks_as records gives faults service past whole same x z before e b)
-
 -- a node with the same keeper and base has broken off too
 pub breaks_kept : {K : Type 0} (records : K → List (List ℕ)) (gives : K → List ℕ → Answer → K → Type 0) (faults : K → ℕ) (service : Declarations) (past : List Value) (whole : CallHere → CallHere) (x y z : NodeValue K) (before : Draft)
     → z.keeper ≡ y.keeper → z.base ≡ y.base → BreaksOff records gives faults service past whole x y before → BreaksOff records gives faults service past whole x z before

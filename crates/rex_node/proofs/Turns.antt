@@ -71,9 +71,6 @@ module _ {K : Type 0} (records : K → List (List ℕ)) (gives : K → List ℕ 
         longer (inl e) l = subst (λ (n : NodeValue K). length (records n.keeper) < length (records z.keeper)) e l
         longer (inr m) l = omega (arith, m, l)
 
-    pub gone_less : GoesRound records gives faults service past left y z mid after Again → (left - 2 < left) × (2 ≤ left)
-    gone_less k = let n : 3 ≤ left = k.3 in (omega (arith, n), omega (arith, n))
-
     pub gone_done : (going : Going) → GoesRound records gives faults service past left y z mid after (Done going) → Ends records gives faults service past (settles x turns) x z before after going
     gone_done On k = ((first_leads (λ d. d) k.0.0, k.0.1, k.0.2), k.1)
     gone_done Down k = (
@@ -93,9 +90,6 @@ module _ {K : Type 0} (records : K → List (List ℕ)) (gives : K → List ℕ 
         by (inl e) (inl s) = inl (subst (λ (n : NodeValue K). Stands records faults gives n z) e s)
         by (inl e) (inr b) = inr (breaks_later records gives faults service past (settles x turns) (settles x left) x y z before mid h.comes.0 b)
         by (inr longer) s = inr (breaks_after records gives faults service past (settles x turns) (settles x left) x y z before mid h.comes.0 longer (h.comes.1.up h.comes.2).base (settle_loses left x.nodes x.id (service_of service x.seed)) s)
-
-    pub gone_same : IsSame x z
-    gone_same = same_then x y z h.same same
 
 -- a call that has come so far ends as the rest of it does
 pub ends_then : {K : Type 0} (records : K → List (List ℕ)) (gives : K → List ℕ → Answer → K → Type 0) (faults : K → ℕ) (service : Declarations) (past : List Value) (whole middle : CallHere → CallHere) (x y z : NodeValue K) (before mid after : Draft) (going : Going) → y.id ≡ x.id

@@ -201,10 +201,6 @@ IsSpared (Err refusal) before after = after ≡ before
 
 -- ---- conditions
 
--- what the node knows after a call are deltas that run from the start, one after the other
-abbrev pub KnowsWhatRuns : Declarations → (CallHere → CallHere) → Here → Type 0
-KnowsWhatRuns service call h = values_fit service (known (call (begin h)).node.log) ≡ true
-
 -- the counts below which a cut is made: all live events, or at most so many of each lane
 abbrev pub counts_for : Declarations → Here → Option (List ℕ) → List ℕ
 counts_for service h None = no_limits service h

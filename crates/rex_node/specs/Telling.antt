@@ -7,7 +7,7 @@ use Rattle.rex_syntax.specs.declared.service.Declarations.{Declarations}
 use Rattle.rex_state.specs.Value.{StateValue}
 use Rattle.rex_state.specs.Start.{start_of}
 use Rattle.rex_state.specs.Machine.{run}
-use Rattle.rex_version.specs.declared.version.Version.TheVariants.{Two}
+use Rattle.rex_syntax.specs.declared.version.Version.TheVariants.{Two}
 use Rattle.rex_snapshot.specs.Allowed.{version_in}
 use Rattle.rex_snapshot.specs.Reading.{state_in}
 use Rattle.rex_durable.specs.Spelling.{record_bytes}

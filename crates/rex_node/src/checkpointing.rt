@@ -1,8 +1,8 @@
 //! How a node writes down the state that it has replayed.
 
 ghost use Rattle.std.specs.Prelude.{◌≡◌, ◌<◌, ◌≤◌, ◌-◌, ◌^◌, ◌==◌, ◌∷◌, [], true, length, nat_lt, Ok, Some, None, IfOk, if◌then◌else◌};
-ghost use Rattle.rex_version.specs.declared.version.Version.TheVariants.{One, Two};
-ghost use Rattle.rex_version.specs.Versions.{has_old_form, has_version};
+ghost use Rattle.rex_syntax.specs.declared.version.Version.TheVariants.{One, Two};
+ghost use Rattle.rex_syntax.specs.Versions.{has_old_form, has_version};
 ghost use Rattle.rex_durable.specs.Spelling.{HasSpelling, record_bytes};
 ghost use Rattle.rex_state.specs.Sound.{IsSound};
 ghost use Rattle.rex_snapshot.specs.Allowed.{version_in};
@@ -28,8 +28,8 @@ use rex_report::Effect;
 use rex_snapshot::{encode, encode_old};
 use rex_state::state::State;
 use rex_syntax::checked::Checked;
+use rex_syntax::version::Version;
 use rex_traits::{KeepFault, Keeper};
-use rex_version::Version;
 use std::alloc::{AllocError, Global};
 
 /// One effect.

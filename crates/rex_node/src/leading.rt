@@ -21,8 +21,7 @@ use crate::acting::Acting;
 use crate::going::{Going, Round};
 use crate::node::Node;
 use crate::step::Draft;
-use crate::values;
-use crate::values::copied;
+use crate::values::{copied, events_in};
 use rand_pcg::Lcg64Xsh32;
 use rex_ballot::Value;
 use rex_delta::check;
@@ -42,7 +41,7 @@ use rex_traits::Keeper;
 use std::alloc::{AllocError, Global};
 
 // How many events the delta has that a value spells; 0 where it spells none.
-fn events_in(value: &[u8]) -> u32
+fn event_count(value: &[u8]) -> u32
     ensures { result ≡ length (events_of value.now) }
 {
     check(value).unwrap_or(0)
@@ -257,7 +256,7 @@ impl<K: Keeper> Node<K> {
     {
         let _service = svc.declarations();
         let node = self.id;
-        let events = events_in(value);
+        let events = event_count(value);
         let told = Effect::Adopts {
             node,
             instance,
@@ -419,7 +418,7 @@ fn number_values(alloc: Global, answers: &mut Answers, values: &[Value]) -> Resu
     ensures { OnOk result (answers.new ≡ spec.numbering_values answers.old values.now) }
 {
     for value in values {
-        let events = values::events_in(alloc, value.as_slice())?;
+        let events = events_in(alloc, value.as_slice())?;
         answers.number(events.as_slice())?;
     }
     Ok(())

@@ -18,8 +18,8 @@ use rex_list::List;
 use rex_log::Past;
 use rex_report::Effect;
 use rex_syntax::checked::Checked;
+use rex_syntax::version::Version;
 use rex_traits::{KeepFault, Keeper};
-use rex_version::Version;
 
 impl<K: Keeper> Node<K> {
     // Why the node writes down nothing.

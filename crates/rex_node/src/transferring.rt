@@ -9,7 +9,7 @@ ghost use Rattle.rex_snapshot.specs.Allowed.{version_in};
 ghost use Rattle.rex_snapshot.specs.Reading.{state_in};
 ghost use Rattle.rex_snapshot.specs.Spelling.{IsLimited};
 ghost use Rattle.rex_state.specs.Sound.{IsSound};
-ghost use Rattle.rex_version.specs.declared.version.Version.TheVariants.{Two};
+ghost use Rattle.rex_syntax.specs.declared.version.Version.TheVariants.{Two};
 ghost use Rattle.rex_log.specs.Log.{first};
 ghost use Rattle.rex_cluster.specs.Invariant.{Begins};
 ghost use Rattle.rex_cluster.specs.Records.{known};

@@ -52,15 +52,6 @@ fine_line a f ws e =
 below : (limit n : ℕ) (c : ServiceCode) → fits (leb limit n) c ≡ None → n < limit
 below limit n c e = leb-false limit n (fits_not (leb limit n) c e)
 
-pub lock_room : (a : Above) (ws : List Word) → form_code a form.Lock ws ≡ None → length a.locks < 64
-lock_room a ws e = below 64 (length a.locks) _ (fine_line a form.Lock ws e).limits
-
-pub variable_room : (a : Above) (ws : List Word) → form_code a form.Var ws ≡ None → length a.variables < most_variables
-variable_room a ws e = below most_variables (length a.variables) _ (fine_line a form.Var ws e).limits
-
-pub handler_room : (a : Above) (ws : List Word) → form_code a form.Handler ws ≡ None → length a.handlers < 64
-handler_room a ws e = below 64 (length a.handlers) _ (fine_line a form.Handler ws e).limits
-
 pub local_room : (a : Above) (ws : List (Bor Word)) (d : Bor Word) → 2 ≤ length ws → form_code a form.Let (texts ws) ≡ None → locals_code a ((get_or ws 0 d).now ∷ []) ≡ None
 local_room a [] d two e = absurd (omega arith)
 local_room a (w ∷ ws) d two e = (least_both (locals_code a (w.now ∷ texts ws)) (full_code a) (fine_line a form.Let (w.now ∷ texts ws) e).limits).0

@@ -73,10 +73,3 @@ short_code a [] d code one le e = absurd (omega arith)
 short_code a (w ∷ ws) d code one le e =
     let whole : code ≡ expr_code a (texts (w ∷ ws)) = (rw (← take_rest (w ∷ ws) 1) e) ∙ sym (first_and_rest a w.now (texts ws)) in
     whole ∙ ap (λ (c : Option ServiceCode). least c (expr_code a (texts (w ∷ ws)))) (sym (short_fits (w ∷ ws) le))
-
-pub long_code : (a : Above) (ws : List (Bor Word)) → 15 < length ws → whole_expr_code a (texts ws) ≡ None → ⊥
-long_code a ws lt e =
-    let none = (least_both (fits (nat_lt 15 (length (texts ws))) BadExpression) (expr_code a (texts ws)) e).0 in
-    let off = fits_not (nat_lt 15 (length (texts ws))) BadExpression none in
-    let on : nat_lt 15 (length (texts ws)) ≡ true = rw (length-map ws (λ w. w.now)) (le-leb 16 (length ws) (omega (arith, lt))) in
-    let k = sym on ∙ off in cc

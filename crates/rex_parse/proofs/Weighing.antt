@@ -68,11 +68,6 @@ expr_step a ws d code pair new total two p n so_far =
 
 -- ---- a heading
 
-pub heading_start : (a : Above) (ws : List (Bor Word)) (d : Bor Word) → 0 < length ws
-    → least (new_code a (get_or ws 0 d).now) (parameters_code a (texts (take 1 ws)) (texts (drop 1 ws))) ≡ slots_code a (Heading ∷ []) (texts ws)
-heading_start a [] d some = absurd (omega arith)
-heading_start a (w ∷ ws) d some = sym (least_none _)
-
 heading_more : (a : Above) (ws : List (Bor Word)) (i : ℕ) (d : Bor Word) → i < length ws
     → parameters_code a (texts (take i ws)) (texts (drop i ws)) ≡ least (parameter_code a (texts (take i ws)) (get_or ws i d).now) (parameters_code a (texts (take (i + 1) ws)) (texts (drop (i + 1) ws)))
 heading_more a ws i d lt =

@@ -92,7 +92,3 @@ takes_more service first es r q i e u spare left there is h turn q_is kept less 
       all = ap (λ (x : RecorderValue). taken_all service x (drop (i + 1) es)) (q_is ∙ ap (taken service r) turn) ∙ ap (taken_all service r) (sym rest) ∙ h.all;
       room = omega (arith, long, room, less);
     }
-
--- once none are left
-pub takes_done : (service : Declarations) (first : RecorderValue) (es : List Event) (r : RecorderValue) (rest : List Event) (spare : ℕ) → TakesOn service first es r rest spare → rest ≡ [] → r ≡ taken_all service first es
-takes_done service first es r rest spare h none = ap (taken_all service r) (sym none) ∙ h.all

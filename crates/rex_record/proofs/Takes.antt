@@ -120,9 +120,6 @@ turn_by false c e d h i = i
 pub fit_turn : (service : Declarations) (r : RecorderValue) (e : Event) → length r.live < 4096 → is_fit service r.state r.queue e ≡ true → taken_turn service r.state r.queue (length r.live) e ≡ Done e
 fit_turn service r e few fit = turn_by _ (is_fit service r.state r.queue e) e (Done e) (lt-leb 4096 (length r.live) few) (ap (λ (b : Bool). if b then Done e else Unfit) fit)
 
-pub unfit_turn : (service : Declarations) (r : RecorderValue) (e : Event) → length r.live < 4096 → is_fit service r.state r.queue e ≡ false → taken_turn service r.state r.queue (length r.live) e ≡ Unfit
-unfit_turn service r e few fit = turn_by _ (is_fit service r.state r.queue e) e Unfit (lt-leb 4096 (length r.live) few) (ap (λ (b : Bool). if b then Done e else Unfit) fit)
-
 -- an event that is done is fit, and there was room for it
 pub done_fits : (service : Declarations) (r : RecorderValue) (e d : Event) → taken_turn service r.state r.queue (length r.live) e ≡ Done d → (nat_le 4096 (length r.live) ≡ false) × (is_fit service r.state r.queue e ≡ true) × (e ≡ d)
 done_fits service r e d = by (nat_le 4096 (length r.live)) (is_fit service r.state r.queue e)

@@ -78,20 +78,6 @@ met_is past u e k l lanes =
 
 -- ---- adding
 
-pub empty_keeps : (names : Event → Option ℕ → Bool) (rows : List Summary) → rows ≡ [] → Keeps names [] rows
-empty_keeps names rows q = record { each = λ place. ap (λ (x : List Summary). at x place) q }
-
-pub empty_all : (u : Uses) → AreEmpty u → KeepAll [] u
-empty_all u e = record {
-  lanes = empty_keeps (λ (d : Event) (place : Option ℕ). same_name (Some d.lane) place) u.lanes.items e.lanes;
-  exclusive = empty_keeps (λ (d : Event) (place : Option ℕ). same_name (exclusive_lock d.kind) place) u.exclusive.items e.exclusive;
-  shared = empty_keeps (λ (d : Event) (place : Option ℕ). same_name (shared_lock d.kind) place) u.shared.items e.shared;
-  clients = empty_keeps (λ (d : Event) (place : Option ℕ). same_name (named_client d.kind) place) u.clients.items e.clients;
-  semaphores = empty_keeps (λ (d : Event) (place : Option ℕ). same_name (named_semaphore d.kind) place) u.semaphores.items e.semaphores;
-  wakers = empty_keeps (λ (d : Event) (place : Option ℕ). is_waker_at d.kind place LANES) u.wakers.items e.wakers;
-  wakes = empty_keeps by_wake u.wakes.items e.wakes;
-}
-
 -- the summary of an event alone
 abbrev pub own_of : List Event → Event → Summary
 own_of past e = record { clocks = clock_of past e; befores = clock_before past e }

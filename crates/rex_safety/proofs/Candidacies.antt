@@ -3,8 +3,8 @@ use Rattle.std.proofs.Common.{◌≡◌, ℕ, zero, suc, ◌<◌, Bool, true, fa
 use Rattle.std.specs.Prelude.{take, ◌==◌, nat_lt, nat_le}
 use Rattle.rex_report.specs.declared.effect.Effect.{Effect}
 use Rattle.rex_report.specs.declared.effect.Effect.TheVariants as effect
-use Rattle.rex_version.specs.declared.version.Version.{Version}
-use Rattle.rex_version.specs.declared.version.Version.TheVariants.{Two}
+use Rattle.rex_syntax.specs.declared.version.Version.{Version}
+use Rattle.rex_syntax.specs.declared.version.Version.TheVariants.{Two}
 use Rattle.rex_cluster.specs.Records.{Rec, Proposal, promise, accepted, from_on, offset, known, base, has_old_base, HasAccepted}
 use Rattle.rex_cluster.specs.Records.Rec.{Promised, Accepted, Known, Checkpoint, Dropped, Transferred}
 use Rattle.rex_cluster.specs.Quorum.{is_in, is_majority, ballot_above, round_of}

@@ -32,5 +32,5 @@ pub mod Candidacies
 pub mod Asking
 pub mod Ruled
 pub mod Examples
-pub mod Schedules
+pub mod ScheduleExamples
 pub mod Staying

@@ -10,7 +10,7 @@ use Rattle.rex_parse.specs.Table.{new_code, lock_code, variable_code, local_code
 use Rattle.rex_parse.specs.declared.language.ServiceCode.TheVariants as service
 use Rattle.rex_syntax.specs.declared.request.Request.{Request}
 use Rattle.rex_scenario.specs.Requests.{is_repeated, place_code}
-use Rattle.rex_version.specs.declared.version.Version.TheVariants.{One, Two}
+use Rattle.rex_syntax.specs.declared.version.Version.TheVariants.{One, Two}
 use Rattle.rex_scenario.specs.Schedule.{step_of, is_there, schedule_code}
 use Rattle.rex_scenario.specs.Reading.{start, answer_from, answer_of, unscheduled_answer_of, scenario_of}
 use Rattle.rex_scenario.specs.declared.scenario.ScenarioCode.{ScenarioCode}

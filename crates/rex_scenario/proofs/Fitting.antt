@@ -11,7 +11,7 @@ use Rattle.rex_parse.specs.Reading.{end_code}
 use Rattle.rex_parse.specs.declared.language.ServiceCode.{ServiceCode}
 use Rattle.rex_schedule.specs.Counts.{is_node_count}
 use Rattle.rex_scenario.specs.Headings.{is_heading, is_due, if_due, begun_by, heading_code, begin_code, begun, after_heading, is_whole, nodes_after, next_stage}
-use Rattle.rex_version.specs.Versions.{is_old_size}
+use Rattle.rex_syntax.specs.Versions.{is_old_size}
 use Rattle.rex_schedule.specs.Fits.{ScenarioFits}
 use Rattle.rex_scenario.specs.Keeps.{FitsAt, SectionsFit}
 use Rattle.rex_scenario.specs.Schedule.{step_of}
@@ -182,7 +182,3 @@ pub scenario_fits : (s : Sections) → SectionsFit s → end_of s s.stage ≡ No
 scenario_fits s fit e =
     let parts = ended s.stage s e fit.sections in
     record { nodes = parts.0.nodes; few_requests = parts.0.few; few_lines = parts.1.few; requests = parts.0.each; schedule = parts.1.each; forms = parts.1.forms; variables = parts.1.variables }
-
--- and its schedule has no lines where it may have none
-pub schedule_empty : (s : Sections) → SectionsFit s → end_of s s.stage ≡ None → s.scheduled ≡ false → s.schedule ≡ []
-schedule_empty s fit e closed = (ended s.stage s e fit.sections).1.none closed

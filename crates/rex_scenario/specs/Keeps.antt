@@ -4,7 +4,7 @@ use Rattle.std.specs.List.{All}
 use Rattle.rex_parse.specs.After.{service_of}
 use Rattle.rex_parse.specs.Good.{IsGood}
 use Rattle.rex_parse.specs.Reading.{end_code}
-use Rattle.rex_version.specs.Versions.{is_old_size}
+use Rattle.rex_syntax.specs.Versions.{is_old_size}
 use Rattle.rex_schedule.specs.Counts.{is_node_count}
 use Rattle.rex_schedule.specs.Fits.{RequestFits, LineFits, FormFits, VariableFits}
 use Rattle.rex_scenario.specs.declared.scenario.Sections.{Sections}

@@ -5,7 +5,7 @@ use Rattle.rex_text.specs.Text.{Word, lines_of, words_of, numbered, is_skipped, 
 use Rattle.rex_parse.specs.Above.{nothing}
 use Rattle.rex_parse.specs.Reading.{raw_code, raw_after, end_code}
 use Rattle.rex_parse.specs.declared.language.ServiceCode.{ServiceCode}
-use Rattle.rex_version.specs.Versions.{is_old_size}
+use Rattle.rex_syntax.specs.Versions.{is_old_size}
 use Rattle.rex_scenario.specs.Beyond.{beyond_after}
 use Rattle.rex_scenario.specs.Headings.{is_heading, heading_code, after_heading}
 use Rattle.rex_scenario.specs.Requests.{or_code, request_code, request_of}

@@ -14,8 +14,8 @@ use crate::scenario::{LineFault, ScenarioCode, ScheduleLine};
 use rex_list::List;
 use rex_parse::{Above, Meaning, is_name};
 use rex_syntax::service::LANES;
+use rex_syntax::version::Version;
 use rex_text::read_u64;
-use rex_version::Version;
 use std::alloc::{AllocError, Global};
 
 /// A schedule line as it is spelled: its numbers are counted from 1, and may be of what isn't there.

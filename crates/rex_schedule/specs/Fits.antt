@@ -3,8 +3,8 @@ use Rattle.std.specs.Prelude.{◌≡◌, ◌≢◌, ℕ, ◌<◌, ◌≤◌, Boo
 use Rattle.std.specs.List.{All}
 use Rattle.rex_syntax.specs.declared.request.Request.{Request}
 use Rattle.rex_syntax.specs.declared.service.Declarations.{Declarations}
-use Rattle.rex_version.specs.declared.version.Version.TheVariants.{One}
-use Rattle.rex_version.specs.Versions.{has_old_form}
+use Rattle.rex_syntax.specs.declared.version.Version.TheVariants.{One}
+use Rattle.rex_syntax.specs.Versions.{has_old_form}
 use Rattle.rex_schedule.specs.Counts.{is_node_count, takes_so_many}
 use Rattle.rex_schedule.specs.declared.scenario.Scenario.{Scenario}
 use Rattle.rex_schedule.specs.declared.scenario.ScheduleLine.{ScheduleLine}

@@ -2,7 +2,7 @@
 
 use rex_list::List;
 use rex_syntax::request::Request;
-use rex_version::Version;
+use rex_syntax::version::Version;
 
 /// A line of a schedule. Nodes and messages are numbered from 1, lanes and requests from 0.
 #[derive(Drop)]

@@ -4,7 +4,7 @@ use Rattle.std.specs.Prelude.{Some, None}
 use Rattle.rex_syntax.specs.declared.service.Declarations.{Declarations}
 use Rattle.rex_syntax.specs.declared.locks.Mode.TheVariants.{Exclusive}
 use Rattle.rex_syntax.specs.Locks.{with_mode, no_locks}
-use Rattle.rex_version.specs.declared.version.Version.TheVariants.{One, Two}
+use Rattle.rex_syntax.specs.declared.version.Version.TheVariants.{One, Two}
 use Rattle.rex_frame.specs.declared.frame.Phase.TheVariants.{Running}
 use Rattle.rex_state.specs.Value.{StateValue}
 use Rattle.rex_state.specs.Start.{start_of}

@@ -6,8 +6,8 @@ use Rattle.std.specs.List.{All, flat_map}
 use Rattle.std.proofs.lemmas.Bool.{eqb-true, and_parts}
 use Rattle.arrayvec.specs.ArrayVec.{ArrayVec}
 use Rattle.rex_syntax.specs.declared.service.Declarations.{Declarations}
-use Rattle.rex_version.specs.declared.version.Version.{Version}
-use Rattle.rex_version.specs.Versions.{number_of, has_version}
+use Rattle.rex_syntax.specs.declared.version.Version.{Version}
+use Rattle.rex_syntax.specs.Versions.{number_of, has_version}
 use Rattle.rex_state.specs.declared.lane.Queue.{Queue}
 use Rattle.rex_wire.specs.Reading.{Left}
 use Rattle.rex_wire.specs.Spelling.{byte, signed}

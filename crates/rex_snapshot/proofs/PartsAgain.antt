@@ -8,7 +8,7 @@ use Rattle.std.proofs.lemmas.List.Sums.{count_by-le-length}
 use Rattle.rex_syntax.specs.declared.service.Declarations.{Declarations}
 use Rattle.rex_syntax.specs.Service.{IsService}
 use Rattle.rex_event.specs.Limits.{most_lanes}
-use Rattle.rex_version.specs.Versions.{number_of}
+use Rattle.rex_syntax.specs.Versions.{number_of}
 use Rattle.rex_state.specs.declared.lane.Queue.{Queue}
 use Rattle.rex_wire.specs.Reading.{◌>>=◌, signed_at, allowed_at, list_at}
 use Rattle.rex_wire.specs.Spelling.{byte, signed}

@@ -13,9 +13,9 @@ use Rattle.rex_syntax.specs.declared.line.Line.TheVariants.{Repeat, EndRepeat, E
 use Rattle.rex_syntax.specs.declared.service.Declarations.{Declarations}
 use Rattle.rex_syntax.specs.Service.{IsService}
 use Rattle.rex_event.specs.Limits.{most_lanes}
-use Rattle.rex_version.specs.declared.version.Version.{Version}
-use Rattle.rex_version.specs.declared.version.Version.TheVariants.{One, Two}
-use Rattle.rex_version.specs.Versions.{number_of}
+use Rattle.rex_syntax.specs.declared.version.Version.{Version}
+use Rattle.rex_syntax.specs.declared.version.Version.TheVariants.{One, Two}
+use Rattle.rex_syntax.specs.Versions.{number_of}
 use Rattle.rex_syntax.specs.Shape.{IsShaped, LeadsOn, open_at, open_after}
 use Rattle.rex_frame.specs.declared.frame.Turn.{Turn}
 use Rattle.rex_frame.specs.declared.frame.Frame.{Frame}

@@ -14,8 +14,8 @@ use Rattle.rex_syntax.specs.declared.locks.Mode.TheVariants.{Free, Shared, Exclu
 use Rattle.rex_syntax.specs.declared.locks.Lockset.{Lockset}
 use Rattle.rex_syntax.specs.declared.service.Declarations.{Declarations}
 use Rattle.rex_syntax.specs.Service.{IsService}
-use Rattle.rex_version.specs.declared.version.Version.{Version}
-use Rattle.rex_version.specs.Versions.{has_version}
+use Rattle.rex_syntax.specs.declared.version.Version.{Version}
+use Rattle.rex_syntax.specs.Versions.{has_version}
 use Rattle.rex_syntax.specs.Locks.{mode_of, with_mode, no_locks}
 use Rattle.rex_event.specs.Order.{Has}
 use Rattle.rex_frame.specs.declared.frame.Phase.{Phase}

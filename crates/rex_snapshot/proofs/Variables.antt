@@ -7,9 +7,9 @@ use Rattle.std.proofs.lemmas.Bool.{and_parts, eqb-false}
 use Rattle.std.proofs.lemmas.List.{length-map}
 use Rattle.rex_syntax.specs.declared.service.Declarations.{Declarations}
 use Rattle.rex_syntax.specs.Service.{IsService}
-use Rattle.rex_version.specs.declared.version.Version.{Version}
-use Rattle.rex_version.specs.declared.version.Version.TheVariants.{One, Two}
-use Rattle.rex_version.specs.Versions.{number_of, has_version}
+use Rattle.rex_syntax.specs.declared.version.Version.{Version}
+use Rattle.rex_syntax.specs.declared.version.Version.TheVariants.{One, Two}
+use Rattle.rex_syntax.specs.Versions.{number_of, has_version}
 use Rattle.rex_state.specs.Start.{first_of}
 use Rattle.rex_wire.specs.Ranges.{is_between}
 use Rattle.rex_wire.specs.Reading.{Left, ◌>>=◌, allowed_at}

@@ -1,7 +1,7 @@
 -- A state as the parts of its snapshot, and back.
 use Rattle.std.specs.Prelude.{◌==◌, ℕ, ◌+◌, ◌≤◌, List, [], ◌∷◌, ◌++◌, map, Option, slice_set, if◌then◌else◌}
 use Rattle.std.specs.List.{position}
-use Rattle.rex_version.specs.declared.version.Version.{Version}
+use Rattle.rex_syntax.specs.declared.version.Version.{Version}
 use Rattle.rex_state.specs.declared.lane.Lane.{Lane}
 use Rattle.rex_state.specs.declared.lane.Queue.{Queue}
 use Rattle.rex_state.specs.declared.lane.Entry.{Entry}

@@ -9,8 +9,8 @@ use Rattle.rex_syntax.specs.declared.line.Line.{Line}
 use Rattle.rex_syntax.specs.declared.locks.Lockset.{Lockset}
 use Rattle.rex_syntax.specs.declared.service.Declarations.{Declarations}
 use Rattle.rex_syntax.specs.Locks.{no_locks}
-use Rattle.rex_version.specs.declared.version.Version.{Version}
-use Rattle.rex_version.specs.declared.version.Version.TheVariants.{One, Two}
+use Rattle.rex_syntax.specs.declared.version.Version.{Version}
+use Rattle.rex_syntax.specs.declared.version.Version.TheVariants.{One, Two}
 use Rattle.rex_syntax.specs.Shape.{open_at}
 use Rattle.rex_frame.specs.declared.frame.Phase.{Phase}
 use Rattle.rex_frame.specs.declared.frame.Phase.TheVariants.{Running, Waiting}

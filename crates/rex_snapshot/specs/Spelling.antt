@@ -3,9 +3,9 @@ use Rattle.std.specs.Prelude.{◌≡◌, ℕ, ◌+◌, ◌≤◌, true, ℤ, Lis
 use Rattle.std.specs.List.{All, flat_map}
 use Rattle.std.specs.Int.{w16, w32, w64, to_be_bytes}
 use Rattle.rex_syntax.specs.declared.service.Declarations.{Declarations}
-use Rattle.rex_version.specs.declared.version.Version.{Version}
-use Rattle.rex_version.specs.declared.version.Version.TheVariants.{One, Two}
-use Rattle.rex_version.specs.Versions.{number_of, has_version}
+use Rattle.rex_syntax.specs.declared.version.Version.{Version}
+use Rattle.rex_syntax.specs.declared.version.Version.TheVariants.{One, Two}
+use Rattle.rex_syntax.specs.Versions.{number_of, has_version}
 use Rattle.rex_frame.specs.declared.frame.Phase.{Phase}
 use Rattle.rex_frame.specs.declared.frame.Phase.TheVariants.{Running, Waiting}
 use Rattle.rex_frame.specs.declared.frame.Turn.{Turn}

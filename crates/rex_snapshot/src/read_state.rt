@@ -25,7 +25,7 @@ use rex_state::lane::{Entry, Lane};
 use rex_state::new_entries;
 use rex_state::state::State;
 use rex_syntax::checked::Checked;
-use rex_version::Version;
+use rex_syntax::version::Version;
 use rex_wire::{DecodeError, Reader, u8_wanted};
 use std::alloc::{AllocError, Global};
 

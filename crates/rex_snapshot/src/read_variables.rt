@@ -10,7 +10,7 @@ ghost use Rattle.rex_snapshot.specs.Reading.{values_at, other_at, change_at, cha
 use crate::parts::Change;
 use rex_list::List;
 use rex_syntax::checked::Checked;
-use rex_version::Version;
+use rex_syntax::version::Version;
 use rex_wire::{DecodeError, Reader, u16_between};
 use std::alloc::{AllocError, Global};
 

@@ -3,8 +3,8 @@
 ghost use Rattle.std.specs.Prelude.{◌≡◌, ◌<◌, ◌++◌, ◌≤◌, length, true, OnOk, IfOk, Ok};
 ghost use Rattle.std.specs.List.{All, count_by, flat_map};
 ghost use Rattle.rex_event.specs.Limits.{most_lanes};
-ghost use Rattle.rex_version.specs.declared.version.Version.TheVariants.{One, Two};
-ghost use Rattle.rex_version.specs.Versions.{has_old_form, has_version};
+ghost use Rattle.rex_syntax.specs.declared.version.Version.TheVariants.{One, Two};
+ghost use Rattle.rex_syntax.specs.Versions.{has_old_form, has_version};
 ghost use Rattle.rex_state.specs.Sound.{IsSound};
 ghost use Rattle.rex_snapshot.specs.Parts.{known_of, known_if, known_from, parts_of};
 ghost use Rattle.rex_snapshot.specs.Spelling.{waiter_bytes, queue_bytes, reply_bytes, known_bytes, state_bytes, EntryFits, EntryIsTyped, IsLimited, IsTyped};
@@ -19,7 +19,7 @@ use crate::write_variables::variables;
 use rex_state::lane::{Entry, Queue};
 use rex_state::state::State;
 use rex_syntax::checked::Checked;
-use rex_version::Version;
+use rex_syntax::version::Version;
 use rex_wire::Writer;
 use std::alloc::{AllocError, Global};
 

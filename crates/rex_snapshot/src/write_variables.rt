@@ -10,7 +10,7 @@ use crate::parts::Change;
 use crate::write_lanes::values as whole;
 use rex_list::List;
 use rex_syntax::checked::Checked;
-use rex_version::Version;
+use rex_syntax::version::Version;
 use rex_wire::Writer;
 use std::alloc::{AllocError, Global};
 

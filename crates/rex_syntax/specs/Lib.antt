@@ -9,3 +9,4 @@ pub mod Flow
 pub mod Check
 pub mod Names
 pub mod Held
+pub mod Versions

@@ -10,3 +10,4 @@ pub mod locks;
 pub mod names;
 pub mod request;
 pub mod service;
+pub mod version;

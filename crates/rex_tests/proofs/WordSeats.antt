@@ -8,10 +8,6 @@ use Rattle.rex_words.specs.declared.seat.WordSeat.{WordSeat}
 use Rattle.rex_words.specs.Dealing.{AreDealt}
 use Rattle.rex_words.specs.Histories.{IsSeatAt, AreSeats}
 
--- seats that did nothing yet are seats
-pub dealt_seats : (r : Assignment) (z : TableId) (n : ℕ) (ms : List WordSeat) → AreDealt r z n ms → AreSeats r z n ms
-dealt_seats r z n ms h = record { count = h.count; each = λ lane d lt. let f = h.each lane d lt in record { seat = f.seat; lane_is = f.lane_is } }
-
 -- so are those of which one is a later one of its lane
 pub seats_with : (r : Assignment) (z : TableId) (n : ℕ) (ms : List WordSeat) (k : ℕ) (m : WordSeat) → AreSeats r z n ms → k < n → IsSeatAt r z k m → AreSeats r z n (set ms k m)
 seats_with r z n ms k m a lt q = record {

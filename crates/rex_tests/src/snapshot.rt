@@ -1,5 +1,5 @@
 ghost use Rattle.std.specs.Prelude.{◌≡◌, true, IfOk};
-ghost use Rattle.rex_version.specs.Versions.{has_old_form};
+ghost use Rattle.rex_syntax.specs.Versions.{has_old_form};
 ghost use Rattle.rex_state.specs.Sound.{IsSound};
 ghost use Rattle.rex_snapshot.specs.Spelling.{IsLimited};
 
@@ -7,7 +7,7 @@ use crate::services::checked;
 use rex_snapshot::{DecodeError, decode, encode, encode_old, version_in};
 use rex_state::state::State;
 use rex_syntax::checked::Checked;
-use rex_version::{Version, has_old_form};
+use rex_syntax::version::{Version, has_old_form};
 use std::alloc::Global;
 use std::process::Abort;
 use std::test::*;

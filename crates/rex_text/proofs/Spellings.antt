@@ -80,12 +80,6 @@ i64_is w z fits e =
 pub i64_is_none : (w : List ℕ) → ((z : ℤ) → fits_i64 z ≡ true → w ≡ signed_decimal z → ⊥) → i64_at w ≡ None
 i64_is_none w stop = dropped _ (signed_digits_value 10 w) (λ t. let h = (tested_signed w).0 t in stop (signed_digits_value 10 w) h.1 (sym h.0))
 
-pub i64_spelling : (w : List ℕ) (z : ℤ) → i64_at w ≡ Some z → (w ≡ signed_decimal z) × (fits_i64 z ≡ true)
-i64_spelling w z e =
-    let t = taken _ (signed_digits_value 10 w) z e in
-    let h = (tested_signed w).0 t.0 in
-    (rw (← t.1) (sym h.0), rw (← t.1) h.1)
-
 -- ---- what `read_u64` reads
 
 own : IsNumeralModel (AllDigits 10) (digits_value 10)

@@ -345,10 +345,6 @@ gathers r id other v w role role' s M at ne at' =
 
 -- ---- the beginning
 
-none_known : (r : Assignment) (n : ℕ) → events_known (λ lane. first_known r) n ≡ 0
-none_known r zero = refl
-none_known r (suc n) = let e = none_known r n in omega arith
-
 pub opens : (r : Assignment) → IsAssignment r → (words : List ℕ) → locks_in r + variables_in r ≤ length words → AreFirstWords r words → IsMoment r (opening words [] (first_view r))
 opens r ok words wide first = record {
   right = ok;

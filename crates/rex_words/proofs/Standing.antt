@@ -60,39 +60,12 @@ held_not Free h e = absurd (cc)
 held_not Shared h e = cc
 held_not Exclusive h e = cc
 
--- the lines at which a lane of plain locks can stand
-pub data IsPlainLine (line : Line) : Type 0 where
-  at_acquire : (lock : ℕ) → line ≡ Acquire lock → IsPlainLine line
-  at_try : (lock busy : ℕ) → line ≡ Try lock busy → IsPlainLine line
-  at_release : (lock : ℕ) → line ≡ Release lock → IsPlainLine line
-  at_clock : (local : ℕ) → line ≡ Clock local → IsPlainLine line
-  at_random : (local : ℕ) → line ≡ Random local → IsPlainLine line
-  at_reply : (value : Expr) → line ≡ Reply value → IsPlainLine line
-
 module _ (r : Assignment) (a : IsAssignment r) where
-  no_rw : (lock : ℕ) → IsLock (service_of r) ReadersWriter lock → ⊥
-  no_rw lock h = let e : ReadersWriter ≡ Plain = sym h.kind_is ∙ a.plain lock h.found h.there in cc
-
   no_condition : (condition : ℕ) → condition < length (service_of r).conditions → ⊥
   no_condition condition h = let e : length (service_of r).conditions ≡ 0 = ap (λ (l : List Condition). length l) a.no_conditions in absurd (omega arith)
 
   no_semaphore : (semaphore : ℕ) → semaphore < length (service_of r).semaphores → ⊥
   no_semaphore semaphore h = let e : length (service_of r).semaphores ≡ 0 = ap (λ (l : List Semaphore). length l) a.no_semaphores in absurd (omega arith)
-
-  plain_line : (locals : ℕ) (line : Line) → LineNames (service_of r) locals line → is_primitive line ≡ true → IsPlainLine line
-  plain_line locals (Acquire lock) n h = at_acquire lock refl
-  plain_line locals (Try lock busy) n h = at_try lock busy refl
-  plain_line locals (Release lock) n h = at_release lock refl
-  plain_line locals (Clock local) n h = at_clock local refl
-  plain_line locals (Random local) n h = at_random local refl
-  plain_line locals (Reply value) n h = at_reply value refl
-  plain_line locals (Share lock) n h = absurd (no_rw lock n)
-  plain_line locals (Wait condition test) n h = absurd (no_condition condition n.0)
-  plain_line locals (Signal condition) n h = absurd (no_condition condition n)
-  plain_line locals (Broadcast condition) n h = absurd (no_condition condition n)
-  plain_line locals (Down semaphore) n h = absurd (no_semaphore semaphore n)
-  plain_line locals (Up semaphore) n h = absurd (no_semaphore semaphore n)
-  plain_line locals _ n h = absurd (cc)
 
   module _ (m : WordSeat) (l : IsLaneOf r m) where
     abbrev p : CheckedFlows
@@ -120,9 +93,6 @@ module _ (r : Assignment) (a : IsAssignment r) where
 
       pub running : is_running f.phase ≡ true
       running = running_by (is_running f.phase) refl
-
-      pub stands_plain : IsPlainLine (line_of (service_of r) f)
-      stands_plain = plain_line (locals_of (service_of r) f.handler) (line_of (service_of r) f) (names_at (line_of (service_of r) f) refl) ((placed_at f busy).stands running)
 
       mode_here : (lock : ℕ) → mode_at m.state m.lane lock ≡ mode_of f.held lock
       mode_here lock = ap (λ (o : Option Frame). mode_in_frame o lock) busy

@@ -9,7 +9,7 @@ use Rattle.rex_cluster.specs.Records.{Rec, Proposal, base, offset, promise, know
 use Rattle.rex_cluster.specs.Quorum.{ballot_above, round_of}
 use Rattle.rex_cluster.specs.Node.{Failure, Lead, Role, Service, is_active, role_name}
 use Rattle.rex_cluster.specs.Node.Role.{Follower, Leads}
-use Rattle.rex_version.specs.declared.version.Version.{Version}
+use Rattle.rex_syntax.specs.declared.version.Version.{Version}
 use Rattle.rex_cluster.specs.Invariant.{Begins}
 use Rattle.rex_cluster.specs.Calls.{begin, say, checkpoint, drop_known, elect, receive, replay}
 use Rattle.rex_cluster.specs.Values.{Value, service_of, values_fit}

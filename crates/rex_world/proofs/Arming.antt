@@ -98,9 +98,6 @@ seat_armed service past seed nodes number f Empty none l = absurd none
 -- ---- the row
 
 module _ (service : Declarations) (requests : List Request) (seed n : ℕ) (w : ModelWorld) (m : ℕ) (kept : Bool) where
-  pub arming_told : WillFail m kept ∷ [] ≡ (row service requests seed n w (KeepFail m kept)).effects
-  arming_told = ap (λ (ms : List (Message Value)). WillFail m kept ∷ sent_from (suc (length w.messages)) ms) (sym (drop-append_seam w.messages []))
-
   arming_row : (nodes : List Here) → nodes ≡ put w.nodes m (record (node_at w.nodes m) { armed = Some (After 0 kept) })
       → (let v : ModelWorld = record { done = w.done + 1; nodes = nodes; messages = w.messages; handed = w.handed; seen = w.seen } in v) ≡ (row service requests seed n w (KeepFail m kept)).world
   arming_row nodes e =
@@ -145,9 +142,6 @@ module _ {S : Type 0} (service : Declarations) (w : World S) (h : IsRunning serv
 
   few : faults_of (keeper_in armed.seat) ≤ w.done
   few = subst (λ (s : Seat S). faults_of (keeper_in s) ≤ w.done) (sym armed.seat_is) (within_is service w.agreed w.seats.items m there armed.seat w.done h.within)
-
-  pub arming_same : IsSame w after
-  arming_same = record { nodes = many; requests = refl; seed = refl }
 
   pub arming_running : IsRunning service after
   arming_running =

@@ -17,7 +17,7 @@ use Rattle.rex_msg.specs.declared.message.Message.{Message as Said}
 use Rattle.rex_msg.specs.Spelling.{HasSpelling, spelling_of, IsMessage}
 use Rattle.rex_msg.proofs.MessageAgain.{message_read}
 use Rattle.rex_state.specs.Value.{StateValue}
-use Rattle.rex_version.specs.declared.version.Version.TheVariants.{Two}
+use Rattle.rex_syntax.specs.declared.version.Version.TheVariants.{Two}
 use Rattle.rex_cluster.specs.Records.{base, known, has_old_base}
 use Rattle.rex_cluster.specs.Records.Rec.{Checkpoint}
 use Rattle.rex_cluster.specs.Node.{Message, Service}

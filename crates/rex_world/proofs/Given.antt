@@ -53,15 +53,6 @@ module _ (service : Declarations) (past : List Value) (x y : NodeValue KeeperVal
   handed (Ok t) refused told takes same = record { refused = refused; told = told; takes = leads t takes; same = tt }
   handed (Err r) refused told takes same = record { refused = refused; told = tt; takes = tt; same = ap (here_at service past) same }
 
--- a node that is down refuses it
-pub down_handed : (service : Declarations) (e : Event) (x : Here) → x.up ≡ false → IsHanded service e x x (Err why.Down)
-down_handed service e x down = record {
-  refused = subst (λ (u : Bool). Refuses {A = Turn} (calls.if_up u (if_active x.role None)) (Err why.Down)) (sym down) refl;
-  told = tt;
-  takes = tt;
-  same = refl;
-}
-
 -- ---- among the nodes
 
 module _ {S : Type 0} (service : Declarations) (past : List Value) (seats : List (Seat S)) (number : ℕ) (here : IsNode (length seats) number) (d : Seat S) where

@@ -88,11 +88,6 @@ all_still (b ∷ hs) (suc f) (suc i) h =
     ap (λ (t : Bool). t && list_all (λ (c : Bool). c) (take f (slice_set hs i true))) p.0 ∙ rest
 
 module _ {S : Type 0} (service : Declarations) (w w1 : World S) (number : ℕ) (marked : IsMarked number w w1) where
-  pub marked_world : world_of service w1 ≡ with_handed (world_of service w) number
-  marked_world =
-      ap (world_of service) marked.rest
-      ∙ ap (λ (hs : List Bool). let v : ModelWorld = record (world_of service w) { handed = hs } in v) marked.handed
-
   -- flags don't matter for what is kept
   pub marked_running : IsRunning service w → IsRunning service w1
   marked_running h =

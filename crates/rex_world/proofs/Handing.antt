@@ -254,13 +254,6 @@ module _ (service : Declarations) (requests : List Request) (seed n : ℕ) where
             ∙ sym (some_more (waiting_from 1 (take place w.handed)) at (1 + length (take place w.handed))) ∙ ap is_some_there (sym next);
       }
 
-  -- all were handed over
-  pub handed_all : (w v : ModelWorld) (a b : Told) (waits : Bool) → HasHanded w v a b (length w.handed) waits → HandsAllOver service requests seed n w v a b waits
-  handed_all w v a b waits h = record {
-    did = subst (λ (xs : List Bool). DidSteps service requests seed n w v a b (map Deliver (waiting_from 1 xs))) (take-length w.handed) h.did;
-    waits-is = h.waits-is ∙ ap (λ (xs : List Bool). is_some_there (waiting_from 1 xs)) (take-length w.handed);
-  }
-
   pub flushed_all : (w v : ModelWorld) (a b : Told) (place : ℕ) (waits : Bool) → HasHanded w v a b place waits → (place ≤ length v.handed) × (list_all (λ (b : Bool). b) (take place v.handed) ≡ true)
   flushed_all w v a b place waits h =
       let long : length v.handed ≡ place + length (drop place w.handed ++ h.front.more) =

@@ -44,9 +44,6 @@ sent_both number (x ∷ xs) ys =
     let e : suc number + length xs ≡ number + suc (length xs) = omega arith in
     ap (λ (es : List Effect). Sent number (kind_of x.content) x.from x.to ∷ es) (sent_both (suc number) xs ys ∙ ap (λ (k : ℕ). sent_from (suc number) xs ++ sent_from k ys) e)
 
-pub sends_none : (net : List (List ℕ)) (handed : List Bool) (sent : List Effect) → Sends [] net net handed handed sent sent
-sends_none net handed sent = record { spelled = All-nil HasSpelling; net = sym (append-nil net); handed = sym (append-nil handed); sent = sym (append-nil sent) }
-
 pub sends_more : (xs ys : List Said) (net net1 net2 : List (List ℕ)) (handed handed1 handed2 : List Bool) (sent sent1 sent2 : List Effect)
     → Sends xs net net1 handed handed1 sent sent1 → Sends ys net1 net2 handed1 handed2 sent1 sent2 → Sends (xs ++ ys) net net2 handed handed2 sent sent2
 sends_more xs ys net net1 net2 handed handed1 handed2 sent sent1 sent2 a b = record {

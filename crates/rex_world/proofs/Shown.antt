@@ -11,7 +11,7 @@ use Rattle.rex_schedule.specs.Fits.{RequestFits}
 use Rattle.rex_report.specs.declared.effect.Effect.{Effect}
 use Rattle.rex_report.specs.declared.effect.Effect.TheVariants as effect
 use Rattle.rex_state.specs.Value.{StateValue}
-use Rattle.rex_version.specs.declared.version.Version.{Version}
+use Rattle.rex_syntax.specs.declared.version.Version.{Version}
 use Rattle.rex_cluster.specs.Records.{Rec, base, known, offset}
 use Rattle.rex_cluster.specs.Node.{Content, Failure, Service, is_active}
 use Rattle.rex_cluster.specs.Node.Failure.{After}

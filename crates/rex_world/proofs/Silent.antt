@@ -7,7 +7,7 @@ use Rattle.rex_syntax.specs.declared.request.Request.{Request}
 use Rattle.rex_report.specs.declared.effect.Effect.{Effect}
 use Rattle.rex_msg.specs.declared.message.Message.{Message as Said}
 use Rattle.rex_state.specs.Value.{StateValue}
-use Rattle.rex_version.specs.declared.version.Version.{Version}
+use Rattle.rex_syntax.specs.declared.version.Version.{Version}
 use Rattle.rex_cluster.specs.Records.{Rec, base, known, offset}
 use Rattle.rex_cluster.specs.Node.{Failure, Service, is_active}
 use Rattle.rex_cluster.specs.Node.Failure.{After}

@@ -3,9 +3,9 @@ use Rattle.std.proofs.Common.{◌≡◌, ℕ, zero, suc, Bool, true, false, cond
 use Rattle.std.specs.Prelude.{map, take}
 use Rattle.rex_syntax.specs.declared.service.Declarations.{Declarations}
 use Rattle.rex_state.specs.Value.{StateValue}
-use Rattle.rex_version.specs.declared.version.Version.{Version}
-use Rattle.rex_version.specs.declared.version.Version.TheVariants.{One, Two}
-use Rattle.rex_version.specs.Versions.{has_old_form, has_version}
+use Rattle.rex_syntax.specs.declared.version.Version.{Version}
+use Rattle.rex_syntax.specs.declared.version.Version.TheVariants.{One, Two}
+use Rattle.rex_syntax.specs.Versions.{has_old_form, has_version}
 use Rattle.rex_schedule.specs.declared.scenario.ScheduleLine.TheVariants as line
 use Rattle.rex_schedule.specs.Fits.{FormFits}
 use Rattle.rex_report.specs.declared.effect.Effect.{Effect}
@@ -39,10 +39,6 @@ use Rattle.rex_world.proofs.Unseen.{migrate_either}
 
 abbrev err_of : Refusal → Result Step Refusal
 err_of refusal = Err refusal
-
--- memory was short, so nothing is kept
-pub not_whole : (P : Type 0) (refusal : Refusal) → refusal ≡ why.OutOfMemory → IsWhole (err_of refusal) → P
-not_whole P refusal e whole = absurd (subst (λ (r : Refusal). IsWhole (err_of r)) e whole)
 
 -- ---- the model's call
 
@@ -102,16 +98,6 @@ module _ (service : Declarations) (past : List Value) (seed nodes number : ℕ) 
       ∙ ap (λ (n : ℕ). effect.Started old.id old.acceptor.promised (count_of old) n ∷ []) e
       ∙ ap (λ (x : Effect). x ∷ []) started_is
 
-  -- its last checkpoint is in the new version, or there is none
-  pub comes_new : (step : Step) → old.old_base ≡ false → step.effects ≡ started ∷ [] → step.sends ≡ [] → CameBack (service_of service seed) number (here_at service past old) (here_at service past old) step
-  comes_new step none effects sends =
-      let new : has_old_base (here_at service past old).log ≡ false = sym (runner.node.up up).old_base ∙ none in
-      record {
-        node = rw new refl;
-        sends = sends;
-        effects = effects ∙ rw new refl;
-      }
-
   -- or it is migrated
   pub comes_migrated : (new : NodeValue KeeperValue) (first migrated step : Step) → IsDone past (migrate (service_of service old.seed) old.id) (here_at service past old) (here_at service past new) migrated
       → first.effects ≡ started ∷ [] → step.effects ≡ first.effects ++ migrated.effects → step.sends ≡ migrated.sends → CameBack (service_of service seed) number (here_at service past old) (here_at service past new) step
@@ -129,15 +115,6 @@ module _ (service : Declarations) (past : List Value) (seed nodes number : ℕ) 
             effects ∙ ap (λ (es : List Effect). es ++ migrated.effects) first_is
             ∙ ap (λ (es : List Effect). effect.Started number (promise h.log) (length (known h.log)) h.replayed ∷ es) mine.effects;
       }
-
-  -- then nothing is in the way of the call
-  migrate_due : old.old_base ≡ true → refusal_of_migrate (here_of records_of service past old) ≡ None
-  migrate_due old_one =
-      let o : has_old_base (here_of records_of service past old).log ≡ true = sym (runner.node.up up).old_base ∙ old_one in
-      rw (up, o) refl
-
-  pub migrate_memory : old.old_base ≡ true → (refusal : Refusal) → Refuses (refusal_of_migrate (here_of records_of service past old)) (err_of refusal) → refusal ≡ why.OutOfMemory
-  migrate_memory old_one refusal is = subst (λ (due : Option Refusal). Refuses due (err_of refusal)) (migrate_due old_one) is
 
   migrates : (new : NodeValue KeeperValue) (migrated : Step) → Does records_of follows (λ k. k.faults) service past (migrate (service_of service old.seed) old.id) old new migrated → IsDone past (migrate (service_of service old.seed) old.id) (here_at service past old) (here_at service past new) migrated
   migrates new migrated does =
@@ -179,9 +156,6 @@ abbrev restarted : List (Rec Value StateValue) → Option Failure → Here
 restarted log armed = record (down_node log armed) { up = true }
 
 module _ {S : Type 0} (service : Declarations) (past : List Value) (seed nodes number : ℕ) (seat : Seat S) (node : NodeValue KeeperValue) (up : CameUp records_of service past number nodes seed (reopened (keeper_in seat)) node) where
-  pub comes_up_up : node.up ≡ true
-  comes_up_up = ap (λ (h : Here). h.up) up.node
-
   restarts_as : here_at service past node ≡ (restart number (begin (here_in service past seat))).node
   restarts_as =
       ap (λ (h : Here). record h { armed = armed_of node.keeper.armed }) up.node
@@ -202,8 +176,3 @@ stays_on service past seed nodes number seat node new first second = record {
   within = omega (arith, first.within, second.within);
   grown = (first.grown.0 ++ second.grown.0, sym (append_assoc (records_of (keeper_in seat)) first.grown.0 second.grown.0) ∙ ap (λ (rs : List (List ℕ)). rs ++ second.grown.0) first.grown.1 ∙ second.grown.1);
 }
-
--- a line's version is one that the service's states have
-pub form_version : (service : Declarations) (node : ℕ) (version : Version) → FormFits (has_old_form service) (line.Checkpoint node version) → has_version service version ≡ true
-form_version service node One fits = fits
-form_version service node Two fits = refl

@@ -23,10 +23,6 @@ module _ (a b : Option (List ℕ)) where
   front_of : (front rest whole : List ℕ) → Appends a b front → front ++ rest ≡ whole → AppendsFront a b whole
   front_of front rest whole h e = (length front, subst (Appends a b) (sym (ap (take (length front)) (sym e) ∙ take_whole front rest)) h)
 
-  -- all of it was
-  pub front_all : (whole : List ℕ) → Appends a b whole → AppendsFront a b whole
-  front_all whole h = front_of whole [] whole h (append-nil whole)
-
   module _ (c : Option (List ℕ)) (waiting text rest left whole : List ℕ) (h : IsWritten a b waiting rest whole) (is : rest ≡ text ++ left) where
     -- a front of what comes next was written
     pub front_next : AppendsFront b c (waiting ++ text) → AppendsFront a c whole

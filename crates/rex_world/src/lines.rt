@@ -4,7 +4,7 @@ ghost use Rattle.std.specs.Prelude.{◌≡◌, ◌≢◌, ◌<◌, ◌≤◌, tr
 ghost use Rattle.std.specs.Option.{option_copied};
 ghost use Rattle.std.specs.List.{All};
 ghost use Rattle.rex_msg.specs.Spelling.{IsMessage};
-ghost use Rattle.rex_version.specs.Versions.{has_old_form, has_version};
+ghost use Rattle.rex_syntax.specs.Versions.{has_old_form, has_version};
 ghost use Rattle.rex_schedule.specs.Fits.{FormFits, IsNode, LineFits};
 ghost use Rattle.rex_cluster.specs.World as model;
 ghost use Rattle.rex_schedule.specs.declared.scenario.ScheduleLine.TheVariants as line;
@@ -25,8 +25,8 @@ use rex_node::{Refusal, Step};
 use rex_replay::Replayer;
 use rex_schedule::ScheduleLine;
 use rex_syntax::checked::Checked;
+use rex_syntax::version::Version;
 use rex_traits::Store;
-use rex_version::Version;
 use std::alloc::AllocError;
 use std::marker::Brand;
 

@@ -5,7 +5,7 @@ ghost use Rattle.std.specs.Prelude.{◌≡◌, ◌<◌, ◌≤◌, ◌+◌, ◌^
 ghost use Rattle.std.specs.Option.{option_copied};
 ghost use Rattle.rex_ballot.specs.Limits.{most_nodes};
 ghost use Rattle.rex_msg.specs.Spelling.{HasSpelling};
-ghost use Rattle.rex_version.specs.Versions.{has_version};
+ghost use Rattle.rex_syntax.specs.Versions.{has_version};
 ghost use Rattle.rex_schedule.specs.Fits.{IsNode, RequestFits};
 ghost use Rattle.rex_state.specs.Machine.{lane_of, run};
 ghost use Rattle.rex_state.specs.Counts.{AreCounted};
@@ -44,8 +44,8 @@ use rex_report::Effect;
 use rex_state::state::State;
 use rex_syntax::checked::Checked;
 use rex_syntax::request::Request;
+use rex_syntax::version::Version;
 use rex_traits::{Fate, Store};
-use rex_version::Version;
 use std::alloc::Global;
 
 /// The node asks to lead.

@@ -5,7 +5,7 @@ ghost use Rattle.std.specs.List.{All};
 ghost use Rattle.std.specs.Io.KnownBytes.{Appends};
 ghost use Rattle.rex_traits.specs.Causes.{Rose, TellsAlike};
 ghost use Rattle.rex_streams.specs.Front.{AppendsFront};
-ghost use Rattle.rex_version.specs.Versions.{has_old_form};
+ghost use Rattle.rex_syntax.specs.Versions.{has_old_form};
 ghost use Rattle.rex_schedule.specs.Fits.{FormFits, LineFits, ScenarioFits};
 ghost use Rattle.rex_cluster.specs.World.{row};
 ghost use Rattle.rex_world.specs.declared.run.RunFault.TheVariants as fault;

@@ -4,7 +4,7 @@ ghost use Rattle.std.specs.Prelude.{◌≡◌, ◌<◌, ◌≤◌, ◌+◌, ◌^
 ghost use Rattle.std.specs.Option.{option_copied};
 ghost use Rattle.rex_ballot.specs.Limits.{most_nodes};
 ghost use Rattle.rex_msg.specs.Spelling.{HasSpelling};
-ghost use Rattle.rex_version.specs.Versions.{has_version};
+ghost use Rattle.rex_syntax.specs.Versions.{has_version};
 ghost use Rattle.rex_schedule.specs.Fits.{RequestFits};
 ghost use Rattle.rex_state.specs.Machine.{lane_of, run};
 ghost use Rattle.rex_state.specs.Counts.{AreCounted};
@@ -37,8 +37,8 @@ use rex_report::Effect;
 use rex_state::state::State;
 use rex_syntax::checked::Checked;
 use rex_syntax::request::Request;
+use rex_syntax::version::Version;
 use rex_traits::{Fate, Keeper, Obedient, Store};
-use rex_version::Version;
 use std::alloc::{AllocError, Global};
 use std::mem;
 

@@ -5,7 +5,7 @@ ghost use Rattle.std.specs.List.{All};
 ghost use Rattle.rex_ballot.specs.Limits.{most_nodes};
 ghost use Rattle.rex_state.specs.Machine.{run};
 ghost use Rattle.rex_state.specs.Counts.{AreCounted};
-ghost use Rattle.rex_version.specs.Versions.{has_old_form};
+ghost use Rattle.rex_syntax.specs.Versions.{has_old_form};
 ghost use Rattle.rex_schedule.specs.Fits.{FormFits, IsNode, LineFits, ScenarioFits};
 ghost use Rattle.rex_traits.specs.StoreLaws.{memory_value};
 ghost use Rattle.rex_traits.specs.Stores.{value_by};

@@ -11,18 +11,6 @@ use Rattle.rex_answer.specs.Outcome.{Gives, Ends}
 use Rattle.rex_answer.proofs.Judged.{unread, unchecked}
 use Rattle.rexlive_cli.specs.Outcome.{GivesSome, IsCaused}
 
-gives_some : (IsDue : Due → Type 0) (d : Due) (old new : Option (List ℕ)) (status : ℕ) → IsDue d → Gives d old new status → GivesSome IsDue old new status
-gives_some IsDue d old new status is g = record {
-  exact = λ low. (d, is, (g.exact low).0, (g.exact low).1);
-  nothing = g.nothing;
-  front = λ high. inr (d, is, g.front high);
-}
-
-pub gives_if : (IsDue : List ℕ → Due → Type 0) (left : Option (List ℕ)) (d : Due) (old new : Option (List ℕ)) (status : ℕ) → IfSome left (λ input. IsDue input d) → Gives d old new status
-    → IfSome left (λ input. GivesSome (IsDue input) old new status)
-gives_if IsDue None d old new status is g = tt
-gives_if IsDue (Some input) d old new status is g = gives_some (IsDue input) d old new status is g
-
 caused : (service : Option Declarations) (status : ℕ) → Judges service status → IsCaused service status
 caused service status j = record { unread = unread service status j; unchecked = unchecked service status j }
 

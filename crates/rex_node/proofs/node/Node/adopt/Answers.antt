@@ -30,14 +30,14 @@ returns-in-Down-clause-goes g c =
     adopt_down g.K.Keeper.records g.K.Keeper.append_gives g.K.Keeper.faults c.args.svc.now g.P.Past.past c.declarations-service.ensures.sound c.declarations-service.ensures.checked (whole g.P.Past.past c.args.self.now) c.requires.kept c.requires.up c.args.instance c.args.value.now c.requires.next
     (chooses_of c.args.self.now.proposer c.args.self.now.acting c.args.instance c.args.value.now c.requires.goes c.requires.reported) c.args.turns c.requires.turns
     (whole g.P.Past.past c.propose.new.self) c.args.draft.now c.propose.new.draft c.in_ok-propose.ensures.same
-    (opens_as g.K.Keeper.records g.K.Keeper.append_gives g.K.Keeper.faults c.args.svc.now g.P.Past.past (whole g.P.Past.past c.args.self.now) (whole g.P.Past.past c.propose.new.self) c.args.draft.now c.propose.new.draft c.args.instance c.args.value.now _ _ c.in_ok-propose.field-0 Down (told_is c.self.inside.id c.args.self.now.id c.args.instance c.events_in-events.result c.args.value.now (ap (λ (n : NodeValue _). n.id) c.self.view_is) c.events_in-events.ensures) c.in-Down.is c.in_ok-propose.ensures.opens)
+    (opens_as g.K.Keeper.records g.K.Keeper.append_gives g.K.Keeper.faults c.args.svc.now g.P.Past.past (whole g.P.Past.past c.args.self.now) (whole g.P.Past.past c.propose.new.self) c.args.draft.now c.propose.new.draft c.args.instance c.args.value.now _ _ c.in_ok-propose.field-0 Down (told_is c.self.inside.id c.args.self.now.id c.args.instance c.event_count-events.result c.args.value.now (ap (λ (n : NodeValue _). n.id) c.self.view_is) c.event_count-events.ensures) c.in-Down.is c.in_ok-propose.ensures.opens)
 
 pub returns-then-self-gt1-clause-goes : goal.returns-then-self-gt1-clause-goes
 returns-then-self-gt1-clause-goes g c =
     adopt_rests g.K.Keeper.records g.K.Keeper.append_gives g.K.Keeper.faults c.args.svc.now g.P.Past.past c.declarations-service.ensures.sound c.declarations-service.ensures.checked (whole g.P.Past.past c.args.self.now) c.requires.kept c.requires.up c.args.instance c.args.value.now c.requires.next
     (chooses_of c.args.self.now.proposer c.args.self.now.acting c.args.instance c.args.value.now c.requires.goes c.requires.reported) c.args.turns c.requires.turns
     (whole g.P.Past.past c.propose.new.self) c.args.draft.now c.propose.new.draft
-    (opens_as g.K.Keeper.records g.K.Keeper.append_gives g.K.Keeper.faults c.args.svc.now g.P.Past.past (whole g.P.Past.past c.args.self.now) (whole g.P.Past.past c.propose.new.self) c.args.draft.now c.propose.new.draft c.args.instance c.args.value.now _ _ c.in_ok-propose.field-0 On (told_is c.self.inside.id c.args.self.now.id c.args.instance c.events_in-events.result c.args.value.now (ap (λ (n : NodeValue _). n.id) c.self.view_is) c.events_in-events.ensures) c.in-On.is c.in_ok-propose.ensures.opens)
+    (opens_as g.K.Keeper.records g.K.Keeper.append_gives g.K.Keeper.faults c.args.svc.now g.P.Past.past (whole g.P.Past.past c.args.self.now) (whole g.P.Past.past c.propose.new.self) c.args.draft.now c.propose.new.draft c.args.instance c.args.value.now _ _ c.in_ok-propose.field-0 On (told_is c.self.inside.id c.args.self.now.id c.args.instance c.event_count-events.result c.args.value.now (ap (λ (n : NodeValue _). n.id) c.self.view_is) c.event_count-events.ensures) c.in-On.is c.in_ok-propose.ensures.opens)
     (parts_as (whole g.P.Past.past c.args.self.now) (whole g.P.Past.past c.propose.new.self) c.args.instance c.args.value.now c.in_ok-propose.field-0 c.in-On.is c.in_ok-propose.ensures.parts)
     (longer_as g.K.Keeper.records (whole g.P.Past.past c.args.self.now) (whole g.P.Past.past c.propose.new.self) c.in_ok-propose.field-0 c.in-On.is c.in_ok-propose.ensures.longer)
     (nodes_many c.self-in-On.inside.nodes c.args.self.now.nodes (ap (λ (n : NodeValue _). n.nodes) c.self-in-On.view_is ∙ c.in_ok-propose.ensures.same.nodes) c.if-self-gt1.true)
@@ -47,7 +47,7 @@ learn-requires-clause-kept g c =
     alone_kept g.K.Keeper.records g.K.Keeper.append_gives g.K.Keeper.faults c.args.svc.now g.P.Past.past c.declarations-service.ensures.sound c.declarations-service.ensures.checked (whole g.P.Past.past c.args.self.now) c.requires.kept c.requires.up c.args.instance c.args.value.now c.requires.next
     (chooses_of c.args.self.now.proposer c.args.self.now.acting c.args.instance c.args.value.now c.requires.goes c.requires.reported) c.args.turns c.requires.turns
     (whole g.P.Past.past c.propose.new.self) c.args.draft.now c.propose.new.draft
-    (opens_as g.K.Keeper.records g.K.Keeper.append_gives g.K.Keeper.faults c.args.svc.now g.P.Past.past (whole g.P.Past.past c.args.self.now) (whole g.P.Past.past c.propose.new.self) c.args.draft.now c.propose.new.draft c.args.instance c.args.value.now _ _ c.in_ok-propose.field-0 On (told_is c.self.inside.id c.args.self.now.id c.args.instance c.events_in-events.result c.args.value.now (ap (λ (n : NodeValue _). n.id) c.self.view_is) c.events_in-events.ensures) c.in-On.is c.in_ok-propose.ensures.opens)
+    (opens_as g.K.Keeper.records g.K.Keeper.append_gives g.K.Keeper.faults c.args.svc.now g.P.Past.past (whole g.P.Past.past c.args.self.now) (whole g.P.Past.past c.propose.new.self) c.args.draft.now c.propose.new.draft c.args.instance c.args.value.now _ _ c.in_ok-propose.field-0 On (told_is c.self.inside.id c.args.self.now.id c.args.instance c.event_count-events.result c.args.value.now (ap (λ (n : NodeValue _). n.id) c.self.view_is) c.event_count-events.ensures) c.in-On.is c.in_ok-propose.ensures.opens)
     (parts_as (whole g.P.Past.past c.args.self.now) (whole g.P.Past.past c.propose.new.self) c.args.instance c.args.value.now c.in_ok-propose.field-0 c.in-On.is c.in_ok-propose.ensures.parts)
     (longer_as g.K.Keeper.records (whole g.P.Past.past c.args.self.now) (whole g.P.Past.past c.propose.new.self) c.in_ok-propose.field-0 c.in-On.is c.in_ok-propose.ensures.longer)
     (nodes_few c.self-in-On.inside.nodes c.args.self.now.nodes (ap (λ (n : NodeValue _). n.nodes) c.self-in-On.view_is ∙ c.in_ok-propose.ensures.same.nodes) c.if-self-gt1.false)
@@ -57,7 +57,7 @@ learn-requires-clause-up g c =
     alone_up g.K.Keeper.records g.K.Keeper.append_gives g.K.Keeper.faults c.args.svc.now g.P.Past.past c.declarations-service.ensures.sound c.declarations-service.ensures.checked (whole g.P.Past.past c.args.self.now) c.requires.kept c.requires.up c.args.instance c.args.value.now c.requires.next
     (chooses_of c.args.self.now.proposer c.args.self.now.acting c.args.instance c.args.value.now c.requires.goes c.requires.reported) c.args.turns c.requires.turns
     (whole g.P.Past.past c.propose.new.self) c.args.draft.now c.propose.new.draft
-    (opens_as g.K.Keeper.records g.K.Keeper.append_gives g.K.Keeper.faults c.args.svc.now g.P.Past.past (whole g.P.Past.past c.args.self.now) (whole g.P.Past.past c.propose.new.self) c.args.draft.now c.propose.new.draft c.args.instance c.args.value.now _ _ c.in_ok-propose.field-0 On (told_is c.self.inside.id c.args.self.now.id c.args.instance c.events_in-events.result c.args.value.now (ap (λ (n : NodeValue _). n.id) c.self.view_is) c.events_in-events.ensures) c.in-On.is c.in_ok-propose.ensures.opens)
+    (opens_as g.K.Keeper.records g.K.Keeper.append_gives g.K.Keeper.faults c.args.svc.now g.P.Past.past (whole g.P.Past.past c.args.self.now) (whole g.P.Past.past c.propose.new.self) c.args.draft.now c.propose.new.draft c.args.instance c.args.value.now _ _ c.in_ok-propose.field-0 On (told_is c.self.inside.id c.args.self.now.id c.args.instance c.event_count-events.result c.args.value.now (ap (λ (n : NodeValue _). n.id) c.self.view_is) c.event_count-events.ensures) c.in-On.is c.in_ok-propose.ensures.opens)
     (parts_as (whole g.P.Past.past c.args.self.now) (whole g.P.Past.past c.propose.new.self) c.args.instance c.args.value.now c.in_ok-propose.field-0 c.in-On.is c.in_ok-propose.ensures.parts)
     (longer_as g.K.Keeper.records (whole g.P.Past.past c.args.self.now) (whole g.P.Past.past c.propose.new.self) c.in_ok-propose.field-0 c.in-On.is c.in_ok-propose.ensures.longer)
     (nodes_few c.self-in-On.inside.nodes c.args.self.now.nodes (ap (λ (n : NodeValue _). n.nodes) c.self-in-On.view_is ∙ c.in_ok-propose.ensures.same.nodes) c.if-self-gt1.false)
@@ -67,7 +67,7 @@ learn-requires-clause-leads g c =
     alone_leads g.K.Keeper.records g.K.Keeper.append_gives g.K.Keeper.faults c.args.svc.now g.P.Past.past c.declarations-service.ensures.sound c.declarations-service.ensures.checked (whole g.P.Past.past c.args.self.now) c.requires.kept c.requires.up c.args.instance c.args.value.now c.requires.next
     (chooses_of c.args.self.now.proposer c.args.self.now.acting c.args.instance c.args.value.now c.requires.goes c.requires.reported) c.args.turns c.requires.turns
     (whole g.P.Past.past c.propose.new.self) c.args.draft.now c.propose.new.draft
-    (opens_as g.K.Keeper.records g.K.Keeper.append_gives g.K.Keeper.faults c.args.svc.now g.P.Past.past (whole g.P.Past.past c.args.self.now) (whole g.P.Past.past c.propose.new.self) c.args.draft.now c.propose.new.draft c.args.instance c.args.value.now _ _ c.in_ok-propose.field-0 On (told_is c.self.inside.id c.args.self.now.id c.args.instance c.events_in-events.result c.args.value.now (ap (λ (n : NodeValue _). n.id) c.self.view_is) c.events_in-events.ensures) c.in-On.is c.in_ok-propose.ensures.opens)
+    (opens_as g.K.Keeper.records g.K.Keeper.append_gives g.K.Keeper.faults c.args.svc.now g.P.Past.past (whole g.P.Past.past c.args.self.now) (whole g.P.Past.past c.propose.new.self) c.args.draft.now c.propose.new.draft c.args.instance c.args.value.now _ _ c.in_ok-propose.field-0 On (told_is c.self.inside.id c.args.self.now.id c.args.instance c.event_count-events.result c.args.value.now (ap (λ (n : NodeValue _). n.id) c.self.view_is) c.event_count-events.ensures) c.in-On.is c.in_ok-propose.ensures.opens)
     (parts_as (whole g.P.Past.past c.args.self.now) (whole g.P.Past.past c.propose.new.self) c.args.instance c.args.value.now c.in_ok-propose.field-0 c.in-On.is c.in_ok-propose.ensures.parts)
     (longer_as g.K.Keeper.records (whole g.P.Past.past c.args.self.now) (whole g.P.Past.past c.propose.new.self) c.in_ok-propose.field-0 c.in-On.is c.in_ok-propose.ensures.longer)
     (nodes_few c.self-in-On.inside.nodes c.args.self.now.nodes (ap (λ (n : NodeValue _). n.nodes) c.self-in-On.view_is ∙ c.in_ok-propose.ensures.same.nodes) c.if-self-gt1.false)
@@ -77,7 +77,7 @@ learn-requires-clause-next g c =
     alone_next g.K.Keeper.records g.K.Keeper.append_gives g.K.Keeper.faults c.args.svc.now g.P.Past.past c.declarations-service.ensures.sound c.declarations-service.ensures.checked (whole g.P.Past.past c.args.self.now) c.requires.kept c.requires.up c.args.instance c.args.value.now c.requires.next
     (chooses_of c.args.self.now.proposer c.args.self.now.acting c.args.instance c.args.value.now c.requires.goes c.requires.reported) c.args.turns c.requires.turns
     (whole g.P.Past.past c.propose.new.self) c.args.draft.now c.propose.new.draft
-    (opens_as g.K.Keeper.records g.K.Keeper.append_gives g.K.Keeper.faults c.args.svc.now g.P.Past.past (whole g.P.Past.past c.args.self.now) (whole g.P.Past.past c.propose.new.self) c.args.draft.now c.propose.new.draft c.args.instance c.args.value.now _ _ c.in_ok-propose.field-0 On (told_is c.self.inside.id c.args.self.now.id c.args.instance c.events_in-events.result c.args.value.now (ap (λ (n : NodeValue _). n.id) c.self.view_is) c.events_in-events.ensures) c.in-On.is c.in_ok-propose.ensures.opens)
+    (opens_as g.K.Keeper.records g.K.Keeper.append_gives g.K.Keeper.faults c.args.svc.now g.P.Past.past (whole g.P.Past.past c.args.self.now) (whole g.P.Past.past c.propose.new.self) c.args.draft.now c.propose.new.draft c.args.instance c.args.value.now _ _ c.in_ok-propose.field-0 On (told_is c.self.inside.id c.args.self.now.id c.args.instance c.event_count-events.result c.args.value.now (ap (λ (n : NodeValue _). n.id) c.self.view_is) c.event_count-events.ensures) c.in-On.is c.in_ok-propose.ensures.opens)
     (parts_as (whole g.P.Past.past c.args.self.now) (whole g.P.Past.past c.propose.new.self) c.args.instance c.args.value.now c.in_ok-propose.field-0 c.in-On.is c.in_ok-propose.ensures.parts)
     (longer_as g.K.Keeper.records (whole g.P.Past.past c.args.self.now) (whole g.P.Past.past c.propose.new.self) c.in_ok-propose.field-0 c.in-On.is c.in_ok-propose.ensures.longer)
     (nodes_few c.self-in-On.inside.nodes c.args.self.now.nodes (ap (λ (n : NodeValue _). n.nodes) c.self-in-On.view_is ∙ c.in_ok-propose.ensures.same.nodes) c.if-self-gt1.false)
@@ -87,7 +87,7 @@ learn-requires-clause-cut g c =
     alone_cut g.K.Keeper.records g.K.Keeper.append_gives g.K.Keeper.faults c.args.svc.now g.P.Past.past c.declarations-service.ensures.sound c.declarations-service.ensures.checked (whole g.P.Past.past c.args.self.now) c.requires.kept c.requires.up c.args.instance c.args.value.now c.requires.next
     (chooses_of c.args.self.now.proposer c.args.self.now.acting c.args.instance c.args.value.now c.requires.goes c.requires.reported) c.args.turns c.requires.turns
     (whole g.P.Past.past c.propose.new.self) c.args.draft.now c.propose.new.draft
-    (opens_as g.K.Keeper.records g.K.Keeper.append_gives g.K.Keeper.faults c.args.svc.now g.P.Past.past (whole g.P.Past.past c.args.self.now) (whole g.P.Past.past c.propose.new.self) c.args.draft.now c.propose.new.draft c.args.instance c.args.value.now _ _ c.in_ok-propose.field-0 On (told_is c.self.inside.id c.args.self.now.id c.args.instance c.events_in-events.result c.args.value.now (ap (λ (n : NodeValue _). n.id) c.self.view_is) c.events_in-events.ensures) c.in-On.is c.in_ok-propose.ensures.opens)
+    (opens_as g.K.Keeper.records g.K.Keeper.append_gives g.K.Keeper.faults c.args.svc.now g.P.Past.past (whole g.P.Past.past c.args.self.now) (whole g.P.Past.past c.propose.new.self) c.args.draft.now c.propose.new.draft c.args.instance c.args.value.now _ _ c.in_ok-propose.field-0 On (told_is c.self.inside.id c.args.self.now.id c.args.instance c.event_count-events.result c.args.value.now (ap (λ (n : NodeValue _). n.id) c.self.view_is) c.event_count-events.ensures) c.in-On.is c.in_ok-propose.ensures.opens)
     (parts_as (whole g.P.Past.past c.args.self.now) (whole g.P.Past.past c.propose.new.self) c.args.instance c.args.value.now c.in_ok-propose.field-0 c.in-On.is c.in_ok-propose.ensures.parts)
     (longer_as g.K.Keeper.records (whole g.P.Past.past c.args.self.now) (whole g.P.Past.past c.propose.new.self) c.in_ok-propose.field-0 c.in-On.is c.in_ok-propose.ensures.longer)
     (nodes_few c.self-in-On.inside.nodes c.args.self.now.nodes (ap (λ (n : NodeValue _). n.nodes) c.self-in-On.view_is ∙ c.in_ok-propose.ensures.same.nodes) c.if-self-gt1.false)
@@ -97,7 +97,7 @@ learn-requires-clause-fits g c =
     alone_fits g.K.Keeper.records g.K.Keeper.append_gives g.K.Keeper.faults c.args.svc.now g.P.Past.past c.declarations-service.ensures.sound c.declarations-service.ensures.checked (whole g.P.Past.past c.args.self.now) c.requires.kept c.requires.up c.args.instance c.args.value.now c.requires.next
     (chooses_of c.args.self.now.proposer c.args.self.now.acting c.args.instance c.args.value.now c.requires.goes c.requires.reported) c.args.turns c.requires.turns
     (whole g.P.Past.past c.propose.new.self) c.args.draft.now c.propose.new.draft
-    (opens_as g.K.Keeper.records g.K.Keeper.append_gives g.K.Keeper.faults c.args.svc.now g.P.Past.past (whole g.P.Past.past c.args.self.now) (whole g.P.Past.past c.propose.new.self) c.args.draft.now c.propose.new.draft c.args.instance c.args.value.now _ _ c.in_ok-propose.field-0 On (told_is c.self.inside.id c.args.self.now.id c.args.instance c.events_in-events.result c.args.value.now (ap (λ (n : NodeValue _). n.id) c.self.view_is) c.events_in-events.ensures) c.in-On.is c.in_ok-propose.ensures.opens)
+    (opens_as g.K.Keeper.records g.K.Keeper.append_gives g.K.Keeper.faults c.args.svc.now g.P.Past.past (whole g.P.Past.past c.args.self.now) (whole g.P.Past.past c.propose.new.self) c.args.draft.now c.propose.new.draft c.args.instance c.args.value.now _ _ c.in_ok-propose.field-0 On (told_is c.self.inside.id c.args.self.now.id c.args.instance c.event_count-events.result c.args.value.now (ap (λ (n : NodeValue _). n.id) c.self.view_is) c.event_count-events.ensures) c.in-On.is c.in_ok-propose.ensures.opens)
     (parts_as (whole g.P.Past.past c.args.self.now) (whole g.P.Past.past c.propose.new.self) c.args.instance c.args.value.now c.in_ok-propose.field-0 c.in-On.is c.in_ok-propose.ensures.parts)
     (longer_as g.K.Keeper.records (whole g.P.Past.past c.args.self.now) (whole g.P.Past.past c.propose.new.self) c.in_ok-propose.field-0 c.in-On.is c.in_ok-propose.ensures.longer)
     (nodes_few c.self-in-On.inside.nodes c.args.self.now.nodes (ap (λ (n : NodeValue _). n.nodes) c.self-in-On.view_is ∙ c.in_ok-propose.ensures.same.nodes) c.if-self-gt1.false) c.requires.runs
@@ -107,7 +107,7 @@ learn-requires-clause-count g c =
     alone_count g.K.Keeper.records g.K.Keeper.append_gives g.K.Keeper.faults c.args.svc.now g.P.Past.past c.declarations-service.ensures.sound c.declarations-service.ensures.checked (whole g.P.Past.past c.args.self.now) c.requires.kept c.requires.up c.args.instance c.args.value.now c.requires.next
     (chooses_of c.args.self.now.proposer c.args.self.now.acting c.args.instance c.args.value.now c.requires.goes c.requires.reported) c.args.turns c.requires.turns
     (whole g.P.Past.past c.propose.new.self) c.args.draft.now c.propose.new.draft
-    (opens_as g.K.Keeper.records g.K.Keeper.append_gives g.K.Keeper.faults c.args.svc.now g.P.Past.past (whole g.P.Past.past c.args.self.now) (whole g.P.Past.past c.propose.new.self) c.args.draft.now c.propose.new.draft c.args.instance c.args.value.now _ _ c.in_ok-propose.field-0 On (told_is c.self.inside.id c.args.self.now.id c.args.instance c.events_in-events.result c.args.value.now (ap (λ (n : NodeValue _). n.id) c.self.view_is) c.events_in-events.ensures) c.in-On.is c.in_ok-propose.ensures.opens)
+    (opens_as g.K.Keeper.records g.K.Keeper.append_gives g.K.Keeper.faults c.args.svc.now g.P.Past.past (whole g.P.Past.past c.args.self.now) (whole g.P.Past.past c.propose.new.self) c.args.draft.now c.propose.new.draft c.args.instance c.args.value.now _ _ c.in_ok-propose.field-0 On (told_is c.self.inside.id c.args.self.now.id c.args.instance c.event_count-events.result c.args.value.now (ap (λ (n : NodeValue _). n.id) c.self.view_is) c.event_count-events.ensures) c.in-On.is c.in_ok-propose.ensures.opens)
     (parts_as (whole g.P.Past.past c.args.self.now) (whole g.P.Past.past c.propose.new.self) c.args.instance c.args.value.now c.in_ok-propose.field-0 c.in-On.is c.in_ok-propose.ensures.parts)
     (longer_as g.K.Keeper.records (whole g.P.Past.past c.args.self.now) (whole g.P.Past.past c.propose.new.self) c.in_ok-propose.field-0 c.in-On.is c.in_ok-propose.ensures.longer)
     (nodes_few c.self-in-On.inside.nodes c.args.self.now.nodes (ap (λ (n : NodeValue _). n.nodes) c.self-in-On.view_is ∙ c.in_ok-propose.ensures.same.nodes) c.if-self-gt1.false) c.requires.count
@@ -128,7 +128,7 @@ returns-in_err-propose-clause-stuck g c =
     (adopt_stuck g.K.Keeper.records g.K.Keeper.append_gives g.K.Keeper.faults c.args.svc.now g.P.Past.past c.declarations-service.ensures.sound c.declarations-service.ensures.checked (whole g.P.Past.past c.args.self.now) c.requires.kept c.requires.up c.args.instance c.args.value.now c.requires.next
     (chooses_of c.args.self.now.proposer c.args.self.now.acting c.args.instance c.args.value.now c.requires.goes c.requires.reported) c.args.turns c.requires.turns
     (whole g.P.Past.past c.propose.new.self) c.args.draft.now
-    (opens_short_as g.K.Keeper.records g.K.Keeper.append_gives g.K.Keeper.faults c.args.svc.now g.P.Past.past (whole g.P.Past.past c.args.self.now) (whole g.P.Past.past c.propose.new.self) c.args.draft.now c.args.instance c.args.value.now _ _ (told_is c.self.inside.id c.args.self.now.id c.args.instance c.events_in-events.result c.args.value.now (ap (λ (n : NodeValue _). n.id) c.self.view_is) c.events_in-events.ensures) c.in_err-propose.ensures.stuck))
+    (opens_short_as g.K.Keeper.records g.K.Keeper.append_gives g.K.Keeper.faults c.args.svc.now g.P.Past.past (whole g.P.Past.past c.args.self.now) (whole g.P.Past.past c.propose.new.self) c.args.draft.now c.args.instance c.args.value.now _ _ (told_is c.self.inside.id c.args.self.now.id c.args.instance c.event_count-events.result c.args.value.now (ap (λ (n : NodeValue _). n.id) c.self.view_is) c.event_count-events.ensures) c.in_err-propose.ensures.stuck))
 
 pub returns-in_err-learn-in-On-clause-stuck : goal.returns-in_err-learn-in-On-clause-stuck
 returns-in_err-learn-in-On-clause-stuck g c =
@@ -136,7 +136,7 @@ returns-in_err-learn-in-On-clause-stuck g c =
     (alone_stuck g.K.Keeper.records g.K.Keeper.append_gives g.K.Keeper.faults c.args.svc.now g.P.Past.past c.declarations-service.ensures.sound c.declarations-service.ensures.checked (whole g.P.Past.past c.args.self.now) c.requires.kept c.requires.up c.args.instance c.args.value.now c.requires.next
     (chooses_of c.args.self.now.proposer c.args.self.now.acting c.args.instance c.args.value.now c.requires.goes c.requires.reported) c.args.turns c.requires.turns
     (whole g.P.Past.past c.propose.new.self) c.args.draft.now c.propose.new.draft
-    (opens_as g.K.Keeper.records g.K.Keeper.append_gives g.K.Keeper.faults c.args.svc.now g.P.Past.past (whole g.P.Past.past c.args.self.now) (whole g.P.Past.past c.propose.new.self) c.args.draft.now c.propose.new.draft c.args.instance c.args.value.now _ _ c.in_ok-propose.field-0 On (told_is c.self.inside.id c.args.self.now.id c.args.instance c.events_in-events.result c.args.value.now (ap (λ (n : NodeValue _). n.id) c.self.view_is) c.events_in-events.ensures) c.in-On.is c.in_ok-propose.ensures.opens)
+    (opens_as g.K.Keeper.records g.K.Keeper.append_gives g.K.Keeper.faults c.args.svc.now g.P.Past.past (whole g.P.Past.past c.args.self.now) (whole g.P.Past.past c.propose.new.self) c.args.draft.now c.propose.new.draft c.args.instance c.args.value.now _ _ c.in_ok-propose.field-0 On (told_is c.self.inside.id c.args.self.now.id c.args.instance c.event_count-events.result c.args.value.now (ap (λ (n : NodeValue _). n.id) c.self.view_is) c.event_count-events.ensures) c.in-On.is c.in_ok-propose.ensures.opens)
     (parts_as (whole g.P.Past.past c.args.self.now) (whole g.P.Past.past c.propose.new.self) c.args.instance c.args.value.now c.in_ok-propose.field-0 c.in-On.is c.in_ok-propose.ensures.parts)
     (longer_as g.K.Keeper.records (whole g.P.Past.past c.args.self.now) (whole g.P.Past.past c.propose.new.self) c.in_ok-propose.field-0 c.in-On.is c.in_ok-propose.ensures.longer)
     (nodes_few c.self-in-On.inside.nodes c.args.self.now.nodes (ap (λ (n : NodeValue _). n.nodes) c.self-in-On.view_is ∙ c.in_ok-propose.ensures.same.nodes) c.if-self-gt1.false) (whole g.P.Past.past c.learn.new.self) c.in_err-learn-in-On.ensures.stuck)
@@ -146,7 +146,7 @@ returns-in-Down-2-clause-goes g c =
     alone_down g.K.Keeper.records g.K.Keeper.append_gives g.K.Keeper.faults c.args.svc.now g.P.Past.past c.declarations-service.ensures.sound c.declarations-service.ensures.checked (whole g.P.Past.past c.args.self.now) c.requires.kept c.requires.up c.args.instance c.args.value.now c.requires.next
     (chooses_of c.args.self.now.proposer c.args.self.now.acting c.args.instance c.args.value.now c.requires.goes c.requires.reported) c.args.turns c.requires.turns
     (whole g.P.Past.past c.propose.new.self) c.args.draft.now c.propose.new.draft
-    (opens_as g.K.Keeper.records g.K.Keeper.append_gives g.K.Keeper.faults c.args.svc.now g.P.Past.past (whole g.P.Past.past c.args.self.now) (whole g.P.Past.past c.propose.new.self) c.args.draft.now c.propose.new.draft c.args.instance c.args.value.now _ _ c.in_ok-propose.field-0 On (told_is c.self.inside.id c.args.self.now.id c.args.instance c.events_in-events.result c.args.value.now (ap (λ (n : NodeValue _). n.id) c.self.view_is) c.events_in-events.ensures) c.in-On.is c.in_ok-propose.ensures.opens)
+    (opens_as g.K.Keeper.records g.K.Keeper.append_gives g.K.Keeper.faults c.args.svc.now g.P.Past.past (whole g.P.Past.past c.args.self.now) (whole g.P.Past.past c.propose.new.self) c.args.draft.now c.propose.new.draft c.args.instance c.args.value.now _ _ c.in_ok-propose.field-0 On (told_is c.self.inside.id c.args.self.now.id c.args.instance c.event_count-events.result c.args.value.now (ap (λ (n : NodeValue _). n.id) c.self.view_is) c.event_count-events.ensures) c.in-On.is c.in_ok-propose.ensures.opens)
     (parts_as (whole g.P.Past.past c.args.self.now) (whole g.P.Past.past c.propose.new.self) c.args.instance c.args.value.now c.in_ok-propose.field-0 c.in-On.is c.in_ok-propose.ensures.parts)
     (longer_as g.K.Keeper.records (whole g.P.Past.past c.args.self.now) (whole g.P.Past.past c.propose.new.self) c.in_ok-propose.field-0 c.in-On.is c.in_ok-propose.ensures.longer)
     (nodes_few c.self-in-On.inside.nodes c.args.self.now.nodes (ap (λ (n : NodeValue _). n.nodes) c.self-in-On.view_is ∙ c.in_ok-propose.ensures.same.nodes) c.if-self-gt1.false) (whole g.P.Past.past c.learn.new.self) c.learn.new.draft (same_then (whole g.P.Past.past c.args.self.now) (whole g.P.Past.past c.propose.new.self) (whole g.P.Past.past c.learn.new.self) c.in_ok-propose.ensures.same c.in_ok-learn-in-On.ensures.same)
@@ -157,7 +157,7 @@ returns-in-On-2-clause-goes g c =
     alone_again g.K.Keeper.records g.K.Keeper.append_gives g.K.Keeper.faults c.args.svc.now g.P.Past.past c.declarations-service.ensures.sound c.declarations-service.ensures.checked (whole g.P.Past.past c.args.self.now) c.requires.kept c.requires.up c.args.instance c.args.value.now c.requires.next
     (chooses_of c.args.self.now.proposer c.args.self.now.acting c.args.instance c.args.value.now c.requires.goes c.requires.reported) c.args.turns c.requires.turns
     (whole g.P.Past.past c.propose.new.self) c.args.draft.now c.propose.new.draft
-    (opens_as g.K.Keeper.records g.K.Keeper.append_gives g.K.Keeper.faults c.args.svc.now g.P.Past.past (whole g.P.Past.past c.args.self.now) (whole g.P.Past.past c.propose.new.self) c.args.draft.now c.propose.new.draft c.args.instance c.args.value.now _ _ c.in_ok-propose.field-0 On (told_is c.self.inside.id c.args.self.now.id c.args.instance c.events_in-events.result c.args.value.now (ap (λ (n : NodeValue _). n.id) c.self.view_is) c.events_in-events.ensures) c.in-On.is c.in_ok-propose.ensures.opens)
+    (opens_as g.K.Keeper.records g.K.Keeper.append_gives g.K.Keeper.faults c.args.svc.now g.P.Past.past (whole g.P.Past.past c.args.self.now) (whole g.P.Past.past c.propose.new.self) c.args.draft.now c.propose.new.draft c.args.instance c.args.value.now _ _ c.in_ok-propose.field-0 On (told_is c.self.inside.id c.args.self.now.id c.args.instance c.event_count-events.result c.args.value.now (ap (λ (n : NodeValue _). n.id) c.self.view_is) c.event_count-events.ensures) c.in-On.is c.in_ok-propose.ensures.opens)
     (parts_as (whole g.P.Past.past c.args.self.now) (whole g.P.Past.past c.propose.new.self) c.args.instance c.args.value.now c.in_ok-propose.field-0 c.in-On.is c.in_ok-propose.ensures.parts)
     (longer_as g.K.Keeper.records (whole g.P.Past.past c.args.self.now) (whole g.P.Past.past c.propose.new.self) c.in_ok-propose.field-0 c.in-On.is c.in_ok-propose.ensures.longer)
     (nodes_few c.self-in-On.inside.nodes c.args.self.now.nodes (ap (λ (n : NodeValue _). n.nodes) c.self-in-On.view_is ∙ c.in_ok-propose.ensures.same.nodes) c.if-self-gt1.false) (whole g.P.Past.past c.learn.new.self) c.learn.new.draft

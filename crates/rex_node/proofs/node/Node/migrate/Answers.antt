@@ -1,7 +1,7 @@
 use Rattle.std.proofs.Common.{[], ◌∷◌, Err, sym, ap, subst, ◌∙◌}
 use Rattle.rex_state.specs.Sound.{IsSound}
 use Rattle.rex_snapshot.specs.Spelling.{IsLimited}
-use Rattle.rex_version.specs.declared.version.Version.TheVariants.{Two}
+use Rattle.rex_syntax.specs.declared.version.Version.TheVariants.{Two}
 use Rattle.rex_durable.specs.Spelling.{record_bytes}
 use Rattle.rex_report.specs.declared.effect.Effect.TheVariants as effect
 use Rattle.rex_node.specs.Checkpointing.{IsCheckpoint, MigratesOr}

@@ -1,8 +1,8 @@
 -- Versions, and which of them a service's states have.
 use Rattle.std.specs.Prelude.{ℕ, ◌&&◌, Bool, true, length, nat_le}
 use Rattle.rex_syntax.specs.declared.service.Declarations.{Declarations}
-use Rattle.rex_version.specs.declared.version.Version.{Version}
-use Rattle.rex_version.specs.declared.version.Version.TheVariants.{One, Two}
+use Rattle.rex_syntax.specs.declared.version.Version.{Version}
+use Rattle.rex_syntax.specs.declared.version.Version.TheVariants.{One, Two}
 
 -- the number that stands for a version in bytes
 abbrev pub number_of : Version → ℕ

@@ -1,15 +1,15 @@
-//! Versions, and which of them a service's states have.
+//! The versions in which states are spelled, and the services whose states have the old one.
 
 ghost use Rattle.std.specs.Prelude.{◌≡◌};
-ghost use Rattle.rex_version.specs.Versions as spec;
+ghost use Rattle.rex_syntax.specs.Versions as spec;
 
-use rex_syntax::service::Declarations;
+use crate::service::Declarations;
 
 /// The most lanes of a service whose states have the old version.
-pub const LANES: u64 = 16;
+pub const OLD_LANES: u64 = 16;
 
 /// The most variables of such a service.
-pub const VARIABLES: usize = 256;
+pub const OLD_VARIABLES: usize = 256;
 
 /// How a state is spelled: version 1, the old one, has the values of all variables; version 2 has those that aren't first
 /// values.
@@ -35,7 +35,7 @@ impl Version {
 pub fn is_old_size(lanes: u64, variables: usize) -> bool
     ensures { result ≡ spec.is_old_size lanes variables }
 {
-    lanes <= LANES && variables <= VARIABLES
+    lanes <= OLD_LANES && variables <= OLD_VARIABLES
 }
 
 /// Whether the states of a service have the old version.
