@@ -1,32 +1,33 @@
 -- Nodes, ballots and instances, and the ballot that a node takes next.
 use Rattle.std.specs.Prelude.{◌≡◌, ℕ, ◌+◌, ◌-◌, ◌*◌, ◌/◌, ◌%◌, ◌^◌, ◌<◌, ◌≤◌, Bool, ◌&&◌, nat_le, Option, Some, None, if◌then◌else◌}
 use Rattle.rex_ballot.specs.Limits.{most_nodes}
+use Rattle.rex_ballot.specs.declared.ballots.TheConstants.{ROUNDS, ROUND_BALLOTS, INSTANCES}
 
 -- nodes are numbered from 1
 pub record IsNode (node : ℕ) : Type 0 where
   pub first : 1 ≤ node
   pub last : node ≤ most_nodes
 
--- a ballot is 16 times a round, and a node
+-- a ballot is so many times a round, and a node
 abbrev pub ballot_of : ℕ → ℕ → ℕ
-ballot_of round node = 16 * round + node
+ballot_of round node = ROUND_BALLOTS * round + node
 
 abbrev pub round_of : ℕ → ℕ
-round_of ballot = ballot / 16
+round_of ballot = ballot / ROUND_BALLOTS
 
 abbrev pub node_of : ℕ → ℕ
-node_of ballot = ballot % 16
+node_of ballot = ballot % ROUND_BALLOTS
 
--- the round is 1 to 2^32, and the node one that there can be
+-- rounds are numbered from 1, and there can be such a round and such a node
 pub record IsBallot (ballot : ℕ) : Type 0 where
   pub first : 1 ≤ round_of ballot
-  pub last : round_of ballot ≤ 2 ^ 32
+  pub last : round_of ballot ≤ ROUNDS
   pub node : IsNode (node_of ballot)
 
--- instances are numbered from 1 to 65,535
+-- instances are numbered from 1
 pub record IsInstance (instance : ℕ) : Type 0 where
   pub first : 1 ≤ instance
-  pub last : instance ≤ 65535
+  pub last : instance ≤ INSTANCES
 
 -- ---- the same as tests
 
@@ -34,10 +35,10 @@ abbrev pub is_node : ℕ → Bool
 is_node n = nat_le 1 n && nat_le n most_nodes
 
 abbrev pub is_ballot : ℕ → Bool
-is_ballot n = nat_le 1 (round_of n) && nat_le (round_of n) 4294967296 && is_node (node_of n)
+is_ballot n = nat_le 1 (round_of n) && nat_le (round_of n) ROUNDS && is_node (node_of n)
 
 abbrev pub is_instance : ℕ → Bool
-is_instance n = nat_le 1 n && nat_le n 65535
+is_instance n = nat_le 1 n && nat_le n INSTANCES
 
 -- ---- the next ballot
 
@@ -54,7 +55,7 @@ pub record NoneAbove (node promised : ℕ) : Type 0 where
 
 -- the least round in which the node's ballot is above the promise
 abbrev pub round_above : ℕ → ℕ → ℕ
-round_above node promised = (promised - node) / 16 + 1
+round_above node promised = (promised - node) / ROUND_BALLOTS + 1
 
 -- its ballot in that round
 abbrev pub ballot_above : ℕ → ℕ → ℕ
@@ -62,4 +63,4 @@ ballot_above node promised = ballot_of (round_above node promised) node
 
 -- the same, unless that round is past the last
 abbrev pub ballot_left : ℕ → ℕ → Option ℕ
-ballot_left node promised = if nat_le (round_above node promised) 4294967296 then Some (ballot_above node promised) else None
+ballot_left node promised = if nat_le (round_above node promised) ROUNDS then Some (ballot_above node promised) else None

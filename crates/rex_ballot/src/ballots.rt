@@ -10,8 +10,14 @@ pub const NODES: u8 = 9;
 /// The most rounds of ballots. They are numbered from 1.
 pub const ROUNDS: u64 = 4_294_967_296;
 
+/// How many numbers a round has for its ballots. A ballot is so many times its round, and a node.
+pub const ROUND_BALLOTS: u64 = 16;
+
 /// The most instances of agreement. They are numbered from 1.
 pub const INSTANCES: u32 = 65_535;
+
+/// The most values of which a node tells another one that asks for what is chosen.
+pub const TOLD_VALUES: usize = 64;
 
 /// Whether a number is a node's.
 pub fn is_node(n: u8) -> bool
@@ -21,12 +27,12 @@ pub fn is_node(n: u8) -> bool
     1 <= n && n <= NODES
 }
 
-/// Whether a number is a ballot: 16 times a round, and a node.
+/// Whether a number is a ballot.
 pub fn is_ballot(n: u64) -> bool
     ensures is { result ≡ spec.is_ballot n }
     ensures ballot { IsTrue result ↔ IsBallot n }
 {
-    1 <= n / 16 && n / 16 <= ROUNDS && is_node(node_of(n))
+    1 <= n / ROUND_BALLOTS && n / ROUND_BALLOTS <= ROUNDS && is_node(node_of(n))
 }
 
 /// Whether a number is an instance of agreement.
@@ -41,7 +47,7 @@ pub fn is_instance(n: u32) -> bool
 pub fn node_of(ballot: u64) -> u8
     ensures { result ≡ spec.node_of ballot }
 {
-    (ballot % 16) as u8
+    (ballot % ROUND_BALLOTS) as u8
 }
 
 /// The least ballot of a node above a promise, or none where no round is left (Lamport, Paxos Made Simple, 2001: each
@@ -53,9 +59,9 @@ pub fn ballot_above(node: u8, promised: u64) -> Option<u64>
     ensures spent { IfNone result (NoneAbove node promised) }
 {
     let node = node as u64;
-    let round = promised.saturating_sub(node) / 16 + 1;
+    let round = promised.saturating_sub(node) / ROUND_BALLOTS + 1;
     if round <= ROUNDS {
-        Some(16 * round + node)
+        Some(ROUND_BALLOTS * round + node)
     } else {
         None
     }

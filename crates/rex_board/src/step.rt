@@ -12,6 +12,7 @@ use crate::places::next_place;
 use crate::seat::{LaneSeat, Words};
 use rex_event::{Event, Kind, LANES};
 use rex_syntax::checked::Checked;
+use rex_syntax::locks::LOCKS;
 
 /// The lock that an event takes, in some mode.
 fn taken_lock(event: &Event) -> Option<u8>
@@ -43,7 +44,7 @@ impl LaneSeat {
         requires table { (self.old.seat.table_id ≡ words.now.table_id) × (words.now.table_id.words ≡ LANES + variables_in words.now.key) × (self.old.seat.me.0.key ≡ words.now.key) × (self.old.lane < LANES) }
         requires service { svc.now ≡ service_of words.now.key }
         requires ready { IsReady words.now.key self.old event.now }
-        requires names { (lock : ℕ) → GivesUp event.now lock → lock < 64 }
+        requires names { (lock : ℕ) → GivesUp event.now lock → lock < LOCKS }
         requires counted { event.now.index + 1 < 2 ^ 32 }
         requires wide { length self.old.copies.items ≡ variables_in words.now.key }
         ensures later { IsLater self.old self.new }
@@ -76,7 +77,7 @@ impl LaneSeat {
     fn prepare_released(&mut self, words: &Words, svc: &Checked, event: &Event)
         requires table { (self.old.seat.table_id ≡ words.now.table_id) × (words.now.table_id.words ≡ LANES + variables_in words.now.key) }
         requires service { svc.now ≡ service_of words.now.key }
-        requires names { (lock : ℕ) → GivesUp event.now lock → lock < 64 }
+        requires names { (lock : ℕ) → GivesUp event.now lock → lock < LOCKS }
         requires wide { length self.old.copies.items ≡ variables_in words.now.key }
         ensures preparing { IsPreparing self.old self.new }
         ensures stored { (lock : ℕ) → GivesUp event.now lock → HoldsAlone self.old.frame lock → AreStored words.now.key self.new lock (variables_in words.now.key) }

@@ -11,6 +11,7 @@ use Rattle.rex_cluster.specs.Node.{Service, Content, Message, Lead, Role, Work, 
 use Rattle.rex_cluster.specs.Node.Failure.{After}
 use Rattle.rex_cluster.specs.Node.Content.{Prepare, Promise, Accept, Accepted as Voted, Chosen as Chose, Nack, Ask, Snapshot}
 use Rattle.rex_cluster.specs.Node.Role.{Follower, Leads}
+use Rattle.rex_ballot.specs.declared.ballots.TheConstants.{ROUNDS, TOLD_VALUES}
 
 -- a node within a call: what it is so far, what it will send, and what it reports
 pub record Call (V S : Type 0) : Type 0 where
@@ -191,7 +192,7 @@ stand n sv me b d =
 -- with the least own ballot above the promise, unless no round is left
 abbrev pub elect : {V S : Type 0} → ℕ → Service V S → ℕ → Call V S → Call V S
 elect n sv me d =
-    if nat_lt 4294967296 (round_of (ballot_above me (promise d.node.log))) then say (effect.Spent me) d
+    if nat_lt ROUNDS (round_of (ballot_above me (promise d.node.log))) then say (effect.Spent me) d
     else stand n sv me (ballot_above me (promise d.node.log)) d
 
 -- ---- messages that are too old to be answered with values
@@ -295,12 +296,12 @@ tell me to first i [] = []
 tell me to first i (v ∷ vs) =
     if nat_le first i then record { from = me; to = to; content = Chose i v } ∷ tell me to first (suc i) vs else tell me to first (suc i) vs
 
--- at most 64 of what it knows
+-- as much of what it knows as it tells at once
 abbrev pub on_ask : {V S : Type 0} → ℕ → ℕ → ℕ → Call V S → Call V S
 on_ask me from first d =
     if nat_le first (offset d.node.log) then answer_base me from d
     else if nat_lt (length (known d.node.log)) first then say effect.Nothing d
-    else send d (take 64 (tell me from first 1 (known d.node.log)))
+    else send d (take TOLD_VALUES (tell me from first 1 (known d.node.log)))
 
 -- the node has replayed so many values
 abbrev pub with_replayed : {V S : Type 0} → ℕ → Call V S → Call V S

@@ -26,6 +26,7 @@ use Rattle.rex_cluster.specs.Node.Role.{Follower, Leads}
 use Rattle.rex_cluster.specs.Calls.{Call, say, propose, settle, enough}
 use Rattle.rex_cluster.specs.Values.{Value, events_of, trace_of, state_after, service_of}
 use Rattle.rex_cluster.specs.Same.{same_events}
+use Rattle.rex_ballot.specs.declared.ballots.TheConstants.{INSTANCES}
 
 -- a node and a call of the service's cluster
 abbrev pub Here : Type 0
@@ -145,7 +146,7 @@ cut_live service seed n me cut l (e ∷ es) d =
 abbrev pub cut_lead : Declarations → ℕ → ℕ → ℕ → List ℕ → Lead Value → Option (Proposal Value) → CallHere → CallHere
 cut_lead service seed n me counts l (Some p) d = say (Open p.instance) d
 cut_lead service seed n me counts l None d =
-    if nat_le 65535 (length (known d.node.log)) then say Ended d
+    if nat_le INSTANCES (length (known d.node.log)) then say Ended d
     else cut_live service seed n me (greatest_cut counts d.node.work.live) l (below (greatest_cut counts d.node.work.live) d.node.work.live) d
 
 abbrev pub cut_role : Declarations → ℕ → ℕ → ℕ → List ℕ → Role Value → CallHere → CallHere

@@ -10,15 +10,18 @@ use Rattle.rex_state.specs.Value.{StateValue}
 use Rattle.rex_state.specs.Start.{start_of}
 use Rattle.rex_state.specs.Machine.{no_entry, entry_at, run}
 use Rattle.rex_cluster.specs.Values.{Value, trace_of, values_fit}
+use Rattle.rex_event.specs.declared.event.TheConstants.{SEQUENCES}
+use Rattle.rex_event.specs.declared.delta.TheConstants.{HISTORY_EVENTS}
+use Rattle.rex_ballot.specs.declared.ballots.TheConstants.{INSTANCES}
 
--- each lane did at most as many events as 65,535 deltas of 4,096 events have, the number 0 is no client's, sequences are at most 1,000,000, and a client that has sent nothing has no reply
+-- each lane did no more events than a history has, the number 0 is no client's, sequences are in their range, and a client that has sent nothing has no reply
 pub record StateIsLimited (s : StateValue) : Type 0 where
-  pub lanes : All (λ (lane : Lane). lane.done ≤ 268431360) s.lanes
+  pub lanes : All (λ (lane : Lane). lane.done ≤ HISTORY_EVENTS) s.lanes
   pub nobody : entry_at s.clients 0 ≡ no_entry
-  pub entries : All (λ (e : Entry). (e.sequence ≤ 1000000) × (e.sequence ≡ 0 → e.reply ≡ None)) s.clients
+  pub entries : All (λ (e : Entry). (e.sequence ≤ SEQUENCES) × (e.sequence ≡ 0 → e.reply ≡ None)) s.clients
 
--- at most 65,535 values that fit lead from the start to such a state
+-- values that fit, no more than there are instances, lead from the start to such a state
 abbrev pub ValuesLeadToLimitedStates : Type 0
 ValuesLeadToLimitedStates =
     (service : Declarations) (values : List Value) (s : StateValue) → IsService service → IsChecked service
-    → values_fit service values ≡ true → length values ≤ 65535 → run service (start_of service) (trace_of values) ≡ Some s → StateIsLimited s
+    → values_fit service values ≡ true → length values ≤ INSTANCES → run service (start_of service) (trace_of values) ≡ Some s → StateIsLimited s

@@ -1,6 +1,7 @@
 -- Majorities of the nodes 1 to n, and what they choose.
 use Rattle.std.specs.Prelude.{◌≡◌, ◌==◌, ℕ, zero, suc, ◌+◌, ◌-◌, ◌*◌, ◌/◌, ◌%◌, ◌<◌, ◌≤◌, ◌||◌, Bool, true, false, nat_lt, List, [], ◌∷◌, if◌then◌else◌}
 use Rattle.rex_cluster.specs.Records.{Rec, HasAccepted, HasKnown}
+use Rattle.rex_ballot.specs.declared.ballots.TheConstants.{ROUND_BALLOTS}
 
 -- a node's number
 abbrev pub IsNode : ℕ → ℕ → Type 0
@@ -26,17 +27,17 @@ is_in q (x ∷ xs) = q == x || is_in q xs
 abbrev pub is_majority : ℕ → List ℕ → Bool
 is_majority n nodes = nat_lt n (2 * count (λ q. is_in q nodes) n)
 
--- ---- ballots: 16 times a round from 1 on, and the node's number
+-- ---- ballots: so many times a round from 1 on, and the node's number
 
 abbrev pub node_of : ℕ → ℕ
-node_of ballot = ballot % 16
+node_of ballot = ballot % ROUND_BALLOTS
 
 abbrev pub round_of : ℕ → ℕ
-round_of ballot = ballot / 16
+round_of ballot = ballot / ROUND_BALLOTS
 
 -- the least ballot of a node above a promise
 abbrev pub ballot_above : ℕ → ℕ → ℕ
-ballot_above node promised = if nat_lt promised (16 + node) then 16 + node else (promised - node) / 16 * 16 + 16 + node
+ballot_above node promised = if nat_lt promised (ROUND_BALLOTS + node) then ROUND_BALLOTS + node else (promised - node) / ROUND_BALLOTS * ROUND_BALLOTS + ROUND_BALLOTS + node
 
 -- ---- chosen values
 

@@ -1,24 +1,25 @@
 -- The ranges of the numbers in records and messages.
-use Rattle.std.specs.Prelude.{◌≡◌, ◌≢◌, ℕ, suc, ◌<◌, ◌≤◌, List, [], ◌∷◌, length, Some}
+use Rattle.std.specs.Prelude.{◌≡◌, ◌≢◌, ℕ, suc, ◌+◌, ◌<◌, ◌≤◌, List, [], ◌∷◌, length, Some}
 use Rattle.rex_cluster.specs.Records.{Rec, Proposal, known, HasAccepted, HasBallot}
 use Rattle.rex_cluster.specs.Quorum.{IsNode, node_of, round_of}
 use Rattle.rex_cluster.specs.Node.{Content, Message, Lead, Role, Node}
 use Rattle.rex_cluster.specs.Node.Content.{Prepare, Promise, Accept, Accepted, Chosen, Nack, Ask, Snapshot}
 use Rattle.rex_cluster.specs.Node.Role.{Follower, Leads}
 use Rattle.rex_cluster.specs.Invariant.{IsIn}
+use Rattle.rex_ballot.specs.declared.ballots.TheConstants.{NODES, ROUNDS, INSTANCES}
 
--- a round from 1 to 2^32, of a node from 1 to 9
+-- a round and a node that there can be, each from 1 on
 pub record IsBallot (b : ℕ) : Type 0 where
   pub some : 0 < round_of b
-  pub few : round_of b ≤ 4294967296
-  pub node : IsNode 9 (node_of b)
+  pub few : round_of b ≤ ROUNDS
+  pub node : IsNode NODES (node_of b)
 
 abbrev pub IsInstance : ℕ → Type 0
-IsInstance i = (0 < i) × (i ≤ 65535)
+IsInstance i = (0 < i) × (i ≤ INSTANCES)
 
 -- the instance from which on a node asks may be the one after the last
 abbrev pub IsFirst : ℕ → Type 0
-IsFirst i = (0 < i) × (i ≤ 65536)
+IsFirst i = (0 < i) × (i ≤ INSTANCES + 1)
 
 -- the instances of proposals rise from above this one on
 abbrev pub AreRising : {V : Type 0} → ℕ → List (Proposal V) → Type 0
@@ -52,7 +53,7 @@ pub record MessageFits {V : Type 0} (n : ℕ) (x : Message V) : Type 0 where
 pub record LogFits {V S : Type 0} (log : List (Rec V S)) : Type 0 where
   pub ballots : (b : ℕ) → HasBallot b log → IsBallot b
   pub instances : (b i : ℕ) (v : V) → HasAccepted b i v log → IsInstance i
-  pub few : length (known log) ≤ 65535
+  pub few : length (known log) ≤ INSTANCES
 
 -- so are those of a node that leads and knows so many values, whose open proposal is for the next instance
 pub record LeadFits {V : Type 0} (known : ℕ) (l : Lead V) : Type 0 where

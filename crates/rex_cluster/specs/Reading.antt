@@ -12,10 +12,11 @@ use Rattle.rex_cluster.specs.Records.{known, offset}
 use Rattle.rex_cluster.specs.Node.{is_active}
 use Rattle.rex_cluster.specs.Values.{Value, events_of, trace_of, state_after}
 use Rattle.rex_cluster.specs.Lanes.{Here}
+use Rattle.rex_event.specs.declared.event.TheConstants.{CLIENT_ENTRIES}
 
--- no client, of the numbers from 0 to 256, has seen anything
+-- no client has seen anything
 abbrev pub nothing_seen : List ℕ
-nothing_seen = replicate 257 0
+nothing_seen = replicate CLIENT_ENTRIES 0
 
 -- ---- releases
 

@@ -5,6 +5,7 @@ use Rattle.rex_syntax.specs.declared.service.Declarations.{Declarations}
 use Rattle.rex_event.specs.declared.event.Event.{Event}
 use Rattle.rex_event.specs.declared.event.Kind.{Kind}
 use Rattle.rex_event.specs.declared.event.Kind.TheVariants.{Begin}
+use Rattle.rex_event.specs.declared.event.TheConstants.{CLIENTS, SEQUENCES}
 use Rattle.rex_delta.specs.Spelling.{IsBetween}
 use Rattle.rex_schedule.specs.declared.scenario.ScheduleLine.{ScheduleLine}
 use Rattle.rex_schedule.specs.Fits.{IsNode, LineFits}
@@ -52,7 +53,7 @@ after_doings service requests seed n w (x ∷ rest) = after_doings service reque
 
 -- a request that an event begins has its client and its sequence in their ranges
 abbrev pub KindBeginsInRange : Kind → Type 0
-KindBeginsInRange (Begin client sequence handler arguments) = IsBetween 1 256 client × IsBetween 1 1000000 sequence
+KindBeginsInRange (Begin client sequence handler arguments) = IsBetween 1 CLIENTS client × IsBetween 1 SEQUENCES sequence
 KindBeginsInRange _ = Unit {0}
 
 pub record BeginsInRange (e : Event) : Type 0 where

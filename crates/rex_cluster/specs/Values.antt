@@ -17,6 +17,7 @@ use Rattle.rex_report.specs.declared.effect.Effect.{Effect}
 use Rattle.rex_report.specs.declared.effect.Effect.TheVariants.{Released}
 use Rattle.rex_cluster.specs.Node.{Service, dice_of}
 use Rattle.rex_cluster.specs.Same.{same_lists}
+use Rattle.rex_ballot.specs.declared.proposal.TheConstants.{VALUE_BYTES}
 
 abbrev pub Value : Type 0
 Value = List ℕ
@@ -53,7 +54,7 @@ is_piece service (Err at) = false
 
 -- a value has at most so many bytes
 abbrev pub greatest_value : ℕ
-greatest_value = 4194304
+greatest_value = VALUE_BYTES
 
 abbrev pub is_byte : ℕ → Bool
 is_byte number = nat_lt number 256

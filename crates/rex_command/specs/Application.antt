@@ -4,14 +4,15 @@ use Rattle.clap.specs.Words.{App, Rule, Text, new_app, new_rule, with_rule, with
 use Rattle.clap.specs.Simple.{new_shape}
 use Rattle.clap.specs.declared.builder.ArgAction.TheVariants.{Set, SetTrue}
 use Rattle.clap.specs.declared.builder.ValueParser.TheVariants.{Unsigned}
+use Rattle.rex_threads.specs.declared.parallelism.TheConstants.{WORKERS}
 
 -- a required number, by its place
 abbrev pub number_rule : Text → ℕ → ℕ → Rule
 number_rule id low high = record (new_rule id) { action = Some Set; parser = Some (Unsigned low high); required = true }
 
--- `--workers W`, from 1 to 16, by default 1
+-- `--workers W`, from 1 to the most, by default 1
 abbrev pub workers_rule : Rule
-workers_rule = record (new_rule (codes "workers")) { long = Some (codes "workers"); action = Some Set; parser = Some (Unsigned 1 16); defaults = codes "1" ∷ [] }
+workers_rule = record (new_rule (codes "workers")) { long = Some (codes "workers"); action = Some Set; parser = Some (Unsigned 1 WORKERS); defaults = codes "1" ∷ [] }
 
 -- `--journal`
 abbrev pub journal_rule : Rule

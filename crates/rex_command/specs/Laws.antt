@@ -5,10 +5,11 @@ use Rattle.clap.specs.Words.{Text}
 use Rattle.rex_command.specs.Reading.{command_of}
 use Rattle.rex_command.specs.declared.commands.Command.{Command}
 use Rattle.rex_command.specs.declared.commands.Command.TheVariants.{Run, Trace, Check, Generate, Soak}
+use Rattle.rex_threads.specs.declared.parallelism.TheConstants.{WORKERS}
 
--- the number of workers is from 1 to 16
+-- there is a worker, and no more than there may be
 abbrev pub AreWorkers : ℕ → Type 0
-AreWorkers workers = (1 ≤ workers) × (workers ≤ 16)
+AreWorkers workers = (1 ≤ workers) × (workers ≤ WORKERS)
 
 -- a scenario of this seed and size can be made up
 abbrev pub IsScenario : ℕ → ℕ → Type 0

@@ -9,6 +9,7 @@ use Rattle.clap.specs.declared.builder.ValueParser.TheVariants.{Unsigned}
 use Rattle.rex_command.specs.Application.{rex_app}
 use Rattle.rex_command.specs.declared.commands.Command.{Command}
 use Rattle.rex_command.specs.declared.commands.Command.TheVariants.{Run, Trace, Check, Generate, Soak}
+use Rattle.rex_threads.specs.declared.parallelism.TheConstants.{WORKERS}
 
 -- there is no kind of error
 abbrev pub is_none : Kinds → Bool
@@ -33,7 +34,7 @@ number_in low high id rows = option_and_then (number_of low high) (one_of id row
 
 -- the number of workers
 abbrev pub workers_in : List Row → Option ℕ
-workers_in = number_in 1 16 (codes "workers")
+workers_in = number_in 1 WORKERS (codes "workers")
 
 -- the scenario's seed
 abbrev pub seed_in : List Row → Option ℕ

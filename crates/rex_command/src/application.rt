@@ -7,6 +7,7 @@ ghost use Rattle.rex_command.specs.Application as spec;
 
 use clap::builder::ValueParser;
 use clap::{Arg, ArgAction, Command};
+use rex_threads::WORKERS;
 use std::alloc::{AllocError, Global};
 
 // A required number, by its place.
@@ -28,7 +29,7 @@ fn workers_option<'a>(alloc: Global) -> Arg<'a>
     Arg::new(alloc, "workers")
         .long("workers")
         .action(ArgAction::Set)
-        .value_parser(ValueParser::unsigned(1, 16))
+        .value_parser(ValueParser::unsigned(1, WORKERS as u64))
         .default_value("1")
 }
 

@@ -9,6 +9,7 @@ use crate::application::rex_command;
 use crate::commands::Command;
 use clap::ArgMatches;
 use clap::error::ErrorKind;
+use rex_threads::WORKERS;
 use std::alloc::{AllocError, Global};
 
 // The number, if it is from `low` to `high`.
@@ -23,12 +24,12 @@ fn within(number: Option<u32>, low: u32, high: u32) -> Option<u32>
     }
 }
 
-// The number of workers, if it is from 1 to 16.
+// The number of workers, if there may be so many.
 fn few_workers(workers: Option<u8>) -> Option<u8>
-    ensures { result ≡ spec.within 1 16 workers }
+    ensures { result ≡ spec.within 1 WORKERS workers }
 {
     let workers = workers?;
-    if 1 <= workers && workers <= 16 {
+    if 1 <= workers && workers <= WORKERS {
         Some(workers)
     } else {
         None

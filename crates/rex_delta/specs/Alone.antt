@@ -5,6 +5,7 @@ use Rattle.rex_event.specs.declared.event.Event.{Event}
 use Rattle.rex_event.specs.declared.delta.Cause.{Cause}
 use Rattle.rex_event.specs.declared.delta.Delta.{Delta}
 use Rattle.rex_event.specs.Limits.{most_lanes}
+use Rattle.rex_event.specs.declared.delta.TheConstants.{DELTA_EVENTS}
 use Rattle.rex_wire.specs.Reading.{Left, Reading, ◌>>=◌, allowed_at}
 use Rattle.rex_delta.specs.Spelling.{is_between}
 use Rattle.rex_delta.specs.Reading.{first_before, events_at, bases_at, delta_in}
@@ -29,5 +30,5 @@ alone_at l = do
   version ← allowed_at w8 (is_between 1 2) l
   lanes ← allowed_at w8 (is_between 1 most_lanes) version.1
   bases ← into_array (bases_at lanes.0 lanes.1)
-  count ← allowed_at w16 (is_between 1 4096) bases.1
+  count ← allowed_at w16 (is_between 1 DELTA_EVENTS) bases.1
   alone (events_at bases.0.items (first_before version.0 bases.0.items count.0) count.0 count.1)

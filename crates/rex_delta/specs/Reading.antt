@@ -9,13 +9,17 @@ use Rattle.rex_event.specs.declared.delta.Delta.{Delta}
 use Rattle.rex_event.specs.Limits.{most_lanes}
 use Rattle.rex_event.specs.Conflict.{named_semaphore}
 use Rattle.rex_event.specs.Cuts.{count_at, counted}
+use Rattle.rex_event.specs.declared.event.TheConstants.{CLIENTS, SEQUENCES}
+use Rattle.rex_event.specs.declared.delta.TheConstants.{DELTA_EVENTS}
 use Rattle.rex_wire.specs.Reading.{Left, Reading, ◌>>=◌, number_at, signed_at, allowed_at, whole}
 use Rattle.rex_delta.specs.Spelling.{is_between, greatest_base, has_event, others_below}
+use Rattle.rex_delta.specs.declared.limits.TheConstants.{PLACES}
+use Rattle.rex_list.specs.declared.arguments.TheConstants.{ARGUMENTS}
 
--- a number from 1 to 64 as one from 0
+-- a number from 1 on as one from 0
 unfoldable pub place_at : Left → Reading ℕ
 place_at l = do
-  n ← allowed_at w8 (is_between 1 64) l
+  n ← allowed_at w8 (is_between 1 PLACES) l
   Ok (n.0 - 1, n.1)
 
 -- as many arguments
@@ -28,10 +32,10 @@ arguments_at (suc n) l = do
 
 unfoldable pub begin_at : Left → Reading Kind
 begin_at l = do
-  client ← allowed_at w16 (is_between 1 256) l
-  sequence ← allowed_at w32 (is_between 1 1000000) client.1
+  client ← allowed_at w16 (is_between 1 CLIENTS) l
+  sequence ← allowed_at w32 (is_between 1 SEQUENCES) client.1
   handler ← place_at sequence.1
-  count ← allowed_at w8 (is_between 0 4) handler.1
+  count ← allowed_at w8 (is_between 0 ARGUMENTS) handler.1
   arguments ← arguments_at count.0 count.1
   Ok (Begin client.0 sequence.0 handler.0 arguments.0, arguments.1)
 
@@ -77,7 +81,7 @@ random_at l = do
 
 unfoldable pub reply_at : Left → Reading Kind
 reply_at l = do
-  client ← allowed_at w16 (is_between 1 256) l
+  client ← allowed_at w16 (is_between 1 CLIENTS) l
   value ← signed_at client.1
   Ok (Reply client.0 value.0, value.1)
 
@@ -190,7 +194,7 @@ delta_at l = do
   version ← allowed_at w8 (is_between 1 2) l
   lanes ← allowed_at w8 (is_between 1 most_lanes) version.1
   bases ← bases_at lanes.0 lanes.1
-  count ← allowed_at w16 (is_between 1 4096) bases.1
+  count ← allowed_at w16 (is_between 1 DELTA_EVENTS) bases.1
   events ← events_at bases.0 (first_before version.0 bases.0 count.0) count.0 count.1
   Ok (record { bases = bases.0; events = events.0.0; causes = events.0.1 }, events.1)
 

@@ -10,9 +10,13 @@ use Rattle.rex_event.specs.declared.delta.Delta.{Delta}
 use Rattle.rex_event.specs.Limits.{most_lanes}
 use Rattle.rex_event.specs.Conflict.{named_semaphore}
 use Rattle.rex_event.specs.Cuts.{count_at, counted}
+use Rattle.rex_event.specs.declared.event.TheConstants.{CLIENTS, SEQUENCES}
+use Rattle.rex_event.specs.declared.delta.TheConstants.{DELTA_EVENTS}
 pub use Rattle.rex_event.specs.Pieces.{has_event, others_below, CauseFits, AreRising}
 pub use Rattle.rex_wire.specs.Ranges.{is_between, IsBetween}
 use Rattle.rex_wire.specs.Spelling.{byte, signed}
+use Rattle.rex_delta.specs.declared.limits.TheConstants.{GREATEST_BASE, PLACES}
+use Rattle.rex_list.specs.declared.arguments.TheConstants.{ARGUMENTS}
 
 -- ---- spelling; lanes, handlers, locks, semaphores and conditions are spelled with numbers from 1
 
@@ -86,28 +90,28 @@ delta_bytes d = byte (version_of d.events) ++ byte (length d.bases) ++ flat_map 
 
 -- ---- ranges
 
--- the greatest base: a lane's count stays below 2^32 - 1 with 4,096 events more
+-- the greatest base: a lane's count stays below 2^32 - 1 with the most events more
 abbrev pub greatest_base : ℕ
-greatest_base = 4294963199
+greatest_base = GREATEST_BASE
 
 -- what a kind names is in its range, where there are so many lanes
 abbrev pub KindFits : ℕ → Kind → Type 0
-KindFits lanes (Begin client sequence handler arguments) = IsBetween 1 256 client × IsBetween 1 1000000 sequence × (handler < 64) × (length arguments ≤ 4)
-KindFits lanes (AcqEx lock) = lock < 64
-KindFits lanes (AcqSh lock) = lock < 64
-KindFits lanes (RelEx lock) = lock < 64
-KindFits lanes (RelSh lock) = lock < 64
-KindFits lanes (TryOk lock) = lock < 64
-KindFits lanes (TryBusy lock) = lock < 64
-KindFits lanes (Wait condition lock) = (condition < 64) × (lock < 64)
-KindFits lanes (Wake condition lock) = (condition < 64) × (lock < 64)
-KindFits lanes (Signal condition woken) = (condition < 64) × IfSome woken (λ lane. lane < lanes)
-KindFits lanes (Broadcast condition woken) = (condition < 64) × (woken < 2 ^ lanes)
+KindFits lanes (Begin client sequence handler arguments) = IsBetween 1 CLIENTS client × IsBetween 1 SEQUENCES sequence × (handler < PLACES) × (length arguments ≤ ARGUMENTS)
+KindFits lanes (AcqEx lock) = lock < PLACES
+KindFits lanes (AcqSh lock) = lock < PLACES
+KindFits lanes (RelEx lock) = lock < PLACES
+KindFits lanes (RelSh lock) = lock < PLACES
+KindFits lanes (TryOk lock) = lock < PLACES
+KindFits lanes (TryBusy lock) = lock < PLACES
+KindFits lanes (Wait condition lock) = (condition < PLACES) × (lock < PLACES)
+KindFits lanes (Wake condition lock) = (condition < PLACES) × (lock < PLACES)
+KindFits lanes (Signal condition woken) = (condition < PLACES) × IfSome woken (λ lane. lane < lanes)
+KindFits lanes (Broadcast condition woken) = (condition < PLACES) × (woken < 2 ^ lanes)
 KindFits lanes (Clock value) = Unit {0}
 KindFits lanes (Random value) = Unit {0}
-KindFits lanes (Reply client value) = IsBetween 1 256 client
-KindFits lanes (Down semaphore) = semaphore < 64
-KindFits lanes (Up semaphore) = semaphore < 64
+KindFits lanes (Reply client value) = IsBetween 1 CLIENTS client
+KindFits lanes (Down semaphore) = semaphore < PLACES
+KindFits lanes (Up semaphore) = semaphore < PLACES
 
 -- where lanes did so many events before the delta, and so many before this event
 pub record EventFits (bases counts : List ℕ) (e : Event) (causes : List Cause) : Type 0 where
@@ -129,7 +133,7 @@ EventsFit bases counts (e ∷ es) (causes ∷ lists) = EventFits bases counts e 
 pub record IsDelta (d : Delta) : Type 0 where
   pub lanes : IsBetween 1 most_lanes (length d.bases)
   pub bases : All (λ base. base ≤ greatest_base) d.bases
-  pub some : IsBetween 1 4096 (length d.events)
+  pub some : IsBetween 1 DELTA_EVENTS (length d.events)
   pub events : EventsFit d.bases d.bases d.events d.causes
 
 -- ---- numbers that their types keep

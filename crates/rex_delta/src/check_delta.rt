@@ -7,9 +7,10 @@ ghost use Rattle.rex_wire.specs.Reading as reading;
 ghost use Rattle.rex_delta.specs.Spelling.{HasSpelling, delta_bytes};
 ghost use Rattle.rex_delta.specs.Counts.{counted_at, count_in};
 
-use crate::limits::{COUNTING, EVENTS, LANES, PLAIN};
+use crate::limits::{COUNTING, PLAIN};
 use crate::pass_events::{few_bases, pass_events};
 use arrayvec::ArrayVec;
+use rex_event::{DELTA_EVENTS, LANES};
 use rex_wire::{DecodeError, Reader, u8_between, u16_between};
 
 #[tactic(auto, unfolding(crate::specs::Counts::counted_at))]
@@ -18,10 +19,10 @@ fn counted(reader: &mut Reader) -> Result<u32, DecodeError>
     ensures fault { IfErr result IsBad }
 {
     let version = u8_between(reader, PLAIN, COUNTING)?;
-    let lanes = u8_between(reader, 1, LANES)?;
+    let lanes = u8_between(reader, 1, LANES as u8)?;
     let mut bases = ArrayVec::new();
     few_bases(reader, lanes, &mut bases)?;
-    let count = u16_between(reader, 1, EVENTS)?;
+    let count = u16_between(reader, 1, DELTA_EVENTS as u16)?;
     pass_events(reader, version, bases.as_slice(), count)?;
     Ok(count as u32)
 }

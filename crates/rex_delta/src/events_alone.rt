@@ -10,11 +10,11 @@ ghost use Rattle.rex_delta.specs.Spelling.{greatest_base, HasSpelling, delta_byt
 ghost use Rattle.rex_delta.specs.Reading.{first_before, events_at};
 ghost use Rattle.rex_delta.specs.Alone.{alone, alone_at, events_in};
 
-use crate::limits::{COUNTING, EVENTS, LANES, PLAIN};
+use crate::limits::{COUNTING, PLAIN};
 use crate::pass_events::{count_event, few_bases, fill, pass_all_causes};
 use crate::read_events::{head, least_kind, most_kind, still_due};
 use arrayvec::ArrayVec;
-use rex_event::Event;
+use rex_event::{DELTA_EVENTS, Event, LANES};
 use rex_list::List;
 use rex_wire::{DecodeError, Reader, u8_between, u16_between};
 use std::alloc::Global;
@@ -29,7 +29,7 @@ fn events(
 ) -> Result<List<Event>, DecodeError>
     requires few { length bases.now ≤ most_lanes }
     requires small { All (λ base. base ≤ greatest_base) bases.now }
-    requires some { count ≤ 4096 }
+    requires some { count ≤ DELTA_EVENTS }
     ensures { ReadsOn result reader.new (alone (events_at bases.now (first_before version bases.now count) count reader.old)) }
 {
     let mut counts = ArrayVec::new();
@@ -55,10 +55,10 @@ fn front(alloc: Global, reader: &mut Reader) -> Result<List<Event>, DecodeError>
     ensures { ReadsOn result reader.new (alone_at reader.old) }
 {
     let version = u8_between(reader, PLAIN, COUNTING)?;
-    let lanes = u8_between(reader, 1, LANES)?;
+    let lanes = u8_between(reader, 1, LANES as u8)?;
     let mut bases = ArrayVec::new();
     few_bases(reader, lanes, &mut bases)?;
-    let count = u16_between(reader, 1, EVENTS)?;
+    let count = u16_between(reader, 1, DELTA_EVENTS as u16)?;
     events(alloc, reader, version, bases.as_slice(), count)
 }
 

@@ -1,5 +1,7 @@
 //! The greatest numbers of a delta's fields.
 
+use rex_event::DELTA_EVENTS;
+
 /// The version of the spelling of events without semaphores.
 pub const PLAIN: u8 = 1;
 
@@ -11,23 +13,8 @@ pub const PLAIN_KINDS: u8 = 14;
 
 pub const KINDS: u8 = 16;
 
-/// The most lanes.
-pub const LANES: u8 = rex_event::LANES as u8;
-
-/// The most events.
-pub const EVENTS: u16 = 4096;
-
 /// The greatest base of a lane: its count stays below 2^32 - 1 with as many events more as a delta has at most.
-pub const GREATEST_BASE: u32 = 4_294_963_199;
+pub const GREATEST_BASE: u32 = u32::MAX - DELTA_EVENTS as u32;
 
 /// The most handlers, and as many locks, semaphores and conditions.
 pub const PLACES: u8 = 64;
-
-/// The most clients.
-pub const CLIENTS: u16 = 256;
-
-/// The greatest sequence number of a request.
-pub const SEQUENCE: u32 = 1_000_000;
-
-/// The most arguments.
-pub const ARGUMENTS: u8 = 4;

@@ -13,7 +13,7 @@ use crate::limits::{COUNTING, GREATEST_BASE};
 use crate::pass_kinds::pass_head;
 use crate::read_events::{cause, cause_count, least_kind, most_kind};
 use arrayvec::ArrayVec;
-use rex_event::LANES;
+use rex_event::{DELTA_EVENTS, LANES};
 use rex_wire::{DecodeError, Reader, u32_at_most};
 
 /// As many causes of an event of this lane.
@@ -97,7 +97,7 @@ pub fn pass_events(
 ) -> Result<(), DecodeError>
     requires few { length bases.now ≤ most_lanes }
     requires small { All (λ base. base ≤ greatest_base) bases.now }
-    requires some { count ≤ 4096 }
+    requires some { count ≤ DELTA_EVENTS }
     ensures read { ReadsOn result reader.new (passed (events_at bases.now (first_before version bases.now count) count reader.old)) }
     ensures fault { IfErr result IsBad }
 {

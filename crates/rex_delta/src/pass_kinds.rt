@@ -6,8 +6,9 @@ ghost use Rattle.rex_wire.specs.Decoding.{ReadsOn, IsBad};
 ghost use Rattle.rex_delta.specs.Reading.{arguments_at, begin_at, signal_at, broadcast_at, reply_at, content_at, kind_at};
 ghost use Rattle.rex_delta.specs.Parts.{counting, passed, seen_at};
 
-use crate::limits::{ARGUMENTS, CLIENTS, SEQUENCE};
 use crate::read_kinds::{is_of_lanes, place};
+use rex_event::{CLIENTS, SEQUENCES};
+use rex_list::ARGUMENTS;
 use rex_wire::{DecodeError, Reader, u8_between, u16_between, u32_between};
 
 /// What is kept of an event that is only looked at.
@@ -35,9 +36,9 @@ fn pass_begin(reader: &mut Reader) -> Result<bool, DecodeError>
     ensures fault { IfErr result IsBad }
 {
     u16_between(reader, 1, CLIENTS)?;
-    u32_between(reader, 1, SEQUENCE)?;
+    u32_between(reader, 1, SEQUENCES)?;
     place(reader)?;
-    let count = u8_between(reader, 0, ARGUMENTS)?;
+    let count = u8_between(reader, 0, ARGUMENTS as u8)?;
     pass_arguments(reader, count)?;
     Ok(false)
 }

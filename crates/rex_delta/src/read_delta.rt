@@ -6,9 +6,9 @@ ghost use Rattle.rex_wire.specs.Decoding.{ReadsOn, Gives};
 ghost use Rattle.rex_delta.specs.Spelling.{HasSpelling, delta_bytes};
 ghost use Rattle.rex_delta.specs.Reading.{delta_at, delta_in};
 
-use crate::limits::{COUNTING, EVENTS, LANES, PLAIN};
+use crate::limits::{COUNTING, PLAIN};
 use crate::read_events::{bases, events};
-use rex_event::Delta;
+use rex_event::{DELTA_EVENTS, Delta, LANES};
 use rex_wire::{DecodeError, Reader, u8_between, u16_between};
 use std::alloc::Global;
 
@@ -17,9 +17,9 @@ fn delta(alloc: Global, reader: &mut Reader) -> Result<Delta, DecodeError>
     ensures { ReadsOn result reader.new (delta_at reader.old) }
 {
     let version = u8_between(reader, PLAIN, COUNTING)?;
-    let lanes = u8_between(reader, 1, LANES)?;
+    let lanes = u8_between(reader, 1, LANES as u8)?;
     let bases = bases(alloc, reader, lanes)?;
-    let count = u16_between(reader, 1, EVENTS)?;
+    let count = u16_between(reader, 1, DELTA_EVENTS as u16)?;
     let (events, causes) = events(alloc, reader, version, bases.as_slice(), count)?;
     Ok(Delta {
         bases,

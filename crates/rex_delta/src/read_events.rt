@@ -13,7 +13,7 @@ ghost use Rattle.rex_delta.specs.Parts.{head_at, cause_count_at, all_causes_at};
 use crate::lane_counts::{has_others, may_be_cause, may_be_index};
 use crate::limits::{COUNTING, GREATEST_BASE, KINDS, PLAIN_KINDS};
 use crate::read_kinds::kind;
-use rex_event::{Cause, Event, Kind};
+use rex_event::{Cause, DELTA_EVENTS, Event, Kind};
 use rex_list::List;
 use rex_wire::{DecodeError, Reader, u8_at_most, u8_between, u32_at_most};
 use std::alloc::Global;
@@ -178,7 +178,7 @@ pub fn events(
 ) -> Result<(List<Event>, List<List<Cause>>), DecodeError>
     requires few { length bases.now ≤ most_lanes }
     requires small { All (λ base. base ≤ greatest_base) bases.now }
-    requires some { count ≤ 4096 }
+    requires some { count ≤ DELTA_EVENTS }
     ensures { ReadsOn result reader.new (events_at bases.now (first_before version bases.now count) count reader.old) }
 {
     let mut counts = Vec::from_slice(alloc, bases)?;

@@ -6,9 +6,9 @@ ghost use Rattle.rex_event.specs.declared.event.Kind.TheVariants.{AcqEx, AcqSh, 
 ghost use Rattle.rex_wire.specs.Decoding.{ReadsOn, IsBad};
 ghost use Rattle.rex_delta.specs.Reading.{place_at, arguments_at, begin_at, lock_at, condition_at, signal_at, broadcast_at, clock_at, random_at, reply_at, content_at, kind_at};
 
-use crate::limits::{ARGUMENTS, CLIENTS, PLACES, SEQUENCE};
-use rex_event::Kind;
-use rex_list::Arguments;
+use crate::limits::PLACES;
+use rex_event::{CLIENTS, Kind, SEQUENCES};
+use rex_list::{ARGUMENTS, Arguments};
 use rex_wire::{DecodeError, Reader, u8_between, u16_between, u32_between};
 
 /// A handler, a lock, a semaphore or a condition, numbered from 0.
@@ -22,7 +22,7 @@ pub fn place(reader: &mut Reader) -> Result<u8, DecodeError>
 
 #[inline(never)]
 fn arguments(reader: &mut Reader, count: u8) -> Result<Arguments, DecodeError>
-    requires { count ≤ 4 }
+    requires { count ≤ ARGUMENTS }
     ensures { ReadsOn result reader.new (arguments_at count reader.old) }
 {
     let mut arguments = Arguments::new();
@@ -39,9 +39,9 @@ fn begin(reader: &mut Reader) -> Result<Kind, DecodeError>
     ensures { ReadsOn result reader.new (begin_at reader.old) }
 {
     let client = u16_between(reader, 1, CLIENTS)?;
-    let sequence = u32_between(reader, 1, SEQUENCE)?;
+    let sequence = u32_between(reader, 1, SEQUENCES)?;
     let handler = place(reader)?;
-    let count = u8_between(reader, 0, ARGUMENTS)?;
+    let count = u8_between(reader, 0, ARGUMENTS as u8)?;
     let arguments = arguments(reader, count)?;
     Ok(Kind::Begin {
         client,

@@ -8,6 +8,7 @@ ghost use Rattle.rex_event.specs.declared.event.Kind.TheVariants.{Begin, Signal}
 ghost use Rattle.rex_wire.specs.Spelling.{byte, signed};
 ghost use Rattle.rex_delta.specs.Spelling.{code_of, content, KindFits, IsTyped};
 
+use crate::limits::PLACES;
 use rex_event::Kind;
 use rex_list::Arguments;
 use rex_wire::Writer;
@@ -30,7 +31,7 @@ fn begin(
     handler: u8,
     arguments: &Arguments,
 ) -> Result<(), AllocError>
-    requires { handler < 64 }
+    requires { handler < PLACES }
     ensures spelled { OnOk result (writer.new ≡ writer.old ++ content (Begin client sequence handler arguments.now)) }
     ensures typed { OnOk result (All (FitsSigned w64) arguments.now) }
 {
@@ -43,8 +44,8 @@ fn begin(
 }
 
 fn condition(writer: &mut Writer, condition: u8, lock: u8) -> Result<(), AllocError>
-    requires condition { condition < 64 }
-    requires lock { lock < 64 }
+    requires condition { condition < PLACES }
+    requires lock { lock < PLACES }
     ensures { OnOk result (writer.new ≡ writer.old ++ byte (condition + 1) ++ byte (lock + 1)) }
 {
     writer.u8(condition + 1)?;

@@ -14,7 +14,7 @@ use crate::fault::RecoverFault;
 use crate::latest::{above, put_in, without};
 use crate::read::decode;
 use crate::records::{Rec, Standing};
-use rex_ballot::{Proposal, Value};
+use rex_ballot::{INSTANCES, Proposal, Value};
 use rex_list::List;
 use rex_traits::Keeper;
 use rex_wire::DecodeError;
@@ -57,7 +57,7 @@ impl Recovered {
 
     /// Where a further record stands.
     fn standing(&self) -> Standing
-        requires { self.now.offset + length self.now.known ≤ 65535 }
+        requires { self.now.offset + length self.now.known ≤ INSTANCES }
         ensures { result ≡ standing_of self.now }
     {
         Standing {
@@ -139,7 +139,7 @@ impl Recovered {
 
 /// The record of this number, which counts from 1, behind others.
 fn read(alloc: Global, bytes: &[u8], standing: Standing, number: usize) -> Result<Rec, RecoverFault>
-    requires { standing.count ≤ 65535 }
+    requires { standing.count ≤ INSTANCES }
     ensures found { IfOk result (Spells standing bytes.now) }
     ensures exact { GivesAt result number (record_in standing bytes.now) }
 {

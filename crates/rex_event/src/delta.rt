@@ -4,6 +4,12 @@ ghost use Rattle.rex_event.specs.Cuts.{is_below};
 use crate::Event;
 use rex_list::List;
 
+/// The most events of a delta.
+pub const DELTA_EVENTS: usize = 4096;
+
+/// The most events of a history: those of as many deltas of the most events as there may be instances of agreement, 65,535.
+pub const HISTORY_EVENTS: usize = 268_431_360;
+
 /// An event on which another one rests, by its lane and its index.
 #[derive(Clone, Copy, Debug, PartialEq, Eq)]
 pub struct Cause {

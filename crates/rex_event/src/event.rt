@@ -3,6 +3,15 @@ use rex_list::Arguments;
 /// The most lanes of a trace.
 pub const LANES: usize = 64;
 
+/// The most clients. They are numbered from 1.
+pub const CLIENTS: u16 = 256;
+
+/// How many entries a table has that is indexed by a client's number. The first is nobody's.
+pub const CLIENT_ENTRIES: usize = CLIENTS as usize + 1;
+
+/// The most requests of a client: their sequence numbers are from 1 on.
+pub const SEQUENCES: u32 = 1_000_000;
+
 /// What a lane did. Lanes, handlers, locks, conditions and semaphores are numbered from 0.
 #[derive(Clone, Copy, PartialEq, Eq)]
 pub enum Kind {

@@ -6,5 +6,5 @@ mod delta;
 mod event;
 
 pub use conflicts::conflict;
-pub use delta::{Cause, Cut, Delta};
-pub use event::{Event, Kind, LANES};
+pub use delta::{Cause, Cut, DELTA_EVENTS, Delta, HISTORY_EVENTS};
+pub use event::{CLIENT_ENTRIES, CLIENTS, Event, Kind, LANES, SEQUENCES};

@@ -3,6 +3,7 @@ use Rattle.std.specs.Prelude.{◌==◌, ◌||◌, ℕ, ℤ, suc, Bool, false, na
 use Rattle.rex_event.specs.declared.event.Event.{Event}
 use Rattle.rex_event.specs.declared.event.Kind.{Kind}
 use Rattle.rex_event.specs.declared.event.Kind.TheVariants.{Reply}
+use Rattle.rex_event.specs.declared.event.TheConstants.{CLIENT_ENTRIES}
 use Rattle.rex_state.specs.declared.lane.Entry.{Entry}
 use Rattle.rex_gate.specs.declared.numbers.Stamp.{Stamp}
 
@@ -12,7 +13,7 @@ no_stamp = record { number = None }
 
 -- no client has one
 abbrev pub no_numbers : List Stamp
-no_numbers = replicate 257 no_stamp
+no_numbers = replicate CLIENT_ENTRIES no_stamp
 
 -- where a state has a reply, which delta had it isn't known: 0 stands for it
 abbrev pub stamp_of_state : Option ℤ → Stamp

@@ -3,8 +3,8 @@
 ghost use Rattle.std.specs.Prelude.{◌≡◌, ◌<◌, length, Some, IfOk, OnOk, OnErr, slice_set};
 ghost use Rattle.rex_gate.specs.Numbers as spec;
 
-use rex_event::{Event, Kind};
-use rex_state::lane::{CLIENTS, Entry};
+use rex_event::{CLIENT_ENTRIES, Event, Kind};
+use rex_state::lane::Entry;
 use std::alloc::{AllocError, Global};
 use std::marker::Model;
 
@@ -79,7 +79,7 @@ fn new_stamps(alloc: Global) -> Result<Vec<Stamp>, AllocError>
     ensures { IfOk result (λ stamps. stamps.items ≡ spec.no_numbers) }
 {
     let stamp = Stamp { number: None };
-    vec![in alloc; stamp; CLIENTS + 1]
+    vec![in alloc; stamp; CLIENT_ENTRIES]
 }
 
 // Where a state has a reply, the delta that has it isn't known.

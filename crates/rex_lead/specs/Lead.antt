@@ -7,6 +7,7 @@ use Rattle.rex_syntax.specs.declared.service.Declarations.{Declarations}
 use Rattle.rex_syntax.specs.Service.{IsService}
 use Rattle.rex_syntax.specs.Check.{IsChecked}
 use Rattle.rex_event.specs.declared.event.Event.{Event}
+use Rattle.rex_event.specs.declared.delta.TheConstants.{DELTA_EVENTS, HISTORY_EVENTS}
 use Rattle.rex_delta.specs.Spelling.{HasTypedKind}
 use Rattle.rex_reduce.specs.Reduced.{AreLeast}
 use Rattle.rex_state.specs.Value.{StateValue}
@@ -24,13 +25,13 @@ use Rattle.rex_steady.specs.Steady.{IsSteady, live_world}
 use Rattle.rex_world.specs.Tracing.{values_text}
 use Rattle.rex_world.specs.Report.{ends_text}
 
--- the history in blocks of 4,096 events, the last block being the rest
+-- the history in blocks of as many events as a delta has at most, the last block being the rest
 abbrev pub blocks_of : List Event → List (List Event)
-blocks_of history = first_chunks 4096 (chunk_count (length history) 4096) history
+blocks_of history = first_chunks DELTA_EVENTS (chunk_count (length history) DELTA_EVENTS) history
 
--- a history of events in their ranges that runs from the service's start, and is no longer than 65,535 blocks
+-- a history of events in their ranges that runs from the service's start, and is no longer than one may be
 pub record CanBeLed (service : Declarations) (history : List Event) : Type 0 where
-  pub few : length history ≤ 268431360
+  pub few : length history ≤ HISTORY_EVENTS
   pub begins : All BeginsInRange history
   pub typed : All HasTypedKind history
   pub runs : IsSome (run service (start_of service) history)
@@ -51,8 +52,8 @@ pub record IsLed (service : Declarations) (s : Scenario) (history : List Event) 
   pub agreed_is : agreed (live_world service s.requests s.seed s.nodes (blocks_of history)) ≡ values_of service (blocks_of history)
   pub causes : (v : Value) → IsIn v (values_of service (blocks_of history)) → AreLeast (delta_of v).events (delta_of v).causes
 
--- so is each history of at most 268,431,360 events that runs from the start of a checked service, for a scenario that fits it
+-- so is each history, no longer than one may be, that runs from the start of a checked service, for a scenario that fits it
 abbrev pub HistoriesAreLed : Type 0
 HistoriesAreLed =
     (service : Declarations) (s : Scenario) (history : List Event) (state : StateValue) → IsService service → IsChecked service → ScenarioFits service s
-    → length history ≤ 268431360 → All BeginsInRange history → All HasTypedKind history → run service (start_of service) history ≡ Some state → IsLed service s history
+    → length history ≤ HISTORY_EVENTS → All BeginsInRange history → All HasTypedKind history → run service (start_of service) history ≡ Some state → IsLed service s history

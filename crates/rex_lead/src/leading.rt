@@ -18,7 +18,7 @@ ghost use Rattle.rex_lead.specs.Lead.{CanBeLed, blocks_of, live_text, world_text
 
 use crate::doing::{ask_others, do_line, hand_over};
 use crate::typed::look_at_all;
-use rex_event::Event;
+use rex_event::{DELTA_EVENTS, Event, HISTORY_EVENTS};
 use rex_replay::{OneThread, Replayer};
 use rex_schedule::{Scenario, ScheduleLine};
 use rex_state::laws::runs_count_on;
@@ -30,9 +30,6 @@ use rex_traits::MemKeeper;
 use rex_world::World;
 use std::alloc::{AllocError, Global};
 use std::thread::Threads;
-
-/// So many events node 1 is handed before it cuts them: as many as a value may have.
-const BLOCK: usize = 4_096;
 
 // Node 1 asks to lead, and the answers of all others come back to it.
 fn elect(world: &mut World<MemKeeper>, svc: &Checked) -> Result<(), AllocError>
@@ -233,7 +230,7 @@ fn agree_on_all<T: Threads + Sync, R: Replayer + Send + Drop>(
 {
     leaders_are_steady();
     runs_count_on();
-    let mut blocks = history.chunks(BLOCK);
+    let mut blocks = history.chunks(DELTA_EVENTS);
     let Some(first) = blocks.next() else {
         return Ok((world, replayer));
     };
@@ -327,7 +324,7 @@ pub fn lead<T: Threads + Sync, R: Replayer + Send + Drop>(
     history: &[Event],
 ) -> Result<Vec<u8>, AllocError>
     requires fits { ScenarioFits svc.now scenario.now }
-    requires few { length history.now ≤ 268431360 }
+    requires few { length history.now ≤ HISTORY_EVENTS }
     requires begins { All BeginsInRange history.now }
     requires runs { IsSome (run svc.now (start_of svc.now) history.now) }
     requires ready { R.ready replayer }

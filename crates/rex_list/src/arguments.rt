@@ -5,7 +5,7 @@ use std::marker::Model;
 /// The most arguments that a request has.
 pub const ARGUMENTS: usize = 4;
 
-/// The arguments of a request, at most four. A value that takes no memory and is copied.
+/// The arguments of a request. A value that takes no memory and is copied.
 #[derive(Clone, Copy, PartialEq, Eq)]
 pub struct Arguments {
     values: [i64; ARGUMENTS],
@@ -15,6 +15,7 @@ pub struct Arguments {
 impl Model for Arguments {
     ghost use Rattle.std.specs.Prelude.{List, ℤ, pos, replicate, length, ◌++◌, ◌-◌};
     ghost use Rattle.rex_list.specs.Arguments.{arguments_view, IsArguments};
+    ghost use Rattle.rex_list.specs.declared.arguments.TheConstants.{ARGUMENTS};
     ghost use Rattle.rex_list.specs.Inverse.{inverse_undoes};
 
     ghost Value = { List ℤ };
@@ -23,7 +24,7 @@ impl Model for Arguments {
 
     ghost invariant = { λ a. IsArguments a.values a.count };
 
-    ghost inverse = { λ xs. record { values = xs ++ replicate (4 - length xs) (pos 0); count = length xs } };
+    ghost inverse = { λ xs. record { values = xs ++ replicate (ARGUMENTS - length xs) (pos 0); count = length xs } };
 
     ghost inverse_ok = { λ a h. inverse_undoes a.values a.count h };
 }
@@ -53,13 +54,13 @@ impl Arguments {
 
     pub fn as_slice(&self) -> &[i64]
         ensures items { result.now ≡ self.now }
-        ensures few { length self.now ≤ 4 }
+        ensures few { length self.now ≤ ARGUMENTS }
     {
         &self.values[..self.count as usize]
     }
 
     pub fn push(&mut self, value: i64)
-        requires { length self.old < 4 }
+        requires { length self.old < ARGUMENTS }
         ensures { self.new ≡ self.old ++ value ∷ [] }
     {
         self.values[self.count as usize] = value;

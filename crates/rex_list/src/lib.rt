@@ -1,4 +1,4 @@
-//! Lists that contracts see as lists: one on the heap, and one of at most four numbers that takes no memory.
+//! Lists that contracts see as lists: one on the heap, and one of a few numbers that takes no memory.
 #![tactic(auto)]
 
 mod arguments;

@@ -7,6 +7,7 @@ use Rattle.rex_syntax.specs.declared.service.Declarations.{Declarations}
 use Rattle.rex_frame.specs.declared.frame.Frame.{Frame}
 use Rattle.rex_frame.specs.Phases.{is_running}
 use Rattle.rex_event.specs.declared.event.Event.{Event}
+use Rattle.rex_event.specs.declared.delta.TheConstants.{HISTORY_EVENTS}
 use Rattle.rex_state.specs.declared.lane.Entry.{Entry}
 use Rattle.rex_state.specs.Value.{StateValue}
 use Rattle.rex_state.specs.Machine.{frame_at, can_begin, client_allows, enabled, next}
@@ -60,7 +61,7 @@ next_event service requests f lane = lane_event service requests f.state lane (p
 
 -- the same, unless the history is as long as may be
 abbrev pub turn_at : Declarations → List Request → FloorValue → ℕ → Option Event
-turn_at service requests f lane = if nat_le 268431360 (length f.history) then None else next_event service requests f lane
+turn_at service requests f lane = if nat_le HISTORY_EVENTS (length f.history) then None else next_event service requests f lane
 
 -- the dice after the lane's next event: moved on where the lane reads them
 abbrev pub dice_behind : Declarations → FloorValue → ℕ → Lcg
@@ -95,11 +96,11 @@ LeadsTo service requests f (e ∷ es) g =
 -- lanes made the floor's history, from the start, with these dice at first
 pub record IsMade (service : Declarations) (requests : List Request) (dice : Lcg) (f : FloorValue) : Type 0 where
   pub leads : LeadsTo service requests (opened service dice) f.history f
-  pub few : length f.history ≤ 268431360
+  pub few : length f.history ≤ HISTORY_EVENTS
 
 -- no lane can go on, or the history is as long as may be
 abbrev pub IsOver : Declarations → List Request → FloorValue → Type 0
-IsOver service requests f = ((lane : ℕ) → lane < service.lanes → next_event service requests f lane ≡ None) ⊎ (length f.history ≡ 268431360)
+IsOver service requests f = ((lane : ℕ) → lane < service.lanes → next_event service requests f lane ≡ None) ⊎ (length f.history ≡ HISTORY_EVENTS)
 
 -- lanes made this history, and it is over
 pub record IsHistory (service : Declarations) (requests : List Request) (dice : Lcg) (history : List Event) : Type 0 where

@@ -3,6 +3,7 @@ use Rattle.std.specs.Prelude.{◌≡◌, ◌≢◌, ℕ, ◌+◌, ◌<◌, ◌�
 use Rattle.rex_syntax.specs.declared.request.Request.{Request}
 use Rattle.rex_syntax.specs.declared.service.Declarations.{Declarations}
 use Rattle.rex_event.specs.declared.event.Kind.{Kind}
+use Rattle.rex_event.specs.declared.event.TheConstants.{CLIENT_ENTRIES}
 use Rattle.rex_state.specs.declared.lane.Entry.{Entry}
 use Rattle.rex_state.specs.Machine.{is_replied, entry_at, can_begin, client_allows, clients_after}
 use Rattle.rex_record.specs.Turn.{begin_of}
@@ -35,17 +36,17 @@ NoneOf requests client from till = (place : ℕ) → from ≤ place → place < 
 -- what is noted for a request is the place of its client's next one, if there is one
 pub record IsNextPlace (requests : List Request) (place next : ℕ) : Type 0 where
   pub later : place < next
-  pub own : (request_at requests place).client < 257 → IsOf requests (request_at requests place).client next
-  pub between : (request_at requests place).client < 257 → NoneOf requests (request_at requests place).client (place + 1) next
+  pub own : (request_at requests place).client < CLIENT_ENTRIES → IsOf requests (request_at requests place).client next
+  pub between : (request_at requests place).client < CLIENT_ENTRIES → NoneOf requests (request_at requests place).client (place + 1) next
 
 -- so it is for the requests from a place on, and for each client the place of its first one of these is noted
 pub record IsLinkedFrom (requests : List Request) (from : ℕ) (nexts firsts : List ℕ) : Type 0 where
   pub long : length nexts ≡ length requests
-  pub clients : length firsts ≡ 257
+  pub clients : length firsts ≡ CLIENT_ENTRIES
   pub nexts_are : (place : ℕ) → from ≤ place → place < length requests → IsNextPlace requests place (place_at nexts place)
-  pub firsts_past : (client : ℕ) → client < 257 → from ≤ place_at firsts client
-  pub firsts_own : (client : ℕ) → client < 257 → IsOf requests client (place_at firsts client)
-  pub firsts_are : (client : ℕ) → client < 257 → NoneOf requests client from (place_at firsts client)
+  pub firsts_past : (client : ℕ) → client < CLIENT_ENTRIES → from ≤ place_at firsts client
+  pub firsts_own : (client : ℕ) → client < CLIENT_ENTRIES → IsOf requests client (place_at firsts client)
+  pub firsts_are : (client : ℕ) → client < CLIENT_ENTRIES → NoneOf requests client from (place_at firsts client)
 
 -- so it is for all requests
 pub record IsLinked (requests : List Request) (nexts : List ℕ) : Type 0 where
@@ -72,16 +73,16 @@ pub record IsWantedAt (service : Declarations) (requests : List Request) (client
 
 -- for each client it is noted from which place on its requests aren't passed
 pub record AreNoted (requests : List Request) (clients : List Entry) (passed : List ℕ) : Type 0 where
-  pub long : length passed ≡ 257
-  pub own : (client : ℕ) → client < 257 → IsOf requests client (place_at passed client)
-  pub are : (client : ℕ) → client < 257 → ArePassed requests clients client (place_at passed client)
+  pub long : length passed ≡ CLIENT_ENTRIES
+  pub own : (client : ℕ) → client < CLIENT_ENTRIES → IsOf requests client (place_at passed client)
+  pub are : (client : ℕ) → client < CLIENT_ENTRIES → ArePassed requests clients client (place_at passed client)
 
 -- for each client these places are noted, and for each request the next one's
 pub record ArePlaces (service : Declarations) (requests : List Request) (clients : List Entry) (nexts passed wanted : List ℕ) : Type 0 where
   pub linked : IsLinked requests nexts
   pub noted : AreNoted requests clients passed
-  pub long : length wanted ≡ 257
-  pub are : (client : ℕ) → client < 257 → IsWantedAt service requests clients client (place_at wanted client)
+  pub long : length wanted ≡ CLIENT_ENTRIES
+  pub are : (client : ℕ) → client < CLIENT_ENTRIES → IsWantedAt service requests clients client (place_at wanted client)
 
 -- the client may begin a request: it has sent nothing, or its last request is replied to
 abbrev pub may_begin : Entry → Bool
@@ -90,13 +91,13 @@ may_begin entry = nat_eq entry.sequence 0 || is_replied entry.reply
 -- a client that may begin a request, and the place that is noted for it
 pub record IsOffered (clients : List Entry) (wanted : List ℕ) (place : ℕ) : Type 0 where
   pub client : ℕ
-  pub known : client < 257
+  pub known : client < CLIENT_ENTRIES
   pub may : may_begin (entry_at clients client) ≡ true
   pub is : place ≡ place_at wanted client
 
 -- the client may not begin a request, or no place before this one is noted for it
 abbrev pub IsPast : List Entry → List ℕ → ℕ → ℕ → Type 0
-IsPast clients wanted place client = client < 257 → may_begin (entry_at clients client) ≡ true → place ≤ place_at wanted client
+IsPast clients wanted place client = client < CLIENT_ENTRIES → may_begin (entry_at clients client) ≡ true → place ≤ place_at wanted client
 
 -- the least of the places that are noted for the first clients, of those that may begin a request; the end, where there is none
 pub record IsLeastBelow (clients : List Entry) (wanted : List ℕ) (end bound place : ℕ) : Type 0 where
@@ -107,8 +108,8 @@ pub record IsLeastBelow (clients : List Entry) (wanted : List ℕ) (end bound pl
 -- the places that are kept are these, and the first request that may begin stands at the least of those of clients that may begin one
 pub record HasPlaces (service : Declarations) (requests : List Request) (clients : List Entry) (p : Places) : Type 0 where
   pub are : ArePlaces service requests clients p.nexts.items p.passed.items p.wanted.items
-  pub entries : length clients ≡ 257
-  pub open_at : IsLeastBelow clients p.wanted.items (length requests) 257 p.open_at
+  pub entries : length clients ≡ CLIENT_ENTRIES
+  pub open_at : IsLeastBelow clients p.wanted.items (length requests) CLIENT_ENTRIES p.open_at
 
 -- these places were kept before an event, after which the entries are these
 pub record HadPlaces (service : Declarations) (requests : List Request) (kind : Kind) (clients : List Entry) (p : Places) : Type 0 where

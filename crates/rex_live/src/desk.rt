@@ -13,7 +13,7 @@ use crate::places::Places;
 use crate::segment::{Brought, Segment};
 use crate::setting::Setting;
 use rand_pcg::Lcg64Xsh32;
-use rex_event::Event;
+use rex_event::{CLIENT_ENTRIES, Event, HISTORY_EVENTS};
 use rex_list::List;
 use rex_state::state::State;
 use rex_syntax::checked::Checked;
@@ -22,9 +22,6 @@ use rex_syntax::service::LANES;
 use std::alloc::{AllocError, Global};
 use std::marker::Model;
 use std::sync::ledger::{Book, Share};
-
-/// The most events of a history: those of 65,535 blocks of 4,096.
-pub const LONGEST: usize = 268_431_360;
 
 /// The ballot of node 1's first election, from which random numbers are drawn.
 const BALLOT: u64 = 17;
@@ -67,7 +64,7 @@ fn first_places(
     start: &State,
     requests: &[Request],
 ) -> Result<Places, AllocError>
-    requires { length start.now.clients ≡ 257 }
+    requires { length start.now.clients ≡ CLIENT_ENTRIES }
     ensures { IfOk result (λ places. HasPlaces svc.now requests.now start.now.clients places) }
 {
     Places::new(alloc, svc.declarations(), requests, start.entries())
@@ -110,7 +107,7 @@ impl<S: Setting> Desk<S> {
     /// How many events the history has.
     fn len(&self) -> usize
         ensures len { result ≡ length self.now.floor.history }
-        ensures few { length self.now.floor.history ≤ 268431360 }
+        ensures few { length self.now.floor.history ≤ HISTORY_EVENTS }
     {
         self.history.len()
     }
@@ -124,10 +121,10 @@ impl<S: Setting> Desk<S> {
 
     /// Whether the history is as long as may be.
     fn is_full(&self) -> bool
-        ensures full { result ≡ nat_le 268431360 (length self.now.floor.history) }
-        ensures end { result ≡ true → length self.now.floor.history ≡ 268431360 }
+        ensures full { result ≡ nat_le HISTORY_EVENTS (length self.now.floor.history) }
+        ensures end { result ≡ true → length self.now.floor.history ≡ HISTORY_EVENTS }
     {
-        self.len() >= LONGEST
+        self.len() >= HISTORY_EVENTS
     }
 
     /// The event that a lane whose lines are run can make next, and the dice after it. It changes nothing.
@@ -170,7 +167,7 @@ impl<S: Setting> Desk<S> {
         requires back { is_out self.old.out event.now.lane ≡ false }
         requires next { spec.next_event S.service S.requests self.old.floor event.now.lane ≡ Some event.now }
         requires dice { dice ≡ spec.dice_behind S.service self.old.floor event.now.lane }
-        requires few { length self.old.floor.history < 268431360 }
+        requires few { length self.old.floor.history < HISTORY_EVENTS }
         requires part { 0 < mine.old.parts }
         ensures recorded { OnOk result (self.new.floor ≡ spec.recorded S.service self.old.floor event.now) }
         ensures begun { self.new.begun ≡ self.old.begun }

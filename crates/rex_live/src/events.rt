@@ -11,7 +11,7 @@ ghost use Rattle.rex_live.specs.Places.{HasPlaces};
 
 use crate::places::Places;
 use rand_pcg::Lcg64Xsh32;
-use rex_event::Event;
+use rex_event::{Event, HISTORY_EVENTS};
 use rex_record::{Turn, begin_of, busy_turn};
 use rex_state::state::State;
 use rex_syntax::checked::Checked;
@@ -91,7 +91,7 @@ pub(crate) fn lane_event(
     events: usize,
     dice: &mut Lcg64Xsh32,
 ) -> Option<Event>
-    requires few { events ≤ 268431360 }
+    requires few { events ≤ HISTORY_EVENTS }
     requires there { lane < length state.now.lanes }
     requires stands { IfSome (frame_at state.now lane) (StandsAt svc.now state.now) }
     requires places { HasPlaces svc.now requests.now state.now.clients places.now }

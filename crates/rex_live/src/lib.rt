@@ -15,6 +15,5 @@ mod setting;
 mod tries;
 mod wakers;
 
-pub use desk::LONGEST;
 pub use floor::{Floor, run_lanes};
 pub use setting::Setting;

@@ -28,7 +28,7 @@
 
 ghost use Rattle.std.specs.Prelude.{◌≡◌, ◌<◌, ◌≤◌};
 
-use rex_event::Kind;
+use rex_event::{Kind, LANES};
 
 /// What lanes wait for.
 #[derive(Clone, Copy, PartialEq, Eq)]
@@ -72,7 +72,7 @@ pub(crate) fn needs(kind: &Kind, left: Need) -> bool {
 pub(crate) fn lane_after(lane: u8, places: u8, lanes: u8) -> u8
     requires lane { lane < lanes }
     requires places { places < lanes }
-    requires few { lanes ≤ 64 }
+    requires few { lanes ≤ LANES }
     ensures { result < lanes }
 {
     let sum = lane + places;

@@ -6,16 +6,13 @@ ghost use Rattle.rex_state.specs.Machine.{no_entry};
 ghost use Rattle.rex_live.specs.Places.{request_at, place_at, last_of, IsOf, IsPast, IsOffered, IsLinkedFrom, IsLinked, ArePassed, IsWantedAt, AreNoted, ArePlaces, HasPlaces, HadPlaces, IsLeastBelow};
 ghost use Rattle.rex_live.specs.Places as spec;
 
-use rex_event::Kind;
+use rex_event::{CLIENT_ENTRIES, Kind};
 use rex_record::begin_of;
 use rex_state::can_begin;
-use rex_state::lane::{CLIENTS, Entry};
+use rex_state::lane::Entry;
 use rex_syntax::request::Request;
 use rex_syntax::service::Declarations;
 use std::alloc::{AllocError, Global};
-
-/// How many entries of clients there are: those of the numbers 0 to 256.
-const ENTRIES: usize = CLIENTS + 1;
 
 /// So many requests are looked at for the next one that may begin, before all clients are.
 const LOOKS: usize = 8;
@@ -40,7 +37,7 @@ fn link(requests: &[Request], place: usize, nexts: &mut [usize], firsts: &mut [u
     ensures { IsLinkedFrom requests.now place nexts.new firsts.new }
 {
     let client = requests[place].client as usize;
-    if client < ENTRIES {
+    if client < CLIENT_ENTRIES {
         nexts[place] = firsts[client];
         firsts[client] = place;
     } else {
@@ -63,7 +60,7 @@ fn link_all(requests: &[Request], nexts: &mut [usize], firsts: &mut [usize])
 /// Passes a client's requests, from a place on, that have no later sequence than its last one.
 fn pass(requests: &[Request], nexts: &[usize], client: u16, from: usize, last: u32) -> usize
     requires linked { IsLinked requests.now nexts.now }
-    requires client { client < 257 }
+    requires client { client < CLIENT_ENTRIES }
     requires own { IsOf requests.now client from }
     ensures own { IsOf requests.now client result }
     ensures passed { (place : ℕ) → from ≤ place → place < result → (request_at requests.now place).client ≡ client → (request_at requests.now place).sequence ≤ last }
@@ -92,7 +89,7 @@ fn seek(
     last: u32,
 ) -> usize
     requires linked { IsLinked requests.now nexts.now }
-    requires client { client < 257 }
+    requires client { client < CLIENT_ENTRIES }
     requires own { IsOf requests.now client from }
     ensures own { IsOf requests.now client result }
     ensures is { result < length requests.now → spec.is_next service.now last (request_at requests.now result) ≡ true }
@@ -125,7 +122,7 @@ fn wanted_from(
     passed: usize,
 ) -> usize
     requires linked { IsLinked requests.now nexts.now }
-    requires client { client < 257 }
+    requires client { client < CLIENT_ENTRIES }
     requires own { IsOf requests.now client passed }
     requires passed { ArePassed requests.now entries.now client passed }
     ensures { IsWantedAt service.now requests.now entries.now client result }
@@ -151,10 +148,10 @@ fn seek_all(
 )
     requires linked { IsLinked requests.now nexts.now }
     requires noted { AreNoted requests.now entries.now passed.now }
-    requires long { length wanted.old ≡ 257 }
-    ensures { (client : ℕ) → client < 257 → IsWantedAt service.now requests.now entries.now client (place_at wanted.new client) }
+    requires long { length wanted.old ≡ CLIENT_ENTRIES }
+    ensures { (client : ℕ) → client < CLIENT_ENTRIES → IsWantedAt service.now requests.now entries.now client (place_at wanted.new client) }
 {
-    for client in 0..ENTRIES as u16 {
+    for client in 0..CLIENT_ENTRIES as u16 {
         let place = passed[client as usize];
         wanted[client as usize] = wanted_from(service, requests, entries, nexts, client, place);
     }
@@ -169,12 +166,12 @@ fn may_begin(entry: &Entry) -> bool
 
 /// The least of the places that are noted for clients that may begin a request, or the end.
 fn least(entries: &[Entry], wanted: &[usize], end: usize) -> usize
-    requires entries { length entries.now ≡ 257 }
-    requires wanted { length wanted.now ≡ 257 }
-    ensures { IsLeastBelow entries.now wanted.now end 257 result }
+    requires entries { length entries.now ≡ CLIENT_ENTRIES }
+    requires wanted { length wanted.now ≡ CLIENT_ENTRIES }
+    ensures { IsLeastBelow entries.now wanted.now end CLIENT_ENTRIES result }
 {
     let mut place = end;
-    for client in 0..ENTRIES {
+    for client in 0..CLIENT_ENTRIES {
         if may_begin(&entries[client]) && wanted[client] < place {
             place = wanted[client];
         }
@@ -184,13 +181,13 @@ fn least(entries: &[Entry], wanted: &[usize], end: usize) -> usize
 
 /// Whether a place is noted for a client that may begin a request.
 fn is_offered(entries: &[Entry], wanted: &[usize], client: u16, place: usize) -> bool
-    requires entries { length entries.now ≡ 257 }
-    requires wanted { length wanted.now ≡ 257 }
+    requires entries { length entries.now ≡ CLIENT_ENTRIES }
+    requires wanted { length wanted.now ≡ CLIENT_ENTRIES }
     ensures offered { result ≡ true → IsOffered entries.now wanted.now place }
     ensures isnt { result ≡ false → IsPast entries.now wanted.now place client → IsPast entries.now wanted.now (place + 1) client }
 {
     let client = client as usize;
-    client < ENTRIES && wanted[client] == place && may_begin(&entries[client])
+    client < CLIENT_ENTRIES && wanted[client] == place && may_begin(&entries[client])
 }
 
 /// The first of some places that is noted for a client that may begin a request, or their end. None is noted for such a client before
@@ -202,9 +199,9 @@ fn seek_offered(
     from: usize,
     till: usize,
 ) -> usize
-    requires entries { length entries.now ≡ 257 }
-    requires wanted { length wanted.now ≡ 257 }
-    requires own { (client : ℕ) → client < 257 → IsOf requests.now client (place_at wanted.now client) }
+    requires entries { length entries.now ≡ CLIENT_ENTRIES }
+    requires wanted { length wanted.now ≡ CLIENT_ENTRIES }
+    requires own { (client : ℕ) → client < CLIENT_ENTRIES → IsOf requests.now client (place_at wanted.now client) }
     requires some { from ≤ till }
     requires there { till ≤ length requests.now }
     requires none { (client : ℕ) → IsPast entries.now wanted.now from client }
@@ -222,12 +219,12 @@ fn seek_offered(
 /// The least of the places that are noted for clients that may begin a request, or the end, where none of them is before a place. It
 /// mostly is one of the next few, so that not all clients have to be looked at.
 fn least_from(requests: &[Request], entries: &[Entry], wanted: &[usize], from: usize) -> usize
-    requires entries { length entries.now ≡ 257 }
-    requires wanted { length wanted.now ≡ 257 }
-    requires own { (client : ℕ) → client < 257 → IsOf requests.now client (place_at wanted.now client) }
+    requires entries { length entries.now ≡ CLIENT_ENTRIES }
+    requires wanted { length wanted.now ≡ CLIENT_ENTRIES }
+    requires own { (client : ℕ) → client < CLIENT_ENTRIES → IsOf requests.now client (place_at wanted.now client) }
     requires there { from ≤ length requests.now }
     requires none { (client : ℕ) → IsPast entries.now wanted.now from client }
-    ensures { IsLeastBelow entries.now wanted.now (length requests.now) 257 result }
+    ensures { IsLeastBelow entries.now wanted.now (length requests.now) CLIENT_ENTRIES result }
 {
     let end = requests.len();
     let till = from + (end - from).min(LOOKS);
@@ -241,9 +238,9 @@ fn least_from(requests: &[Request], entries: &[Entry], wanted: &[usize], from: u
 
 /// The earlier of a place and the one that is noted for a client, if there is one.
 fn earlier(wanted: &[usize], client: u16, place: usize) -> usize
-    requires wanted { length wanted.now ≡ 257 }
+    requires wanted { length wanted.now ≡ CLIENT_ENTRIES }
     ensures most { result ≤ place }
-    ensures client { client < 257 → result ≤ place_at wanted.now client }
+    ensures client { client < CLIENT_ENTRIES → result ≤ place_at wanted.now client }
 {
     match wanted.get(client as usize) {
         Some(own) => place.min(*own),
@@ -259,13 +256,13 @@ impl Places {
         requests: &[Request],
         entries: &[Entry],
     ) -> Result<Places, AllocError>
-        requires { length entries.now ≡ 257 }
+        requires { length entries.now ≡ CLIENT_ENTRIES }
         ensures { IfOk result (λ p. HasPlaces service.now requests.now entries.now p) }
     {
         let end = requests.len();
         let mut nexts = vec![in alloc; end; end]?;
-        let mut passed = vec![in alloc; end; ENTRIES]?;
-        let mut wanted = vec![in alloc; end; ENTRIES]?;
+        let mut passed = vec![in alloc; end; CLIENT_ENTRIES]?;
+        let mut wanted = vec![in alloc; end; CLIENT_ENTRIES]?;
         link_all(requests, &mut nexts, &mut passed);
         seek_all(service, requests, entries, &nexts, &passed, &mut wanted);
         let open_at = least(entries, &wanted, end);
@@ -312,7 +309,7 @@ impl Places {
         ensures open_at { self.new.open_at ≡ self.old.open_at }
     {
         if let Kind::Begin { client, .. } = kind
-            && (*client as usize) < ENTRIES
+            && (*client as usize) < CLIENT_ENTRIES
         {
             self.renew(service, requests, entries, *client);
         }
@@ -327,7 +324,7 @@ impl Places {
         client: u16,
     )
         requires places { ArePlaces service.now requests.now entries.now self.old.nexts.items self.old.passed.items self.old.wanted.items }
-        requires entries { length entries.now ≡ 257 }
+        requires entries { length entries.now ≡ CLIENT_ENTRIES }
         requires most { self.old.open_at ≤ length requests.now }
         requires others { (other : ℕ) → other ≢ client → IsPast entries.now self.old.wanted.items self.old.open_at other }
         ensures { HasPlaces service.now requests.now entries.now self.new }
@@ -344,14 +341,14 @@ impl Places {
         entries: &[Entry],
         client: u16,
     )
-        requires client { client < 257 }
+        requires client { client < CLIENT_ENTRIES }
         requires linked { IsLinked requests.now self.old.nexts.items }
         requires noted { AreNoted requests.now entries.now self.old.passed.items }
-        requires long { length self.old.wanted.items ≡ 257 }
+        requires long { length self.old.wanted.items ≡ CLIENT_ENTRIES }
         ensures nexts { self.new.nexts ≡ self.old.nexts }
         ensures open_at { self.new.open_at ≡ self.old.open_at }
         ensures noted { AreNoted requests.now entries.now self.new.passed.items }
-        ensures long { length self.new.wanted.items ≡ 257 }
+        ensures long { length self.new.wanted.items ≡ CLIENT_ENTRIES }
         ensures here { IsWantedAt service.now requests.now entries.now client (place_at self.new.wanted.items client) }
         ensures others { (other : ℕ) → other ≢ client → place_at self.new.wanted.items other ≡ place_at self.old.wanted.items other }
     {

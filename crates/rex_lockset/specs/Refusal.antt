@@ -10,6 +10,7 @@ use Rattle.rex_syntax.specs.declared.service.Handler.{Handler}
 use Rattle.rex_syntax.specs.declared.service.Declarations.{Declarations}
 use Rattle.rex_syntax.specs.Leads.{leads_of, nowhere}
 use Rattle.rex_syntax.specs.Check.{step_bound}
+use Rattle.rex_syntax.specs.declared.service.TheConstants.{STEPS}
 use Rattle.rex_lockset.specs.declared.known.Known.{Known}
 use Rattle.rex_lockset.specs.declared.known.Known.TheVariants.{Nothing, Held, Differs}
 use Rattle.rex_lockset.specs.declared.refusal.Refused.{Refused}
@@ -35,9 +36,9 @@ refused_line service handler place known (line ∷ lines) =
       | Err code ↦ Some (record { handler = handler; line = Some place; code = code })
     ]
 
--- a handler that may take more than 100,000 steps is refused as a whole
+-- a handler that may take more than the most steps is refused as a whole
 abbrev pub too_long : ℕ → List Line → Option Refused
-too_long handler lines = if nat_le (step_bound lines) 100000 then None else Some (record { handler = handler; line = None; code = TooLong })
+too_long handler lines = if nat_le (step_bound lines) STEPS then None else Some (record { handler = handler; line = None; code = TooLong })
 
 -- the first refused line of a handler, and else the handler where it is too long
 abbrev pub refusal_in : Declarations → ℕ → Handler → Option Refused

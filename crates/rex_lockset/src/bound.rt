@@ -5,11 +5,8 @@ ghost use Rattle.rex_syntax.specs.Check.{other_of, bound_of, bounds as bounds_of
 ghost use Rattle.rex_lockset.specs.Bound.{capped};
 
 use rex_syntax::line::Line;
-use rex_syntax::service::LINES;
+use rex_syntax::service::{LINES, STEPS};
 use std::alloc::{AllocError, Global};
-
-/// The most steps of a handler that passes.
-pub const MOST_STEPS: u64 = 100_000;
 
 /// The other line to which a line may lead, or the next one.
 fn other_line(line: &Line, place: usize) -> usize
@@ -27,8 +24,8 @@ fn other_line(line: &Line, place: usize) -> usize
 
 /// The steps from a line on, by those from the next line and from the other one.
 fn line_bound(line: &Line, next: u64, other: u64) -> u64
-    requires next { next ≤ MOST_STEPS + 1 }
-    requires other { other ≤ MOST_STEPS + 1 }
+    requires next { next ≤ STEPS + 1 }
+    requires other { other ≤ STEPS + 1 }
     ensures { result ≡ capped (bound_of line.now next other) }
 {
     let bound = match line {
@@ -39,10 +36,10 @@ fn line_bound(line: &Line, next: u64, other: u64) -> u64
         Line::Reply { .. } => 1,
         _ => 1 + next.max(other),
     };
-    bound.min(MOST_STEPS + 1)
+    bound.min(STEPS + 1)
 }
 
-/// The bound on the steps of a handler with these lines, where all from 100,001 on count as that.
+/// The bound on the steps of a handler with these lines, where all above the most count as one more.
 pub fn step_bound(alloc: Global, lines: &[Line]) -> Result<u64, AllocError>
     requires { length lines.now ≤ LINES }
     ensures { IfOk result (λ bound. bound ≡ capped (step_bound_of lines.now)) }

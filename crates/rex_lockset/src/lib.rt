@@ -30,7 +30,7 @@ mod leads;
 mod refusal;
 
 pub use answer::{CheckError, check};
-pub use bound::{MOST_STEPS, step_bound};
+pub use bound::step_bound;
 pub use laws::{refusals_are_exact, refusals_are_there};
 pub use leads::leads_from;
 pub use refusal::{Refused, refusal_of};

@@ -5,13 +5,13 @@ ghost use Rattle.rex_syntax.specs.Service.{IsService, IsHandler, LineNames};
 ghost use Rattle.rex_lockset.specs.Known.{noted, followed, at_start};
 ghost use Rattle.rex_lockset.specs.Refusal as spec;
 
-use crate::bound::{MOST_STEPS, step_bound};
+use crate::bound::step_bound;
 use crate::known::Known;
 use crate::leads::{leads_from, nowhere};
 use rex_syntax::flow::{CheckCode, Leads};
 use rex_syntax::line::Line;
 use rex_syntax::locks::Lockset;
-use rex_syntax::service::{Declarations, Handler, LINES, LOCALS};
+use rex_syntax::service::{Declarations, Handler, LINES, LOCALS, STEPS};
 use std::alloc::{AllocError, Global};
 
 /// What the check refuses: the number of a handler from 0, the number of a line in it from 0, or none where the handler
@@ -99,7 +99,7 @@ fn too_long(alloc: Global, number: u8, lines: &[Line]) -> Result<Option<Refused>
     requires { length lines.now ≤ LINES }
     ensures { IfOk result (λ refused. refused ≡ spec.too_long number lines.now) }
 {
-    if step_bound(alloc, lines)? <= MOST_STEPS {
+    if step_bound(alloc, lines)? <= STEPS {
         return Ok(None);
     }
     Ok(Some(Refused {

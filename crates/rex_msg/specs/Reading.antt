@@ -8,6 +8,7 @@ use Rattle.rex_wire.specs.Reading.{Left, Reading, ◌>>=◌, number_at, allowed_
 use Rattle.rex_msg.specs.declared.message.Content.{Content}
 use Rattle.rex_msg.specs.declared.message.Content.TheVariants.{Prepare, Promise, Accept, Accepted, Chosen, Nack, Ask, Snapshot}
 use Rattle.rex_msg.specs.declared.message.Message.{Message}
+use Rattle.rex_msg.specs.declared.limits.TheConstants.{GREATEST_FIRST}
 
 -- ---- which numbers are allowed
 
@@ -21,7 +22,7 @@ is_instance_from least n = nat_le least n && is_instance n
 
 -- an instance, or the number after the last one
 abbrev pub is_first : ℕ → Bool
-is_first n = is_between 1 65536 n
+is_first n = is_between 1 GREATEST_FIRST n
 
 -- ---- proposals
 

@@ -10,6 +10,7 @@ use Rattle.rex_wire.specs.Spelling.{byte, value_bytes}
 use Rattle.rex_msg.specs.declared.message.Content.{Content}
 use Rattle.rex_msg.specs.declared.message.Content.TheVariants.{Prepare, Promise, Accept, Accepted, Chosen, Nack, Ask, Snapshot}
 use Rattle.rex_msg.specs.declared.message.Message.{Message}
+use Rattle.rex_msg.specs.declared.limits.TheConstants.{GREATEST_FIRST}
 
 -- ---- spelling
 
@@ -47,7 +48,7 @@ spelling_of m = byte 1 ++ byte (kind_of m.content) ++ byte m.from ++ byte m.to +
 
 -- the first instance that is asked for is one that there can be, or the one after the last
 abbrev pub IsFirst : ℕ → Type 0
-IsFirst first = IsBetween 1 65536 first
+IsFirst first = IsBetween 1 GREATEST_FIRST first
 
 -- what a promise reports: proposals, rising by instance
 pub record AreReported (accepted : List Proposal) : Type 0 where

@@ -28,6 +28,7 @@ use Rattle.rex_node.specs.declared.step.Step.{Step}
 use Rattle.rex_log.specs.Messages.{message_in}
 use Rattle.rex_node.specs.Stated.{AreStated}
 use Rattle.rex_node.specs.Parts.{NodeValue, RunsShort, Stands, failed_records, here_of}
+use Rattle.rex_ballot.specs.declared.ballots.TheConstants.{INSTANCES, ROUNDS}
 
 -- ---- steps
 
@@ -119,7 +120,7 @@ refusal_active h = if_up h.up (if_active h.role None)
 
 -- of an election: no round is left
 abbrev pub refusal_of_elect : ℕ → Here → Option Refusal
-refusal_of_elect me h = if_up h.up (if nat_lt 4294967296 (round_of (ballot_above me (promise h.log))) then Some why.Spent else None)
+refusal_of_elect me h = if_up h.up (if nat_lt ROUNDS (round_of (ballot_above me (promise h.log))) then Some why.Spent else None)
 
 -- of a replay: there is nothing to replay
 abbrev pub refusal_of_replay : Here → Option Refusal
@@ -140,7 +141,7 @@ refusal_of_migrate h = if_up h.up (if has_old_base h.log then None else Some why
 -- of a cut, from a node's role and how many values it knows: a proposal is open, or no instance is left
 abbrev pub refusal_of_open : Option (Proposal Value) → ℕ → Option Refusal
 refusal_of_open (Some p) many = Some (why.Open p.instance)
-refusal_of_open None many = if nat_le 65535 many then Some why.Ended else None
+refusal_of_open None many = if nat_le INSTANCES many then Some why.Ended else None
 
 abbrev pub refusal_of_lead : Role Value → ℕ → Option Refusal
 refusal_of_lead Follower many = None

@@ -22,6 +22,7 @@ use Rattle.rex_node.specs.Calls.{AreLimits, CutIsSpelled}
 use Rattle.rex_node.specs.Going.{BreaksOff, Ends}
 use Rattle.rex_node.specs.Leading.{FromLead}
 use Rattle.rex_node.specs.Parts.{ActingValue, NodeValue, Stands, open_of}
+use Rattle.rex_ballot.specs.declared.ballots.TheConstants.{INSTANCES}
 
 -- the counts below which a cut is made: all live events, or at most so many of each lane
 abbrev pub counts_in : ActingValue → Option (List ℕ) → List ℕ
@@ -70,7 +71,7 @@ IsIdle acceptor (Some p) = open_of acceptor p.open_instance ≡ None
 pub record CanPropose {K : Type 0} (x : NodeValue K) (limits : Option (List ℕ)) (p : Piece) : Type 0 where
   pub up : x.up ≡ true
   pub idle : IsIdle x.acceptor x.proposer
-  pub left : length x.known < 65535
+  pub left : length x.known < INSTANCES
   pub piece : IsOwnPiece x.acting limits p
 
 -- so it is, below counts that it was given

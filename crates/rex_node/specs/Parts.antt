@@ -23,6 +23,7 @@ use Rattle.rex_cluster.specs.Node.{Lead, Role, Work, no_work}
 use Rattle.rex_cluster.specs.Node.Role.{Follower, Leads}
 use Rattle.rex_cluster.specs.Calls.{replayed_left}
 use Rattle.rex_event.specs.Cuts.{IsConsistent, IsWithin, below, beyond}
+use Rattle.rex_event.specs.declared.event.TheConstants.{CLIENTS, CLIENT_ENTRIES}
 use Rattle.rex_cluster.specs.Values.{Value, events_of, trace_of, values_fit, still_live}
 use Rattle.rex_cluster.specs.Ranges.{NodeFits}
 use Rattle.rex_cluster.specs.Invariant.{IsReplayed}
@@ -158,9 +159,9 @@ IsActing service values acceptor (Some p) (Some a) = ActsFor service values (ope
 
 -- what is known of the clients counts all that the node knows, and where a client's last reply is in a value past the offset it has that value's number
 pub record NumbersReplies (offset : ℕ) (values : List Value) (a : AnswersValue) : Type 0 where
-  pub clients : length a.numbers ≡ 257
+  pub clients : length a.numbers ≡ CLIENT_ENTRIES
   pub count : a.count ≡ length values
-  pub stamps : (client : ℕ) → client ≤ 256 → max (unwrap_or (stamp_of a client) 0) offset ≡ max (last_reply client 1 values) offset
+  pub stamps : (client : ℕ) → client ≤ CLIENTS → max (unwrap_or (stamp_of a client) 0) offset ≡ max (last_reply client 1 values) offset
 
 abbrev pub HasStamps : ℕ → List Value → Option ActingValue → Type 0
 HasStamps offset values None = Unit {0}

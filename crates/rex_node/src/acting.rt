@@ -19,7 +19,7 @@ use crate::step::Draft;
 use rand_pcg::Lcg64Xsh32;
 use rex_event::{Cut, Event};
 use rex_gate::{Answer, Answers};
-use rex_record::{Recorder, Release, Turn, events_below};
+use rex_record::{LIVE_EVENTS, Recorder, Release, Turn, events_below};
 use rex_report::Effect;
 use rex_state::state::State;
 use rex_syntax::checked::Checked;
@@ -48,7 +48,7 @@ impl Model for Acting {
 impl Acting {
     /// How many events are live.
     pub fn live(&self) -> u32
-        requires { length self.now.recorder.live ≤ 4096 }
+        requires { length self.now.recorder.live ≤ LIVE_EVENTS }
         ensures { result ≡ length self.now.recorder.live }
     {
         self.recorder.trace().len() as u32

@@ -25,7 +25,7 @@ use rex_event::{Event, Kind};
 use rex_list::List;
 use rex_log::Past;
 use rex_report::Effect;
-use rex_snapshot::{encode, encode_old};
+use rex_snapshot::{SNAPSHOT_BYTES, encode, encode_old};
 use rex_state::state::State;
 use rex_syntax::checked::Checked;
 use rex_syntax::version::Version;
@@ -64,7 +64,7 @@ fn snapshot_of(
     requires limited { IsLimited state.now }
     ensures spells { IfOk result (λ v. state_in svc.now v.items ≡ Ok state.now) }
     ensures version { IfOk result (λ v. version_in v.items ≡ version) }
-    ensures short { IfOk result (λ v. length v.items ≤ 65536) }
+    ensures short { IfOk result (λ v. length v.items ≤ SNAPSHOT_BYTES) }
 {
     match version {
         Version::One => encode_old(alloc, svc, state),
@@ -172,7 +172,7 @@ impl<K: Keeper> Node<K> {
         self.checkpoint_in::<P>(svc, Version::Two)
     }
 
-    /// The same in the old version, for a service of at most 16 lanes and 256 variables.
+    /// The same in the old version, for a service whose states have it.
     pub fn checkpoint_old<P: Past>(&mut self, svc: &Checked) -> Result<Step, Refusal>
         requires old { has_old_form svc.now ≡ true }
         requires node { IsNode K.records svc.now P.past self.old }

@@ -19,6 +19,7 @@ use crate::going::Going;
 use crate::node::Node;
 use crate::step::Draft;
 use crate::values::copied;
+use rex_ballot::{INSTANCES, TOLD_VALUES};
 use rex_durable::Rec;
 use rex_log::Past;
 use rex_msg::{Content, Message};
@@ -99,7 +100,7 @@ impl<K: Keeper> Node<K> {
         instance: u32,
         value: &[u8],
     ) -> Result<(), AllocError>
-        requires room { length (knows P.past self.old) < 65535 }
+        requires room { length (knows P.past self.old) < INSTANCES }
         ensures chosen { OnOk result (whole P.past self.new ≡ record (leaving (whole P.past self.old)) { known = knows P.past self.old ++ value.now ∷ [] }) }
         ensures told { OnOk result (Tells draft.old draft.new (effect.Known self.old.id instance ∷ followed self.old.id (role_of self.old.acceptor self.old.proposer (is_some self.old.acting)))) }
         ensures keeper { self.new.keeper ≡ self.old.keeper }
@@ -174,7 +175,7 @@ impl<K: Keeper> Node<K> {
         Ok(Going::On)
     }
 
-    // Tells another node of the chosen values from an instance on, of at most 64.
+    // Tells another node of the chosen values from an instance on, of as many as are told at once.
     fn tell_chosen<P: Past>(
         &self,
         svc: &Checked,
@@ -184,14 +185,14 @@ impl<K: Keeper> Node<K> {
     ) -> Result<(), AllocError>
         requires held { self.now.offset < first }
         requires first { first ≤ length (knows P.past self.now) }
-        requires few { length (knows P.past self.now) ≤ 65535 }
+        requires few { length (knows P.past self.now) ≤ INSTANCES }
         ensures effects { OnOk result (draft.new.effects.items ≡ draft.old.effects.items) }
-        ensures sends { OnOk result (map (message_in P.past) draft.new.sends.items ≡ map (message_in P.past) draft.old.sends.items ++ take 64 (calls.tell self.now.id to first 1 (knows P.past self.now))) }
+        ensures sends { OnOk result (map (message_in P.past) draft.new.sends.items ≡ map (message_in P.past) draft.old.sends.items ++ take TOLD_VALUES (calls.tell self.now.id to first 1 (knows P.past self.now))) }
         ensures tells { draft.old.sends.items ≡ [] → OnOk result (AreTold svc.now P.past draft.new.sends.items) }
     {
         let _service = svc.declarations();
         let skipped = first.saturating_sub(1);
-        let end = self.count::<P>().min(skipped + 64);
+        let end = self.count::<P>().min(skipped + TOLD_VALUES);
         for place in skipped..end {
             self.tell_one::<P>(draft, to, place)?;
         }
@@ -202,7 +203,7 @@ impl<K: Keeper> Node<K> {
     fn tell_one<P: Past>(&self, draft: &mut Draft, to: u8, place: u32) -> Result<(), AllocError>
         requires held { self.now.offset ≤ place }
         requires there { place < length (knows P.past self.now) }
-        requires few { length (knows P.past self.now) ≤ 65535 }
+        requires few { length (knows P.past self.now) ≤ INSTANCES }
         ensures { OnOk result (Sends draft.old draft.new (answering self.now.id to (sent.Chosen (place + 1) (slice_index_or (knows P.past self.now) place [])))) }
     {
         let instance = place + 1;

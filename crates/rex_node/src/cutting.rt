@@ -106,7 +106,7 @@ impl<K: Keeper> Node<K> {
         requires up { self.old.up ≡ true }
         requires active { IsSome self.old.acting }
         requires idle { IsIdle self.old.acceptor self.old.proposer }
-        requires left { length (knows P.past self.old) < 65535 }
+        requires left { length (knows P.past self.old) < INSTANCES }
         requires value { IsValue value.now }
         requires cut { IsOwnCut svc.now (whole P.past self.old) value.now }
         requires fits { values_fit svc.now (knows P.past self.old ++ value.now ∷ []) ≡ true }

@@ -20,7 +20,7 @@ use crate::going::Going;
 use crate::node::Node;
 use crate::refusal::Refusal;
 use crate::step::{Draft, Step};
-use rex_ballot::ballot_above;
+use rex_ballot::{INSTANCES, ballot_above};
 use rex_durable::Rec;
 use rex_log::Past;
 use rex_msg::Content;
@@ -100,7 +100,7 @@ impl<K: Keeper> Node<K> {
     fn candidate<P: Past>(&mut self, draft: &mut Draft, ballot: u64) -> Result<u64, AllocError>
         requires own { IsOwnBallot self.old.nodes ballot }
         requires id { IsOneOf self.old.nodes self.old.id }
-        requires known { length (knows P.past self.old) ≤ 65535 }
+        requires known { length (knows P.past self.old) ≤ INSTANCES }
         ensures stands { OnOk result (whole P.past self.new ≡ standing (whole P.past self.old) ballot) }
         ensures turns { IfOk result (λ turns. turns ≡ 2 * length (candidate_of (whole P.past self.old) ballot).reported + 3) }
         ensures effects { OnOk result (draft.new.effects.items ≡ draft.old.effects.items ++ effect.Candidate self.old.id ballot ∷ []) }

@@ -23,7 +23,7 @@ use crate::node::Node;
 use crate::step::Draft;
 use crate::values::{copied, events_in};
 use rand_pcg::Lcg64Xsh32;
-use rex_ballot::Value;
+use rex_ballot::{INSTANCES, Value};
 use rex_delta::check;
 use rex_durable::Rec;
 use rex_event::Cut;
@@ -184,7 +184,7 @@ impl<K: Keeper> Node<K> {
         value: &[u8],
     ) -> Result<(), AllocError>
         requires recorder { IfSome self.old.acting (CanSettle svc.now) }
-        requires room { length (knows P.past self.old) < 65535 }
+        requires room { length (knows P.past self.old) < INSTANCES }
         ensures knows { OnOk result (whole P.past self.new ≡ knowing svc.now (whole P.past self.old) instance value.now) }
         ensures effects { OnOk result (draft.new.effects.items ≡ draft.old.effects.items ++ effect.Known self.old.id instance ∷ releases_in self.old.acting) }
         ensures sends { OnOk result (map (message_in P.past) draft.new.sends.items ≡ map (message_in P.past) draft.old.sends.items ++ calls.others self.old.nodes self.old.id (content_in P.past (sent.Chosen instance value.now))) }

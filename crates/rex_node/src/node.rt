@@ -16,7 +16,7 @@ ghost use Rattle.rex_node.specs.Calls.{Refuses, LeadsTo, if_up, if_active, refus
 
 use crate::acting::Acting;
 use crate::refusal::Refusal;
-use rex_ballot::Proposal;
+use rex_ballot::{INSTANCES, Proposal};
 use rex_event::Event;
 use rex_gate::Answer;
 use rex_log::Past;
@@ -115,7 +115,7 @@ impl<K: Keeper> Node<K> {
     // The same, of all that it knows beside a past.
     pub(crate) fn count<P: Past>(&self) -> u32
         ensures known { result ≡ length (knows P.past self.now) }
-        ensures few { result ≤ 65535 }
+        ensures few { result ≤ INSTANCES }
     {
         self.known.known()
     }

@@ -11,8 +11,10 @@ ghost use Rattle.rex_node.specs.Telling as spec;
 use crate::acting::Acting;
 use crate::node::Node;
 use crate::replaying::ahead_of;
+use rex_event::CLIENTS;
 use rex_log::Past;
 use rex_reads::{Read, Seen, admitted};
+use rex_record::LIVE_EVENTS;
 use rex_state::state::State;
 use rex_syntax::checked::Checked;
 use rex_traits::Keeper;
@@ -34,7 +36,7 @@ impl<K: Keeper> Node<K> {
 
     /// How many events are live.
     pub fn live(&self) -> u32
-        requires { length (work_of self.now.acting).live ≤ 4096 }
+        requires { length (work_of self.now.acting).live ≤ LIVE_EVENTS }
         ensures { result ≡ length (work_of self.now.acting).live }
     {
         match &self.acting {
@@ -82,7 +84,7 @@ impl<K: Keeper> Node<K> {
     /// where that is greater. It takes no memory.
     pub fn stamp<P: Past>(&self, svc: &Checked, client: u16) -> u32
         requires node { IsNode K.records svc.now P.past self.now }
-        requires client { client ≤ 256 }
+        requires client { client ≤ CLIENTS }
         ensures active { self.now.up ≡ true → is_active (here_of K.records svc.now P.past self.now).role ≡ true → result ≡ stamp_at (here_of K.records svc.now P.past self.now) client }
         ensures idle { self.now.acting ≡ None → result ≡ self.now.offset }
     {

@@ -15,6 +15,7 @@ use Rattle.rex_syntax.specs.declared.service.Handler.{Handler}
 use Rattle.rex_syntax.specs.declared.service.Declarations.{Declarations}
 use Rattle.rex_event.specs.Limits.{most_lanes}
 use Rattle.rex_syntax.specs.Limits.{most_first}
+use Rattle.rex_syntax.specs.declared.service.TheConstants.{TURNS}
 use Rattle.rex_parse.specs.Above.{meaning_of, is_local, local_place}
 use Rattle.rex_parse.specs.Table.{form_of, count_of, begins_number, operator_of}
 use Rattle.rex_parse.specs.declared.language.Above.{Above}
@@ -192,7 +193,7 @@ after_form a number form.Random (w ∷ ws) = with_line (with_local a w) number (
 after_form a number form.If ws = with_open a (opening block.Then number (line.If (expr_of a ws) 0))
 after_form a number form.Else [] = with_open a (dividing block.Otherwise number (line.Else 0))
 after_form a number form.EndIf [] = with_open a (closing 0 number line.EndIf)
-after_form a number form.Repeat (w ∷ ws) = with_open a (opening block.Loop number (line.Repeat (unwrap_or (count_of 1 1000 w) 0) 0))
+after_form a number form.Repeat (w ∷ ws) = with_open a (opening block.Loop number (line.Repeat (unwrap_or (count_of 1 TURNS w) 0) 0))
 after_form a number form.EndRepeat [] = with_open a (closing 1 number line.EndRepeat)
 after_form a number form.Reply ws = closed (with_line a number (line.Reply (expr_of a ws)))
 after_form a number _ ws = a

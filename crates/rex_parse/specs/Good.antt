@@ -9,6 +9,8 @@ use Rattle.rex_syntax.specs.declared.service.Condition.{Condition}
 use Rattle.rex_syntax.specs.declared.service.Variable.{Variable}
 use Rattle.rex_syntax.specs.declared.service.Declarations.{Declarations}
 use Rattle.rex_syntax.specs.Service.{IsLock, LineNames, IsHandler}
+use Rattle.rex_syntax.specs.declared.locks.TheConstants.{LOCKS}
+use Rattle.rex_syntax.specs.declared.service.TheConstants.{SEMAPHORES, CONDITIONS, HANDLERS, LINES, LOCALS, PARAMETERS}
 use Rattle.rex_parse.specs.Above.{nothing}
 use Rattle.rex_parse.specs.After.{service_of}
 use Rattle.rex_parse.specs.Growing.{IsGrowing}
@@ -28,10 +30,10 @@ MeaningFits a (meaning.Handler n) = n ≤ length a.handlers
 
 -- an open handler with so many locals: there is room for it, its lines are few and lead on save where blocks are open, and what they name is there
 pub record IsOpen (service : Declarations) (locals : ℕ) (h : OpenHandler) : Type 0 where
-  pub room : length service.handlers < 64
-  pub parameters : h.parameters ≤ 4
+  pub room : length service.handlers < HANDLERS
+  pub parameters : h.parameters ≤ PARAMETERS
   pub fewer : h.parameters ≤ locals
-  pub short : length h.lines ≤ 256
+  pub short : length h.lines ≤ LINES
   pub numbered : length h.line_numbers ≡ length h.lines
   pub growing : IsGrowing h.lines h.blocks
   pub names : All (LineNames service locals) h.lines
@@ -39,12 +41,12 @@ pub record IsOpen (service : Declarations) (locals : ℕ) (h : OpenHandler) : Ty
 -- nothing is declared, or `lanes` came first; counts are within their limits, names stand for what is there, and each handler is one
 pub record IsGood (a : Above) : Type 0 where
   pub begun : MatchOption a.lanes (a ≡ nothing) (λ n. (0 < n) × (n ≤ most_lanes))
-  pub locks : length a.locks ≤ 64
-  pub few_semaphores : length a.semaphores ≤ 64
-  pub few_conditions : length a.conditions ≤ 64
+  pub locks : length a.locks ≤ LOCKS
+  pub few_semaphores : length a.semaphores ≤ SEMAPHORES
+  pub few_conditions : length a.conditions ≤ CONDITIONS
   pub few_variables : length a.variables ≤ most_variables
-  pub few_handlers : length a.handlers ≤ 64
-  pub locals : length a.locals ≤ 16
+  pub few_handlers : length a.handlers ≤ HANDLERS
+  pub locals : length a.locals ≤ LOCALS
   pub names : All (λ (e : Entry). MeaningFits a e.meaning) a.names
   pub semaphores : All (λ (x : Semaphore). x.first ≤ most_first) a.semaphores
   pub conditions : All (λ (c : Condition). IsLock (service_of a) Plain c.lock) a.conditions

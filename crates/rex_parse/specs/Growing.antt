@@ -5,6 +5,7 @@ use Rattle.rex_syntax.specs.declared.line.Line.{Line}
 use Rattle.rex_syntax.specs.declared.line.Line.TheVariants.{Try, Busy, If, Else, Repeat}
 use Rattle.rex_syntax.specs.Blocks.{Block, Then, Otherwise, Got, Missed, Loop, blocks_after, is_reply_line}
 use Rattle.rex_syntax.specs.Shape.{open_at, LeadsOn, HasBranches}
+use Rattle.rex_syntax.specs.declared.service.TheConstants.{LOOPS}
 use Rattle.rex_parse.specs.declared.blocks.BlockKind.{BlockKind}
 use Rattle.rex_parse.specs.declared.blocks.BlockKind.TheVariants as block
 use Rattle.rex_parse.specs.declared.blocks.OpenBlock.{OpenBlock}
@@ -64,11 +65,11 @@ AreBegun lines bound (b ∷ others) = IsBegun lines bound b others × AreBegun l
 abbrev pub is_begin : List OpenBlock → ℕ → Bool
 is_begin blocks place = list_any (λ (b : OpenBlock). eqb b.line place) blocks
 
--- lines after which these blocks are open, at most four loops among them: whichever line comes next, all others than those that began these blocks lead on
+-- lines after which these blocks are open, no more loops among them than may be open: whichever line comes next, all others than those that began these blocks lead on
 pub record IsGrowing (lines : List Line) (blocks : List OpenBlock) : Type 0 where
   pub matched : blocks_from (Some []) lines ≡ Some (kinds_of blocks)
   pub loops : open_at lines (length lines) ≡ loops_of blocks
-  pub few : length (loops_of blocks) ≤ 4
+  pub few : length (loops_of blocks) ≤ LOOPS
   pub begun : AreBegun lines (length lines) blocks
   pub lead : (next : Line) (place : ℕ) (line : Line) → slice_get lines place ≡ Some line → is_begin blocks place ≡ false → LeadsOn (lines ++ next ∷ []) place line
   pub branches : HasBranches lines

@@ -11,6 +11,8 @@ use Rattle.rex_syntax.specs.declared.service.LockKind.{LockKind}
 use Rattle.rex_syntax.specs.declared.service.LockKind.TheVariants.{Plain, ReadersWriter}
 use Rattle.rex_event.specs.Limits.{most_lanes}
 use Rattle.rex_syntax.specs.Limits.{most_variables, most_first}
+use Rattle.rex_syntax.specs.declared.locks.TheConstants.{LOCKS}
+use Rattle.rex_syntax.specs.declared.service.TheConstants.{SEMAPHORES, CONDITIONS, HANDLERS, LINES, LOCALS, TURNS, PARAMETERS, LOOPS}
 use Rattle.rex_parse.specs.Words.{is_name, is_digit, least, fits}
 use Rattle.rex_parse.specs.Above.{meaning_of, is_declared, is_local, is_open, blocks_of, innermost}
 use Rattle.rex_parse.specs.declared.language.Above.{Above}
@@ -24,6 +26,7 @@ use Rattle.rex_parse.specs.declared.language.Form.{Form}
 use Rattle.rex_parse.specs.declared.language.Form.TheVariants as form
 use Rattle.rex_parse.specs.declared.language.Meaning.{Meaning}
 use Rattle.rex_parse.specs.declared.language.Meaning.TheVariants as meaning
+use Rattle.rex_parse.specs.declared.codes.TheConstants.{EXPRESSION_WORDS}
 
 -- the first words of lines
 abbrev pub forms : List (Word × Form)
@@ -77,7 +80,7 @@ pub data Slot : Type 0 where
   Number : Slot
   -- a name that the line declares
   New : Slot
-  -- a handler's name and at most four parameters, to the end of the line
+  -- a handler's name and its parameters, to the end of the line
   Heading : Slot
   -- a lock of either kind
   LockName : Slot
@@ -121,7 +124,7 @@ slots form.Random = LocalName ∷ []
 slots form.If = Expression ∷ []
 slots form.Else = []
 slots form.EndIf = []
-slots form.Repeat = Count 1 1000 ∷ []
+slots form.Repeat = Count 1 TURNS ∷ []
 slots form.EndRepeat = []
 slots form.Reply = Expression ∷ []
 
@@ -131,7 +134,7 @@ is_misshapen [] [] = false
 is_misshapen [] (w ∷ ws) = true
 is_misshapen (s ∷ ss) [] = true
 is_misshapen (Expression ∷ ss) (w ∷ ws) = false
-is_misshapen (Heading ∷ ss) (w ∷ ws) = nat_lt 4 (length ws)
+is_misshapen (Heading ∷ ss) (w ∷ ws) = nat_lt PARAMETERS (length ws)
 is_misshapen (Fixed f ∷ ss) (w ∷ ws) = not (bytes_eq w f) || is_misshapen ss ws
 is_misshapen (Count lo hi ∷ ss) (w ∷ ws) = is_misshapen ss ws
 is_misshapen (Number ∷ ss) (w ∷ ws) = is_misshapen ss ws
@@ -289,9 +292,9 @@ expr_code a [] = Some BadExpression
 expr_code a (w ∷ []) = operand_code a w
 expr_code a (w ∷ o ∷ ws) = least (least (operand_code a w) (operator_code o)) (expr_code a ws)
 
--- the same with at most eight operands
+-- the same with no more operands than there may be
 abbrev pub whole_expr_code : Above → List Word → Option ServiceCode
-whole_expr_code a ws = least (fits (nat_lt 15 (length ws)) BadExpression) (expr_code a ws)
+whole_expr_code a ws = least (fits (nat_lt EXPRESSION_WORDS (length ws)) BadExpression) (expr_code a ws)
 
 -- the least code that fits at a place
 abbrev pub slot_code : Above → Slot → Word → List Word → Option ServiceCode
@@ -319,14 +322,14 @@ abbrev pub lines_of_open : Option OpenHandler → ℕ
 lines_of_open None = 0
 lines_of_open (Some h) = length h.lines
 
--- a line of a handler past its 256th
+-- a line of a handler past its last
 abbrev pub full_code : Above → Option ServiceCode
-full_code a = fits (nat_le 256 (lines_of_open a.open_handler)) TooMany
+full_code a = fits (nat_le LINES (lines_of_open a.open_handler)) TooMany
 
--- a local past the 16th
+-- a local past the last
 abbrev pub locals_code : Above → List Word → Option ServiceCode
 locals_code a [] = None
-locals_code a (w ∷ ws) = fits (not (is_local a w) && nat_le 16 (length a.locals)) TooMany
+locals_code a (w ∷ ws) = fits (not (is_local a w) && nat_le LOCALS (length a.locals)) TooMany
 
 -- a block of this kind is a loop
 abbrev pub is_loop_kind : BlockKind → Bool
@@ -337,9 +340,9 @@ is_loop_kind _ = false
 abbrev pub is_loop : OpenBlock → Bool
 is_loop b = is_loop_kind b.kind
 
--- a `repeat` inside four open ones
+-- a `repeat` inside as many open ones as there may be
 abbrev pub loops_code : Above → Option ServiceCode
-loops_code a = fits (nat_le 4 (count_by is_loop (blocks_of a))) TooDeep
+loops_code a = fits (nat_le LOOPS (count_by is_loop (blocks_of a))) TooDeep
 
 -- a `reply` inside an open block
 abbrev pub inside_code : Above → Option ServiceCode
@@ -348,12 +351,12 @@ inside_code a = fits (is_some (innermost a)) ReplyInBlock
 -- a limit on counts is passed, or a `reply` stands inside a block
 abbrev pub limit_code : Above → Form → List Word → Option ServiceCode
 limit_code a form.Lanes ws = None
-limit_code a form.Lock ws = fits (nat_le 64 (length a.locks)) TooMany
-limit_code a form.RwLock ws = fits (nat_le 64 (length a.locks)) TooMany
-limit_code a form.Sem ws = fits (nat_le 64 (length a.semaphores)) TooMany
-limit_code a form.Cond ws = fits (nat_le 64 (length a.conditions)) TooMany
+limit_code a form.Lock ws = fits (nat_le LOCKS (length a.locks)) TooMany
+limit_code a form.RwLock ws = fits (nat_le LOCKS (length a.locks)) TooMany
+limit_code a form.Sem ws = fits (nat_le SEMAPHORES (length a.semaphores)) TooMany
+limit_code a form.Cond ws = fits (nat_le CONDITIONS (length a.conditions)) TooMany
 limit_code a form.Var ws = fits (nat_le most_variables (length a.variables)) TooMany
-limit_code a form.Handler ws = fits (nat_le 64 (length a.handlers)) TooMany
+limit_code a form.Handler ws = fits (nat_le HANDLERS (length a.handlers)) TooMany
 limit_code a form.Let ws = least (locals_code a ws) (full_code a)
 limit_code a form.Clock ws = least (locals_code a ws) (full_code a)
 limit_code a form.Random ws = least (locals_code a ws) (full_code a)

@@ -5,6 +5,7 @@ use Rattle.std.specs.Str.{bytes_eq}
 use Rattle.rex_text.specs.Text.{Word}
 use Rattle.rex_parse.specs.declared.language.ServiceCode.{ServiceCode}
 use Rattle.rex_parse.specs.declared.language.ServiceCode.TheVariants.{BadByte, Misplaced, BadForm, NoName, NoNumber, BadExpression, Undeclared, WrongKind, Taken, TooDeep, TooMany, LanesFirst, ReplyInBlock, Unended}
+use Rattle.rex_syntax.specs.declared.service.TheConstants.{NAME_BYTES}
 
 -- an ASCII letter
 abbrev pub is_letter : ℕ → Bool
@@ -34,9 +35,9 @@ reserved =
 abbrev pub is_reserved : Word → Bool
 is_reserved w = list_any (λ r. bytes_eq r w) reserved
 
--- a letter, then letters, digits and `_`, at most 32 characters, and no word of the language
+-- a letter, then letters, digits and `_`, not too many, and no word of the language
 unfoldable pub is_name : Word → Bool
-is_name w = begins_letter w && (list_all is_name_byte w && (nat_le (length w) 32 && not (is_reserved w)))
+is_name w = begins_letter w && (list_all is_name_byte w && (nat_le (length w) NAME_BYTES && not (is_reserved w)))
 
 -- the number of a code
 abbrev pub rank : ServiceCode → ℕ

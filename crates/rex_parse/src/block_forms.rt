@@ -8,7 +8,7 @@ ghost use Rattle.rex_parse.specs.Answers.{texts};
 use crate::codes::count_code;
 use crate::language::{Above, Form, ServiceCode};
 use crate::least::least;
-use rex_syntax::service::LockKind;
+use rex_syntax::service::{LockKind, TURNS};
 
 impl Above {
     // `try LOCK`
@@ -60,7 +60,7 @@ impl Above {
         };
         let limits = least(self.loops_code(), self.full_code());
         least(
-            count_code(1, 1000, turns),
+            count_code(1, TURNS as u64, turns),
             least(limits, self.order_code(Form::Repeat)),
         )
     }

@@ -11,6 +11,7 @@ use crate::exprs::ReadExpr;
 use crate::language::{Above, Fault, Form};
 use crate::words::turns_of;
 use rex_syntax::line::Line;
+use rex_syntax::service::LOCALS;
 use std::alloc::Global;
 
 impl Above {
@@ -77,10 +78,10 @@ impl Above {
         number: u32,
         words: &[&[u8]],
     ) -> Result<(), Fault>
-        requires { length self.old.locals ≤ 16 }
+        requires { length self.old.locals ≤ LOCALS }
         ensures takes { Takes result (form_code self.old form.If (texts words.now))
             (after_form self.old number form.If (texts words.now)) self.new }
-        ensures locals { length self.new.locals ≤ 16 }
+        ensures locals { length self.new.locals ≤ LOCALS }
     {
         let ReadExpr { code, expr } = self.read_expr(alloc, words)?;
         if let Some(code) = self.if_code(words, code) {
@@ -177,10 +178,10 @@ impl Above {
         number: u32,
         words: &[&[u8]],
     ) -> Result<(), Fault>
-        requires { length self.old.locals ≤ 16 }
+        requires { length self.old.locals ≤ LOCALS }
         ensures takes { Takes result (form_code self.old form.Reply (texts words.now))
             (after_form self.old number form.Reply (texts words.now)) self.new }
-        ensures locals { length self.new.locals ≤ 16 }
+        ensures locals { length self.new.locals ≤ LOCALS }
     {
         let ReadExpr { code, expr } = self.read_expr(alloc, words)?;
         if let Some(code) = self.reply_code(words, code) {

@@ -8,8 +8,11 @@ ghost use Rattle.rex_parse.specs.Answers.{texts};
 use crate::language::{Above, Form, Meaning, ServiceCode};
 use crate::least::{fits, least};
 use crate::words::{begins_number, count_of, is_among, is_name, operator_of};
-use rex_syntax::service::LockKind;
+use rex_syntax::service::{LINES, LOOPS, LockKind, OPERANDS};
 use rex_text::read_i64;
+
+/// The most words of an expression: its operands, and an operator between each two.
+pub(crate) const EXPRESSION_WORDS: usize = 2 * OPERANDS - 1;
 
 impl Above {
     /// Of a name that a line declares.
@@ -189,7 +192,7 @@ impl Above {
     pub(crate) fn whole_expr_code(&self, words: &[&[u8]]) -> Option<ServiceCode>
         ensures { result ≡ table.whole_expr_code self.now (texts words.now) }
     {
-        let too_long = fits(words.len() > 15, ServiceCode::BadExpression);
+        let too_long = fits(words.len() > EXPRESSION_WORDS, ServiceCode::BadExpression);
         least(too_long, self.expr_code(words))
     }
 
@@ -203,11 +206,11 @@ impl Above {
         fits(is_wrong, ServiceCode::LanesFirst)
     }
 
-    /// Of a line of a handler past its 256th.
+    /// Of a line of a handler past its last.
     pub(crate) fn full_code(&self) -> Option<ServiceCode>
         ensures { result ≡ table.full_code self.now }
     {
-        fits(self.open_line_count() >= 256, ServiceCode::TooMany)
+        fits(self.open_line_count() >= LINES, ServiceCode::TooMany)
     }
 
     fn open_line_count(&self) -> usize
@@ -219,11 +222,11 @@ impl Above {
         }
     }
 
-    /// Of a `repeat` inside four.
+    /// Of a `repeat` inside as many as there may be.
     pub(crate) fn loops_code(&self) -> Option<ServiceCode>
         ensures { result ≡ table.loops_code self.now }
     {
-        fits(self.open_loop_count() >= 4, ServiceCode::TooDeep)
+        fits(self.open_loop_count() >= LOOPS, ServiceCode::TooDeep)
     }
 
     fn open_loop_count(&self) -> usize

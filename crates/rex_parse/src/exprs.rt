@@ -11,12 +11,13 @@ ghost use Rattle.rex_parse.specs.Answers.{texts};
 ghost use Rattle.rex_parse.specs.Words.{is_name};
 ghost use Rattle.rex_parse.specs.declared.language.ServiceCode.TheVariants as refused;
 
-use crate::codes::{operator_code, variable_kind_code};
+use crate::codes::{EXPRESSION_WORDS, operator_code, variable_kind_code};
 use crate::language::{Above, Meaning, ServiceCode};
 use crate::least::{fits, least};
 use crate::words::{begins_number, is_name, operator_of};
 use rex_list::List;
 use rex_syntax::expr::{Expr, Operand, Operator, Term};
+use rex_syntax::service::LOCALS;
 use rex_text::read_i64;
 use std::alloc::{AllocError, Global};
 
@@ -60,11 +61,11 @@ impl Above {
 
     /// The expression that words spell, with the least code that fits them. Each word is looked up once.
     pub(crate) fn read_expr(&self, alloc: Global, words: &[&[u8]]) -> Result<ReadExpr, AllocError>
-        requires { length self.now.locals ≤ 16 }
+        requires { length self.now.locals ≤ LOCALS }
         ensures code { IfOk result (λ r. r.code ≡ table.whole_expr_code self.now (texts words.now)) }
         ensures expr { IfOk result (λ r. r.code ≡ None → r.expr ≡ after.expr_of self.now (texts words.now)) }
     {
-        if words.len() > 15 {
+        if words.len() > EXPRESSION_WORDS {
             let code = self.whole_expr_code(words);
             return Ok(ReadExpr {
                 code,
@@ -76,8 +77,8 @@ impl Above {
 
     // No more words than an expression may have.
     fn read_short_expr(&self, alloc: Global, words: &[&[u8]]) -> Result<ReadExpr, AllocError>
-        requires few { length self.now.locals ≤ 16 }
-        requires short { length words.now ≤ 15 }
+        requires few { length self.now.locals ≤ LOCALS }
+        requires short { length words.now ≤ EXPRESSION_WORDS }
         ensures code { IfOk result (λ r. r.code ≡ table.whole_expr_code self.now (texts words.now)) }
         ensures expr { IfOk result (λ r. r.expr ≡ after.expr_of self.now (texts words.now)) }
     {
@@ -100,7 +101,7 @@ impl Above {
 
     // An operator and the operand after it, and so on.
     fn read_terms(&self, alloc: Global, words: &[&[u8]]) -> Result<ReadTerms, AllocError>
-        requires { length self.now.locals ≤ 16 }
+        requires { length self.now.locals ≤ LOCALS }
         ensures code { IfOk result (λ r. r.code ≡ following.rest_code self.now (texts words.now)) }
         ensures terms { IfOk result (λ r. r.terms ≡ after.terms_of self.now (texts words.now)) }
     {
@@ -136,7 +137,7 @@ impl Above {
 
     #[tactic(auto, unfolding(crate::specs::Table::number_code))]
     fn read_operand(&self, word: &[u8]) -> ReadOperand
-        requires { length self.now.locals ≤ 16 }
+        requires { length self.now.locals ≤ LOCALS }
         ensures code { result.code ≡ table.operand_code self.now word.now }
         ensures operand { result.operand ≡ after.operand_of self.now word.now }
     {

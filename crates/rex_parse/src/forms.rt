@@ -8,7 +8,8 @@ ghost use Rattle.rex_parse.specs.Answers.{texts};
 use crate::codes::{count_code, number_code};
 use crate::language::{Above, Form, ServiceCode};
 use crate::least::{fits, least};
-use rex_syntax::service::{LANES, LockKind, MOST_FIRST, SEMAPHORES, VARIABLES};
+use rex_syntax::locks::LOCKS;
+use rex_syntax::service::{CONDITIONS, HANDLERS, LANES, LockKind, MOST_FIRST, PARAMETERS, SEMAPHORES, VARIABLES};
 
 impl Above {
     // `lanes N`
@@ -37,7 +38,7 @@ impl Above {
         let [name] = words else {
             return Some(ServiceCode::BadForm);
         };
-        let full = fits(self.locks.len() >= 64, ServiceCode::TooMany);
+        let full = fits(self.locks.len() >= LOCKS, ServiceCode::TooMany);
         least(
             self.new_code(name),
             least(full, self.order_code(Form::Lock)),
@@ -78,7 +79,7 @@ impl Above {
         if *on != b"on".as_slice() {
             return Some(ServiceCode::BadForm);
         }
-        let full = fits(self.conditions.len() >= 64, ServiceCode::TooMany);
+        let full = fits(self.conditions.len() >= CONDITIONS, ServiceCode::TooMany);
         let lock = self.lock_of_code(LockKind::Plain, lock);
         least(
             least(self.new_code(name), lock),
@@ -117,10 +118,10 @@ impl Above {
         let [_, parameters @ ..] = words else {
             return Some(ServiceCode::BadForm);
         };
-        if parameters.len() > 4 {
+        if parameters.len() > PARAMETERS {
             return Some(ServiceCode::BadForm);
         }
-        let full = fits(self.handlers.len() >= 64, ServiceCode::TooMany);
+        let full = fits(self.handlers.len() >= HANDLERS, ServiceCode::TooMany);
         least(
             self.heading_code(words),
             least(full, self.order_code(Form::Handler)),

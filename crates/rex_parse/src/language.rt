@@ -28,7 +28,7 @@ pub enum ServiceCode {
     WrongKind,
     /// P9: a name that a line declares is taken already.
     Taken,
-    /// P10: a fifth `repeat` inside four.
+    /// P10: a `repeat` inside as many as there may be.
     TooDeep,
     /// P11: a count limit is passed.
     TooMany,

@@ -7,7 +7,7 @@ ghost use Rattle.rex_parse.specs.Answers.{texts};
 
 use crate::language::{Above, Form, ServiceCode};
 use crate::least::{fits, least};
-use rex_syntax::service::LockKind;
+use rex_syntax::service::{LOCALS, LockKind};
 
 impl Above {
     // `acquire LOCK`, `release LOCK`
@@ -143,12 +143,12 @@ impl Above {
         )
     }
 
-    // A local past the 16th.
+    // A local past the last.
     fn new_local_code(&self, word: &[u8]) -> Option<ServiceCode>
         ensures { result ≡ table.locals_code self.now (word.now ∷ []) }
     {
         let is_new = !self.is_local(word);
-        fits(is_new && self.locals.len() >= 16, ServiceCode::TooMany)
+        fits(is_new && self.locals.len() >= LOCALS, ServiceCode::TooMany)
     }
 
     // `clock LOCAL`, `random LOCAL`

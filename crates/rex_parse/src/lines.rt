@@ -10,7 +10,7 @@ use crate::exprs::ReadExpr;
 use crate::language::{Above, Fault};
 use crate::words::{count_of, first_of};
 use rex_syntax::line::Line;
-use rex_syntax::service::{LANES, LockKind};
+use rex_syntax::service::{LANES, LOCALS, LockKind};
 use rex_text::read_i64;
 use std::alloc::Global;
 
@@ -150,10 +150,10 @@ impl Above {
         number: u32,
         words: &[&[u8]],
     ) -> Result<(), Fault>
-        requires { length self.old.locals ≤ 16 }
+        requires { length self.old.locals ≤ LOCALS }
         ensures takes { Takes result (form_code self.old form.Handler (texts words.now))
             (after_form self.old number form.Handler (texts words.now)) self.new }
-        ensures locals { length self.new.locals ≤ 16 }
+        ensures locals { length self.new.locals ≤ LOCALS }
     {
         if let Some(code) = self.handler_code(words) {
             return Err(Fault::Refused(code));
@@ -219,10 +219,10 @@ impl Above {
         number: u32,
         words: &[&[u8]],
     ) -> Result<(), Fault>
-        requires { length self.old.locals ≤ 16 }
+        requires { length self.old.locals ≤ LOCALS }
         ensures takes { Takes result (form_code self.old form.Wait (texts words.now))
             (after_form self.old number form.Wait (texts words.now)) self.new }
-        ensures locals { length self.new.locals ≤ 16 }
+        ensures locals { length self.new.locals ≤ LOCALS }
     {
         let ReadExpr { code, expr } = self.read_expr(alloc, after_two(words))?;
         if let Some(code) = self.wait_code(words, code) {
@@ -310,10 +310,10 @@ impl Above {
         number: u32,
         words: &[&[u8]],
     ) -> Result<(), Fault>
-        requires { length self.old.locals ≤ 16 }
+        requires { length self.old.locals ≤ LOCALS }
         ensures takes { Takes result (form_code self.old form.Set (texts words.now))
             (after_form self.old number form.Set (texts words.now)) self.new }
-        ensures locals { length self.new.locals ≤ 16 }
+        ensures locals { length self.new.locals ≤ LOCALS }
     {
         let ReadExpr { code, expr } = self.read_expr(alloc, after_two(words))?;
         if let Some(code) = self.set_code(words, code) {
@@ -337,10 +337,10 @@ impl Above {
         number: u32,
         words: &[&[u8]],
     ) -> Result<(), Fault>
-        requires { length self.old.locals ≤ 16 }
+        requires { length self.old.locals ≤ LOCALS }
         ensures takes { Takes result (form_code self.old form.Let (texts words.now))
             (after_form self.old number form.Let (texts words.now)) self.new }
-        ensures locals { length self.new.locals ≤ 16 }
+        ensures locals { length self.new.locals ≤ LOCALS }
     {
         let ReadExpr { code, expr } = self.read_expr(alloc, after_two(words))?;
         if let Some(code) = self.let_code(words, code) {
@@ -361,10 +361,10 @@ impl Above {
         number: u32,
         words: &[&[u8]],
     ) -> Result<(), Fault>
-        requires { length self.old.locals ≤ 16 }
+        requires { length self.old.locals ≤ LOCALS }
         ensures takes { Takes result (form_code self.old form.Clock (texts words.now))
             (after_form self.old number form.Clock (texts words.now)) self.new }
-        ensures locals { length self.new.locals ≤ 16 }
+        ensures locals { length self.new.locals ≤ LOCALS }
     {
         if let Some(code) = self.clock_code(words) {
             return Err(Fault::Refused(code));
@@ -384,10 +384,10 @@ impl Above {
         number: u32,
         words: &[&[u8]],
     ) -> Result<(), Fault>
-        requires { length self.old.locals ≤ 16 }
+        requires { length self.old.locals ≤ LOCALS }
         ensures takes { Takes result (form_code self.old form.Random (texts words.now))
             (after_form self.old number form.Random (texts words.now)) self.new }
-        ensures locals { length self.new.locals ≤ 16 }
+        ensures locals { length self.new.locals ≤ LOCALS }
     {
         if let Some(code) = self.clock_code(words) {
             return Err(Fault::Refused(code));

@@ -15,7 +15,7 @@ use crate::language::{Above, Fault, Form, ServiceCode};
 use crate::name_table::NameTable;
 use crate::words::form_of;
 use rex_list::List;
-use rex_syntax::service::{Declarations, Service};
+use rex_syntax::service::{Declarations, LOCALS, Service};
 use rex_text::words;
 use std::alloc::{AllocError, Global};
 use std::marker::Model;
@@ -39,9 +39,9 @@ impl Above {
 
     // A line that isn't skipped.
     fn word_line(&mut self, alloc: Global, number: u32, words: &[&[u8]]) -> Result<(), Fault>
-        requires { length self.old.locals ≤ 16 }
+        requires { length self.old.locals ≤ LOCALS }
         ensures takes { Takes result (line_code self.old (texts words.now)) (after self.old number (texts words.now)) self.new }
-        ensures locals { length self.new.locals ≤ 16 }
+        ensures locals { length self.new.locals ≤ LOCALS }
     {
         let [first, rest @ ..] = words else {
             return Ok(());
@@ -81,9 +81,9 @@ impl Above {
 
     // A line as it stands.
     fn raw_line(&mut self, alloc: Global, number: u32, line: &[u8]) -> Result<(), Fault>
-        requires { length self.old.locals ≤ 16 }
+        requires { length self.old.locals ≤ LOCALS }
         ensures takes { Takes result (raw_code self.old line.now) (raw_after self.old number line.now) self.new }
-        ensures locals { length self.new.locals ≤ 16 }
+        ensures locals { length self.new.locals ≤ LOCALS }
     {
         if !is_allowed(line) {
             return Err(Fault::Refused(ServiceCode::BadByte));
@@ -170,12 +170,13 @@ pub struct Parser {
 impl Model for Parser {
     ghost use Rattle.std.specs.Prelude.{◌≤◌, length};
     ghost use Rattle.rex_parse.specs.declared.language.Above.{Above};
+    ghost use Rattle.rex_syntax.specs.declared.service.TheConstants.{LOCALS};
 
     ghost Value = { Above };
 
     ghost view = { λ p. p.above };
 
-    ghost invariant = { λ p. length p.above.locals ≤ 16 };
+    ghost invariant = { λ p. length p.above.locals ≤ LOCALS };
 }
 
 ghost use Rattle.std.specs.Prelude.{OnOk};

@@ -11,7 +11,8 @@ use crate::copying::{own_word, own_words};
 use crate::language::{Above, Meaning, OpenHandler};
 use rex_list::List;
 use rex_syntax::line::Line;
-use rex_syntax::service::{Condition, Handler, Lock, LockKind, Semaphore, Variable};
+use rex_syntax::locks::LOCKS;
+use rex_syntax::service::{CONDITIONS, Condition, HANDLERS, Handler, LOCALS, Lock, LockKind, PARAMETERS, SEMAPHORES, Semaphore, Variable};
 use std::alloc::{AllocError, Global};
 
 impl OpenHandler {
@@ -49,7 +50,7 @@ impl Above {
         kind: LockKind,
         name: &[u8],
     ) -> Result<(), AllocError>
-        requires room { length self.old.locks < 64 }
+        requires room { length self.old.locks < LOCKS }
         requires new { table.new_code self.old name.now ≡ None }
         ensures taken { OnOk result (self.new ≡ after.with_lock self.old kind name.now) }
         ensures locals { self.new.locals ≡ self.old.locals }
@@ -69,7 +70,7 @@ impl Above {
         name: &[u8],
         first: u32,
     ) -> Result<(), AllocError>
-        requires room { length self.old.semaphores < 64 }
+        requires room { length self.old.semaphores < SEMAPHORES }
         requires new { table.new_code self.old name.now ≡ None }
         ensures taken { OnOk result (self.new ≡ after.with_semaphore self.old name.now first) }
         ensures locals { self.new.locals ≡ self.old.locals }
@@ -89,7 +90,7 @@ impl Above {
         name: &[u8],
         lock: u8,
     ) -> Result<(), AllocError>
-        requires room { length self.old.conditions < 64 }
+        requires room { length self.old.conditions < CONDITIONS }
         requires new { table.new_code self.old name.now ≡ None }
         ensures taken { OnOk result (self.new ≡ after.with_condition self.old name.now lock) }
         ensures locals { self.new.locals ≡ self.old.locals }
@@ -133,12 +134,12 @@ impl Above {
         name: &[u8],
         parameters: &[&[u8]],
     ) -> Result<(), AllocError>
-        requires room { length self.old.handlers < 64 }
+        requires room { length self.old.handlers < HANDLERS }
         requires new { table.new_code self.old name.now ≡ None }
-        requires few { length parameters.now ≤ 4 }
-        requires few_locals { length self.old.locals ≤ 16 }
+        requires few { length parameters.now ≤ PARAMETERS }
+        requires few_locals { length self.old.locals ≤ LOCALS }
         ensures taken { OnOk result (self.new ≡ after.with_heading self.old number name.now (texts parameters.now)) }
-        ensures locals { length self.new.locals ≤ 16 }
+        ensures locals { length self.new.locals ≤ LOCALS }
     {
         let meaning = Meaning::Handler(self.handlers.len() as u8);
         let name_of = own_word(alloc, name)?;
@@ -158,9 +159,9 @@ impl Above {
 
     // The open handler is whole.
     pub(crate) fn end_handler(&mut self, alloc: Global) -> Result<(), AllocError>
-        requires { length self.old.locals ≤ 16 }
+        requires { length self.old.locals ≤ LOCALS }
         ensures taken { OnOk result (self.new ≡ after.closed self.old) }
-        ensures locals { length self.new.locals ≤ 16 }
+        ensures locals { length self.new.locals ≤ LOCALS }
     {
         let Some(open) = self.open_handler.take() else {
             return Ok(());
@@ -179,10 +180,10 @@ impl Above {
 
     // A local that is new is made.
     pub(crate) fn make_local(&mut self, alloc: Global, word: &[u8]) -> Result<(), AllocError>
-        requires few { length self.old.locals ≤ 16 }
+        requires few { length self.old.locals ≤ LOCALS }
         requires room { table.locals_code self.old (word.now ∷ []) ≡ None }
         ensures taken { OnOk result (self.new ≡ after.with_local self.old word.now) }
-        ensures locals { length self.new.locals ≤ 16 }
+        ensures locals { length self.new.locals ≤ LOCALS }
     {
         if self.is_local(word) {
             return Ok(());

@@ -8,6 +8,7 @@ use crate::blocks::{BlockKind, OpenBlock};
 use crate::language::{Above, OpenHandler};
 use rex_list::List;
 use rex_syntax::line::Line;
+use rex_syntax::service::LINES;
 use std::alloc::{AllocError, Global};
 use std::mem;
 
@@ -37,7 +38,7 @@ fn lead_at(lines: &mut [Line], place: usize, target: u16)
 impl OpenHandler {
     // The next line opens a block.
     fn begin(&mut self, kind: BlockKind) -> Result<(), AllocError>
-        requires { length self.old.lines < 256 }
+        requires { length self.old.lines < LINES }
         ensures { OnOk result (self.new ≡ after.block_opens kind self.old) }
     {
         let line = self.lines.len() as u16;
@@ -57,7 +58,7 @@ impl OpenHandler {
     }
 
     fn open(&mut self, number: u32, kind: BlockKind, line: Line) -> Result<(), AllocError>
-        requires { length self.old.lines < 256 }
+        requires { length self.old.lines < LINES }
         ensures { OnOk result (self.new ≡ after.opening kind number line self.old) }
     {
         self.begin(kind)?;
@@ -71,7 +72,7 @@ impl OpenHandler {
         kind: BlockKind,
         line: Line,
     ) -> Result<(), AllocError>
-        requires { length self.old.lines < 256 }
+        requires { length self.old.lines < LINES }
         ensures { OnOk result (self.new ≡ after.dividing kind number line self.old) }
     {
         let next = self.lines.len() as u16 + 1;
@@ -87,7 +88,7 @@ impl OpenHandler {
         further: u16,
         line: Line,
     ) -> Result<(), AllocError>
-        requires room { length self.old.lines < 256 }
+        requires room { length self.old.lines < LINES }
         requires near { further < 2 }
         ensures { OnOk result (self.new ≡ after.closing further number line self.old) }
     {
@@ -105,7 +106,7 @@ impl Above {
         kind: BlockKind,
         line: Line,
     ) -> Result<(), AllocError>
-        requires { table.lines_of_open self.old.open_handler < 256 }
+        requires { table.lines_of_open self.old.open_handler < LINES }
         ensures taken { OnOk result (self.new ≡ after.with_open self.old (after.opening kind number line)) }
         ensures locals { self.new.locals ≡ self.old.locals }
     {
@@ -123,7 +124,7 @@ impl Above {
         kind: BlockKind,
         line: Line,
     ) -> Result<(), AllocError>
-        requires { table.lines_of_open self.old.open_handler < 256 }
+        requires { table.lines_of_open self.old.open_handler < LINES }
         ensures taken { OnOk result (self.new ≡ after.with_open self.old (after.dividing kind number line)) }
         ensures locals { self.new.locals ≡ self.old.locals }
     {
@@ -141,7 +142,7 @@ impl Above {
         further: u16,
         line: Line,
     ) -> Result<(), AllocError>
-        requires room { table.lines_of_open self.old.open_handler < 256 }
+        requires room { table.lines_of_open self.old.open_handler < LINES }
         requires near { further < 2 }
         ensures taken { OnOk result (self.new ≡ after.with_open self.old (after.closing further number line)) }
         ensures locals { self.new.locals ≡ self.old.locals }

@@ -10,7 +10,7 @@ ghost use Rattle.rex_parse.specs.After as after;
 
 use crate::language::Form;
 use rex_syntax::expr::Operator;
-use rex_syntax::service::MOST_FIRST;
+use rex_syntax::service::{MOST_FIRST, NAME_BYTES, TURNS};
 use rex_text::read_u64;
 
 /// What stands beside a word in a table of words.
@@ -122,14 +122,14 @@ fn short_operator(byte: u8) -> Option<Operator>
     }
 }
 
-/// A letter, then letters, digits and `_`, at most 32 characters, and no word of the language.
+/// A letter, then letters, digits and `_`, not too many, and no word of the language.
 #[tactic(auto, unfolding(crate::specs::Words::is_name))]
 pub fn is_name(word: &[u8]) -> bool
     ensures { result ≡ spec.is_name word.now }
 {
     let begins = begins_letter(word);
     let goes_on = has_name_bytes(word);
-    let fits = word.len() <= 32;
+    let fits = word.len() <= NAME_BYTES;
     let is_reserved = is_reserved(word);
     begins && (goes_on && (fits && !is_reserved))
 }
@@ -249,9 +249,9 @@ pub(crate) fn first_of(word: &[u8]) -> u32
 
 /// How many turns a word asks for.
 pub(crate) fn turns_of(word: &[u8]) -> u16
-    ensures { result ≡ unwrap_or (table.count_of 1 1000 word.now) 0 }
+    ensures { result ≡ unwrap_or (table.count_of 1 TURNS word.now) 0 }
 {
-    match count_of(1, 1000, word) {
+    match count_of(1, TURNS as u64, word) {
         None => 0,
         Some(turns) => turns as u16,
     }

@@ -15,12 +15,13 @@ pub struct Learner {
 
 impl Model for Learner {
     ghost use Rattle.std.specs.Prelude.{ℕ, ◌≤◌};
+    ghost use Rattle.rex_ballot.specs.declared.ballots.TheConstants.{INSTANCES};
 
     ghost Value = { ℕ };
 
     ghost view = { λ l. l.known };
 
-    ghost invariant = { λ l. l.known ≤ 65535 };
+    ghost invariant = { λ l. l.known ≤ INSTANCES };
 }
 
 impl Learner {

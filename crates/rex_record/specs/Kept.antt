@@ -11,6 +11,7 @@ use Rattle.rex_record.specs.Turn.{begin_of}
 use Rattle.rex_record.specs.declared.turns.Turn.{Turn}
 use Rattle.rex_record.specs.declared.turns.Turn.TheVariants.{Done}
 use Rattle.rex_record.specs.Value.{RecorderValue, queued_in}
+use Rattle.rex_record.specs.declared.recorder.TheConstants.{LIVE_EVENTS}
 
 -- an idle lane could begin the request
 pub record CanBegin (service : Declarations) (s : StateValue) (r : Request) : Type 0 where
@@ -26,7 +27,7 @@ AreQueued service s (r ∷ rest) = CanBegin service s r × (queued_in rest r.cli
 pub record IsRecorder (service : Declarations) (r : RecorderValue) : Type 0 where
   pub sound : IsSound service r.start
   pub runs : run service r.start r.live ≡ Some r.state
-  pub few : length r.live ≤ 4096
+  pub few : length r.live ≤ LIVE_EVENTS
   pub queue : AreQueued service r.state r.queue
 
 -- the event of a turn is next, and its index leaves room for the next one

@@ -10,6 +10,7 @@ use Rattle.rex_state.specs.Machine.{lane_of, enabled}
 use Rattle.rex_record.specs.declared.turns.Turn.{Turn}
 use Rattle.rex_record.specs.declared.turns.Turn.TheVariants.{Done, Full, Unfit}
 use Rattle.rex_record.specs.Value.{RecorderValue, queued_in, live_after, state_after}
+use Rattle.rex_record.specs.declared.recorder.TheConstants.{LIVE_EVENTS}
 
 -- the event begins a request of a client that has one queued
 abbrev pub begins_queued : Kind → List Request → Bool
@@ -22,7 +23,7 @@ is_fit service s queue e = nat_eq (lane_of s e.lane).done e.index && (enabled se
 
 -- what comes of an event that is handed in, where so many events are live
 abbrev pub taken_turn : Declarations → StateValue → List Request → ℕ → Event → Turn
-taken_turn service s queue live e = if nat_le 4096 live then Full else if is_fit service s queue e then Done e else Unfit
+taken_turn service s queue live e = if nat_le LIVE_EVENTS live then Full else if is_fit service s queue e then Done e else Unfit
 
 -- the recorder after that: its queue stays as it is
 abbrev pub taken : Declarations → RecorderValue → Turn → RecorderValue

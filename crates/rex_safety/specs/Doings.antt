@@ -7,6 +7,7 @@ use Rattle.rex_syntax.specs.declared.service.Declarations.{Declarations}
 use Rattle.rex_syntax.specs.Service.{IsService}
 use Rattle.rex_syntax.specs.Check.{IsChecked}
 use Rattle.rex_event.specs.declared.event.Event.{Event}
+use Rattle.rex_event.specs.declared.event.TheConstants.{CLIENTS}
 use Rattle.rex_report.specs.declared.effect.Effect.TheVariants.{Released}
 use Rattle.rex_schedule.specs.declared.scenario.ScheduleLine.TheVariants.{ReadVariable}
 use Rattle.rex_schedule.specs.Fits.{IsNode, RequestFits}
@@ -179,7 +180,7 @@ DoingsTellAgreed = AfterAnyDoings TellsAgreed
 -- the number of deltas that a client is told never falls
 abbrev pub DoingsNeverGoBack : Type 0
 DoingsNeverGoBack =
-    (service : Declarations) (requests : List Request) (seed n : ℕ) (doings more : List Doing) → n ≤ most_nodes → (m client variable : ℕ) (value : ℤ) (number : ℕ) → client ≤ 256
+    (service : Declarations) (requests : List Request) (seed n : ℕ) (doings more : List Doing) → n ≤ most_nodes → (m client variable : ℕ) (value : ℤ) (number : ℕ) → client ≤ CLIENTS
     → IsTold service (world_after_doings service requests seed n doings) m client variable value number
     → (m_later variable_later : ℕ) (value_later : ℤ) (number_later : ℕ)
     → IsTold service (world_after_doings service requests seed n (doings ++ Does (ReadVariable m client variable) ∷ more)) m_later client variable_later value_later number_later → number ≤ number_later
@@ -189,6 +190,6 @@ abbrev pub DoingsShowReplies : Type 0
 DoingsShowReplies =
     (service : Declarations) (requests : List Request) (seed n : ℕ) (doings : List Doing) → n ≤ most_nodes → IsService service → IsChecked service → All (RequestFits service) requests
     → (i : ℕ) (release : Moment) → slice_get (moments_of_doings service requests seed n (beginning n) doings) i ≡ Some release
-    → (client sequence : ℕ) (reply : ℤ) → client ≤ 256 → IsAmong (Released client sequence reply) release.effects
+    → (client sequence : ℕ) (reply : ℤ) → client ≤ CLIENTS → IsAmong (Released client sequence reply) release.effects
     → (m variable : ℕ) (value : ℤ) (number : ℕ) → IsTold service (world_after_doings service requests seed n doings) m client variable value number
     → Stands (trace_at (world_after_doings service requests seed n doings) number) client sequence reply

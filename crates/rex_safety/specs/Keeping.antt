@@ -7,6 +7,7 @@ use Rattle.rex_syntax.specs.declared.service.Declarations.{Declarations}
 use Rattle.rex_syntax.specs.Service.{IsService}
 use Rattle.rex_syntax.specs.Check.{IsChecked}
 use Rattle.rex_event.specs.Cuts.{below}
+use Rattle.rex_event.specs.declared.delta.TheConstants.{DELTA_EVENTS}
 use Rattle.rex_cut.specs.Greatest.{greatest_cut, IsCutOf}
 use Rattle.rex_cut.specs.Delta.{delta_at}
 use Rattle.rex_delta.specs.Spelling.{IsDelta, HasTypedKind}
@@ -82,9 +83,9 @@ KeptCutsAreFaithful =
     → 0 < length (below (greatest_cut counts (node_at w.nodes m).work.live) (node_at w.nodes m).work.live) → All HasTypedKind (below (greatest_cut counts (node_at w.nodes m).work.live) (node_at w.nodes m).work.live)
     → is_faithful service seed (known_at w m) (greatest_cut counts (node_at w.nodes m).work.live) (node_at w.nodes m).work.live ≡ true
 
--- in the live state a lane did at most 4,096 events for each known value and as many more, so its count has room for one more
+-- in the live state a lane did at most as many events as a delta has for each known value and as many more, so its count has room for one more
 pub record HasRoom (service : Declarations) (x : Here) (lane : ℕ) : Type 0 where
-  pub most : (lane_of (live_state service x) lane).done ≤ 4096 * (length (known x.log) + 1)
+  pub most : (lane_of (live_state service x) lane).done ≤ DELTA_EVENTS * (length (known x.log) + 1)
   pub room : (lane_of (live_state service x) lane).done + 1 < 2 ^ 32
 
 abbrev pub KeptCountsHaveRoom : Type 0

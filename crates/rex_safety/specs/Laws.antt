@@ -7,6 +7,7 @@ use Rattle.rex_state.specs.Machine.{lane_of, run}
 use Rattle.rex_syntax.specs.declared.request.Request.{Request}
 use Rattle.rex_syntax.specs.declared.service.Declarations.{Declarations}
 use Rattle.rex_event.specs.Cuts.{IsConsistent}
+use Rattle.rex_event.specs.declared.delta.TheConstants.{DELTA_EVENTS}
 use Rattle.rex_state.specs.Commute.{GoesFirst}
 use Rattle.rex_syntax.specs.Service.{IsService}
 use Rattle.rex_syntax.specs.Check.{IsChecked}
@@ -243,11 +244,11 @@ NumbersStayInRange =
     (service : Declarations) (requests : List Request) (seed n : ℕ) (lines : List ScheduleLine) → n ≤ most_nodes → All (LineFits n (length requests) service.lanes) lines
     → NumbersFit n (world_after service requests seed n lines)
 
--- after values that fit, each lane did at most 4,096 events for each of them
+-- after values that fit, each lane did at most as many events as a delta has for each of them
 abbrev pub CountsAreFew : Type 0
 CountsAreFew =
     (service : Declarations) (values : List Value) (s : StateValue) (lane : ℕ) → list_all (spells service) values ≡ true
-    → run service (start_of service) (trace_of values) ≡ Some s → (lane_of s lane).done ≤ 4096 * length values
+    → run service (start_of service) (trace_of values) ≡ Some s → (lane_of s lane).done ≤ DELTA_EVENTS * length values
 
 -- no value that is accepted, known or in a message is too long
 pub record ValuesAreShort (service : Declarations) (n : ℕ) (w : World) : Type 0 where

@@ -1,6 +1,7 @@
 -- How far the rounds of ballots rise in a run: each election raises them by at most one, and nothing else raises them.
 use Rattle.std.specs.Prelude.{◌≡◌, ℕ, suc, ◌+◌, ◌≤◌, List, [], ◌∷◌, length, Some, slice_get}
 use Rattle.rex_ballot.specs.Limits.{most_nodes}
+use Rattle.rex_ballot.specs.declared.ballots.TheConstants.{ROUNDS}
 use Rattle.rex_syntax.specs.declared.request.Request.{Request}
 use Rattle.rex_syntax.specs.declared.service.Declarations.{Declarations}
 use Rattle.rex_report.specs.declared.effect.Effect.{Effect}
@@ -18,7 +19,7 @@ use Rattle.rex_safety.specs.Doings.{world_after_doings, moments_of_doings}
 
 -- the greatest round that a ballot may have
 abbrev pub greatest_round : ℕ
-greatest_round = 4294967296
+greatest_round = ROUNDS
 
 -- no node's promise and no own ballot has a round above this one, so that of the ballot with which it would ask to lead is at most one above it
 pub record RoundsAreAtMost (n : ℕ) (w : World) (round : ℕ) : Type 0 where

@@ -18,6 +18,7 @@ use Rattle.rex_cluster.specs.Agreed.{world_after, agreed, trace_at}
 use Rattle.rex_cluster.specs.Stands.{Stands}
 use Rattle.rex_cluster.specs.Releases.{IsAmong}
 use Rattle.rex_safety.specs.Laws.{AfterAnyLines}
+use Rattle.rex_event.specs.declared.event.TheConstants.{CLIENTS}
 
 -- a client that reads the variable at the node is told this value, after so many deltas
 pub record IsTold (service : Declarations) (w : World) (m client variable : ℕ) (value : ℤ) (number : ℕ) : Type 0 where
@@ -44,7 +45,7 @@ ReadsAreOfTheAgreed = AfterAnyLines TellsAgreed
 -- the number of deltas that a client is told never falls: where it reads later, at whatever node, it is told as many or more
 abbrev pub ReadsNeverGoBack : Type 0
 ReadsNeverGoBack =
-    (service : Declarations) (requests : List Request) (seed n : ℕ) (lines more : List ScheduleLine) → n ≤ most_nodes → (m client variable : ℕ) (value : ℤ) (number : ℕ) → client ≤ 256
+    (service : Declarations) (requests : List Request) (seed n : ℕ) (lines more : List ScheduleLine) → n ≤ most_nodes → (m client variable : ℕ) (value : ℤ) (number : ℕ) → client ≤ CLIENTS
     → IsTold service (world_after service requests seed n lines) m client variable value number
     → (m_later variable_later : ℕ) (value_later : ℤ) (number_later : ℕ)
     → IsTold service (world_after service requests seed n (lines ++ ReadVariable m client variable ∷ more)) m_later client variable_later value_later number_later → number ≤ number_later
@@ -53,6 +54,6 @@ ReadsNeverGoBack =
 abbrev pub ReadsShowReplies : Type 0
 ReadsShowReplies =
     (service : Declarations) (requests : List Request) (seed n : ℕ) (lines : List ScheduleLine) → n ≤ most_nodes → IsService service → IsChecked service → All (RequestFits service) requests
-    → (client sequence : ℕ) (reply : ℤ) → client ≤ 256 → IsAmong (Released client sequence reply) (effects_of service requests seed n (beginning n) lines)
+    → (client sequence : ℕ) (reply : ℤ) → client ≤ CLIENTS → IsAmong (Released client sequence reply) (effects_of service requests seed n (beginning n) lines)
     → (m variable : ℕ) (value : ℤ) (number : ℕ) → IsTold service (world_after service requests seed n lines) m client variable value number
     → Stands (trace_at (world_after service requests seed n lines) number) client sequence reply

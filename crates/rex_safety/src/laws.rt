@@ -116,7 +116,7 @@ pub fn rounds_are_left()
     ensures { RoundsAreLeft }
 {}
 
-/// Each lane did at most 4,096 events for each agreed value.
+/// Each lane did at most as many events as a delta has for each agreed value.
 pub fn counts_are_few()
     ensures { CountsAreFew }
 {}
@@ -186,7 +186,7 @@ pub fn kept_counts_have_room()
     ensures { KeptCountsHaveRoom }
 {}
 
-/// At most 65,535 values that fit lead to a state whose counts and sequences are in their ranges.
+/// Values that fit, no more than there are instances, lead to a state whose counts and sequences are in their ranges.
 pub fn values_lead_to_limited_states()
     ensures { ValuesLeadToLimitedStates }
 {}

@@ -7,6 +7,7 @@ use Rattle.rex_parse.specs.Reading.{end_code}
 use Rattle.rex_syntax.specs.Versions.{is_old_size}
 use Rattle.rex_schedule.specs.Counts.{is_node_count}
 use Rattle.rex_schedule.specs.Fits.{RequestFits, LineFits, FormFits, VariableFits}
+use Rattle.rex_schedule.specs.declared.scenario.TheConstants.{REQUESTS, SCHEDULE_LINES}
 use Rattle.rex_scenario.specs.declared.scenario.Sections.{Sections}
 use Rattle.rex_scenario.specs.declared.scenario.Stage.{Stage}
 use Rattle.rex_scenario.specs.declared.scenario.Stage.TheVariants as stage
@@ -20,12 +21,12 @@ pub record AreAhead (s : Sections) : Type 0 where
 pub record RequestsFit (s : Sections) : Type 0 where
   pub nodes : is_node_count s.nodes ≡ true
   pub whole : end_code s.service ≡ None
-  pub few : length s.requests ≤ 65536
+  pub few : length s.requests ≤ REQUESTS
   pub each : All (RequestFits (service_of s.service)) s.requests
 
 -- the schedule lines fit the service and the requests, and there are none where there may be none
 pub record ScheduleFits (s : Sections) : Type 0 where
-  pub few : length s.schedule ≤ 100000
+  pub few : length s.schedule ≤ SCHEDULE_LINES
   pub each : All (LineFits s.nodes (length s.requests) (unwrap_or s.service.lanes 0)) s.schedule
   pub forms : All (FormFits (is_old_size (unwrap_or s.service.lanes 0) (length s.service.variables))) s.schedule
   pub variables : All (VariableFits (length s.service.variables)) s.schedule

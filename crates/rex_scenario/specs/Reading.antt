@@ -16,6 +16,7 @@ use Rattle.rex_schedule.specs.declared.scenario.Scenario.{Scenario}
 use Rattle.rex_scenario.specs.declared.scenario.Sections.{Sections}
 use Rattle.rex_scenario.specs.declared.scenario.Stage.{Stage}
 use Rattle.rex_scenario.specs.declared.scenario.Stage.TheVariants as stage
+use Rattle.rex_scenario.specs.declared.reading.TheConstants.{SCENARIO_BYTES}
 
 -- before the first line of a text whose schedule may have lines, or may not
 abbrev pub start : Bool → Sections
@@ -108,9 +109,9 @@ unfoldable pub answer_from : Sections → ℕ → List (ℕ × List ℕ) → Res
 answer_from s next [] = or_next (end_of s s.stage) next (Ok s)
 answer_from s next (line ∷ rest) = or_next (line_code s line.1) line.0 (answer_from (line_after s line.0 line.1) (line.0 + 1) rest)
 
--- the answer to a text of at most 4,194,304 bytes, whose schedule may have lines, or may not; a longer one is refused whatever it says
+-- the answer to a text that is not too long, whose schedule may have lines, or may not; a longer one is refused whatever it says
 abbrev pub answer_to : Bool → List ℕ → Result Sections (ℕ × ScenarioCode)
-answer_to scheduled bytes = if nat_lt 4194304 (length bytes) then Err (0, TooLong) else answer_from (start scheduled) 1 (numbered 1 (lines_of bytes))
+answer_to scheduled bytes = if nat_lt SCENARIO_BYTES (length bytes) then Err (0, TooLong) else answer_from (start scheduled) 1 (numbered 1 (lines_of bytes))
 
 -- the answer to a text
 abbrev pub answer_of : List ℕ → Result Sections (ℕ × ScenarioCode)

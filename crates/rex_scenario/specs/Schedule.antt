@@ -17,6 +17,8 @@ use Rattle.rex_scenario.specs.declared.schedule.Step.{Step}
 use Rattle.rex_scenario.specs.declared.schedule.Step.TheVariants as step
 use Rattle.rex_schedule.specs.declared.scenario.ScheduleLine.{ScheduleLine}
 use Rattle.rex_schedule.specs.declared.scenario.ScheduleLine.TheVariants as line
+use Rattle.rex_schedule.specs.declared.scenario.TheConstants.{SCHEDULE_LINES}
+use Rattle.rex_event.specs.declared.event.TheConstants.{CLIENTS}
 
 -- a word alone
 abbrev pub lone_step : Word → Option Step
@@ -128,7 +130,7 @@ is_there nodes requests lanes (step.Start n) = in_range 1 nodes n
 is_there nodes requests lanes (step.Checkpoint n version) = in_range 1 nodes n
 is_there nodes requests lanes (step.DropKnown n) = in_range 1 nodes n
 is_there nodes requests lanes (step.KeepFail n kept) = in_range 1 nodes n
-is_there nodes requests lanes (step.ReadVariable n client found) = in_range 1 nodes n && (in_range 1 256 client && is_some found)
+is_there nodes requests lanes (step.ReadVariable n client found) = in_range 1 nodes n && (in_range 1 CLIENTS client && is_some found)
 
 -- a cut with limits has one for each lane
 abbrev pub has_limits : ℕ → Step → Bool
@@ -163,7 +165,7 @@ abbrev pub step_code : Bool → ℕ → ℕ → ℕ → Bool → ℕ → Option 
 step_code scheduled nodes requests lanes old earlier None = Some BadLine
 step_code scheduled nodes requests lanes old earlier (Some s) =
     if not scheduled then Some BadLine
-    else if nat_le 100000 earlier then Some TooManyLines
+    else if nat_le SCHEDULE_LINES earlier then Some TooManyLines
     else if not (is_there nodes requests lanes s) then Some NotThere
     else if not (has_limits lanes s) then Some WrongLimits
     else if has_form old s then None else Some NoOldForm

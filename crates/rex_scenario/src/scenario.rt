@@ -36,7 +36,7 @@ pub enum ScenarioCode {
     TooManyRequests,
     /// S12: limits that aren't as many as the lanes.
     WrongLimits,
-    /// S13: a checkpoint in the old version, where the service has more than 16 lanes or 256 variables.
+    /// S13: a checkpoint in the old version, of a service whose states don't have it.
     NoOldForm,
 }
 

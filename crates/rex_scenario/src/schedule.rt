@@ -11,8 +11,10 @@ ghost use Rattle.rex_scenario.specs.Schedule as schedule;
 
 use crate::requests::client_of;
 use crate::scenario::{LineFault, ScenarioCode, ScheduleLine};
+use rex_event::CLIENTS;
 use rex_list::List;
 use rex_parse::{Above, Meaning, is_name};
+use rex_schedule::{REQUESTS, SCHEDULE_LINES};
 use rex_syntax::service::LANES;
 use rex_syntax::version::Version;
 use rex_text::read_u64;
@@ -236,7 +238,7 @@ pub(crate) fn read_schedule_line(
     old: bool,
     earlier: usize,
 ) -> Result<ScheduleLine, LineFault>
-    requires requests { requests ≤ 65536 }
+    requires requests { requests ≤ REQUESTS }
     requires lanes { lanes ≤ LANES }
     ensures { Reads result (schedule.schedule_code scheduled nodes requests lanes old earlier above.now (texts words.now))
         (option_map schedule.line_of (schedule.step_of above.now (texts words.now))) }
@@ -247,7 +249,7 @@ pub(crate) fn read_schedule_line(
     if !scheduled {
         return Err(LineFault::Refused(ScenarioCode::BadLine));
     }
-    if earlier >= 100_000 {
+    if earlier >= SCHEDULE_LINES {
         return Err(LineFault::Refused(ScenarioCode::TooManyLines));
     }
     let is_complete = has_limits(&step, lanes);
@@ -286,7 +288,7 @@ fn has_form(step: &Step, old: bool) -> bool
 
 // The schedule line that a step is, if what it names is there.
 fn placed(step: Step, nodes: u8, requests: u64, lanes: u64) -> Option<ScheduleLine>
-    requires requests { requests ≤ 65536 }
+    requires requests { requests ≤ REQUESTS }
     requires lanes { lanes ≤ LANES }
     ensures { result ≡ (if schedule.is_there nodes requests lanes step then Some (schedule.line_of step) else None) }
 {
@@ -367,9 +369,9 @@ fn other_of(node: u64, number: u64, nodes: u8) -> Option<u8>
 
 // The number of a client that reads.
 fn reader_of(client: u16) -> Option<u16>
-    ensures { result ≡ (if in_range 1 256 client then Some client else None) }
+    ensures { result ≡ (if in_range 1 CLIENTS client then Some client else None) }
 {
-    if 1 <= client && client <= 256 {
+    if 1 <= client && client <= CLIENTS {
         Some(client)
     } else {
         None

@@ -9,13 +9,15 @@ use Rattle.rex_schedule.specs.Counts.{is_node_count, takes_so_many}
 use Rattle.rex_schedule.specs.declared.scenario.Scenario.{Scenario}
 use Rattle.rex_schedule.specs.declared.scenario.ScheduleLine.{ScheduleLine}
 use Rattle.rex_schedule.specs.declared.scenario.ScheduleLine.TheVariants.{Elect, Submit, Lane, Cut, CutBelow, Deliver, Flush, Replay, Ask, Stop, Start, Checkpoint, DropKnown, KeepFail, ReadVariable}
+use Rattle.rex_schedule.specs.declared.scenario.TheConstants.{REQUESTS, SCHEDULE_LINES}
+use Rattle.rex_event.specs.declared.event.TheConstants.{CLIENTS, SEQUENCES}
 
 -- client and sequence are in their ranges, and the handler is there and takes the arguments
 pub record RequestFits (service : Declarations) (r : Request) : Type 0 where
   pub client : 0 < r.client
-  pub clients : r.client ≤ 256
+  pub clients : r.client ≤ CLIENTS
   pub sequence : 0 < r.sequence
-  pub sequences : r.sequence ≤ 1000000
+  pub sequences : r.sequence ≤ SEQUENCES
   pub handler : r.handler < length service.handlers
   pub takes : takes_so_many (slice_get service.handlers r.handler) (length r.arguments) ≡ true
 
@@ -39,7 +41,7 @@ LineFits nodes requests lanes (Start n) = IsNode nodes n
 LineFits nodes requests lanes (Checkpoint n version) = IsNode nodes n
 LineFits nodes requests lanes (DropKnown n) = IsNode nodes n
 LineFits nodes requests lanes (KeepFail n kept) = IsNode nodes n
-LineFits nodes requests lanes (ReadVariable n client variable) = IsNode nodes n × ((0 < client) × (client ≤ 256))
+LineFits nodes requests lanes (ReadVariable n client variable) = IsNode nodes n × ((0 < client) × (client ≤ CLIENTS))
 
 -- a checkpoint is in a version that the service's states have, where these have the old one or don't
 abbrev pub FormFits : Bool → ScheduleLine → Type 0
@@ -54,8 +56,8 @@ VariableFits variables _ = Unit {0}
 -- what a scenario names is there in its service
 pub record ScenarioFits (service : Declarations) (s : Scenario) : Type 0 where
   pub nodes : is_node_count s.nodes ≡ true
-  pub few_requests : length s.requests ≤ 65536
-  pub few_lines : length s.schedule ≤ 100000
+  pub few_requests : length s.requests ≤ REQUESTS
+  pub few_lines : length s.schedule ≤ SCHEDULE_LINES
   pub requests : All (RequestFits service) s.requests
   pub schedule : All (LineFits s.nodes (length s.requests) service.lanes) s.schedule
   pub forms : All (FormFits (has_old_form service)) s.schedule

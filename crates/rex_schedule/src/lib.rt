@@ -3,4 +3,4 @@
 
 mod scenario;
 
-pub use scenario::{Scenario, ScheduleLine};
+pub use scenario::{REQUESTS, SCHEDULE_LINES, Scenario, ScheduleLine};

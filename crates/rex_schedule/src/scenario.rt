@@ -4,6 +4,12 @@ use rex_list::List;
 use rex_syntax::request::Request;
 use rex_syntax::version::Version;
 
+/// The most requests of a scenario.
+pub const REQUESTS: usize = 65_536;
+
+/// The most lines of a schedule.
+pub const SCHEDULE_LINES: usize = 100_000;
+
 /// A line of a schedule. Nodes and messages are numbered from 1, lanes and requests from 0.
 #[derive(Drop)]
 pub enum ScheduleLine {

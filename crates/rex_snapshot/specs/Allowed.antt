@@ -16,6 +16,7 @@ use Rattle.rex_state.specs.Machine.{is_in, no_lane}
 use Rattle.rex_wire.specs.Ranges.{is_between}
 use Rattle.rex_snapshot.specs.declared.parts.Seat.{Seat}
 use Rattle.rex_snapshot.specs.Locksets.{line_in, lockset_at, is_apart}
+use Rattle.rex_event.specs.declared.event.TheConstants.{CLIENTS, SEQUENCES}
 
 -- ---- versions
 
@@ -44,7 +45,7 @@ is_served seats client = list_any (λ s. serves client s.lane.frame) seats
 
 -- a client that no earlier lane serves
 abbrev pub may_be_new_client : List Seat → ℕ → Bool
-may_be_new_client earlier client = is_between 1 256 client && not (is_served earlier client)
+may_be_new_client earlier client = is_between 1 CLIENTS client && not (is_served earlier client)
 
 -- ---- lines
 
@@ -99,7 +100,7 @@ is_busy (Some f) = true
 
 -- enough clients for the busy lanes
 abbrev pub may_be_count : List Seat → ℕ → Bool
-may_be_count seats n = is_between (count_by (λ s. is_busy s.lane.frame) seats) 256 n
+may_be_count seats n = is_between (count_by (λ s. is_busy s.lane.frame) seats) CLIENTS n
 
 -- the lane's client is above this one
 abbrev pub is_beyond : ℕ → Option Frame → Bool
@@ -114,7 +115,7 @@ is_skipped above client (Some f) = nat_lt above f.client && nat_lt f.client clie
 -- a client above the one before that skips no lane's client, and whose followers are enough for the lanes' clients above it
 abbrev pub may_be_client : List Seat → ℕ → ℕ → ℕ → Bool
 may_be_client seats above left n =
-    is_between (above + 1) 256 n
+    is_between (above + 1) CLIENTS n
     && (list_all (λ s. not (is_skipped above n s.lane.frame)) seats
     && nat_le (count_by (λ s. is_beyond n s.lane.frame) seats) left)
 
@@ -125,7 +126,7 @@ has_sequence client n (Some f) = if nat_eq f.client client then nat_eq f.sequenc
 
 -- a sequence in its range, which is that of the client's frame if there is one
 abbrev pub may_be_sequence : List Seat → ℕ → ℕ → Bool
-may_be_sequence seats client n = is_between 1 1000000 n && list_all (λ s. has_sequence client n s.lane.frame) seats
+may_be_sequence seats client n = is_between 1 SEQUENCES n && list_all (λ s. has_sequence client n s.lane.frame) seats
 
 -- 0, for no reply, exactly where a lane serves the client; otherwise 1
 abbrev pub may_be_replied : List Seat → ℕ → ℕ → Bool

@@ -11,6 +11,7 @@ use Rattle.rex_state.specs.Start.{no_entries}
 use Rattle.rex_snapshot.specs.declared.parts.Seat.{Seat}
 use Rattle.rex_snapshot.specs.declared.parts.Known.{Known}
 use Rattle.rex_snapshot.specs.declared.parts.Parts.{Parts}
+use Rattle.rex_event.specs.declared.event.TheConstants.{CLIENTS}
 
 -- ---- a state's parts
 
@@ -52,7 +53,7 @@ lane_in s = s.lane
 
 -- the client has a place among the entries
 pub record HasPlace (k : Known) : Type 0 where
-  pub inside : k.client ≤ 256
+  pub inside : k.client ≤ CLIENTS
 
 -- the entries with those of these clients in their places
 abbrev pub entered : List Entry → List Known → List Entry

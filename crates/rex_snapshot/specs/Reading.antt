@@ -32,6 +32,7 @@ use Rattle.rex_snapshot.specs.Parts.{state_of}
 use Rattle.rex_snapshot.specs.Semaphores.{levels_at}
 use Rattle.rex_snapshot.specs.Changes.{firsts, change_of, changed}
 use Rattle.rex_snapshot.specs.Allowed.{version_of, may_be_version, may_be_new_client, may_be_line, condition_of, waiters, may_be_waiter, may_be_count, may_be_client, may_be_sequence, may_be_replied}
+use Rattle.rex_event.specs.declared.event.TheConstants.{SEQUENCES}
 
 -- ---- values one after the other
 
@@ -99,7 +100,7 @@ handler_at service l = do
 unfoldable pub frame_at : Declarations → List Seat → Bool → Left → Reading Frame
 frame_at service earlier runs l = do
   client ← allowed_at w16 (may_be_new_client earlier) l
-  sequence ← allowed_at w32 (is_between 1 1000000) client.1
+  sequence ← allowed_at w32 (is_between 1 SEQUENCES) client.1
   handler ← handler_at service sequence.1
   place ← line_at service earlier runs handler.0 handler.1
   locals ← into_array (values_at (locals_of service handler.0) place.1)

@@ -23,6 +23,8 @@ use Rattle.rex_snapshot.specs.declared.parts.Parts.{Parts}
 use Rattle.rex_snapshot.specs.Parts.{parts_of}
 use Rattle.rex_snapshot.specs.Semaphores.{level_bytes}
 use Rattle.rex_snapshot.specs.Changes.{changes_of}
+use Rattle.rex_event.specs.declared.delta.TheConstants.{HISTORY_EVENTS}
+use Rattle.rex_event.specs.declared.event.TheConstants.{SEQUENCES}
 
 -- ---- spelling; lanes, handlers, lines and variables are spelled with numbers from 1
 
@@ -90,9 +92,9 @@ state_bytes service version s = parts_bytes service (parts_of version s)
 
 -- ---- ranges
 
--- the most events that a lane did: as many as 65,535 deltas of 4,096 events have
+-- the most events that a lane did: as many as a history has
 abbrev pub greatest_count : ℕ
-greatest_count = 268431360
+greatest_count = HISTORY_EVENTS
 
 -- the lane did few enough events
 pub record HasFewEvents (lane : Lane) : Type 0 where
@@ -100,7 +102,7 @@ pub record HasFewEvents (lane : Lane) : Type 0 where
 
 -- the sequence is in its range, and a client that has sent nothing has no reply
 pub record EntryFits (e : Entry) : Type 0 where
-  pub few : e.sequence ≤ 1000000
+  pub few : e.sequence ≤ SEQUENCES
   pub none : e.sequence ≡ 0 → e.reply ≡ None
 
 -- a state whose counts of events and sequences are in their ranges, and whose clients have the numbers from 1 on

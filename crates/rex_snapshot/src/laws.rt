@@ -18,7 +18,7 @@ pub fn start_is_limited()
 {}
 
 /// An event leads from a sound state within the limits to one within them, as long as its lane did fewer than 268,431,360
-/// events and, of a begin, the client is 1 to 256 and the sequence at most 1,000,000.
+/// events and, of a begin, the client and the sequence are in their ranges.
 pub fn events_keep_limits()
     ensures { EventsKeepLimits }
 {}

@@ -18,6 +18,7 @@ mod write_state;
 mod write_variables;
 
 pub use allowed::version_in;
+pub use limits::SNAPSHOT_BYTES;
 pub use read_state::decode;
 pub use rex_wire::DecodeError;
 pub use write_state::{encode, encode_old};

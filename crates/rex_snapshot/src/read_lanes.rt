@@ -10,17 +10,18 @@ ghost use Rattle.rex_snapshot.specs.Allowed.{may_be_new_client, may_be_line};
 ghost use Rattle.rex_snapshot.specs.Reading.{into_array, values_at, turn_at, turns_at, held_by, phase_of, handler_at, line_at, frame_at, waits_by, busy_at, placed_at, seat_at, seats_at};
 
 use crate::allowed::{condition_of, may_be_line, may_be_new_client};
-use crate::limits::{EVENTS, SEQUENCE};
 use crate::locksets::lockset_at;
 use crate::loops::{lines_of, open_loops, turns_of};
 use crate::parts::Seat;
 use arrayvec::ArrayVec;
-use rex_frame::frame::{Frame, LOCALS, LOOPS, Phase, Turn};
+use rex_event::{HISTORY_EVENTS, SEQUENCES};
+use rex_frame::frame::{Frame, Phase, Turn};
 use rex_list::List;
 use rex_state::lane::Lane;
 use rex_syntax::checked::Checked;
 use rex_syntax::line::Line;
 use rex_syntax::locks::Lockset;
+use rex_syntax::service::{LOCALS, LOOPS};
 use rex_wire::{
     DecodeError, Reader, u8_at_most, u8_between, u16_between, u32_at_most, u32_between,
 };
@@ -87,7 +88,7 @@ fn line(
 
 /// As many locals.
 fn locals(reader: &mut Reader, count: u8) -> Result<ArrayVec<i64, LOCALS>, DecodeError>
-    requires { count ≤ 16 }
+    requires { count ≤ LOCALS }
     ensures { ReadsOn result reader.new (into_array (values_at count reader.old)) }
 {
     let mut locals = ArrayVec::new();
@@ -113,7 +114,7 @@ fn turns(
     lines: &[Line],
     bodies: &[u16],
 ) -> Result<ArrayVec<Turn, LOOPS>, DecodeError>
-    requires { length bodies.now ≤ 4 }
+    requires { length bodies.now ≤ LOOPS }
     ensures { ReadsOn result reader.new (into_array (turns_at lines.now bodies.now reader.old)) }
 {
     let mut turns = ArrayVec::new();
@@ -185,7 +186,7 @@ fn frame(
     ensures place { IfOk result (λ f. f.place < length (lines_of svc.now f.handler)) }
 {
     let client = new_client(reader, earlier)?;
-    let sequence = u32_between(reader, 1, SEQUENCE)?;
+    let sequence = u32_between(reader, 1, SEQUENCES)?;
     let handler = handler(reader, svc)?;
     let place = line(reader, svc, earlier, runs, handler)?;
     let locals = handler_locals(reader, svc, handler)?;
@@ -261,7 +262,7 @@ fn placed(
 fn seat(reader: &mut Reader, svc: &Checked, earlier: &[Seat]) -> Result<Seat, DecodeError>
     ensures { ReadsOn result reader.new (seat_at svc.now earlier.now reader.old) }
 {
-    let done = u32_at_most(reader, EVENTS)?;
+    let done = u32_at_most(reader, HISTORY_EVENTS as u32)?;
     let status = u8_at_most(reader, 3)?;
     placed(reader, svc, earlier, done, status)
 }

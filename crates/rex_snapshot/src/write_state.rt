@@ -13,9 +13,11 @@ ghost use Rattle.rex_snapshot.specs.Writing.{has_sent, LaneCanBeWritten};
 ghost use Rattle.rex_snapshot.specs.Allowed.{version_in};
 ghost use Rattle.rex_snapshot.specs.Reading.{state_in};
 
+use crate::limits::SNAPSHOT_BYTES;
 use crate::semaphores::write_semaphores;
 use crate::write_lanes::lanes;
 use crate::write_variables::variables;
+use rex_event::CLIENT_ENTRIES;
 use rex_state::lane::{Entry, Queue};
 use rex_state::state::State;
 use rex_syntax::checked::Checked;
@@ -99,7 +101,7 @@ fn known_if(writer: &mut Writer, client: u16, entry: Entry) -> Result<(), AllocE
 
 /// The clients that have sent something.
 fn clients(writer: &mut Writer, entries: &[Entry]) -> Result<(), AllocError>
-    requires few { length entries.now ≤ 257 }
+    requires few { length entries.now ≤ CLIENT_ENTRIES }
     requires fit { All EntryFits entries.now }
     ensures spelled { OnOk result (writer.new ≡ writer.old ++ flat_map known_bytes (known_from 0 entries.now)) }
     ensures typed { OnOk result (All EntryIsTyped entries.now) }
@@ -127,7 +129,7 @@ fn write(
 ) -> Result<(), AllocError>
     requires variables { length state.now.variables ≡ length svc.now.variables }
     requires lanes { All LaneCanBeWritten state.now.lanes }
-    requires clients { length state.now.clients ≤ 257 }
+    requires clients { length state.now.clients ≤ CLIENT_ENTRIES }
     requires entries { All EntryFits state.now.clients }
     ensures spelled { OnOk result (writer.new ≡ writer.old ++ state_bytes svc.now version state.now) }
     ensures typed { OnOk result (IsTyped state.now) }
@@ -154,7 +156,7 @@ fn spell(
     requires sound { IsSound svc.now state.now }
     requires limited { IsLimited state.now }
     ensures spelled { IfOk result (λ v. v.items ≡ state_bytes svc.now version state.now) }
-    ensures short { IfOk result (λ v. length v.items ≤ 65536) }
+    ensures short { IfOk result (λ v. length v.items ≤ SNAPSHOT_BYTES) }
     ensures again { IfOk result (λ v. state_in svc.now v.items ≡ Ok state.now) }
 {
     let _service = svc.declarations();
@@ -163,27 +165,27 @@ fn spell(
     Ok(writer.into_vec())
 }
 
-/// The snapshot of a state, its one spelling of version 2. The state is sound, its clients are 1 to 256 with sequences of
-/// at most 1,000,000, and each lane did at most 268,431,360 events.
+/// The snapshot of a state, its one spelling of version 2. The state is sound, its clients and their sequences are in
+/// their ranges, and each lane did no more events than a history has.
 pub fn encode(alloc: Global, svc: &Checked, state: &State) -> Result<Vec<u8>, AllocError>
     requires sound { IsSound svc.now state.now }
     requires limited { IsLimited state.now }
     ensures spelled { IfOk result (λ v. v.items ≡ state_bytes svc.now Two state.now) }
     ensures version { IfOk result (λ v. version_in v.items ≡ Two) }
-    ensures short { IfOk result (λ v. length v.items ≤ 65536) }
+    ensures short { IfOk result (λ v. length v.items ≤ SNAPSHOT_BYTES) }
     ensures again { IfOk result (λ v. state_in svc.now v.items ≡ Ok state.now) }
 {
     spell(alloc, svc, Version::Two, state)
 }
 
-/// The same of version 1, for a service of at most 16 lanes and 256 variables.
+/// The same of version 1, for a service whose states have it.
 pub fn encode_old(alloc: Global, svc: &Checked, state: &State) -> Result<Vec<u8>, AllocError>
     requires old { has_old_form svc.now ≡ true }
     requires sound { IsSound svc.now state.now }
     requires limited { IsLimited state.now }
     ensures spelled { IfOk result (λ v. v.items ≡ state_bytes svc.now One state.now) }
     ensures version { IfOk result (λ v. version_in v.items ≡ One) }
-    ensures short { IfOk result (λ v. length v.items ≤ 65536) }
+    ensures short { IfOk result (λ v. length v.items ≤ SNAPSHOT_BYTES) }
     ensures again { IfOk result (λ v. state_in svc.now v.items ≡ Ok state.now) }
 {
     spell(alloc, svc, Version::One, state)

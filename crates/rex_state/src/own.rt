@@ -9,12 +9,12 @@ ghost use Rattle.rex_state.specs.Room.{HasLocal, HasLock, CanMove, FitsIn, HasHa
 
 use arrayvec::ArrayVec;
 use rex_event::Kind;
-use rex_frame::frame::{Frame, LOCALS, Phase};
+use rex_frame::frame::{Frame, Phase};
 use rex_list::Arguments;
 use rex_syntax::checked::Checked;
 use rex_syntax::line::Line;
 use rex_syntax::locks::{Lockset, Mode};
-use rex_syntax::service::Declarations;
+use rex_syntax::service::{Declarations, LOCALS};
 
 fn hold(frame: &mut Frame, lock: u8, mode: Mode)
     requires { HasLock lock frame.old }
@@ -71,7 +71,7 @@ fn move_on(frame: &mut Frame, line: &Line, kind: &Kind)
 }
 
 fn push_all(locals: &mut ArrayVec<i64, LOCALS>, values: &[i64])
-    requires { array_vec_len locals.old + length values.now ≤ 16 }
+    requires { array_vec_len locals.old + length values.now ≤ LOCALS }
     ensures { locals.new.items ≡ locals.old.items ++ values.now }
 {
     for value in values {
@@ -82,7 +82,7 @@ fn push_all(locals: &mut ArrayVec<i64, LOCALS>, values: &[i64])
 /// Adds zeros up to so many locals.
 fn pad(locals: &mut ArrayVec<i64, LOCALS>, count: u8)
     requires more { array_vec_len locals.old ≤ count }
-    requires room { count ≤ 16 }
+    requires room { count ≤ LOCALS }
     ensures { locals.new.items ≡ locals.old.items ++ replicate (count - array_vec_len locals.old) (pos 0) }
 {
     for _ in locals.len()..count as usize {

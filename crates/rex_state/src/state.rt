@@ -28,6 +28,7 @@ use crate::parts::{
 use rex_event::{Event, Kind};
 use rex_frame::frame::Frame;
 use rex_syntax::checked::Checked;
+use rex_syntax::locks::LOCKS;
 use std::alloc::{AllocError, Global};
 use std::marker::Model;
 
@@ -222,7 +223,7 @@ impl State {
 
     /// The least lane that holds a lock, in any mode.
     pub fn holder(&self, lock: u8) -> Option<u8>
-        requires { lock < 64 }
+        requires { lock < LOCKS }
         ensures { result ≡ locks.holder lock self.now.lanes }
     {
         as_lane(holder(&self.lanes, lock))
@@ -230,7 +231,7 @@ impl State {
 
     /// The least lane that holds a lock exclusively.
     pub fn exclusive_holder(&self, lock: u8) -> Option<u8>
-        requires { lock < 64 }
+        requires { lock < LOCKS }
         ensures { result ≡ locks.exclusive_holder lock self.now.lanes }
     {
         as_lane(exclusive_holder(&self.lanes, lock))

@@ -3,6 +3,7 @@ use Rattle.std.specs.Prelude.{◌<◌, ◌≤◌, List, [], ◌∷◌, ◌++◌,
 use Rattle.std.specs.List.{All}
 use Rattle.rex_syntax.specs.declared.service.Declarations.{Declarations}
 use Rattle.rex_event.specs.declared.event.Event.{Event}
+use Rattle.rex_event.specs.declared.delta.TheConstants.{DELTA_EVENTS}
 use Rattle.rex_delta.specs.Spelling.{HasTypedKind}
 use Rattle.rex_state.specs.Counts.{counts_of}
 use Rattle.rex_cluster.specs.Values.{Value, state_after}
@@ -17,7 +18,7 @@ joined (block ∷ blocks) = block ++ joined blocks
 -- a block has some events and at most 4,096, whose requests and numbers are in their ranges
 pub record IsBlock (block : List Event) : Type 0 where
   pub some : 0 < length block
-  pub few : length block ≤ 4096
+  pub few : length block ≤ DELTA_EVENTS
   pub begins : All BeginsInRange block
   pub typed : All HasTypedKind block
 

@@ -2,6 +2,7 @@
 use Rattle.std.specs.Prelude.{◌≡◌, ℕ, ◌≤◌, List, [], ◌∷◌, ◌++◌, length, map, Some}
 use Rattle.std.specs.List.{All}
 use Rattle.rex_ballot.specs.Limits.{most_nodes}
+use Rattle.rex_ballot.specs.declared.ballots.TheConstants.{INSTANCES}
 use Rattle.rex_syntax.specs.declared.request.Request.{Request}
 use Rattle.rex_syntax.specs.declared.service.Declarations.{Declarations}
 use Rattle.rex_syntax.specs.Service.{IsService}
@@ -47,8 +48,8 @@ pub record IsSteady (service : Declarations) (requests : List Request) (seed n :
   pub trace : trace_of (values_of service blocks) ≡ joined blocks
   pub state : (m : ℕ) → IsNode n m → state_after service (trace_of (known_at (live_world service requests seed n blocks) m)) ≡ s
 
--- so it is wherever the blocks are at most 65,535 and run from the start, for at most nine nodes
+-- so it is wherever the blocks are no more than there are instances and run from the start, for at most nine nodes
 abbrev pub LeadersAreSteady : Type 0
 LeadersAreSteady =
     (service : Declarations) (requests : List Request) (seed n : ℕ) (blocks : List (List Event)) (s : StateValue) → 1 ≤ n → n ≤ most_nodes → IsService service → IsChecked service → All (RequestFits service) requests
-    → All IsBlock blocks → length blocks ≤ 65535 → run service (start_of service) (joined blocks) ≡ Some s → IsSteady service requests seed n blocks s
+    → All IsBlock blocks → length blocks ≤ INSTANCES → run service (start_of service) (joined blocks) ≡ Some s → IsSteady service requests seed n blocks s

@@ -7,6 +7,7 @@ use Rattle.rex_syntax.specs.declared.locks.Lockset.{Lockset}
 use Rattle.rex_syntax.specs.declared.service.Handler.{Handler}
 use Rattle.rex_syntax.specs.declared.service.Declarations.{Declarations}
 use Rattle.rex_syntax.specs.Flow.{IsFlow}
+use Rattle.rex_syntax.specs.declared.service.TheConstants.{STEPS}
 
 -- the other line to which a line may lead
 abbrev pub other_of : Line → ℕ → ℕ
@@ -39,11 +40,11 @@ bounds place (line ∷ lines) =
 abbrev pub step_bound : List Line → ℕ
 step_bound lines = slice_index (bounds 0 lines) 0
 
--- a handler passes where its lines have a flow and its bound on steps is at most 100,000
+-- a handler passes where its lines have a flow and its bound on steps is not above the most
 pub record Passes (service : Declarations) (h : Handler) : Type 0 where
   pub flow : List (Option Lockset)
   pub right : IsFlow service h.lines flow
-  pub short : step_bound h.lines ≤ 100000
+  pub short : step_bound h.lines ≤ STEPS
 
 -- each handler passes
 pub record IsChecked (service : Declarations) : Type 0 where

@@ -11,6 +11,8 @@ use Rattle.rex_syntax.specs.Locks.{with_mode}
 use Rattle.rex_syntax.specs.Blocks.{is_matched}
 use Rattle.rex_syntax.specs.Shape.{branch_of, HasBranches}
 use Rattle.rex_syntax.specs.Flow.{entry, IsFlow}
+use Rattle.rex_syntax.specs.declared.locks.TheConstants.{LOCKS}
+use Rattle.rex_syntax.specs.declared.service.TheConstants.{LINES}
 
 -- a handler has this number, and one of its lines has that one
 pub record HasLine (service : Declarations) (handler line : ℕ) : Type 0 where
@@ -32,15 +34,15 @@ held_after _ held = held
 
 -- the lock that a line takes or gives up has one of the numbers that locks have
 abbrev pub NamesLock : Line → Type 0
-NamesLock (Acquire lock) = lock < 64
-NamesLock (Share lock) = lock < 64
-NamesLock (Release lock) = lock < 64
-NamesLock (Try lock busy) = lock < 64
+NamesLock (Acquire lock) = lock < LOCKS
+NamesLock (Share lock) = lock < LOCKS
+NamesLock (Release lock) = lock < LOCKS
+NamesLock (Try lock busy) = lock < LOCKS
 NamesLock _ = Unit {0}
 
 -- lines of which each but the first is led to by an earlier one
 pub record IsTraceable (lines : List Line) : Type 0 where
-  pub short : length lines ≤ 256
+  pub short : length lines ≤ LINES
   pub matched : is_matched lines ≡ true
   pub branches : HasBranches lines
   pub locks : All NamesLock lines

@@ -3,10 +3,11 @@ use Rattle.std.specs.List.{list_all}
 use Rattle.rex_syntax.specs.declared.locks.Mode.{Mode}
 use Rattle.rex_syntax.specs.declared.locks.Mode.TheVariants.{Free, Shared, Exclusive}
 use Rattle.rex_syntax.specs.declared.locks.Lockset.{Lockset}
+use Rattle.rex_syntax.specs.declared.locks.TheConstants.{LOCKS}
 
 -- nothing is held
 abbrev pub no_locks : Lockset
-no_locks = record { modes = replicate 64 Free }
+no_locks = record { modes = replicate LOCKS Free }
 
 abbrev pub mode_of : Lockset → ℕ → Mode
 mode_of held lock = slice_index_or held.modes lock Free

@@ -17,6 +17,8 @@ use Rattle.rex_syntax.specs.Limits.{most_variables, most_first}
 use Rattle.rex_syntax.specs.Expr.{ExprFits}
 use Rattle.rex_syntax.specs.Shape.{IsShaped, HasBranches}
 use Rattle.rex_syntax.specs.Blocks.{is_matched}
+use Rattle.rex_syntax.specs.declared.locks.TheConstants.{LOCKS}
+use Rattle.rex_syntax.specs.declared.service.TheConstants.{SEMAPHORES, CONDITIONS, HANDLERS, LINES, LOCALS, PARAMETERS, TURNS}
 
 -- a lock of this kind has the number
 pub record IsLock (service : Declarations) (kind : LockKind) (lock : ℕ) : Type 0 where
@@ -44,17 +46,17 @@ LineNames service locals (Let local value) = (local < locals) × ExprNames servi
 LineNames service locals (Clock local) = local < locals
 LineNames service locals (Random local) = local < locals
 LineNames service locals (If test otherwise) = ExprNames service locals test
-LineNames service locals (Repeat turns after) = (0 < turns) × (turns ≤ 1000)
+LineNames service locals (Repeat turns after) = (0 < turns) × (turns ≤ TURNS)
 LineNames service locals (Reply value) = ExprNames service locals value
 LineNames service locals _ = Unit {0}
 
 -- a handler's blocks are matched, its lines lead on, its second branches are led to, and what its lines name is there
 pub record IsHandler (service : Declarations) (h : Handler) : Type 0 where
-  pub parameters : h.parameters ≤ 4
+  pub parameters : h.parameters ≤ PARAMETERS
   pub fewer : h.parameters ≤ h.locals
-  pub locals : h.locals ≤ 16
+  pub locals : h.locals ≤ LOCALS
   pub some : 0 < length h.lines
-  pub short : length h.lines ≤ 256
+  pub short : length h.lines ≤ LINES
   pub numbered : length h.line_numbers ≡ length h.lines
   pub matched : is_matched h.lines ≡ true
   pub shaped : IsShaped h.lines
@@ -65,11 +67,11 @@ pub record IsHandler (service : Declarations) (h : Handler) : Type 0 where
 pub record IsService (service : Declarations) : Type 0 where
   pub some_lanes : 0 < service.lanes
   pub lanes : service.lanes ≤ most_lanes
-  pub locks : length service.locks ≤ 64
-  pub few_semaphores : length service.semaphores ≤ 64
-  pub few_conditions : length service.conditions ≤ 64
+  pub locks : length service.locks ≤ LOCKS
+  pub few_semaphores : length service.semaphores ≤ SEMAPHORES
+  pub few_conditions : length service.conditions ≤ CONDITIONS
   pub few_variables : length service.variables ≤ most_variables
-  pub few_handlers : length service.handlers ≤ 64
+  pub few_handlers : length service.handlers ≤ HANDLERS
   pub some_handlers : 0 < length service.handlers
   pub semaphores : All (λ (x : Semaphore). x.first ≤ most_first) service.semaphores
   pub conditions : All (λ (c : Condition). IsLock service Plain c.lock) service.conditions

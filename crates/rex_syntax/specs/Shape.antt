@@ -2,6 +2,7 @@
 use Rattle.std.specs.Prelude.{◌≡◌, ℕ, zero, suc, ◌+◌, ◌-◌, ◌<◌, Bool, true, false, List, [], ◌∷◌, ◌++◌, length, take, Option, Some, None, slice_get, slice_index}
 use Rattle.rex_syntax.specs.declared.line.Line.{Line}
 use Rattle.rex_syntax.specs.declared.line.Line.TheVariants.{Try, Busy, If, Else, Repeat, EndRepeat, Reply}
+use Rattle.rex_syntax.specs.declared.service.TheConstants.{LOOPS}
 
 -- ---- open loops
 
@@ -46,7 +47,7 @@ HasNext lines place = place + 1 < length lines
 pub record OpensLoop (lines : List Line) (place turns after : ℕ) : Type 0 where
   pub next : HasNext lines place
   pub some : 0 < turns
-  pub room : length (open_at lines place) < 4
+  pub room : length (open_at lines place) < LOOPS
   pub over : IsForward lines place after
 
 -- it ends a loop whose next line is the next one

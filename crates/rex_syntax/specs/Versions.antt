@@ -3,15 +3,16 @@ use Rattle.std.specs.Prelude.{ℕ, ◌&&◌, Bool, true, length, nat_le}
 use Rattle.rex_syntax.specs.declared.service.Declarations.{Declarations}
 use Rattle.rex_syntax.specs.declared.version.Version.{Version}
 use Rattle.rex_syntax.specs.declared.version.Version.TheVariants.{One, Two}
+use Rattle.rex_syntax.specs.declared.version.TheConstants.{OLD_LANES, OLD_VARIABLES}
 
 -- the number that stands for a version in bytes
 abbrev pub number_of : Version → ℕ
 number_of One = 1
 number_of Two = 2
 
--- the states of a service of at most 16 lanes and 256 variables have the old version
+-- the states of a service of few lanes and variables have the old version
 abbrev pub is_old_size : ℕ → ℕ → Bool
-is_old_size lanes variables = nat_le lanes 16 && nat_le variables 256
+is_old_size lanes variables = nat_le lanes OLD_LANES && nat_le variables OLD_VARIABLES
 
 abbrev pub has_old_form : Declarations → Bool
 has_old_form service = is_old_size service.lanes (length service.variables)

@@ -12,6 +12,7 @@ pub enum Mode {
     Exclusive,
 }
 
+/// The most locks that a service declares.
 pub const LOCKS: usize = 64;
 
 /// Per lock the mode in which it is held.

@@ -6,9 +6,9 @@ use rex_list::Arguments;
 /// and the handler's arguments.
 #[derive(Clone, Copy, PartialEq, Eq)]
 pub struct Request {
-    /// 1 to 256.
+    /// 1 to `CLIENTS`.
     pub client: u16,
-    /// 1 to 1,000,000.
+    /// 1 to `SEQUENCES`.
     pub sequence: u32,
     pub handler: u8,
     pub arguments: Arguments,

@@ -4,7 +4,7 @@ ghost use Rattle.std.specs.Prelude.{◌≡◌, ◌<◌, length};
 ghost use Rattle.rex_syntax.specs.Service.{IsService};
 
 use crate::line::Line;
-use rex_list::List;
+use rex_list::{ARGUMENTS, List};
 
 /// The most lanes, semaphores, conditions, variables and handlers that a service declares.
 pub use rex_event::LANES;
@@ -17,12 +17,28 @@ pub const VARIABLES: usize = 1024;
 
 pub const HANDLERS: usize = 64;
 
+/// The most characters of a name.
+pub const NAME_BYTES: usize = 32;
+
 /// The most lines of a handler, and the most locals with its parameters.
 pub const LINES: usize = 256;
 
 pub const LOCALS: usize = 16;
 
-pub const PARAMETERS: usize = 4;
+/// The most parameters of a handler: a request has no more arguments.
+pub const PARAMETERS: usize = ARGUMENTS;
+
+/// The most operands of an expression.
+pub const OPERANDS: usize = 8;
+
+/// The most loops inside one another.
+pub const LOOPS: usize = 4;
+
+/// The most turns of a loop.
+pub const TURNS: u16 = 1000;
+
+/// The most steps of a handler that passes the check.
+pub const STEPS: u64 = 100_000;
 
 /// The greatest first value of a semaphore.
 pub const MOST_FIRST: u32 = 1_000_000;

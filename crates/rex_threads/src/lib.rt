@@ -7,4 +7,4 @@ mod parallelism;
 
 pub use jobs::map_vec;
 pub use pair::both;
-pub use parallelism::processors;
+pub use parallelism::{WORKERS, processors};

@@ -2,6 +2,7 @@
 use Rattle.std.specs.Prelude.{◌≡◌, ℕ, ◌+◌, ◌-◌, ◌<◌, ◌≤◌, List, [], ◌∷◌, ◌++◌, length, drop, Some, slice_get}
 use Rattle.rex_transfer.specs.declared.window.Look.{Look}
 use Rattle.rex_transfer.specs.declared.window.Look.TheVariants as look
+use Rattle.rex_ballot.specs.declared.ballots.TheConstants.{INSTANCES}
 
 -- of how many instances the values aren't held, and the values of those after them
 pub record WindowValue : Type 0 where
@@ -12,9 +13,9 @@ pub record WindowValue : Type 0 where
 abbrev pub known_of : WindowValue → ℕ
 known_of w = w.offset + length w.values
 
--- there are no more instances than 65,535
+-- there are no more instances than the most
 pub record IsWindow (w : WindowValue) : Type 0 where
-  pub few : known_of w ≤ 65535
+  pub few : known_of w ≤ INSTANCES
 
 -- the value of the next instance is there
 abbrev pub pushed : WindowValue → List ℕ → WindowValue

@@ -4,7 +4,7 @@ ghost use Rattle.std.specs.Prelude.{◌≡◌, ◌<◌, ◌≤◌, ◌+◌, ◌-
 ghost use Rattle.rex_transfer.specs.Window as spec;
 ghost use Rattle.rex_transfer.specs.Window.{Looks, known_of};
 
-use rex_ballot::Value;
+use rex_ballot::{INSTANCES, Value};
 use rex_list::List;
 use std::alloc::{AllocError, Global};
 use std::marker::Model;
@@ -51,7 +51,7 @@ impl Window {
 
     /// A window that holds these values past the offset. It takes no memory.
     pub fn from_list(offset: u32, values: List<Value>) -> Window
-        requires { offset + length values ≤ 65535 }
+        requires { offset + length values ≤ INSTANCES }
         ensures { result ≡ record { offset = offset; values = values } }
     {
         Window {
@@ -70,7 +70,7 @@ impl Window {
     /// Of how many instances the values are known.
     pub fn known(&self) -> u32
         ensures known { result ≡ known_of self.now }
-        ensures few { result ≤ 65535 }
+        ensures few { result ≤ INSTANCES }
     {
         self.offset + self.values.len() as u32
     }
@@ -94,7 +94,7 @@ impl Window {
 
     /// Takes the value of the next instance. Where memory is short nothing changes.
     pub fn push(&mut self, value: &[u8]) -> Result<(), AllocError>
-        requires { known_of self.old < 65535 }
+        requires { known_of self.old < INSTANCES }
         ensures ok { OnOk result (self.new ≡ spec.pushed self.old value.now) }
         ensures err { OnErr result (self.new ≡ self.old) }
     {
@@ -137,7 +137,7 @@ impl Window {
     /// Knows the values up to an instance past those that it knew, and holds none of them. It takes no memory.
     pub fn jump(&mut self, instance: u32)
         requires from { known_of self.old < instance }
-        requires to { instance ≤ 65535 }
+        requires to { instance ≤ INSTANCES }
         ensures { self.new ≡ record { offset = instance; values = [] } }
     {
         self.values.clear();

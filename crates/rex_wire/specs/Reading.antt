@@ -3,6 +3,7 @@ use Rattle.std.specs.Prelude.{◌≡◌, ◌==◌, ℕ, zero, suc, ◌+◌, ℤ,
 use Rattle.std.specs.Borrow.{Bor}
 use Rattle.std.specs.Int.{Width, w32, w64, byte_len, from_be_bytes, cast_signed}
 use Rattle.rex_wire.specs.declared.fault.Short.{Short}
+use Rattle.rex_ballot.specs.declared.proposal.TheConstants.{VALUE_BYTES}
 
 -- how many bytes were read, and those that are left
 pub record Left : Type 0 where
@@ -41,7 +42,7 @@ allowed_at w is_allowed l = number_at w l >>= λ n. if is_allowed n.0 then Ok n 
 
 -- how many bytes a value may have
 abbrev pub is_length : ℕ → Bool
-is_length n = nat_le n 4194304
+is_length n = nat_le n VALUE_BYTES
 
 -- a value: its length and its bytes, whatever they are
 unfoldable pub value_at : Left → Reading (List ℕ)

@@ -9,11 +9,9 @@ use crate::allowed::u32_at_most;
 use crate::fault::DecodeError;
 use crate::reader::Reader;
 use crate::writer::Writer;
+use rex_ballot::VALUE_BYTES;
 use rex_list::List;
 use std::alloc::{AllocError, Global};
-
-/// The most bytes that a value has.
-pub const VALUE_BYTES: u32 = 4_194_304;
 
 /// A value: its length, a number of 32 bits, and its bytes, whatever they are.
 #[tactic(auto, unfolding(crate::specs::Reading::value_at))]

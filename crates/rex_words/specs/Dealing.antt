@@ -9,18 +9,19 @@ use Rattle.rex_syntax.specs.declared.service.Lock.{Lock}
 use Rattle.rex_syntax.specs.declared.service.LockKind.TheVariants.{Plain}
 use Rattle.rex_syntax.specs.declared.request.Request.{Request}
 use Rattle.rex_event.specs.Order.{Has}
+use Rattle.rex_event.specs.declared.event.TheConstants.{CLIENTS}
 use Rattle.rex_words.specs.declared.assignment.Assignment.{Assignment}
 use Rattle.rex_words.specs.declared.seat.WordSeat.{WordSeat}
 use Rattle.rex_words.specs.Recorded.{lane_for}
 use Rattle.rex_words.specs.Alone.{service_of, requests_of, seed_of}
 use Rattle.rex_words.specs.Seats.{IsSeatOf}
 
--- the service has plain locks, and no conditions and no semaphores, and the requests are of the clients 1 to 256
+-- the service has plain locks, and no conditions and no semaphores, and the requests are of clients that there can be
 pub record CanRecord (service : Declarations) (requests : List Request) : Type 0 where
   pub plain : (i : ℕ) (lock : Lock) → slice_get service.locks i ≡ Some lock → lock.kind ≡ Plain
   pub no_conditions : service.conditions ≡ []
   pub no_semaphores : service.semaphores ≡ []
-  pub clients : (q : Request) → Has q requests → (0 < q.client) × (q.client ≤ 256)
+  pub clients : (q : Request) → Has q requests → (0 < q.client) × (q.client ≤ CLIENTS)
 
 -- the assignment is of these
 pub record IsAssignmentOf (r : Assignment) (service : Declarations) (requests : List Request) (seed : ℕ) : Type 0 where

@@ -13,6 +13,7 @@ use Rattle.rex_syntax.specs.Leads.{guard_of}
 use Rattle.rex_syntax.specs.Service.{IsService}
 use Rattle.rex_syntax.specs.Check.{IsChecked}
 use Rattle.rex_event.specs.Order.{Has}
+use Rattle.rex_event.specs.declared.event.TheConstants.{CLIENTS}
 use Rattle.rex_state.specs.Value.{StateValue}
 use Rattle.rex_state.specs.Start.{start_of}
 use Rattle.rex_state.specs.Sound.{mode_at}
@@ -31,14 +32,14 @@ use Rattle.rex_words.specs.Alone.{service_of, requests_of}
 
 -- ---- what is assigned
 
--- a checked service of plain locks without conditions and semaphores, and requests of the clients 1 to 256
+-- a checked service of plain locks without conditions and semaphores, and requests of clients that there can be
 pub record IsAssignment (r : Assignment) : Type 0 where
   pub good : IsService (service_of r)
   pub checked : IsChecked (service_of r)
   pub plain : (i : ℕ) (lock : Lock) → slice_get (service_of r).locks i ≡ Some lock → lock.kind ≡ Plain
   pub no_conditions : (service_of r).conditions ≡ []
   pub no_semaphores : (service_of r).semaphores ≡ []
-  pub clients : (q : Request) → Has q (requests_of r) → (0 < q.client) × (q.client ≤ 256)
+  pub clients : (q : Request) → Has q (requests_of r) → (0 < q.client) × (q.client ≤ CLIENTS)
 
 -- ---- words: first those of the locks, then those of the variables; one more is never looked at
 

@@ -13,6 +13,7 @@ use Rattle.rex_state.specs.Machine.{lane_of, frame_at, next}
 use Rattle.rex_state.specs.Sound.{IsSound, mode_at}
 use Rattle.rex_state.specs.Touched.{held_at}
 use Rattle.rex_syntax.specs.declared.locks.Mode.TheVariants.{Free, Exclusive}
+use Rattle.rex_syntax.specs.declared.locks.TheConstants.{LOCKS}
 use Rattle.rex_record.specs.Value.{is_begin}
 use Rattle.rex_words.specs.declared.assignment.Assignment.{Assignment}
 use Rattle.rex_words.specs.declared.seat.WordSeat.{WordSeat}
@@ -23,9 +24,9 @@ use Rattle.rex_words.specs.Recorded.{lane_for}
 use Rattle.rex_words.specs.Alone.{service_of, lane_requests, dice_of, rolled, drawn, is_draw, begun_in, draws_in, AreTold, DoAlone, IsQuiet}
 use Rattle.rex_words.specs.Budget.{left_at}
 
--- a lane's locksets have a mode for each of 64 locks
+-- a lane's locksets have a mode for each lock that there can be
 abbrev pub AreWhole : StateValue → Type 0
-AreWhole s = (lane : ℕ) → length (held_at s lane).modes ≡ 64
+AreWhole s = (lane : ℕ) → length (held_at s lane).modes ≡ LOCKS
 
 -- what a seat keeps of its lane goes together: a sound state in which the others are idle; as many events as the lane did; the stamp of the last; and the lane's next request and random number
 pub record IsLaneOf (r : Assignment) (m : WordSeat) : Type 0 where

@@ -30,6 +30,7 @@ use Rattle.rex_world.specs.Agreed.{learned}
 use Rattle.rex_world.specs.Seats.{AreSeats, heres, records_at}
 use Rattle.rex_world.specs.World.{nodes_of, world_of}
 use Rattle.rex_world.specs.Kept.{IsRunning, IsSame}
+use Rattle.rex_event.specs.declared.event.TheConstants.{CLIENT_ENTRIES}
 
 -- what is reported of a refusal; a state that is told is never a bad one, and want of memory ends the run
 abbrev pub effect_of : ℕ → Refusal → Effect
@@ -161,7 +162,7 @@ pub record CanBeTold {S : Type 0} (service : Declarations) (w : World S) (number
   pub releases : AreReleased (node_at (heres service w.agreed w.seats.items) number) step.effects
   pub few : nodes_of w ≤ most_nodes
   pub seats : AreSeats service w.agreed w.seed (nodes_of w) 1 w.seats.items
-  pub clients : length w.seen.items ≡ 257
+  pub clients : length w.seen.items ≡ CLIENT_ENTRIES
 
 -- what clients have seen after a call of a node: the replies that it released; a call that was refused released none
 abbrev pub seen_by : Here → Result Step Refusal → List ℕ → List ℕ

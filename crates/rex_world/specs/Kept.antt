@@ -12,6 +12,7 @@ use Rattle.rex_safety.specs.Kept.{IsKept}
 use Rattle.rex_world.specs.declared.world.World.{World}
 use Rattle.rex_world.specs.Seats.{AreSeats, AreWithin}
 use Rattle.rex_world.specs.World.{IsSpelled, TellsRightly, nodes_of, world_of}
+use Rattle.rex_event.specs.declared.event.TheConstants.{CLIENT_ENTRIES}
 
 -- the service is a checked one; memory was never short; the world of the model is one that lines lead to, and its agreed values are those that are kept here; each node is kept, and its keeper has failed, and will, in no more appends than lines were done; each message is spelled, and a state that it tells is right; requests fit; each message below the flushed ones was handed over; and there is a number for each client
 pub record IsRunning {S : Type 0} (service : Declarations) (w : World S) : Type 0 where
@@ -28,7 +29,7 @@ pub record IsRunning {S : Type 0} (service : Declarations) (w : World S) : Type 
   pub requests : All (RequestFits service) w.requests
   pub flushed : w.flushed ≤ length w.handed.items
   pub handed : list_all (λ (b : Bool). b) (take w.flushed w.handed.items) ≡ true
-  pub clients : length w.seen.items ≡ 257
+  pub clients : length w.seen.items ≡ CLIENT_ENTRIES
 
 -- the same nodes, requests and seed
 pub record IsSame {S : Type 0} (before after : World S) : Type 0 where

@@ -7,6 +7,7 @@ use Rattle.rex_syntax.specs.declared.service.Declarations.{Declarations}
 use Rattle.rex_syntax.specs.Service.{IsService}
 use Rattle.rex_syntax.specs.Check.{IsChecked}
 use Rattle.rex_event.specs.Cuts.{IsConsistent}
+use Rattle.rex_event.specs.declared.event.TheConstants.{CLIENTS}
 use Rattle.rex_state.specs.Value.{StateValue}
 use Rattle.rex_state.specs.Start.{start_of}
 use Rattle.rex_state.specs.Machine.{run}
@@ -56,11 +57,11 @@ pub record Headline (service : Declarations) (requests : List Request) (seed n :
       → Stands (trace_of (agreed (world_after service requests seed n front))) client sequence value)
   pub reads : AtFronts lines (λ front. TellsAgreed service n (world_after service requests seed n front))
   pub reported : AtFronts lines (λ front. ReportsWhatIsTold service n (world_after service requests seed n front))
-  pub forward : (earlier later rest : List ScheduleLine) (m client variable : ℕ) → lines ≡ (earlier ++ ReadVariable m client variable ∷ later) ++ rest → client ≤ 256
+  pub forward : (earlier later rest : List ScheduleLine) (m client variable : ℕ) → lines ≡ (earlier ++ ReadVariable m client variable ∷ later) ++ rest → client ≤ CLIENTS
       → (value : ℤ) (number : ℕ) → IsTold service (world_after service requests seed n earlier) m client variable value number
       → (m_later variable_later : ℕ) (value_later : ℤ) (number_later : ℕ)
       → IsTold service (world_after service requests seed n (earlier ++ ReadVariable m client variable ∷ later)) m_later client variable_later value_later number_later → number ≤ number_later
-  pub shown : AtFronts lines (λ front. (client sequence : ℕ) (reply : ℤ) → client ≤ 256 → IsAmong (Released client sequence reply) (effects_of service requests seed n (beginning n) front)
+  pub shown : AtFronts lines (λ front. (client sequence : ℕ) (reply : ℤ) → client ≤ CLIENTS → IsAmong (Released client sequence reply) (effects_of service requests seed n (beginning n) front)
       → (m variable : ℕ) (value : ℤ) (number : ℕ) → IsTold service (world_after service requests seed n front) m client variable value number
       → Stands (trace_at (world_after service requests seed n front) number) client sequence reply)
   pub rounds : length lines ≤ greatest_round → NoneIsSpent (effects_of service requests seed n (beginning n) lines)

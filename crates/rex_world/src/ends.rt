@@ -11,9 +11,10 @@ ghost use Rattle.rex_world.specs.World.{world_of};
 
 use crate::seats::Seat;
 use crate::world::World;
-use rex_ballot::Value;
+use rex_ballot::{INSTANCES, Value};
 use rex_list::List;
 use rex_node::Node;
+use rex_record::LIVE_EVENTS;
 use rex_report::{End, Role, UpEnd, push_end};
 use rex_syntax::checked::Checked;
 use rex_traits::{Obedient, Store};
@@ -21,7 +22,7 @@ use std::alloc::AllocError;
 
 // How many events are live at an active node; how many deltas another one has replayed.
 fn count_of<S: Store>(node: &Node<Obedient<S>>) -> u32
-    requires { length (work_of node.now.acting).live ≤ 4096 }
+    requires { length (work_of node.now.acting).live ≤ LIVE_EVENTS }
     ensures { result ≡ specs.count_of node.now }
 {
     match node.role() {
@@ -32,8 +33,8 @@ fn count_of<S: Store>(node: &Node<Obedient<S>>) -> u32
 
 // What a node that is up came to.
 fn up_end_of<S: Store>(node: &Node<Obedient<S>>) -> UpEnd
-    requires live { length (work_of node.now.acting).live ≤ 4096 }
-    requires known { parts.count_of node.now ≤ 65535 }
+    requires live { length (work_of node.now.acting).live ≤ LIVE_EVENTS }
+    requires known { parts.count_of node.now ≤ INSTANCES }
     ensures { result ≡ specs.up_end_of node.now }
 {
     UpEnd {

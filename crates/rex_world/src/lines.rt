@@ -20,7 +20,7 @@ use crate::places::{
 };
 use crate::told::Told;
 use crate::world::World;
-use rex_event::{Event, Kind};
+use rex_event::{CLIENTS, Event, Kind};
 use rex_node::{Refusal, Step};
 use rex_replay::Replayer;
 use rex_schedule::ScheduleLine;
@@ -287,7 +287,7 @@ impl<S: Store> World<S> {
     ) -> Result<(), AllocError>
         requires running { IsRunning svc.now self.old }
         requires there { IsNode (nodes_of self.old) node }
-        requires client { client ≤ 256 }
+        requires client { client ≤ CLIENTS }
         ensures comes { OnOk result (Comes svc.now self.old self.new told.old told.new (line.ReadVariable node client variable)) }
     {
         let read = read_at::<Brand, S>(

@@ -32,7 +32,7 @@ ghost use Rattle.rex_world.specs.Places.{ActsAt, IsArmedAt, IsHandedAt, StartsAt
 
 use crate::seats::Seat;
 use rex_ballot::Value;
-use rex_event::Event;
+use rex_event::{CLIENT_ENTRIES, Event};
 use rex_list::List;
 use rex_log::Past;
 use rex_msg::Message;
@@ -342,7 +342,7 @@ pub(crate) fn show_at<P: Past, S: Store>(
     requires there { IsNode (length seats.now) number }
     requires few { length seats.now ≤ most_nodes }
     requires seats { AreSeats svc.now P.past seed (length seats.now) 1 seats.now }
-    requires clients { length seen.old ≡ 257 }
+    requires clients { length seen.old ≡ CLIENT_ENTRIES }
     requires releases { AreReleased (node_at (heres svc.now P.past seats.now) number) effects.now }
     ensures { seen.new ≡ seen_by_releases (stamp_at (node_at (heres svc.now P.past seats.now) number)) effects.now seen.old }
 {

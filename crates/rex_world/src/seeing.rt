@@ -13,7 +13,7 @@ ghost use Rattle.rex_world.specs.World.{nodes_of};
 use crate::places::show_at;
 use crate::seats::Seat;
 use crate::world::World;
-use rex_event::{Event, Kind};
+use rex_event::{CLIENTS, CLIENT_ENTRIES, Event, Kind};
 use rex_log::Past;
 use rex_node::{Refusal, Step};
 use rex_reads::{Read, Seen};
@@ -22,9 +22,6 @@ use rex_syntax::checked::Checked;
 use rex_traits::Store;
 use std::alloc::{AllocError, Global};
 use std::marker::Brand;
-
-/// How many numbers a client may have: 0 to 256.
-pub(crate) const CLIENTS: usize = 257;
 
 /// So many clients that have seen nothing.
 pub(crate) fn unseen(alloc: Global, count: usize) -> Result<Vec<Seen>, AllocError>
@@ -61,7 +58,7 @@ impl<S: Store> Seat<S> {
     // The number that a release of the node gives a client.
     fn stamp<P: Past>(&self, svc: &Checked, seed: u32, nodes: u8, number: u8, client: u16) -> u32
         requires seat { IsSeat svc.now P.past seed nodes number self.now }
-        requires client { client ≤ 256 }
+        requires client { client ≤ CLIENTS }
         requires up { (here_in svc.now P.past self.now).up ≡ true }
         requires active { is_active (here_in svc.now P.past self.now).role ≡ true }
         ensures { result ≡ stamp_at (here_in svc.now P.past self.now) client }
@@ -83,7 +80,7 @@ impl<S: Store> Seat<S> {
         seen: &mut [Seen],
     )
         requires seat { IsSeat svc.now P.past seed nodes number self.now }
-        requires clients { length seen.old ≡ 257 }
+        requires clients { length seen.old ≡ CLIENT_ENTRIES }
         requires up { (here_in svc.now P.past self.now).up ≡ true }
         requires active { is_active (here_in svc.now P.past self.now).role ≡ true }
         ensures { seen.new ≡ seen_more client (stamp_at (here_in svc.now P.past self.now) client) seen.old }
@@ -107,7 +104,7 @@ impl<S: Store> Seat<S> {
         seen: &mut [Seen],
     )
         requires seat { IsSeat svc.now P.past seed nodes number self.now }
-        requires clients { length seen.old ≡ 257 }
+        requires clients { length seen.old ≡ CLIENT_ENTRIES }
         requires releases { AreReleased (here_in svc.now P.past self.now) (effect.now ∷ []) }
         ensures { seen.new ≡ seen_by_release (stamp_at (here_in svc.now P.past self.now)) (released_to effect.now) seen.old }
     {
@@ -131,7 +128,7 @@ impl<S: Store> Seat<S> {
         seen: &mut [Seen],
     )
         requires seat { IsSeat svc.now P.past seed nodes number self.now }
-        requires clients { length seen.old ≡ 257 }
+        requires clients { length seen.old ≡ CLIENT_ENTRIES }
         requires releases { AreReleased (here_in svc.now P.past self.now) effects.now }
         ensures { seen.new ≡ seen_by_releases (stamp_at (here_in svc.now P.past self.now)) effects.now seen.old }
     {

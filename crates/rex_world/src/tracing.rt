@@ -11,7 +11,7 @@ ghost use Rattle.rex_world.specs.Tracing.{trace_text, values_text};
 ghost use Rattle.rex_world.specs.World.{world_of};
 
 use crate::world::World;
-use rex_ballot::Value;
+use rex_ballot::{INSTANCES, Value};
 use rex_delta::{DecodeError, decode};
 use rex_event::Delta;
 use rex_list::List;
@@ -58,7 +58,7 @@ fn push_values(
     service: &Declarations,
     values: &[Value],
 ) -> Result<(), AllocError>
-    requires { length values.now ≤ 65535 }
+    requires { length values.now ≤ INSTANCES }
     ensures { OnOk result (out.new.items ≡ out.old.items ++ values_text service.now 1 values.now) }
 {
     for place in 0..values.len() {

@@ -26,10 +26,10 @@ ghost use Rattle.rex_world.specs.Kept.{IsRunning, IsSame};
 use crate::calls::tell_all;
 use crate::places::{arm_at, take_at, take_block_at};
 use crate::seats::Seat;
-use crate::seeing::{CLIENTS, unseen};
+use crate::seeing::unseen;
 use crate::told::Told;
 use rex_ballot::Value;
-use rex_event::{Event, Kind};
+use rex_event::{CLIENT_ENTRIES, Event, Kind};
 use rex_list::List;
 use rex_net::Net;
 use rex_node::{Node, Refusal, RestartFault};
@@ -62,7 +62,7 @@ pub struct World<S: Store> {
     /// So many of them, the first ones, were all handed over.
     pub(crate) flushed: usize,
     pub(crate) done: u32,
-    /// For each client's number, from 0 to 256, of how many agreed values it has seen something.
+    /// For each client's number, of how many agreed values it has seen something.
     pub(crate) seen: Vec<Seen>,
     pub(crate) broken: bool,
 }
@@ -193,7 +193,7 @@ impl<S: Store> World<S> {
         let _service = svc.declarations();
         let requests = copied(alloc, &scenario.requests)?;
         let seats = new_seats(alloc, svc, scenario.seed, scenario.nodes, keepers)?;
-        let seen = unseen(alloc, CLIENTS)?;
+        let seen = unseen(alloc, CLIENT_ENTRIES)?;
         Ok(World {
             alloc,
             seed: scenario.seed,

@@ -21,7 +21,7 @@ use crate::histories::history_by;
 use crate::recording::Recording;
 use rex_answer::{Answer, refused, scenario_code, unchecked};
 use rex_crew::Crew;
-use rex_event::Event;
+use rex_event::{Event, HISTORY_EVENTS};
 use rex_lead::laws::histories_are_led;
 use rex_lead::lead;
 use rex_live::laws::{events_are_told, histories_run};
@@ -30,7 +30,7 @@ use rex_scenario::{Scenario, ScenarioError, read_unscheduled};
 use rex_state::state::State;
 use rex_syntax::checked::Checked;
 use rex_syntax::service::Service;
-use rex_threads::processors;
+use rex_threads::{WORKERS, processors};
 use rex_traits::{Gate, OpenGate};
 use std::alloc::{AllocError, Global};
 use std::sync::Wait;
@@ -54,7 +54,7 @@ fn lead_by_crew<R: Threads + Sync>(
     history: &[Event],
 ) -> Result<Vec<u8>, AllocError>
     requires fits { ScenarioFits svc.now scenario.now }
-    requires few { length history.now ≤ 268431360 }
+    requires few { length history.now ≤ HISTORY_EVENTS }
     requires begins { All BeginsInRange history.now }
     requires runs { IsSome (run svc.now (start_of svc.now) history.now) }
     ensures text { IfOk result (λ text. text.items ≡ live_text svc.now scenario.now (blocks_of history.now)) }
@@ -78,11 +78,11 @@ fn lead_by_crew<R: Threads + Sync>(
 // So many workers replay what the lanes of a service did. On a floor most events come after one of another lane, and workers would
 // wait for each other; lanes that record by lock words seldom meet.
 fn workers_for<R: Threads>(rt: &R, recording: Recording, svc: &Checked) -> u8
-    ensures { (0 < result) × (result ≤ 16) }
+    ensures { (0 < result) × (result ≤ WORKERS) }
 {
     match recording {
         Recording::Floor => 1,
-        Recording::Words => svc.declarations().lanes.min(processors(rt).min(16) as u8),
+        Recording::Words => svc.declarations().lanes.min(processors(rt).min(WORKERS as usize) as u8),
     }
 }
 

@@ -8,8 +8,8 @@ use Rattle.rex_live.specs.Places.{place_at, last_of, IsLinked, IsWantedAt}
 use Rattle.rex_live.proofs.Opens.{wanted_kept}
 use Rattle.rex_live.proofs.places.Places.pass_begun.Goals as goal
 
-pub returns-then-client-lt-ENTRIES-clause-places : goal.returns-then-client-lt-ENTRIES-clause-places
-returns-then-client-lt-ENTRIES-clause-places c = record {
+pub returns-then-client-lt-CLIENT_ENTRIES-clause-places : goal.returns-then-client-lt-CLIENT_ENTRIES-clause-places
+returns-then-client-lt-CLIENT_ENTRIES-clause-places c = record {
   linked = subst (λ (v : _). IsLinked c.args.requests.now v.items) (sym c.renew.ensures.nexts) c.requires.had.are.linked;
   noted = c.renew.ensures.noted;
   long = c.renew.ensures.long;
