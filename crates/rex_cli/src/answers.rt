@@ -198,7 +198,6 @@ pub(crate) fn response_to<R: Replayer>(
     command: Command,
     input: &[u8],
 ) -> Result<Response, AllocError>
-    requires ready { R.ready replayer.old }
     requires long { length input.now ≤ 4194305 }
     requires fits { Fits command }
     ensures due { IfOk result (λ r. due_of r ≡ due.due_command command input.now) }
@@ -206,7 +205,6 @@ pub(crate) fn response_to<R: Replayer>(
     ensures headline { (workers : ℕ) (journal : Bool) → command ≡ commands.Run workers journal → IfOk result (λ r. (due_of r).status ≡ 0 → Committed input.now) }
     ensures fits { IfOk result MayRun }
     ensures kept { IfOk result (IsKept (keeps_journals command)) }
-    ensures ready { R.ready replayer.new }
 {
     let answer = match command {
         Command::Run { journal, .. } => return run_input(alloc, input, journal),

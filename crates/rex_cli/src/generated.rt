@@ -71,10 +71,8 @@ fn sum_up<R: Replayer>(
     scenario: &Scenario,
     service: Service,
 ) -> Result<Answer, AllocError>
-    requires ready { R.ready replayer.old }
     requires fits { ScenarioFits service scenario.now }
     ensures due { IfOk result (λ a. a ≡ due.due_summary seed size scenario.now service (refusal service)) }
-    ensures ready { R.ready replayer.new }
 {
     if let Some(answer) = unchecked(alloc, service.declarations())? {
         return Ok(answer);
@@ -94,9 +92,7 @@ fn soak_text<R: Replayer>(
     size: u32,
     text: &[u8],
 ) -> Result<Answer, AllocError>
-    requires ready { R.ready replayer.old }
     ensures due { IfOk result (λ a. a ≡ due.due_soak seed size (scenario_answer text.now)) }
-    ensures ready { R.ready replayer.new }
 {
     if text.len() > SCENARIO_BYTES {
         return refused(alloc, 0, scenario_code(ScenarioCode::TooLong));
@@ -115,11 +111,9 @@ pub(crate) fn soak<R: Replayer>(
     seed: u32,
     size: u32,
 ) -> Result<Answer, AllocError>
-    requires ready { R.ready replayer.old }
     requires fits { IsScenario seed size }
     ensures due { IfOk result (λ a. a ≡ due.due_soak seed size (scenario_answer (scenario_text seed size))) }
     ensures good { IfOk result (λ a. a.status ≡ 0) }
-    ensures ready { R.ready replayer.new }
 {
     generated_scenarios_are_good();
     let text = scenario(alloc, seed, size)?;

@@ -25,7 +25,7 @@ use crate::worlds::{KeptWorld, begin};
 use rex_command::{Command, command_of};
 use rex_crew::Crew;
 use rex_event::Event;
-use rex_replay::{ByCall, Replayer};
+use rex_replay::{ByCall, ReplayCall, Replayer};
 use rex_state::state::State;
 use rex_streams::{ReadFault, read_input};
 use rex_syntax::checked::Checked;
@@ -54,7 +54,6 @@ fn read_and_respond<R: Replayer, S: Source>(
     command: Command,
     source: &mut S,
 ) -> Result<Response, ReadFault>
-    requires ready { R.ready replayer.old }
     requires fits { Fits command }
     requires reads { inputs.reads_input command ≡ true }
     ensures due { IfOk result (λ r. IfSome (S.left source.old) (λ input. due_of r ≡ due.due_command command input)) }
@@ -67,7 +66,6 @@ fn read_and_respond<R: Replayer, S: Source>(
     ensures later { S.faults source.old ≤ S.faults source.new }
     ensures reads { S.calls source.new ≤ S.calls source.old + 4194305 }
     ensures failed { IsErrOf result fault.Failed → Rose (S.faults source.old) (S.faults source.new) }
-    ensures ready { R.ready replayer.new }
 {
     match read_input(alloc, source) {
         Ok(input) => match response_to(alloc, replayer, command, &input.bytes) {
@@ -85,7 +83,6 @@ fn respond<R: Replayer, S: Source>(
     command: Option<Command>,
     source: &mut S,
 ) -> Result<Response, ReadFault>
-    requires ready { R.ready replayer.old }
     requires fits { IfSome command Fits }
     ensures due { IfOk result (λ r. IfSome (inputs.input_for command (S.left source.old)) (λ input. due_of r ≡ due.due_for command input)) }
     ensures judges { IfOk result (λ r. IfSome (inputs.input_for command (S.left source.old)) (λ input. JudgesFor command input (due_of r).status)) }
@@ -98,7 +95,6 @@ fn respond<R: Replayer, S: Source>(
     ensures later { S.faults source.old ≤ S.faults source.new }
     ensures reads { S.calls source.new ≤ S.calls source.old + 4194305 }
     ensures failed { IsErrOf result fault.Failed → Rose (S.faults source.old) (S.faults source.new) }
-    ensures ready { R.ready replayer.new }
 {
     let Some(command) = command else {
         return match usage(alloc) {
@@ -122,7 +118,6 @@ fn run_world<T: Store, R: Replayer, K: Sink>(
     plan: &Plan,
     sink: &mut K,
 ) -> u8
-    requires ready { R.ready replayer.old }
     requires fits { ScenarioFits plan.now.service plan.now.scenario }
     requires running { IsRunning plan.now.service world }
     requires of { IsOf plan.now.scenario world }
@@ -139,7 +134,6 @@ fn run_world<T: Store, R: Replayer, K: Sink>(
 
 // Runs a plan, and answers the status.
 fn run_plan<R: Replayer, K: Sink>(alloc: Global, replayer: &mut R, plan: &Plan, sink: &mut K) -> u8
-    requires ready { R.ready replayer.old }
     requires fits { ScenarioFits plan.now.service plan.now.scenario }
     ensures gives { Gives (record { status = 0; text = report_of plan.now.service plan.now.scenario }) (K.held sink.old) (K.held sink.new) result }
     ensures ends { Ends (record { status = 0; text = report_of plan.now.service plan.now.scenario }) (K.faults sink.old) (K.faults sink.new) result }
@@ -158,7 +152,6 @@ fn give<R: Replayer, K: Sink>(
     response: &Response,
     sink: &mut K,
 ) -> u8
-    requires ready { R.ready replayer.old }
     requires fits { MayRun response.now }
     requires low { (due_of response.now).status < 4 }
     ensures gives { Gives (due_of response.now) (K.held sink.old) (K.held sink.new) result }
@@ -170,15 +163,15 @@ fn give<R: Replayer, K: Sink>(
     }
 }
 
-// Does what a command asks for. The clauses are those of `rex_main`.
-fn obey<R: Replayer, S: Source, K: Sink>(
+// Does what a command asks for, and replays by a call. The clauses are those of `rex_main`.
+fn obey<C: ReplayCall + Drop, S: Source, K: Sink>(
     alloc: Global,
-    replayer: &mut R,
+    call: C,
     command: Option<Command>,
     source: &mut S,
     sink: &mut K,
 ) -> u8
-    requires ready { R.ready replayer.old }
+    requires replays { C.replays call }
     requires fits { IfSome command Fits }
     ensures run { IfSome (inputs.input_for command (S.left source.old)) (λ input. Gives (due.due_for command input) (K.held sink.old) (K.held sink.new) result) }
     ensures causes { result < 4 → IfSome (inputs.input_for command (S.left source.old)) (λ input. IsCaused command input result) }
@@ -193,8 +186,9 @@ fn obey<R: Replayer, S: Source, K: Sink>(
         → (result ≡ 0) ⊎ (result ≡ 6)) }
     ensures headline { (workers : ℕ) (journal : Bool) → command ≡ Some (commands.Run workers journal) → result ≡ 0 → IfSome (S.left source.old) Committed }
 {
-    match respond(alloc, replayer, command, source) {
-        Ok(response) => give(alloc, replayer, &response, sink),
+    let mut replayer = ByCall::new(call);
+    match respond(alloc, &mut replayer, command, source) {
+        Ok(response) => give(alloc, &mut replayer, &response, sink),
         Err(ReadFault::Failed) => 4,
         Err(ReadFault::OutOfMemory) => 6,
     }
@@ -284,7 +278,7 @@ pub fn rex_main<R: Threads + Sync, S: Source, K: Sink, G: Gate + Sync>(
                 ensures runs { IfOk result (λ s. run svc.now from.now events.now ≡ Some s) }
                 ensures sound { IfOk result (λ s. IsSound svc.now s) }
             { crew.replay(alloc, svc, from, events) };
-            obey(alloc, &mut ByCall { call }, command, source, sink)
+            obey(alloc, call, command, source, sink)
         }
         Err(_) => 6,
     }

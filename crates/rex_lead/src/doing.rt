@@ -29,13 +29,11 @@ pub(crate) fn do_line<R: Replayer>(
     line: &ScheduleLine,
 ) -> Result<(), AllocError>
     requires running { IsRunning svc.now world.old }
-    requires ready { R.ready replayer.old }
     requires fits { LineFits (nodes_of world.old) (length world.old.requests) svc.now.lanes line.now }
     requires form { FormFits (has_old_form svc.now) line.now }
     requires count { world.old.done + 1 < 2 ^ 32 }
     ensures did { OnOk result (Did svc.now world.old world.new (Does line.now ∷ [])) }
     ensures done { OnOk result (world.new.done ≡ world.old.done + 1) }
-    ensures ready { R.ready replayer.new }
 {
     world.step(svc, replayer, line)?;
     Ok(())

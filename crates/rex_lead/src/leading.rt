@@ -102,11 +102,9 @@ fn replayed<R: Replayer>(
     from: State,
     block: &[Event],
 ) -> (R, Result<State, AllocError>)
-    requires ready { R.ready replayer }
     requires sound { IsSound svc.now from }
     requires runs { IsSome (run svc.now from block.now) }
     requires counted { AreCounted block.now }
-    ensures ready { R.ready result.0 }
     ensures runs { IfOk result.1 (λ s. run svc.now from block.now ≡ Some s) }
     ensures sound { IfOk result.1 (λ s. IsSound svc.now s) }
 {
@@ -136,13 +134,11 @@ fn agree_beside<T: Threads + Sync, R: Replayer + Send + Drop>(
     requires begins { All BeginsInRange block.now }
     requires next { IsNext svc.now leading.world block.now leading.state }
     requires count { leading.world.done + 4 < 2 ^ 32 }
-    requires ready { R.ready leading.replayer }
     requires sound { IsSound svc.now leading.state }
     requires runs { IsSome (run svc.now leading.state next.now) }
     requires counted { AreCounted next.now }
     ensures did { IfOk result (λ l. Did svc.now leading.world l.world (takes block.now ++ agreement)) }
     ensures done { IfOk result (λ l. l.world.done ≡ leading.world.done + 4) }
-    ensures ready { IfOk result (λ l. R.ready l.replayer) }
     ensures runs { IfOk result (λ l. run svc.now leading.state next.now ≡ Some l.state) }
     ensures sound { IfOk result (λ l. IsSound svc.now l.state) }
 {
@@ -155,11 +151,9 @@ fn agree_beside<T: Threads + Sync, R: Replayer + Send + Drop>(
     let (ahead, behind) = both(
         rt,
         || -> (R, Result<State, AllocError>)
-            requires ready { R.ready replayer }
             requires sound { IsSound svc.now from }
             requires runs { IsSome (run svc.now from next.now) }
             requires counted { AreCounted next.now }
-            ensures ready { R.ready result.0 }
             ensures runs { IfOk result.1 (λ s. run svc.entry.now from next.entry.now ≡ Some s) }
             ensures sound { IfOk result.1 (λ s. IsSound svc.entry.now s) }
         { replayed(replayer, alloc, svc, from, next) },
@@ -191,11 +185,9 @@ fn begin<R: Replayer + Drop>(
     replayer: R,
     first: &[Event],
 ) -> Result<Leading<R>, AllocError>
-    requires ready { R.ready replayer }
     requires runs { IsSome (run svc.now (start_of svc.now) first.now) }
     requires counted { AreCounted first.now }
     ensures world { IfOk result (λ l. l.world ≡ world) }
-    ensures ready { IfOk result (λ l. R.ready l.replayer) }
     ensures runs { IfOk result (λ l. run svc.now (start_of svc.now) first.now ≡ Some l.state) }
     ensures sound { IfOk result (λ l. IsSound svc.now l.state) }
 {
@@ -222,11 +214,9 @@ fn agree_on_all<T: Threads + Sync, R: Replayer + Send + Drop>(
     requires there { 1 ≤ nodes_of world }
     requires elected { IsElected svc.now world }
     requires led { CanBeLed svc.now history.now }
-    requires ready { R.ready replayer }
     requires count { world.done + 4 * length (blocks_of history.now) < 2 ^ 32 }
     ensures did { IfOk result (λ r. Did svc.now world r.0 (agreements (blocks_of history.now))) }
     ensures done { IfOk result (λ r. r.0.done ≡ world.done + 4 * length (blocks_of history.now)) }
-    ensures ready { IfOk result (λ r. R.ready r.1) }
 {
     leaders_are_steady();
     runs_count_on();
@@ -257,12 +247,10 @@ fn replay<R: Replayer>(
     nodes: u8,
 ) -> Result<(), AllocError>
     requires running { IsRunning svc.now world.old }
-    requires ready { R.ready replayer.old }
     requires some { 1 ≤ nodes }
     requires there { nodes ≤ nodes_of world.old }
     requires count { world.old.done + nodes < 2 ^ 32 }
     ensures did { OnOk result (Did svc.now world.old world.new (replays nodes)) }
-    ensures ready { R.ready replayer.new }
 {
     for others in 1..nodes {
         do_line(
@@ -290,7 +278,6 @@ fn lead_world<T: Threads + Sync, R: Replayer + Send + Drop>(
     requires nodes { nodes ≡ nodes_of world }
     requires fresh { world_of svc.now world ≡ beginning nodes }
     requires led { CanBeLed svc.now history.now }
-    requires ready { R.ready replayer }
     ensures { IfOk result (λ w. Did svc.now world w (live_doings nodes (blocks_of history.now))) }
 {
     elect(&mut world, svc)?;
@@ -327,7 +314,6 @@ pub fn lead<T: Threads + Sync, R: Replayer + Send + Drop>(
     requires few { length history.now ≤ HISTORY_EVENTS }
     requires begins { All BeginsInRange history.now }
     requires runs { IsSome (run svc.now (start_of svc.now) history.now) }
-    requires ready { R.ready replayer }
     ensures text { IfOk result (λ text. text.items ≡ live_text svc.now scenario.now (blocks_of history.now)) }
     ensures typed { IfOk result (λ text. All HasTypedKind history.now) }
 {

@@ -40,7 +40,6 @@ impl<K: Keeper> Node<K> {
         replayer: &mut R,
     ) -> Result<Step, Refusal>
         requires node { IsNode K.records svc.now P.past self.old }
-        requires ready { R.ready replayer.old }
         requires runs { RunsOn svc.now (calls.elect self.old.nodes (service_of svc.now self.old.seed) self.old.id) (begin (here_of K.records svc.now P.past self.old)) }
         requires count { K.faults self.old.keeper < 2 ^ 64 - 1 }
         ensures refused { Refuses (refusal_of_elect self.old.id (here_of K.records svc.now P.past self.old)) result }
@@ -50,7 +49,6 @@ impl<K: Keeper> Node<K> {
         ensures left { Leaves K.records K.append_gives K.faults svc.now P.past (calls.elect self.old.nodes (service_of svc.now self.old.seed) self.old.id) result self.old self.new }
         ensures same { IsSpared result self.old self.new }
         ensures kept { StaysNode K.records svc.now P.past self.old self.new }
-        ensures ready { R.ready replayer.new }
     {
         let _service = svc.declarations();
         if let Some(refusal) = self.up_refusal() {
@@ -75,7 +73,6 @@ impl<K: Keeper> Node<K> {
     ) -> Result<Going, AllocError>
         requires node { IsNode K.records svc.now P.past self.old }
         requires up { self.old.up ≡ true }
-        requires ready { R.ready replayer.old }
         requires left { ballot_left self.old.id self.old.acceptor.promised ≡ Some ballot }
         requires least { IsLeastAbove self.old.id self.old.acceptor.promised ballot }
         requires runs { RunsOn svc.now (calls.elect self.old.nodes (service_of svc.now self.old.seed) self.old.id) (so_far K.records svc.now P.past self.old draft.old) }
@@ -83,7 +80,6 @@ impl<K: Keeper> Node<K> {
         ensures ends { IfOk result (Ends K.records K.append_gives K.faults svc.now P.past (calls.elect self.old.nodes (service_of svc.now self.old.seed) self.old.id) (whole P.past self.old) (whole P.past self.new) draft.old draft.new) }
         ensures stuck { OnErr result (IsStuck K.records K.append_gives K.faults svc.now P.past (calls.elect self.old.nodes (service_of svc.now self.old.seed) self.old.id) (whole P.past self.old) (whole P.past self.new) draft.old) }
         ensures same { IsSame (whole P.past self.old) (whole P.past self.new) }
-        ensures ready { R.ready replayer.new }
     {
         let _service = svc.declarations();
         let rec = Rec::Promised { ballot };

@@ -286,7 +286,6 @@ impl<K: Keeper> Node<K> {
     ) -> Result<Round, AllocError>
         requires kept { IsKept K.records svc.now P.past (whole P.past self.old) }
         requires up { self.old.up ≡ true }
-        requires ready { R.ready replayer.old }
         requires free { IsFree self.old.proposer (is_some self.old.acting) }
         requires turns { MayGoOn (whole P.past self.old) turns }
         requires runs { RunsOn svc.now (calls.settle turns self.old.nodes (service_of svc.now self.old.seed) self.old.id) (so_far K.records svc.now P.past self.old draft.old) }
@@ -294,7 +293,6 @@ impl<K: Keeper> Node<K> {
         ensures goes { IfOk result (GoesRound K.records K.append_gives K.faults svc.now P.past turns (whole P.past self.old) (whole P.past self.new) draft.old draft.new) }
         ensures stuck { OnErr result (IsStuck K.records K.append_gives K.faults svc.now P.past (calls.settle turns self.old.nodes (service_of svc.now self.old.seed) self.old.id) (whole P.past self.old) (whole P.past self.new) draft.old) }
         ensures same { IsSame (whole P.past self.old) (whole P.past self.new) }
-        ensures ready { R.ready replayer.new }
     {
         let _service = svc.declarations();
         if !self.goes_on() {
@@ -323,7 +321,6 @@ impl<K: Keeper> Node<K> {
     ) -> Result<Going, AllocError>
         requires kept { IsKept K.records svc.now P.past (whole P.past self.old) }
         requires up { self.old.up ≡ true }
-        requires ready { R.ready replayer.old }
         requires free { IsFree self.old.proposer (is_some self.old.acting) }
         requires turns { MayGoOn (whole P.past self.old) turns }
         requires runs { RunsOn svc.now (calls.settle turns self.old.nodes (service_of svc.now self.old.seed) self.old.id) (so_far K.records svc.now P.past self.old draft.old) }
@@ -331,7 +328,6 @@ impl<K: Keeper> Node<K> {
         ensures ends { IfOk result (Ends K.records K.append_gives K.faults svc.now P.past (calls.settle turns self.old.nodes (service_of svc.now self.old.seed) self.old.id) (whole P.past self.old) (whole P.past self.new) draft.old draft.new) }
         ensures stuck { OnErr result (IsStuck K.records K.append_gives K.faults svc.now P.past (calls.settle turns self.old.nodes (service_of svc.now self.old.seed) self.old.id) (whole P.past self.old) (whole P.past self.new) draft.old) }
         ensures same { IsSame (whole P.past self.old) (whole P.past self.new) }
-        ensures ready { R.ready replayer.new }
     {
         let mut left = turns;
         loop {
@@ -382,13 +378,11 @@ impl<K: Keeper> Node<K> {
         requires kept { IsKept K.records svc.now P.past (whole P.past self.old) }
         requires up { self.old.up ≡ true }
         requires acting { self.old.acting ≡ None }
-        requires ready { R.ready replayer.old }
         ensures active { OnOk result (IsActive svc.now (whole P.past self.old) (whole P.past self.new)) }
         ensures same { IsSame (whole P.past self.old) (whole P.past self.new) }
         ensures effects { OnOk result (draft.new.effects.items ≡ draft.old.effects.items ++ effect.Active self.old.id (unwrap_or (option_map (λ (p : ProposerValue). p.ballot) self.old.proposer) 0) ∷ []) }
         ensures sends { OnOk result (draft.new.sends.items ≡ draft.old.sends.items) }
         ensures err { OnErr result (whole P.past self.new ≡ (whole P.past self.old)) }
-        ensures ready { R.ready replayer.new }
     {
         let _service = svc.declarations();
         let node = self.id;

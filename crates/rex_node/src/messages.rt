@@ -44,7 +44,6 @@ impl<K: Keeper> Node<K> {
         message: &Message,
     ) -> Result<Step, Refusal>
         requires node { IsNode K.records svc.now P.past self.old }
-        requires ready { R.ready replayer.old }
         requires message { MessageFits self.old.nodes (message_in P.past message.now) }
         requires spelling { HasSpelling message.now }
         requires here { message.now.to ≡ self.old.id }
@@ -59,7 +58,6 @@ impl<K: Keeper> Node<K> {
         ensures left { Leaves K.records K.append_gives K.faults svc.now P.past (calls.receive self.old.nodes (service_of svc.now self.old.seed) self.old.id message.now.from (content_in P.past message.now.content)) result self.old self.new }
         ensures same { IsSpared result self.old self.new }
         ensures kept { StaysNode K.records svc.now P.past self.old self.new }
-        ensures ready { R.ready replayer.new }
         ensures taken { KeepsAsTold message.now.content (K.records self.old.keeper) (K.records self.new.keeper) }
     {
         let _service = svc.declarations();
@@ -105,7 +103,6 @@ impl<K: Keeper> Node<K> {
     ) -> Result<Going, AllocError>
         requires node { IsNode K.records svc.now P.past self.old }
         requires up { self.old.up ≡ true }
-        requires ready { R.ready replayer.old }
         requires message { MessageFits self.old.nodes (message_in P.past message.now) }
         requires spelling { HasSpelling message.now }
         requires past { Begins (records.known (here_of K.records svc.now P.past self.old).log) P.past }
@@ -117,7 +114,6 @@ impl<K: Keeper> Node<K> {
         ensures stuck { OnErr result (IsStuck K.records K.append_gives K.faults svc.now P.past (calls.receive self.old.nodes (service_of svc.now self.old.seed) self.old.id message.now.from (content_in P.past message.now.content)) (whole P.past self.old) (whole P.past self.new) draft.old) }
         ensures tells { draft.old.sends.items ≡ [] → OnOk result (AreTold svc.now P.past draft.new.sends.items) }
         ensures same { IsSame (whole P.past self.old) (whole P.past self.new) }
-        ensures ready { R.ready replayer.new }
         ensures taken { KeepsAsTold message.now.content (K.records self.old.keeper) (K.records self.new.keeper) }
     {
         let from = message.from;

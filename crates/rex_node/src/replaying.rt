@@ -35,13 +35,11 @@ impl<K: Keeper> Node<K> {
         replayer: &mut R,
     ) -> Result<Step, Refusal>
         requires node { IsNode K.records svc.now P.past self.old }
-        requires ready { R.ready replayer.old }
         ensures refused { Refuses (refusal_of_replay (here_of K.records svc.now P.past self.old)) result }
         ensures told { IfOk result (Does K.records K.append_gives K.faults svc.now P.past (calls.replay self.old.id) self.old self.new) }
         ensures same { OnErr result (self.new ≡ self.old) }
         ensures keeper { self.new.keeper ≡ self.old.keeper }
         ensures kept { StaysNode K.records svc.now P.past self.old self.new }
-        ensures ready { R.ready replayer.new }
     {
         if !self.up {
             return Err(Refusal::Down);
@@ -74,9 +72,7 @@ impl<K: Keeper> Node<K> {
         requires node { IsKept K.records svc.now P.past (whole P.past self.now) }
         requires up { self.now.up ≡ true }
         requires acting { self.now.acting ≡ None }
-        requires ready { R.ready replayer.old }
         ensures runs { IfOk result (λ s. run svc.now (start_of svc.now) (trace_of (knows P.past self.now)) ≡ Some s) }
-        ensures ready { R.ready replayer.new }
     {
         let _service = svc.declarations();
         let from = ahead_of(&self.ahead, &self.start);

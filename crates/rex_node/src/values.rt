@@ -25,9 +25,7 @@ pub fn replay_values<R: Replayer>(
 ) -> Result<State, AllocError>
     requires sound { IsSound svc.now from.now }
     requires runs { IsSome (run svc.now from.now (trace_of values.now)) }
-    requires ready { R.ready replayer.old }
     ensures runs { IfOk result (λ s. run svc.now from.now (trace_of values.now) ≡ Some s) }
-    ensures ready { R.ready replayer.new }
 {
     let events = joined(alloc, values)?;
     replayer.replay(alloc, svc, from, &events)

@@ -1,24 +1,35 @@
 //! Replay by a call.
 
-use crate::Replayer;
+use crate::{ReplayCall, Replayer};
 use rex_event::Event;
 use rex_state::state::State;
 use rex_syntax::checked::Checked;
 use std::alloc::{AllocError, Global};
 
-/// The replayer that makes a call, as of a closure that lets several threads replay. It is ready where the call may be made
-/// wherever events run from a sound state, and answers the state to which they lead.
+/// The replayer that makes a call.
 #[derive(Drop)]
-pub struct ByCall<F> {
-    pub call: F,
+pub struct ByCall<C: ReplayCall> {
+    call: C,
+    ghost replays: { ∥ C.replays call ∥₁ },
 }
 
-impl<F: Fn(Global, &Checked, &State, &[Event]) -> Result<State, AllocError>> Replayer
-    for ByCall<F> {
-    ghost use Rattle.rex_replay.specs.Calls.{ReplaysEvents};
+impl<C: ReplayCall> ByCall<C> {
+    /// The replayer by a call that replays.
+    pub fn new(call: C) -> ByCall<C>
+        requires { C.replays call }
+    {
+        ByCall { call }
+    }
 
-    ghost ready = { λ c. ReplaysEvents _ _ (λ alloc svc from events. F.pre c.call alloc svc from events) (λ alloc svc from events r. F.post c.call alloc svc from events r) };
+    // The call, and that it replays.
+    fn call_that_replays(&self) -> &C
+        ensures { C.replays result.now }
+    {
+        &self.call
+    }
+}
 
+impl<C: ReplayCall> Replayer for ByCall<C> {
     fn replay(
         &mut self,
         alloc: Global,
@@ -26,6 +37,6 @@ impl<F: Fn(Global, &Checked, &State, &[Event]) -> Result<State, AllocError>> Rep
         from: &State,
         events: &[Event],
     ) -> Result<State, AllocError> {
-        (self.call)(alloc, svc, from, events)
+        self.call_that_replays().call(alloc, svc, from, events)
     }
 }

@@ -1,6 +1,6 @@
 //! Replay on one thread.
 
-ghost use Rattle.std.specs.Prelude.{◌≡◌, ⊤, Some, IsSome};
+ghost use Rattle.std.specs.Prelude.{◌≡◌, Some, IsSome};
 ghost use Rattle.rex_state.specs.Machine.{run};
 ghost use Rattle.rex_state.specs.Sound.{IsSound};
 ghost use Rattle.rex_state.specs.Counts.{AreCounted};
@@ -16,8 +16,6 @@ use std::alloc::{AllocError, Global};
 pub struct OneThread;
 
 impl Replayer for OneThread {
-    ghost ready = { λ _. ⊤ };
-
     fn replay(
         &mut self,
         alloc: Global,

@@ -12,9 +12,6 @@ pub trait Replayer {
     ghost use Rattle.rex_state.specs.Sound.{IsSound};
     ghost use Rattle.rex_state.specs.Counts.{AreCounted};
 
-    /// What a replayer needs, and keeps.
-    ghost ready: { Self → Type 0 };
-
     /// The state to which the events run from a state. It fails only for want of memory.
     fn replay(
         &mut self,
@@ -23,11 +20,9 @@ pub trait Replayer {
         from: &State,
         events: &[Event],
     ) -> Result<State, AllocError>
-        requires ready { Self.ready self.old }
         requires sound { IsSound svc.now from.now }
         requires runs { IsSome (run svc.now from.now events.now) }
         requires counted { AreCounted events.now }
-        ensures ready { Self.ready self.new }
         ensures runs { IfOk result (λ s. run svc.now from.now events.now ≡ Some s) }
         ensures sound { IfOk result (λ s. IsSound svc.now s) };
 }

@@ -5,14 +5,14 @@ ghost use Rattle.rex_state.specs.Counts.{AreCounted};
 ghost use Rattle.rex_record.specs.Kept.{IsRecorder};
 
 use crate::record::{queue, step};
-use crate::replay::are_counted;
+use crate::replay::{replayed, replayed_by_call};
 use crate::services::checked;
 use rand_pcg::Lcg64Xsh32;
 use rex_crew::Crew;
 use rex_event::Event;
 use rex_list::Arguments;
 use rex_record::Recorder;
-use rex_replay::{ByCall, OneThread, Replayer};
+use rex_replay::OneThread;
 use rex_state::state::State;
 use rex_syntax::checked::Checked;
 use rex_syntax::request::Request;
@@ -79,25 +79,7 @@ fn recorded(
     recorder
 }
 
-/// The state to which a recorder's trace runs.
-fn replayed<R: Replayer>(
-    rt: &impl Abort,
-    alloc: Global,
-    svc: &Checked,
-    replayer: &mut R,
-    recorder: &Recorder,
-) -> State
-    requires ready { R.ready replayer.old }
-    requires recorder { IsRecorder svc.now recorder.now.value }
-{
-    let events = recorder.trace();
-    assert!(rt; are_counted(events));
-    replayer
-        .replay(alloc, svc, recorder.start(), events)
-        .expect(rt, "memory")
-}
-
-/// The same by a crew of so many workers.
+/// The state to which a recorder's trace runs, replayed by a crew of so many workers.
 fn replayed_by_crew<R: Threads + Sync + Abort, G: Gate + Sync>(
     rt: &R,
     alloc: Global,
@@ -120,7 +102,7 @@ fn replayed_by_crew<R: Threads + Sync + Abort, G: Gate + Sync>(
         ensures runs { IfOk result (λ s. run svc.entry.now from.entry.now events.entry.now ≡ Some s) }
         ensures sound { IfOk result (λ s. IsSound svc.entry.now s) }
     { crew.replay(alloc, svc, from, events) };
-    replayed(rt, alloc, svc, &mut ByCall { call }, recorder)
+    replayed_by_call(rt, alloc, svc, call, recorder)
 }
 
 /// Whether the variables, the clients' entries, and the counts and business of three lanes are the same.

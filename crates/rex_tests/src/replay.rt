@@ -7,7 +7,7 @@ use crate::services::checked;
 use rand_pcg::Lcg64Xsh32;
 use rex_event::Event;
 use rex_record::Recorder;
-use rex_replay::{ByCall, OneThread, Replayer};
+use rex_replay::{ByCall, OneThread, ReplayCall, Replayer};
 use rex_state::state::State;
 use rex_syntax::checked::Checked;
 use std::alloc::Global;
@@ -39,15 +39,14 @@ pub(crate) fn are_counted(events: &[Event]) -> bool
     events.iter().all(|event| event.index < 100)
 }
 
-/// Replays a recorder's trace from its start.
-fn replayed<R: Replayer>(
+/// The state to which a recorder's trace runs.
+pub(crate) fn replayed<R: Replayer>(
     rt: &impl Abort,
     alloc: Global,
     svc: &Checked,
     replayer: &mut R,
     recorder: &Recorder,
 ) -> State
-    requires ready { R.ready replayer.old }
     requires recorder { IsRecorder svc.now recorder.now.value }
 {
     let events = recorder.trace();
@@ -55,6 +54,20 @@ fn replayed<R: Replayer>(
     replayer
         .replay(alloc, svc, recorder.start(), events)
         .expect(rt, "memory")
+}
+
+/// The same by a call.
+pub(crate) fn replayed_by_call<C: ReplayCall + Drop>(
+    rt: &impl Abort,
+    alloc: Global,
+    svc: &Checked,
+    call: C,
+    recorder: &Recorder,
+) -> State
+    requires replays { C.replays call }
+    requires recorder { IsRecorder svc.now recorder.now.value }
+{
+    replayed(rt, alloc, svc, &mut ByCall::new(call), recorder)
 }
 
 fn one_thread_replays(rt: &impl Abort, alloc: Global, svc: &Checked) {
@@ -69,7 +82,7 @@ fn a_call_replays(rt: &impl Abort, alloc: Global, svc: &Checked) {
     let call = |alloc: Global, svc: &Checked, from: &State, events: &[Event]| {
         OneThread.replay(alloc, svc, from, events)
     };
-    let state = replayed(rt, alloc, svc, &mut ByCall { call }, &recorder);
+    let state = replayed_by_call(rt, alloc, svc, call, &recorder);
     assert_eq!(rt; state.entry(1).reply, Some(70));
 }
 

@@ -27,13 +27,11 @@ impl<S: Store> World<S> {
         waited: bool,
     ) -> Result<bool, AllocError>
         requires running { IsRunning svc.now self.old }
-        requires ready { R.ready replayer.old }
         requires there { place < length self.old.handed.items }
         ensures did { IfOk result (HandsOver svc.now self.old.requests self.old.seed (nodes_of self.old) (world_of svc.now self.old) (world_of svc.now self.new) told.old told.new place waited) }
         ensures running { OnOk result (IsRunning svc.now self.new) }
         ensures same { OnOk result (IsSame self.old self.new) }
         ensures done { OnOk result (self.new.done ≡ self.old.done) }
-        ensures ready { R.ready replayer.new }
     {
         if self.handed[place] {
             return Ok(waited);
@@ -50,12 +48,10 @@ impl<S: Store> World<S> {
         told: &mut Told,
     ) -> Result<bool, AllocError>
         requires running { IsRunning svc.now self.old }
-        requires ready { R.ready replayer.old }
         ensures did { IfOk result (HandsAllOver svc.now self.old.requests self.old.seed (nodes_of self.old) (world_of svc.now self.old) (world_of svc.now self.new) told.old told.new) }
         ensures running { OnOk result (IsRunning svc.now self.new) }
         ensures same { OnOk result (IsSame self.old self.new) }
         ensures done { OnOk result (self.new.done ≡ self.old.done) }
-        ensures ready { R.ready replayer.new }
     {
         let count = self.handed.len();
         let mut waited = false;
@@ -74,12 +70,10 @@ impl<S: Store> World<S> {
         told: &mut Told,
     ) -> Result<(), AllocError>
         requires running { IsRunning svc.now self.old }
-        requires ready { R.ready replayer.old }
         ensures did { OnOk result (DidSteps svc.now self.old.requests self.old.seed (nodes_of self.old) (world_of svc.now self.old) (world_of svc.now self.new) told.old told.new (model.steps_of (world_of svc.now self.old) line.Flush)) }
         ensures running { OnOk result (IsRunning svc.now self.new) }
         ensures same { OnOk result (IsSame self.old self.new) }
         ensures done { OnOk result (self.new.done ≡ self.old.done) }
-        ensures ready { R.ready replayer.new }
     {
         if !self.hand_all_over(svc, replayer, told)? {
             told.effects.push(Effect::Nothing)?;

@@ -66,10 +66,8 @@ impl<S: Store> World<S> {
         message: &Message,
     ) -> Result<(), AllocError>
         requires running { IsRunning svc.now self.old }
-        requires ready { R.ready replayer.old }
         requires sent { IsSent self.old.net number message.now }
         ensures comes { OnOk result (Comes svc.now self.old self.new told.old told.new (line.Deliver number)) }
-        ensures ready { R.ready replayer.new }
     {
         told.effects.push(Effect::Delivered {
             number,
@@ -99,9 +97,7 @@ impl<S: Store> World<S> {
         number: u64,
     ) -> Result<(), AllocError>
         requires running { IsRunning svc.now self.old }
-        requires ready { R.ready replayer.old }
         ensures comes { OnOk result (Comes svc.now self.old self.new told.old told.new (line.Deliver number)) }
-        ensures ready { R.ready replayer.new }
     {
         match self.find(number)? {
             Some(message) => self.hand_to_node(svc, replayer, told, number, &message),

@@ -48,14 +48,12 @@ impl<S: Store> World<S> {
         scenario: &Scenario,
     ) -> Result<Vec<Effect>, AllocError>
         requires running { IsRunning svc.now self.old }
-        requires ready { R.ready replayer.old }
         requires fits { ScenarioFits svc.now scenario.now }
         requires of { IsOf scenario.now self.old }
         requires count { self.old.done + length scenario.now.schedule < 2 ^ 32 }
         ensures world { OnOk result (world_of svc.now self.new ≡ after_lines svc.now scenario.now.requests scenario.now.seed scenario.now.nodes (world_of svc.now self.old) scenario.now.schedule) }
         ensures releases { IfOk result (λ es. es.items ≡ spec.releases_from svc.now scenario.now (world_of svc.now self.old) scenario.now.schedule) }
         ensures running { OnOk result (IsRunning svc.now self.new) }
-        ensures ready { R.ready replayer.new }
     {
         let mut releases = Vec::new(self.alloc);
         for line in scenario.schedule.as_slice() {

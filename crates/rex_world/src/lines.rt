@@ -70,9 +70,7 @@ impl<S: Store> World<S> {
     ) -> Result<(), AllocError>
         requires running { IsRunning svc.now self.old }
         requires there { IsNode (nodes_of self.old) node }
-        requires ready { R.ready replayer.old }
         ensures comes { OnOk result (Comes svc.now self.old self.new told.old told.new (line.Elect node)) }
-        ensures ready { R.ready replayer.new }
     {
         let count = self.record_count(node);
         let outcome = elect_at::<Brand, S, R>(
@@ -169,9 +167,7 @@ impl<S: Store> World<S> {
     ) -> Result<(), AllocError>
         requires running { IsRunning svc.now self.old }
         requires there { IsNode (nodes_of self.old) node }
-        requires ready { R.ready replayer.old }
         ensures comes { OnOk result (Comes svc.now self.old self.new told.old told.new (line.Replay node)) }
-        ensures ready { R.ready replayer.new }
     {
         let count = self.record_count(node);
         let outcome = replay_at::<Brand, S, R>(
@@ -313,12 +309,10 @@ impl<S: Store> World<S> {
         line: &ScheduleLine,
     ) -> Result<(), AllocError>
         requires running { IsRunning svc.now self.old }
-        requires ready { R.ready replayer.old }
         requires fits { LineFits (nodes_of self.old) (length self.old.requests) svc.now.lanes line.now }
         requires form { FormFits (has_old_form svc.now) line.now }
         requires call { IsCall line.now }
         ensures comes { OnOk result (Comes svc.now self.old self.new told.old told.new line.now) }
-        ensures ready { R.ready replayer.new }
     {
         match line {
             ScheduleLine::Elect { node } => self.elect(svc, replayer, told, *node),

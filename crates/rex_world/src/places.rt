@@ -60,10 +60,8 @@ pub(crate) fn elect_at<P: Past, S: Store, R: Replayer>(
     requires there { IsNode (length seats.old) number }
     requires few { length seats.old ≤ most_nodes }
     requires seats { AreSeats svc.now P.past seed (length seats.old) 1 seats.old }
-    requires ready { R.ready replayer.old }
     requires runs { RunsOn svc.now (calls.elect (length seats.old) (service_of svc.now seed) number) (begin (disarmed (node_at (heres svc.now P.past seats.old) number))) }
     ensures acts { ActsAt svc.now P.past seed (calls.elect (length seats.old) (service_of svc.now seed) number) number seats.old seats.new result }
-    ensures ready { R.ready replayer.new }
 {
     let nodes = seats.len() as u8;
     seats[number as usize - 1].elect::<P, R>(svc, replayer, seed, nodes, number)
@@ -81,14 +79,12 @@ pub(crate) fn on_message_at<P: Past, S: Store, R: Replayer>(
     requires there { IsNode (length seats.old) message.now.to }
     requires few { length seats.old ≤ most_nodes }
     requires seats { AreSeats svc.now P.past seed (length seats.old) 1 seats.old }
-    requires ready { R.ready replayer.old }
     requires message { MessageFits (length seats.old) (message_in P.past message.now) }
     requires spelling { HasSpelling message.now }
     requires past { Begins (known (node_at (heres svc.now P.past seats.old) message.now.to).log) P.past }
     requires tells { IsTold svc.now P.past message.now.content }
     requires runs { RunsOn svc.now (calls.receive (length seats.old) (service_of svc.now seed) message.now.to message.now.from (content_in P.past message.now.content)) (begin (disarmed (node_at (heres svc.now P.past seats.old) message.now.to))) }
     ensures acts { ActsAt svc.now P.past seed (calls.receive (length seats.old) (service_of svc.now seed) message.now.to message.now.from (content_in P.past message.now.content)) message.now.to seats.old seats.new result }
-    ensures ready { R.ready replayer.new }
 {
     let nodes = seats.len() as u8;
     seats[message.to as usize - 1].on_message::<P, R>(svc, replayer, seed, nodes, message)
@@ -209,9 +205,7 @@ pub(crate) fn replay_at<P: Past, S: Store, R: Replayer>(
     requires there { IsNode (length seats.old) number }
     requires few { length seats.old ≤ most_nodes }
     requires seats { AreSeats svc.now P.past seed (length seats.old) 1 seats.old }
-    requires ready { R.ready replayer.old }
     ensures acts { ActsAt svc.now P.past seed (calls.replay number) number seats.old seats.new result }
-    ensures ready { R.ready replayer.new }
 {
     let nodes = seats.len() as u8;
     seats[number as usize - 1].replay::<P, R>(svc, replayer, seed, nodes, number)

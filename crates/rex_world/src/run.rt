@@ -75,7 +75,6 @@ impl<S: Store> World<S> {
         line: &ScheduleLine,
     ) -> Result<(), AllocError>
         requires running { IsRunning svc.now self.old }
-        requires ready { R.ready replayer.old }
         requires fits { LineFits (nodes_of self.old) (length self.old.requests) svc.now.lanes line.now }
         requires form { FormFits (has_old_form svc.now) line.now }
         requires count { self.old.done + 1 < 2 ^ 32 }
@@ -84,7 +83,6 @@ impl<S: Store> World<S> {
         ensures running { OnOk result (IsRunning svc.now self.new) }
         ensures same { OnOk result (IsSame self.old self.new) }
         ensures broken { OnErr result (self.new.broken ≡ true) }
-        ensures ready { R.ready replayer.new }
     {
         let effects = self.step(svc, replayer, line)?;
         let told = push_effects(waiting, svc.declarations(), self.done, effects.as_slice());
@@ -104,7 +102,6 @@ impl<S: Store> World<S> {
         sink: &mut K,
     ) -> Result<(), RunFault>
         requires running { IsRunning svc.now self.old }
-        requires ready { R.ready replayer.old }
         requires fits { LineFits (nodes_of self.old) (length self.old.requests) svc.now.lanes line.now }
         requires form { FormFits (has_old_form svc.now) line.now }
         requires count { self.old.done + 1 < 2 ^ 32 }
@@ -116,7 +113,6 @@ impl<S: Store> World<S> {
         ensures told { TellsAlike (K.held sink.old) (K.held sink.new) }
         ensures later { K.faults sink.old ≤ K.faults sink.new }
         ensures failed { IsErrOf result fault.Failed → Rose (K.faults sink.old) (K.faults sink.new) }
-        ensures ready { R.ready replayer.new }
     {
         self.tell_line(svc, replayer, waiting, line)?;
         write_waiting(sink, waiting, PIECE)
@@ -149,7 +145,6 @@ impl<S: Store> World<S> {
         sink: &mut K,
     ) -> Result<(), RunFault>
         requires running { IsRunning svc.now self.old }
-        requires ready { R.ready replayer.old }
         requires fits { ScenarioFits svc.now scenario.now }
         requires of { IsOf scenario.now self.old }
         requires count { self.old.done + length scenario.now.schedule < 2 ^ 32 }
@@ -159,7 +154,6 @@ impl<S: Store> World<S> {
         ensures told { TellsAlike (K.held sink.old) (K.held sink.new) }
         ensures later { K.faults sink.old ≤ K.faults sink.new }
         ensures failed { IsErrOf result fault.Failed → Rose (K.faults sink.old) (K.faults sink.new) }
-        ensures ready { R.ready replayer.new }
     {
         let mut waiting = Vec::new(self.alloc);
         for line in scenario.schedule.as_slice() {
@@ -178,7 +172,6 @@ impl<S: Store> World<S> {
         sink: &mut K,
     ) -> Result<(), RunFault>
         requires running { IsRunning svc.now self.old }
-        requires ready { R.ready replayer.old }
         requires fits { ScenarioFits svc.now scenario.now }
         requires of { IsOf scenario.now self.old }
         requires count { self.old.done + length scenario.now.schedule < 2 ^ 32 }
@@ -189,7 +182,6 @@ impl<S: Store> World<S> {
         ensures told { TellsAlike (K.held sink.old) (K.held sink.new) }
         ensures later { K.faults sink.old ≤ K.faults sink.new }
         ensures failed { IsErrOf result fault.Failed → Rose (K.faults sink.old) (K.faults sink.new) }
-        ensures ready { R.ready replayer.new }
     {
         let end = self.report(svc, replayer, scenario, sink);
         if end.is_err() {

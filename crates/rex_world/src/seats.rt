@@ -145,12 +145,10 @@ impl<S: Store> Seat<S> {
         number: u8,
     ) -> Result<Step, Refusal>
         requires seat { IsSeat svc.now P.past seed nodes number self.old }
-        requires ready { R.ready replayer.old }
         requires runs { RunsOn svc.now (calls.elect nodes (service_of svc.now seed) number) (begin (disarmed (here_in svc.now P.past self.old))) }
         ensures acts { Acts P.past (calls.elect nodes (service_of svc.now seed) number) number (here_in svc.now P.past self.old) (here_in svc.now P.past self.new) result }
         ensures tells { IfOk result (λ step. AreTold svc.now P.past step.sends) }
         ensures seat { IsWhole result → StaysSeat svc.now P.past seed nodes number self.old self.new }
-        ensures ready { R.ready replayer.new }
     {
         match self {
             Seat::Running(node) => node.elect::<P, R>(svc, replayer),
@@ -168,7 +166,6 @@ impl<S: Store> Seat<S> {
         message: &Message,
     ) -> Result<Step, Refusal>
         requires seat { IsSeat svc.now P.past seed nodes message.now.to self.old }
-        requires ready { R.ready replayer.old }
         requires message { MessageFits nodes (message_in P.past message.now) }
         requires spelling { HasSpelling message.now }
         requires past { Begins (known (here_in svc.now P.past self.old).log) P.past }
@@ -177,7 +174,6 @@ impl<S: Store> Seat<S> {
         ensures acts { Acts P.past (calls.receive nodes (service_of svc.now seed) message.now.to message.now.from (content_in P.past message.now.content)) message.now.to (here_in svc.now P.past self.old) (here_in svc.now P.past self.new) result }
         ensures tells { IfOk result (λ step. AreTold svc.now P.past step.sends) }
         ensures seat { IsWhole result → StaysSeat svc.now P.past seed nodes message.now.to self.old self.new }
-        ensures ready { R.ready replayer.new }
     {
         match self {
             Seat::Running(node) => node.on_message::<P, R>(svc, replayer, message),
@@ -316,10 +312,8 @@ impl<S: Store> Seat<S> {
         number: u8,
     ) -> Result<Step, Refusal>
         requires seat { IsSeat svc.now P.past seed nodes number self.old }
-        requires ready { R.ready replayer.old }
         ensures acts { Acts P.past (calls.replay number) number (here_in svc.now P.past self.old) (here_in svc.now P.past self.new) result }
         ensures seat { IsWhole result → StaysSeat svc.now P.past seed nodes number self.old self.new }
-        ensures ready { R.ready replayer.new }
     {
         match self {
             Seat::Running(node) => node.replay::<P, R>(svc, replayer),

@@ -44,9 +44,7 @@ pub fn summarize<R: Replayer>(
     scenario: &Scenario,
 ) -> Result<Summary, AllocError>
     requires fits { ScenarioFits svc.now scenario.now }
-    requires ready { R.ready replayer.old }
     ensures is { IfOk result (λ summary. summary ≡ spec.summary_of svc.now scenario.now) }
-    ensures ready { R.ready replayer.new }
 {
     kept_values_fit();
     let _service = svc.declarations();

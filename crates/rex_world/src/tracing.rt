@@ -86,7 +86,6 @@ pub fn trace<R: Replayer>(
     scenario: &Scenario,
 ) -> Result<Vec<u8>, AllocError>
     requires fits { ScenarioFits svc.now scenario.now }
-    requires ready { R.ready replayer.old }
     ensures { IfOk result (λ text. text.items ≡ trace_text svc.now scenario.now) }
 {
     let _service = svc.declarations();

@@ -234,7 +234,6 @@ impl<S: Store> World<S> {
         line: &ScheduleLine,
     ) -> Result<(), AllocError>
         requires running { IsRunning svc.now self.old }
-        requires ready { R.ready replayer.old }
         requires fits { LineFits (nodes_of self.old) (length self.old.requests) svc.now.lanes line.now }
         requires form { FormFits (has_old_form svc.now) line.now }
         requires kind { ArmsNone line.now }
@@ -242,7 +241,6 @@ impl<S: Store> World<S> {
         ensures running { OnOk result (IsRunning svc.now self.new) }
         ensures same { OnOk result (IsSame self.old self.new) }
         ensures done { OnOk result (self.new.done ≡ self.old.done) }
-        ensures ready { R.ready replayer.new }
     {
         match line {
             ScheduleLine::Flush => self.flush(svc, replayer, told),
@@ -277,7 +275,6 @@ impl<S: Store> World<S> {
         line: &ScheduleLine,
     ) -> Result<List<Effect>, AllocError>
         requires running { IsRunning svc.now self.old }
-        requires ready { R.ready replayer.old }
         requires fits { LineFits (nodes_of self.old) (length self.old.requests) svc.now.lanes line.now }
         requires form { FormFits (has_old_form svc.now) line.now }
         requires count { self.old.done + 1 < 2 ^ 32 }
@@ -285,7 +282,6 @@ impl<S: Store> World<S> {
         ensures world { OnOk result (world_of svc.now self.new ≡ (row svc.now self.old.requests self.old.seed (nodes_of self.old) (world_of svc.now self.old) line.now).world) }
         ensures running { OnOk result (IsRunning svc.now self.new) }
         ensures same { OnOk result (IsSame self.old self.new) }
-        ensures ready { R.ready replayer.new }
     {
         if let ScheduleLine::KeepFail { node, kept } = line {
             return self.keep_fail(svc, *node, *kept);
@@ -360,7 +356,6 @@ impl<S: Store> World<S> {
         line: &ScheduleLine,
     ) -> Result<List<Effect>, AllocError>
         requires running { IsRunning svc.now self.old }
-        requires ready { R.ready replayer.old }
         requires fits { LineFits (nodes_of self.old) (length self.old.requests) svc.now.lanes line.now }
         requires form { FormFits (has_old_form svc.now) line.now }
         requires count { self.old.done + 1 < 2 ^ 32 }
@@ -369,7 +364,6 @@ impl<S: Store> World<S> {
         ensures running { OnOk result (IsRunning svc.now self.new) }
         ensures same { OnOk result (IsSame self.old self.new) }
         ensures broken { OnErr result (self.new.broken ≡ true) }
-        ensures ready { R.ready replayer.new }
     {
         let told = self.do_line(svc, replayer, line);
         if told.is_err() {

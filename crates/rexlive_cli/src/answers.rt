@@ -25,7 +25,7 @@ use rex_event::{Event, HISTORY_EVENTS};
 use rex_lead::laws::histories_are_led;
 use rex_lead::lead;
 use rex_live::laws::{events_are_told, histories_run};
-use rex_replay::ByCall;
+use rex_replay::{ByCall, ReplayCall};
 use rex_scenario::{Scenario, ScenarioError, read_unscheduled};
 use rex_state::state::State;
 use rex_syntax::checked::Checked;
@@ -42,6 +42,26 @@ pub(crate) fn usage(alloc: Global) -> Result<Answer, AllocError>
 {
     let text = Vec::from_slice(alloc, b"usage: rexlive [--words]\n")?;
     Ok(Answer { status: 2, text })
+}
+
+// What nodes agree on that are led through a history, and what they came to. A call finds to which states its events lead.
+fn lead_by_call<R: Threads + Sync, C: ReplayCall + Send + Drop>(
+    rt: &R,
+    alloc: Global,
+    svc: &Checked,
+    scenario: &Scenario,
+    call: C,
+    history: &[Event],
+) -> Result<Vec<u8>, AllocError>
+    requires replays { C.replays call }
+    requires fits { ScenarioFits svc.now scenario.now }
+    requires few { length history.now ≤ 268431360 }
+    requires begins { All BeginsInRange history.now }
+    requires runs { IsSome (run svc.now (start_of svc.now) history.now) }
+    ensures text { IfOk result (λ text. text.items ≡ live_text svc.now scenario.now (blocks_of history.now)) }
+    ensures typed { IfOk result (λ text. All HasTypedKind history.now) }
+{
+    lead(rt, alloc, svc, scenario, ByCall::new(call), history)
 }
 
 // What nodes agree on that are led through a history, and what they came to. A crew finds to which states its events lead.
@@ -72,7 +92,7 @@ fn lead_by_crew<R: Threads + Sync>(
         ensures runs { IfOk result (λ s. run svc.now from.now events.now ≡ Some s) }
         ensures sound { IfOk result (λ s. IsSound svc.now s) }
     { crew.replay(alloc, svc, from, events) };
-    lead(rt, alloc, svc, scenario, ByCall { call }, history)
+    lead_by_call(rt, alloc, svc, scenario, call, history)
 }
 
 // So many workers replay what the lanes of a service did. On a floor most events come after one of another lane, and workers would

@@ -48,7 +48,6 @@ loop-next-init g c =
           (rest_all BeginsInRange (chunks_rest c.chunks-blocks.result) first (chunks_rest c.next.new.self) steps.1.0 all);
       reached = ap (run c.args.svc.now (start_of c.args.svc.now)) (append-nil first) ∙ c.in_ok-leading.ensures.runs;
       sound = c.in_ok-leading.ensures.sound;
-      ready = c.in_ok-leading.ensures.ready;
     }
 
 pub agree_beside-requires-clause-running : goal.agree_beside-requires-clause-running
@@ -74,9 +73,6 @@ agree_beside-requires-clause-count g c κs within =
       length-map c.loop-next.yielded (λ (b : Bor (List Event)). b.now),
       enough c.args.history.now (chunks_rest c.loop-next.next-iterator) c.in-Some.first.now (map (λ b. b.now) c.loop-next.yielded) c.loop-next.invariant.left,
     )
-
-pub agree_beside-requires-clause-ready : goal.agree_beside-requires-clause-ready
-agree_beside-requires-clause-ready g c κs within = c.loop-next.invariant.ready
 
 pub agree_beside-requires-clause-sound : goal.agree_beside-requires-clause-sound
 agree_beside-requires-clause-sound g c κs within = c.loop-next.invariant.sound
@@ -118,7 +114,6 @@ loop-next-preserved g c =
           ap (λ (bs : List (List Event)). run c.args.svc.now (start_of c.args.svc.now) (joined (first ∷ bs))) more
           ∙ reached_next c.args.svc.now (first ∷ blocks) next c.loop-next.leading.state c.in_ok-leading-2.leading.state c.loop-next.invariant.reached c.in_ok-leading-2.ensures.runs;
       sound = c.in_ok-leading-2.ensures.sound;
-      ready = c.in_ok-leading-2.ensures.ready;
     }
 
 pub agree_on-requires-clause-running : goal.agree_on-requires-clause-running
@@ -157,6 +152,3 @@ returns-clause-done g c =
     let all : suc (length (map (λ (b : Bor (List Event)). b.now) c.loop-next.yielded)) ≡ length (blocks_of c.args.history.now) =
     ap length (whole_history c.args.history.now (chunks_rest c.loop-next.next-iterator) c.in-Some.first.now (map (λ b. b.now) c.loop-next.yielded) c.loop-next.invariant.left c.in-None.ensures.steps.1.0) in
     omega (arith, c.in_ok-agree_on.ensures.done, c.loop-next.invariant.done, length-map c.loop-next.yielded (λ (b : Bor (List Event)). b.now), all)
-
-pub returns-clause-ready : goal.returns-clause-ready
-returns-clause-ready g c = c.loop-next.invariant.ready

@@ -25,5 +25,4 @@ invariant-loop-next g l = record {
   begins : All BeginsInRange (chunks_rest l.next-iterator);
   reached : run l.svc (start_of l.svc) (joined (l.initial.block ∷ map (λ b. b.now) l.yielded)) ≡ Some l.leading.state;
   sound : IsSound l.svc l.leading.state;
-  ready : g.R.Replayer.ready l.leading.replayer;
 }

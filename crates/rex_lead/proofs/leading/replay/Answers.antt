@@ -11,5 +11,4 @@ loop-others-preserved g c = record {
       did_as c.args.svc.now c.args.world.now c.do_line.new.world _ _ (sym (replays_next c.loop-others.others c.loop-others.auto.others))
       (did_both c.args.svc.now c.args.world.now c.loop-others.world c.do_line.new.world (replays c.loop-others.others) (Does (Replay (c.loop-others.others + 1)) ∷ []) c.loop-others.invariant.did c.in_ok-do_line.ensures.did);
   done = omega (arith, c.in_ok-do_line.ensures.done, c.loop-others.invariant.done);
-  ready = c.do_line.ensures.ready;
 }

@@ -8,5 +8,4 @@ abbrev pub invariant-loop-others : goal.invariant-loop-others
 invariant-loop-others g l = record {
   did : Did l.svc l.initial.world l.world (replays l.others);
   done : l.world.done + 1 ≡ l.initial.world.done + l.others;
-  ready : g.R.Replayer.ready l.replayer;
 }

@@ -16,6 +16,8 @@ elect-requires-clause-runs g c =
     subst (λ (x : Here). RunsOn c.args.svc.now (calls.elect (length c.args.seats.now) (service_of c.args.svc.now c.args.seed) c.args.number) (begin (disarmed x)))
     (here_is c.args.svc.now g.P.Past.past c.args.seats.now c.args.number c.requires.there c.index-seats-number.result) c.requires.runs
 
-pub returns-clause-acts : goal.returns-clause-acts
-returns-clause-acts g c =
-    acts_at c.args.svc.now g.P.Past.past c.args.seats.now c.args.number c.requires.there c.index-seats-number.result c.args.seed _ c.elect.new.self c.elect.result c.elect.ensures.acts c.elect.ensures.seat c.elect.ensures.tells
+pub returns : goal.returns
+returns g c = record {
+  acts =
+      acts_at c.args.svc.now g.P.Past.past c.args.seats.now c.args.number c.requires.there c.index-seats-number.result c.args.seed _ c.elect.new.self c.elect.result c.elect.ensures.acts c.elect.ensures.seat c.elect.ensures.tells;
+}

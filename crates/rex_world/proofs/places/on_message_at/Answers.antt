@@ -19,9 +19,11 @@ on_message-requires-clause-runs g c =
     subst (λ (x : Here). RunsOn c.args.svc.now (calls.receive (length c.args.seats.now) (service_of c.args.svc.now c.args.seed) c.args.message.now.to c.args.message.now.from (content_in g.P.Past.past c.args.message.now.content)) (begin (disarmed x)))
     (here_is c.args.svc.now g.P.Past.past c.args.seats.now c.args.message.now.to c.requires.there c.index-seats-message.result) c.requires.runs
 
-pub returns-clause-acts : goal.returns-clause-acts
-returns-clause-acts g c =
-    acts_at c.args.svc.now g.P.Past.past c.args.seats.now c.args.message.now.to c.requires.there c.index-seats-message.result c.args.seed _ c.on_message.new.self c.on_message.result c.on_message.ensures.acts c.on_message.ensures.seat c.on_message.ensures.tells
+pub returns : goal.returns
+returns g c = record {
+  acts =
+      acts_at c.args.svc.now g.P.Past.past c.args.seats.now c.args.message.now.to c.requires.there c.index-seats-message.result c.args.seed _ c.on_message.new.self c.on_message.result c.on_message.ensures.acts c.on_message.ensures.seat c.on_message.ensures.tells;
+}
 
 pub on_message-requires-clause-past : goal.on_message-requires-clause-past
 on_message-requires-clause-past g c =

@@ -23,10 +23,12 @@ replay_values-requires-clause-runs g c =
     (c.ahead_of-from.ensures ∙ ap (λ (x : NodeValue _). state_of x) c.self.view_is)
     (c.after-rest.ensures ∙ ap (λ (x : NodeValue _). drop (x.replayed - x.offset) x.known) c.self.view_is ∙ sym (drop_known g.P.Past.past c.args.self.now c.args.self.now.replayed (above_offset g.K.Keeper.records c.args.svc.now g.P.Past.past (whole g.P.Past.past c.args.self.now) c.requires.node c.requires.up c.requires.acting)))
 
-pub returns-clause-runs : goal.returns-clause-runs
-returns-clause-runs g c =
-    subst (λ (o : Option StateValue). IfOk c.replay_values.result (λ s. o ≡ Some s))
-    (rest_runs_to g.K.Keeper.records c.args.svc.now g.P.Past.past (whole g.P.Past.past c.args.self.now) c.requires.node c.requires.up c.requires.acting c.ahead_of-from.result.now c.after-rest.result.now
-    (c.ahead_of-from.ensures ∙ ap (λ (x : NodeValue _). state_of x) c.self.view_is)
-    (c.after-rest.ensures ∙ ap (λ (x : NodeValue _). drop (x.replayed - x.offset) x.known) c.self.view_is ∙ sym (drop_known g.P.Past.past c.args.self.now c.args.self.now.replayed (above_offset g.K.Keeper.records c.args.svc.now g.P.Past.past (whole g.P.Past.past c.args.self.now) c.requires.node c.requires.up c.requires.acting))))
-    c.replay_values.ensures.runs
+pub returns : goal.returns
+returns g c = record {
+  runs =
+      subst (λ (o : Option StateValue). IfOk c.replay_values.result (λ s. o ≡ Some s))
+      (rest_runs_to g.K.Keeper.records c.args.svc.now g.P.Past.past (whole g.P.Past.past c.args.self.now) c.requires.node c.requires.up c.requires.acting c.ahead_of-from.result.now c.after-rest.result.now
+      (c.ahead_of-from.ensures ∙ ap (λ (x : NodeValue _). state_of x) c.self.view_is)
+      (c.after-rest.ensures ∙ ap (λ (x : NodeValue _). drop (x.replayed - x.offset) x.known) c.self.view_is ∙ sym (drop_known g.P.Past.past c.args.self.now c.args.self.now.replayed (above_offset g.K.Keeper.records c.args.svc.now g.P.Past.past (whole g.P.Past.past c.args.self.now) c.requires.node c.requires.up c.requires.acting))))
+      c.replay_values.ensures.runs;
+}

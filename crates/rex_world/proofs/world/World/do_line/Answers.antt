@@ -8,5 +8,4 @@ returns g c = record {
   world = search rules;
   running = counted_running c.args.svc.now c.act.new.self c.in_ok-act.ensures.running;
   same = search rules;
-  ready = search rules;
 }

@@ -9,7 +9,6 @@ use Rattle.rex_world.proofs.world.World.follow.Goals as goal
 pub loop-line-preserved : goal.loop-line-preserved
 loop-line-preserved g c = record {
   running = c.in_ok-effects.ensures.running;
-  ready = c.step.ensures.ready;
   of = still_of c.args.scenario.now c.loop-line.self c.step.new.self c.loop-line.invariant.of c.in_ok-effects.ensures.same;
   done = done_next c.args.svc.now c.loop-line.self c.step.new.self c.line-item.result c.in_ok-effects.ensures.world ∙ omega (arith, c.loop-line.invariant.done);
   world =

@@ -9,7 +9,6 @@ use Rattle.rex_world.proofs.world.World.follow.Given as goal
 abbrev pub invariant-loop-line : goal.invariant-loop-line
 invariant-loop-line g l = record {
   running : IsRunning l.svc l.self;
-  ready : g.R.Replayer.ready l.replayer;
   of : IsOf l.scenario l.self;
   done : l.self.done ≡ l.initial.self.done + l.line-index;
   world : after_lines l.svc l.scenario.requests l.scenario.seed l.scenario.nodes (world_of l.svc l.self) (drop l.line-index l.scenario.schedule)

@@ -10,7 +10,6 @@ loop-place-init g c = record {
   running = c.requires.running;
   same = record { nodes = refl; requests = refl; seed = refl };
   done = refl;
-  ready = c.requires.ready;
 }
 
 pub loop-place-preserved : goal.loop-place-preserved
@@ -24,7 +23,6 @@ loop-place-preserved g c =
       running = c.in_ok-waited.ensures.running;
       same = same_both c.args.self.now c.loop-place.self c.hand_over.new.self i.same c.in_ok-waited.ensures.same;
       done = c.in_ok-waited.ensures.done ∙ i.done;
-      ready = c.hand_over.ensures.ready;
     }
 
 pub returns-clause-running : goal.returns-clause-running

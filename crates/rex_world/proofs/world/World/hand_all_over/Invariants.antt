@@ -10,5 +10,4 @@ invariant-loop-place g l = record {
   running : IsRunning l.svc l.self;
   same : IsSame l.fn.self l.self;
   done : l.self.done ≡ l.fn.self.done;
-  ready : g.R.Replayer.ready l.replayer;
 }

@@ -34,14 +34,16 @@ settle-requires-clause-step g c =
     c.on_message_at-outcome.new.seats c.on_message_at-outcome.result c.on_message_at-outcome.ensures.acts (hand_kept c.args.svc.now c.args.self.now c.requires.running c.args.number c.args.message.now c.requires.sent c.mark.new.self c.mark.ensures)
     (receive_releases c.args.svc.now c.requires.running.service_is c.requires.running.checked c.mark.new.self.seed (nodes_of c.mark.new.self) c.args.message.now.to c.args.message.now.from (content_in c.mark.new.self.agreed c.args.message.now.content))
 
-pub returns-clause-comes : goal.returns-clause-comes
-returns-clause-comes g c =
-    on_ok c.settle.result
-    (hand_came c.args.svc.now c.args.self.now c.requires.running c.args.number c.args.message.now c.requires.sent c.mark.new.self c.mark.ensures c.settle.new.self c.args.told.now _ c.settle.new.told
-    (c.in_ok-push.ensures.items ∙ ap (λ (k : MessageKind). c.args.told.now.effects.items ++ Delivered c.args.number k c.args.message.now.from c.args.message.now.to ∷ []) (c.kind_of.ensures ∙ kind_alike c.args.self.now.agreed c.args.message.now.content)) refl)
-    (came c.args.svc.now c.mark.new.self (marked_running c.args.svc.now c.args.self.now c.mark.new.self c.args.number c.mark.ensures c.requires.running) c.args.message.now.to (hand_node c.args.svc.now c.mark.new.self (marked_running c.args.svc.now c.args.self.now c.mark.new.self c.args.number c.mark.ensures c.requires.running) c.args.number c.args.message.now (sent_on c.args.number c.args.self.now c.mark.new.self c.args.message.now c.mark.ensures c.requires.sent)) c.record_count-count.result c.record_count-count.ensures c.deref_mut.result.now c.deref_mut.ensures.value
-    (λ (ys : List (Seat _)). receive (length ys) (service_of c.args.svc.now c.mark.new.self.seed) c.args.message.now.to c.args.message.now.from (content_in c.mark.new.self.agreed c.args.message.now.content))
-    c.on_message_at-outcome.new.seats c.on_message_at-outcome.result c.settle.new.self _ c.settle.new.told c.settle.result c.on_message_at-outcome.ensures.acts (hand_kept c.args.svc.now c.args.self.now c.requires.running c.args.number c.args.message.now c.requires.sent c.mark.new.self c.mark.ensures) c.settle.ensures)
+pub returns : goal.returns
+returns g c = record {
+  comes =
+      on_ok c.settle.result
+      (hand_came c.args.svc.now c.args.self.now c.requires.running c.args.number c.args.message.now c.requires.sent c.mark.new.self c.mark.ensures c.settle.new.self c.args.told.now _ c.settle.new.told
+      (c.in_ok-push.ensures.items ∙ ap (λ (k : MessageKind). c.args.told.now.effects.items ++ Delivered c.args.number k c.args.message.now.from c.args.message.now.to ∷ []) (c.kind_of.ensures ∙ kind_alike c.args.self.now.agreed c.args.message.now.content)) refl)
+      (came c.args.svc.now c.mark.new.self (marked_running c.args.svc.now c.args.self.now c.mark.new.self c.args.number c.mark.ensures c.requires.running) c.args.message.now.to (hand_node c.args.svc.now c.mark.new.self (marked_running c.args.svc.now c.args.self.now c.mark.new.self c.args.number c.mark.ensures c.requires.running) c.args.number c.args.message.now (sent_on c.args.number c.args.self.now c.mark.new.self c.args.message.now c.mark.ensures c.requires.sent)) c.record_count-count.result c.record_count-count.ensures c.deref_mut.result.now c.deref_mut.ensures.value
+      (λ (ys : List (Seat _)). receive (length ys) (service_of c.args.svc.now c.mark.new.self.seed) c.args.message.now.to c.args.message.now.from (content_in c.mark.new.self.agreed c.args.message.now.content))
+      c.on_message_at-outcome.new.seats c.on_message_at-outcome.result c.settle.new.self _ c.settle.new.told c.settle.result c.on_message_at-outcome.ensures.acts (hand_kept c.args.svc.now c.args.self.now c.requires.running c.args.number c.args.message.now c.requires.sent c.mark.new.self c.mark.ensures) c.settle.ensures);
+}
 
 pub record_count-count-requires : goal.record_count-count-requires
 record_count-count-requires g c = (hand_node c.args.svc.now c.mark.new.self (marked_running c.args.svc.now c.args.self.now c.mark.new.self c.args.number c.mark.ensures c.requires.running) c.args.number c.args.message.now (sent_on c.args.number c.args.self.now c.mark.new.self c.args.message.now c.mark.ensures c.requires.sent))

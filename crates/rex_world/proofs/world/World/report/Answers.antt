@@ -23,7 +23,6 @@ returns-in_err-write_line-clause-front g c =
 pub loop-line-preserved : goal.loop-line-preserved
 loop-line-preserved g c = record {
   running = c.in_ok-write_line.ensures.running;
-  ready = c.in_ok-write_line.ensures.ready;
   of = still_of c.args.scenario.now c.loop-line.self c.write_line.new.self c.loop-line.invariant.of c.in_ok-write_line.ensures.same;
   done = done_next c.args.svc.now c.loop-line.self c.write_line.new.self c.line-item.result c.in_ok-write_line.ensures.world ∙ omega (arith, c.loop-line.invariant.done);
   world = leads_next c.args.svc.now c.args.scenario.now c.args.self.now c.loop-line.self c.write_line.new.self c.line-item.result (drop (c.loop-line.line-index + 1) c.args.scenario.now.schedule) _ c.loop-line.invariant.of
