@@ -1,19 +1,30 @@
--- Services that are read, with where their blocks lead, and a refusal of each code.
-use Rattle.std.proofs.Common.{◌≡◌, ℕ, pos, negsuc, List, [], ◌∷◌, ◌++◌, Option, Some, None, Result, Ok, Err, refl}
+-- Services that are read, with where their blocks lead, a refusal of each code, and lines that several codes fit.
+use Rattle.std.proofs.Common.{◌≡◌, ℕ, pos, negsuc, List, [], ◌∷◌, ◌++◌, Option, Some, None, Result, Ok, Err, refl, true, false, sym, subst, arith, inl}
 use Rattle.std.specs.Prelude.{codes}
 use Rattle.std.specs.Fmt.{digits}
+use Rattle.std.proofs.lemmas.List.Sums.{AllPass-from_list_all}
+use Rattle.rex_text.specs.Text.{Word, is_allowed}
 use Rattle.rex_syntax.specs.declared.expr.Operator.TheVariants.{Add, Sub, Equal, Greater}
 use Rattle.rex_syntax.specs.declared.expr.Operand.TheVariants.{Number, Local, Variable}
 use Rattle.rex_syntax.specs.declared.line.Line.TheVariants as line
 use Rattle.rex_syntax.specs.declared.service.LockKind.TheVariants.{Plain, ReadersWriter}
 use Rattle.rex_syntax.specs.declared.service.Declarations.{Declarations}
-use Rattle.rex_parse.specs.Words.{is_name}
-use Rattle.rex_parse.specs.Table.{expr_code, new_code, lock_code, lock_of_code, semaphore_code, condition_code, variable_code, local_code, number_code}
+use Rattle.rex_parse.specs.Words.{is_name, rank}
+use Rattle.rex_parse.specs.Above.{nothing}
+use Rattle.rex_parse.specs.Table.{is_inside, slots, expr_code, new_code, lock_code, lock_of_code, semaphore_code, condition_code, variable_code, local_code, number_code}
 use Rattle.rex_parse.specs.After.{service_of}
-use Rattle.rex_parse.specs.Reading.{answer_from, answer_of}
+use Rattle.rex_parse.specs.Reading.{raw_code, answer_from, answer_of}
+use Rattle.rex_parse.specs.Law.{above_from}
+use Rattle.rex_parse.specs.Fitting.{Declared, AVariable, Operand, NameOf, NewName, At, Whole, StandsAs, Fill, HasWords, Fits}
+use Rattle.rex_parse.specs.LeastCode.{IsLeast}
+use Rattle.rex_parse.specs.declared.language.Form.{Form}
+use Rattle.rex_parse.specs.declared.language.Form.TheVariants as form
+use Rattle.rex_parse.specs.declared.language.Meaning.TheVariants as meaning
 use Rattle.rex_parse.specs.declared.language.Above.{Above}
 use Rattle.rex_parse.specs.declared.language.ServiceCode.{ServiceCode}
 use Rattle.rex_parse.specs.declared.language.ServiceCode.TheVariants.{BadByte, Misplaced, BadForm, NoName, NoNumber, BadExpression, Undeclared, WrongKind, Taken, TooDeep, TooMany, LanesFirst, ReplyInBlock, Unended}
+use Rattle.rex_parse.proofs.FitsLeast.{lines_get_the_least}
+use Rattle.rex_parse.proofs.Alone.{alone}
 
 -- lines, each with its end
 abbrev text_of : List (List ℕ) → List ℕ
@@ -359,3 +370,101 @@ first_too_great = refl
 lock_down : answer_of (text_of (codes "lanes 1" ∷ codes "lock L" ∷ codes "handler h" ∷ codes "down L" ∷ [])) ≡ Err (4, WrongKind)
 unfolding answer_from is_name expr_code new_code lock_code lock_of_code semaphore_code condition_code variable_code local_code number_code digits
 lock_down = refl
+
+-- ---- the codes that fit a line
+
+-- one lane, a lock, and a handler that is open
+begun : Above
+begun = above_from nothing 1 (codes "lanes 1" ∷ codes "lock L" ∷ codes "handler h x" ∷ [])
+
+-- a lock that is set, to an expression of two words, of which the first is declared nowhere
+thrice_bad : List ℕ
+thrice_bad = codes "set L = q +"
+
+thrice_bad_words : List Word
+thrice_bad_words = codes "L" ∷ codes "=" ∷ codes "q" ∷ codes "+" ∷ []
+
+thrice_bad_has : HasWords thrice_bad (codes "set") thrice_bad_words
+unfolding thrice_bad thrice_bad_words
+thrice_bad_has = record { allowed = AllPass-from_list_all is_allowed thrice_bad refl; meant = refl; words = refl }
+
+thrice_bad_stands : StandsAs begun (codes "set") form.Set
+unfolding begun above_from is_name new_code
+thrice_bad_stands = record { known = refl; side = refl; block = refl }
+
+thrice_bad_fills : Fill (slots form.Set) thrice_bad_words
+unfolding thrice_bad_words
+thrice_bad_fills = (codes "L", codes "=" ∷ codes "q" ∷ codes "+" ∷ [], refl, (codes "q" ∷ codes "+" ∷ [], refl, omega arith))
+
+-- P6 fits it, for the number of words
+even_fits : Fits begun thrice_bad BadExpression
+unfolding thrice_bad_words
+even_fits = (codes "set", thrice_bad_words, thrice_bad_has, (form.Set, thrice_bad_stands, thrice_bad_fills, (1, Whole 2, omega arith, refl, inl (1, refl))))
+
+-- so does P7, for `q`
+unknown_fits : Fits begun thrice_bad Undeclared
+unfolding thrice_bad_words begun above_from is_name new_code
+unknown_fits = (codes "set", thrice_bad_words, thrice_bad_has, (form.Set, thrice_bad_stands, thrice_bad_fills, (2, At Operand (codes "q"), omega arith, refl, (refl, refl))))
+
+-- and P8, for `L`
+lock_fits : Fits begun thrice_bad WrongKind
+unfolding thrice_bad_words begun above_from is_name new_code
+lock_fits = (codes "set", thrice_bad_words, thrice_bad_has, (form.Set, thrice_bad_stands, thrice_bad_fills, (0, At (NameOf AVariable) (codes "L"), omega arith, refl, (refl, Declared (meaning.Lock 0), refl, refl))))
+
+-- P6 is answered
+even_answered : raw_code begun thrice_bad ≡ Some BadExpression
+unfolding thrice_bad begun above_from is_name expr_code new_code lock_code lock_of_code semaphore_code condition_code variable_code local_code number_code digits
+even_answered = refl
+
+-- P7 and P8 would be wrong answers, though they fit
+unknown_is_wrong : ¬ (IsLeast rank (Fits begun thrice_bad) Undeclared)
+unknown_is_wrong l = l.least BadExpression (omega arith) even_fits
+
+kind_is_wrong : ¬ (IsLeast rank (Fits begun thrice_bad) WrongKind)
+kind_is_wrong l = l.least BadExpression (omega arith) even_fits
+
+-- a first line that declares a lock with no name
+nameless : List ℕ
+nameless = codes "lock set"
+
+nameless_has : HasWords nameless (codes "lock") (codes "set" ∷ [])
+unfolding nameless
+nameless_has = record { allowed = AllPass-from_list_all is_allowed nameless refl; meant = refl; words = refl }
+
+nameless_stands : StandsAs nothing (codes "lock") form.Lock
+nameless_stands = record { known = refl; side = refl; block = refl }
+
+-- P4 fits it, for the name
+name_fits : Fits nothing nameless NoName
+unfolding is_name
+name_fits = (codes "lock", codes "set" ∷ [], nameless_has, (form.Lock, nameless_stands, (codes "set", [], refl, refl), (0, At (NewName []) (codes "set"), omega arith, refl, refl)))
+
+-- and P12, for no lanes are declared
+order_fits : Fits nothing nameless LanesFirst
+order_fits = (codes "lock", codes "set" ∷ [], nameless_has, (form.Lock, nameless_stands, (codes "set", [], refl, refl), inl (refl, λ e. absurd cc)))
+
+-- P12 would be a wrong answer
+order_is_wrong : ¬ (IsLeast rank (Fits nothing nameless) LanesFirst)
+order_is_wrong l = l.least NoName (omega arith) name_fits
+
+-- so would none
+none_is_wrong : raw_code nothing nameless ≡ None → ⊥
+none_is_wrong e = (lines_get_the_least nothing nameless).none.0 e NoName name_fits
+
+-- a line that stands where it may not fits P2, and then not P5
+outside : List ℕ
+outside = codes "repeat 0"
+
+outside_has : HasWords outside (codes "repeat") (codes "0" ∷ [])
+unfolding outside
+outside_has = record { allowed = AllPass-from_list_all is_allowed outside refl; meant = refl; words = refl }
+
+-- a `repeat` stands inside a handler
+no_repeat : (f : Form) → ¬ (StandsAs nothing (codes "repeat") f)
+no_repeat f s = let is : form.Repeat ≡ f = let e : Some form.Repeat ≡ Some f = s.known in cc in let side : true ≡ false = subst (λ (g : Form). is_inside g ≡ false) (sym is) s.side in cc
+
+outside_fits : Fits nothing outside Misplaced
+outside_fits = (codes "repeat", codes "0" ∷ [], outside_has, no_repeat)
+
+number_hidden : ¬ (Fits nothing outside NoNumber)
+number_hidden h = let same : NoNumber ≡ Misplaced = alone nothing outside Misplaced NoNumber (omega arith) outside_fits h in cc

@@ -19,4 +19,12 @@ pub mod Named
 pub mod Keeps
 pub mod KeepsLines
 pub mod Keeping
+pub mod WeighsBy
+pub mod Weighed
+pub mod PlacesWeighed
+pub mod SlotsWeighed
+pub mod LimitsWeighed
+pub mod Filled
+pub mod FitsLeast
+pub mod Alone
 pub mod Examples

@@ -16,13 +16,13 @@ least_none (Some c) = refl
 
 -- ---- the least of three
 
-cases_le : (m n : ℕ) → (m ≤ n) ⊎ (n < m)
+pub cases_le : (m n : ℕ) → (m ≤ n) ⊎ (n < m)
 cases_le m n = elim (cases_lt n m) [ inl lt ↦ inr lt | inr le ↦ inl le ]
 
-lesser_le : (a b : ServiceCode) → rank a ≤ rank b → lesser a b ≡ a
+pub lesser_le : (a b : ServiceCode) → rank a ≤ rank b → lesser a b ≡ a
 lesser_le a b le = rw (le-leb _ _ le) refl
 
-lesser_gt : (a b : ServiceCode) → rank b < rank a → lesser a b ≡ b
+pub lesser_gt : (a b : ServiceCode) → rank b < rank a → lesser a b ≡ b
 lesser_gt a b gt = rw (lt-leb _ _ gt) refl
 
 abbrev Assoc : ServiceCode → ServiceCode → ServiceCode → Type 0

@@ -9,3 +9,5 @@ pub mod Following
 pub mod Good
 pub mod Answers
 pub mod Law
+pub mod Fitting
+pub mod LeastCode

@@ -9,6 +9,7 @@ mod copying;
 mod exprs;
 mod forms;
 mod language;
+pub mod laws;
 mod least;
 mod line_forms;
 mod lines;

@@ -3,6 +3,7 @@
 
 mod beyond;
 mod headings;
+pub mod laws;
 mod reader;
 mod reading;
 mod request_list;

@@ -1,0 +1,10 @@
+//! What the code answered for a line is. Each function is the statement that its contract makes, and does nothing.
+
+ghost use Rattle.rex_parse.specs.LeastCode.{LinesGetTheLeast, EndsGetTheLeast, FirstThreeStandAlone};
+
+/// The code answered for a line, or for the end of a text, is the least of those that fit it; P1, P2 and P3 fit alone.
+pub fn codes_are_least()
+    ensures lines { LinesGetTheLeast }
+    ensures ends { EndsGetTheLeast }
+    ensures alone { FirstThreeStandAlone }
+{}
