@@ -4,12 +4,12 @@ ghost use Rattle.std.specs.Prelude.{◌≡◌, ◌≤◌, ◌++◌, ℕ, Bool, f
 ghost use Rattle.rex_syntax.specs.Service.{IsService};
 ghost use Rattle.rex_lockset.specs.Refusal.{refusal_of as refusal};
 ghost use Rattle.rex_schedule.specs.Fits.{ScenarioFits};
-ghost use Rattle.rex_world.specs.Laws.{Headline};
+ghost use Rattle.rex_schedule.specs.Typed.{ScenarioIsTyped};
 ghost use Rattle.rex_answer.specs.Causes.{Judges};
 ghost use Rattle.rex_report.specs.Pieces.{spaced};
 ghost use Rattle.rex_cli.specs.Due as due;
 ghost use Rattle.rex_cli.specs.Causes.{JudgesCommand, service_in};
-ghost use Rattle.rex_cli.specs.Headline.{Committed};
+ghost use Rattle.rex_cli.specs.Headline.{Committed, IsCommitted};
 ghost use Rattle.rex_cli.specs.Commands.{keeps_journals};
 ghost use Rattle.rex_cli.specs.Response.{IsKept, MayRun, due_of};
 ghost use Rattle.rex_command.specs.Laws.{Fits};
@@ -24,7 +24,7 @@ use rex_report::{Piece, push_pieces};
 use rex_scenario::{SCENARIO_BYTES, Scenario, ScenarioCode, ScenarioError, read_scenario};
 use rex_syntax::checked::Checked;
 use rex_syntax::service::{Declarations, Service};
-use rex_world::laws::headline_holds;
+use rex_world::laws::{headline_holds, runs_stay_faithful};
 use rex_world::trace;
 use std::alloc::{AllocError, Global};
 
@@ -59,14 +59,16 @@ fn run_scenario(
     service: Service,
     in_journals: bool,
 ) -> Result<Response, AllocError>
-    requires { ScenarioFits service scenario }
+    requires fits { ScenarioFits service scenario }
+    requires typed { ScenarioIsTyped service scenario }
     ensures due { IfOk result (λ r. due_of r ≡ due.due_report scenario service (refusal service)) }
     ensures judges { IfOk result (λ r. Judges (Some service) (due_of r).status) }
-    ensures headline { IfOk result (λ r. (due_of r).status ≡ 0 → Headline service scenario.requests scenario.seed scenario.nodes scenario.schedule) }
+    ensures headline { IfOk result (λ r. (due_of r).status ≡ 0 → IsCommitted service scenario) }
     ensures fits { IfOk result MayRun }
     ensures kept { IfOk result (IsKept in_journals) }
 {
     headline_holds();
+    runs_stay_faithful();
     if let Some(answer) = unchecked(alloc, service.declarations())? {
         return Ok(Response::Told(answer));
     }

@@ -8,6 +8,7 @@ pub mod Looking
 pub mod PlainLines
 pub mod Dispatch
 pub mod FirstBad
+pub mod Typed
 pub mod Numbering
 pub mod Extends
 pub mod GoesOn

@@ -1,7 +1,9 @@
 -- The grammar in words of its own: what the lines above declare, and the first line that a code fits.
 use Rattle.std.specs.Prelude.{◌≡◌, ◌+◌, ◌<◌, ◌⊎◌, ℕ, List, [], ◌∷◌, length, take, slice_index_or, Option, Some, None, Result, Ok, Err}
 use Rattle.rex_text.specs.Text.{lines_of}
+use Rattle.rex_syntax.specs.Typed.{ServiceIsTyped}
 use Rattle.rex_parse.specs.Above.{nothing}
+use Rattle.rex_parse.specs.After.{service_of}
 use Rattle.rex_parse.specs.Reading.{raw_code, raw_after, end_code, or_next, answer_of}
 use Rattle.rex_parse.specs.declared.language.Above.{Above}
 use Rattle.rex_parse.specs.declared.language.ServiceCode.{ServiceCode}
@@ -34,3 +36,7 @@ Says a number lines answer =
 -- for each text
 abbrev pub EachText : Type 0
 EachText = (bytes : List ℕ) → Says nothing 1 (lines_of bytes) (answer_of bytes)
+
+-- each number of a service that a text declares is one of 64 bits
+abbrev pub ServicesAreTyped : Type 0
+ServicesAreTyped = (bytes : List ℕ) (a : Above) → answer_of bytes ≡ Ok a → ServiceIsTyped (service_of a)

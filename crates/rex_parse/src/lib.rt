@@ -26,5 +26,5 @@ pub use blocks::{BlockKind, Blocks, OpenBlock};
 pub use language::{Above, Entry, Fault, Form, Meaning, OpenHandler, ReadError, ServiceCode};
 pub use name_table::NameTable;
 pub use parser::Parser;
-pub use reading::{first_bad_line, read_service};
+pub use reading::{first_bad_line, read_service, services_are_typed};
 pub use words::is_name;

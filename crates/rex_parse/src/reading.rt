@@ -1,11 +1,12 @@
 //! A whole text.
 
-ghost use Rattle.std.specs.Prelude.{◌≡◌, ◌+◌, ◌<◌, ◌^◌, length, None, Ok, IfErr, OnOk};
+ghost use Rattle.std.specs.Prelude.{◌≡◌, ◌+◌, ◌<◌, ◌^◌, length, None, Ok, IfErr, IfOk, OnOk};
+ghost use Rattle.rex_syntax.specs.Typed.{ServiceIsTyped};
 ghost use Rattle.rex_parse.specs.Above.{nothing};
 ghost use Rattle.rex_parse.specs.Answers.{Reads, Fails};
 ghost use Rattle.rex_parse.specs.Good.{IsGood};
 ghost use Rattle.rex_parse.specs.Reading.{answer_of, end_code};
-ghost use Rattle.rex_parse.specs.Law.{EachText};
+ghost use Rattle.rex_parse.specs.Law.{EachText, ServicesAreTyped};
 
 use crate::language::{Fault, ReadError};
 use crate::parser::Parser;
@@ -42,7 +43,8 @@ fn read_text(parser: &mut Parser, bytes: &[u8]) -> Result<(), ReadError>
 /// The service that a text declares, or its first bad line with the least code that fits.
 pub fn read_service(alloc: Global, bytes: &[u8]) -> Result<Service, ReadError>
     requires { length bytes.now + 1 < 2 ^ 32 }
-    ensures { Reads result (answer_of bytes.now) }
+    ensures reads { Reads result (answer_of bytes.now) }
+    ensures typed { IfOk result ServiceIsTyped }
 {
     let mut parser = Parser::new(alloc);
     read_text(&mut parser, bytes)?;
@@ -52,4 +54,9 @@ pub fn read_service(alloc: Global, bytes: &[u8]) -> Result<Service, ReadError>
 /// The answer for a text is its first bad line with the least code that fits, given what the lines above declare.
 pub fn first_bad_line()
     ensures { EachText }
+{}
+
+/// Each number of a service that a text declares is one of 64 bits.
+pub fn services_are_typed()
+    ensures { ServicesAreTyped }
 {}

@@ -38,7 +38,7 @@ use Rattle.rex_safety.specs.Kept.{IsWorld, IsKept}
 use Rattle.rex_cluster.specs.Takes.{Doing, DoingFits, taken_in, take_event, take, after_doings}
 use Rattle.rex_cluster.specs.Takes.Doing.{Does, Takes}
 use Rattle.rex_safety.specs.Doings.{world_after_doings}
-use Rattle.rex_safety.specs.Typed.{ServiceIsTyped, RequestIsTyped}
+use Rattle.rex_syntax.specs.Typed.{ServiceIsTyped, RequestIsTyped}
 use Rattle.rex_cluster.specs.Agreed.{world_after}
 use Rattle.rex_safety.specs.Rounds.{lines_among}
 use Rattle.rex_safety.specs.Faithful.{EachCutIsFaithful, DoingIsTyped}

@@ -21,7 +21,7 @@ use Rattle.rex_syntax.specs.declared.line.Line.TheVariants as line
 use Rattle.rex_frame.specs.declared.frame.Frame.{Frame}
 use Rattle.rex_frame.specs.Step.{value_in, does_stand, innermost, turned_by, frame_after, variables_after}
 use Rattle.rex_frame.specs.Segment.{line_at, walk}
-use Rattle.rex_safety.specs.Typed.{OperandIsTyped, TermIsTyped, ExprIsTyped, NumbersAreTyped, LineIsTyped}
+use Rattle.rex_syntax.specs.Typed.{OperandIsTyped, TermIsTyped, ExprIsTyped, NumbersAreTyped, LineIsTyped}
 
 pub truth_fits : (b : Bool) → FitsSigned w64 (truth_value b)
 truth_fits true = record { sfits = omega arith }

@@ -32,7 +32,7 @@ use Rattle.rex_record.specs.declared.turns.Turn.{Turn}
 use Rattle.rex_record.specs.declared.turns.Turn.TheVariants as turn
 use Rattle.rex_record.specs.Turn.{wanted, held_by, zero_at, event_at, done_unless, turn_for, waiting_turn, busy_turn, idle_turn, lane_turn, turn_of}
 use Rattle.rex_record.specs.Value.{live_after, queue_after, is_begin}
-use Rattle.rex_safety.specs.Typed.{NumbersAreTyped, LineIsTyped, HandlerIsTyped, ServiceIsTyped, RequestIsTyped}
+use Rattle.rex_syntax.specs.Typed.{NumbersAreTyped, LineIsTyped, HandlerIsTyped, ServiceIsTyped, RequestIsTyped}
 use Rattle.rex_safety.proofs.Typing.{AreTyped, FrameIsTyped, zero_fits, value_fits, walk_typed, line_typed}
 
 -- ---- random numbers

@@ -23,7 +23,7 @@ use Rattle.rex_cluster.specs.Takes.{Doing, DoingFits}
 use Rattle.rex_cluster.specs.Takes.Doing.{Does, Takes}
 use Rattle.rex_safety.specs.Doings.{world_after_doings}
 use Rattle.rex_safety.specs.Rounds.{lines_among}
-use Rattle.rex_safety.specs.Typed.{ServiceIsTyped, RequestIsTyped}
+use Rattle.rex_syntax.specs.Typed.{ServiceIsTyped, RequestIsTyped}
 
 -- of a world: whatever an active node would cut, wherever an event is below it, the bytes give the events back, and these run after what it knows
 abbrev pub EachCutIsFaithful : Declarations → ℕ → World → Type 0

@@ -6,5 +6,4 @@ pub mod Keeping
 pub mod Seeing
 pub mod Doings
 pub mod Rounds
-pub mod Typed
 pub mod Faithful

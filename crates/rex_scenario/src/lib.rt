@@ -14,5 +14,6 @@ mod words;
 
 pub use reading::{
     SCENARIO_BYTES, first_bad_line, no_schedule_lines, read_scenario, read_unscheduled,
+    scenarios_are_typed,
 };
 pub use scenario::{Scenario, ScenarioCode, ScenarioError, ScheduleLine, Sections, Stage};

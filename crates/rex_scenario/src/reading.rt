@@ -6,6 +6,7 @@ ghost use Rattle.rex_scenario.specs.Answers.{Refuses, Says};
 ghost use Rattle.rex_parse.specs.After.{service_of};
 ghost use Rattle.rex_scenario.specs.Beyond.{IsPlain, beyond_words};
 ghost use Rattle.rex_schedule.specs.Fits.{ScenarioFits};
+ghost use Rattle.rex_schedule.specs.Typed.{ScenarioIsTyped};
 ghost use Rattle.rex_scenario.specs.Keeps.{SectionsFit};
 ghost use Rattle.rex_scenario.specs.Reading.{answer_from, answer_of, answer_to, end_of, start, unscheduled_answer_of};
 
@@ -23,6 +24,7 @@ pub fn read_scenario(alloc: Global, bytes: &[u8]) -> Result<(Scenario, Service),
     requires { length bytes.now + 1 < 2 ^ 32 }
     ensures says { IfOk result (λ read. Says (answer_of bytes.now) read.0 read.1) }
     ensures fits { IfOk result (λ read. ScenarioFits read.1 read.0) }
+    ensures typed { IfOk result (λ read. ScenarioIsTyped read.1 read.0) }
     ensures beyond { IfOk result (λ read. read.0.beyond ≡ beyond_words bytes.now) }
     ensures plain { IfOk result (λ read. (read.0.beyond ≡ None) ↔ IsPlain read.1) }
     ensures refuses { IfErr result (Refuses (answer_of bytes.now)) }
@@ -35,6 +37,7 @@ pub fn read_unscheduled(alloc: Global, bytes: &[u8]) -> Result<(Scenario, Servic
     requires { length bytes.now + 1 < 2 ^ 32 }
     ensures says { IfOk result (λ read. Says (unscheduled_answer_of bytes.now) read.0 read.1) }
     ensures fits { IfOk result (λ read. ScenarioFits read.1 read.0) }
+    ensures typed { IfOk result (λ read. ScenarioIsTyped read.1 read.0) }
     ensures empty { IfOk result (λ read. read.0.schedule ≡ []) }
     ensures beyond { IfOk result (λ read. read.0.beyond ≡ beyond_words bytes.now) }
     ensures plain { IfOk result (λ read. (read.0.beyond ≡ None) ↔ IsPlain read.1) }
@@ -78,6 +81,7 @@ fn read(alloc: Global, bytes: &[u8], scheduled: bool) -> Result<(Scenario, Servi
     requires { length bytes.now + 1 < 2 ^ 32 }
     ensures says { IfOk result (λ read. Says (answer_to scheduled bytes.now) read.0 read.1) }
     ensures fits { IfOk result (λ read. ScenarioFits read.1 read.0) }
+    ensures typed { IfOk result (λ read. ScenarioIsTyped read.1 read.0) }
     ensures empty { scheduled ≡ false → IfOk result (λ read. read.0.schedule ≡ []) }
     ensures beyond { IfOk result (λ read. read.0.beyond ≡ beyond_words bytes.now) }
     ensures plain { IfOk result (λ read. (read.0.beyond ≡ None) ↔ IsPlain read.1) }
@@ -94,7 +98,7 @@ fn read(alloc: Global, bytes: &[u8], scheduled: bool) -> Result<(Scenario, Servi
     Ok(reader.finish())
 }
 
-ghost use Rattle.rex_scenario.specs.Law.{EachText, NoLines};
+ghost use Rattle.rex_scenario.specs.Law.{EachText, NoLines, ScenariosAreTyped};
 
 /// The answer to a text is its first bad line with the least code that fits it, given what the lines above say, or what
 /// its end says.
@@ -105,4 +109,9 @@ pub fn first_bad_line()
 /// Where the schedule may have no lines, each line of it with words is refused as one of no form.
 pub fn no_schedule_lines()
     ensures { NoLines }
+{}
+
+/// Each number of the service and of the requests that a text says is one of 64 bits.
+pub fn scenarios_are_typed()
+    ensures { ScenariosAreTyped }
 {}

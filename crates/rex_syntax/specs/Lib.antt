@@ -10,3 +10,4 @@ pub mod Check
 pub mod Names
 pub mod Held
 pub mod Versions
+pub mod Typed

@@ -1,18 +1,20 @@
 -- What holds of every run of a scenario.
-use Rattle.std.proofs.Common.{◌≡◌, inl, inr, ℕ, zero, suc, ◌≤◌, true, List, [], ◌∷◌, ◌++◌, Option, Some, None, is_some, refl, sym, ap, subst}
+use Rattle.std.proofs.Common.{◌≡◌, inl, inr, ℕ, zero, suc, ◌≤◌, true, List, [], ◌∷◌, ◌++◌, Option, Some, None, is_some, length, ◌^◌, refl, sym, ap, subst, arith, length-append}
 use Rattle.std.specs.Prelude.{take, map}
 use Rattle.std.specs.List.{All, list_all}
 use Rattle.std.proofs.lemmas.Bool.{and_parts}
+use Rattle.std.proofs.lemmas.List.Elements.{All-nil, All-cons, All-head, All-tail}
 use Rattle.rex_ballot.specs.Limits.{most_nodes}
 use Rattle.rex_syntax.specs.declared.request.Request.{Request}
 use Rattle.rex_syntax.specs.declared.service.Declarations.{Declarations}
 use Rattle.rex_syntax.specs.Service.{IsService}
 use Rattle.rex_syntax.specs.Check.{IsChecked}
+use Rattle.rex_syntax.specs.Typed.{ServiceIsTyped, RequestIsTyped}
 use Rattle.rex_state.specs.Value.{StateValue}
 use Rattle.rex_state.specs.Start.{start_of}
 use Rattle.rex_state.specs.Machine.{run}
 use Rattle.rex_schedule.specs.declared.scenario.ScheduleLine.{ScheduleLine}
-use Rattle.rex_schedule.specs.Fits.{RequestFits}
+use Rattle.rex_schedule.specs.Fits.{RequestFits, LineFits}
 use Rattle.rex_cluster.specs.Values.{Value, spells, runs, trace_of, values_fit, service_of}
 use Rattle.rex_cluster.specs.Agreed.{world_after, agreed}
 use Rattle.rex_safety.proofs.Agreeing.{agreed_fits, is_one_list}
@@ -22,6 +24,7 @@ use Rattle.rex_safety.proofs.Requests.{agreed_once}
 use Rattle.rex_safety.proofs.Moments.{replies_stand_later}
 use Rattle.rex_safety.proofs.Readings.{never_back, reports, tells_agreed}
 use Rattle.rex_safety.proofs.Showing.{replies_agreed, replies_show, told_shows}
+use Rattle.rex_safety.proofs.Faithfuls.{lines_faithful}
 use Rattle.rex_safety.proofs.Raising.{rounds_left}
 use Rattle.rex_event.specs.Cuts.{AreNumbered, IsConsistent}
 use Rattle.rex_event.specs.Causes.{AreRight}
@@ -35,7 +38,7 @@ use Rattle.rex_order.specs.Edges.{joined, HasEdge, AllRight}
 use Rattle.rex_order.specs.Laws.{AllowExtensions}
 use Rattle.rex_order.proofs.Extensions.{cuts_run_alike}
 use Rattle.rex_order.proofs.Edges.{deltas_allow_extensions}
-use Rattle.rex_world.specs.Laws.{Headline}
+use Rattle.rex_world.specs.Laws.{Headline, StaysFaithful}
 
 -- what is there is some value
 there : {A : Type 0} (o : Option A) → is_some o ≡ true → (x : A) × (o ≡ Some x)
@@ -89,4 +92,19 @@ headline service requests seed n lines few good checked fit = record {
   shown = λ front rest is client sequence reply l h.
       told_shows service (world_after service requests seed n front) client sequence reply (replies_show service good checked requests fit seed n few front client sequence reply h) l;
   rounds = λ short. rounds_left service requests seed n few lines short;
+}
+
+-- what holds of all lines holds of those of a front
+all_in_front : {X : Type 0} (P : X → Type 0) (front rest : List X) → All P (front ++ rest) → All P front
+all_in_front P [] rest h = All-nil P
+all_in_front P (x ∷ front) rest h = All-cons P x front (All-head P x (front ++ rest) h) (all_in_front P front rest (All-tail P x (front ++ rest) h))
+
+-- each cut of a run is faithful, where its lines name what is there and its numbers are of 64 bits
+pub stays_faithful : (service : Declarations) (requests : List Request) (seed n : ℕ) (lines : List ScheduleLine) → n ≤ most_nodes → IsService service → IsChecked service → ServiceIsTyped service
+    → All (RequestFits service) requests → All RequestIsTyped requests → All (LineFits n (length requests) service.lanes) lines → length lines ≤ 2 ^ 63 → StaysFaithful service requests seed n lines
+stays_faithful service requests seed n lines few good checked numbers fit typed there short = record {
+  cuts = λ front rest is.
+      let here : All (LineFits n (length requests) service.lanes) front = all_in_front (LineFits n (length requests) service.lanes) front rest (subst (All (LineFits n (length requests) service.lanes)) is there) in
+      let fewer : length front ≤ 2 ^ 63 = omega (arith, short, ap length is, length-append front rest) in
+      lines_faithful service good checked numbers requests seed n few front fit typed here fewer;
 }

@@ -1,11 +1,12 @@
 -- What holds of every run of a scenario.
-use Rattle.std.specs.Prelude.{◌≡◌, ◌⊎◌, ℕ, ℤ, ◌≤◌, List, ◌∷◌, ◌++◌, length, Some, slice_get, map, take}
+use Rattle.std.specs.Prelude.{◌≡◌, ◌⊎◌, ℕ, ℤ, ◌^◌, ◌≤◌, List, ◌∷◌, ◌++◌, length, Some, slice_get, map, take}
 use Rattle.std.specs.List.{All}
 use Rattle.rex_ballot.specs.Limits.{most_nodes}
 use Rattle.rex_syntax.specs.declared.request.Request.{Request}
 use Rattle.rex_syntax.specs.declared.service.Declarations.{Declarations}
 use Rattle.rex_syntax.specs.Service.{IsService}
 use Rattle.rex_syntax.specs.Check.{IsChecked}
+use Rattle.rex_syntax.specs.Typed.{ServiceIsTyped, RequestIsTyped}
 use Rattle.rex_event.specs.Cuts.{IsConsistent}
 use Rattle.rex_event.specs.declared.event.TheConstants.{CLIENTS}
 use Rattle.rex_state.specs.Value.{StateValue}
@@ -14,7 +15,7 @@ use Rattle.rex_state.specs.Machine.{run}
 use Rattle.rex_state.specs.Commute.{GoesFirst}
 use Rattle.rex_schedule.specs.declared.scenario.ScheduleLine.{ScheduleLine}
 use Rattle.rex_schedule.specs.declared.scenario.ScheduleLine.TheVariants.{ReadVariable}
-use Rattle.rex_schedule.specs.Fits.{RequestFits}
+use Rattle.rex_schedule.specs.Fits.{RequestFits, LineFits}
 use Rattle.rex_reduce.specs.Reduced.{AreLeast}
 use Rattle.rex_order.specs.Laws.{CutRunsAlike, AllowExtensions}
 use Rattle.rex_order.specs.Edges.{HasEdge}
@@ -29,6 +30,7 @@ use Rattle.rex_cluster.specs.Lanes.{node_trace}
 use Rattle.rex_safety.specs.Once.{IsOnce}
 use Rattle.rex_cluster.specs.Releases.{Moment, moments, IsAmong, IsReleased, IsLeader, IsLater}
 use Rattle.rex_cluster.specs.Stands.{Stands}
+use Rattle.rex_safety.specs.Faithful.{EachCutIsFaithful}
 use Rattle.rex_safety.specs.Seeing.{IsTold, ReportsWhatIsTold, TellsAgreed}
 
 -- a front of the schedule is the world after it
@@ -71,3 +73,13 @@ abbrev pub HeadlineHolds : Type 0
 HeadlineHolds =
     (service : Declarations) (requests : List Request) (seed n : ℕ) (lines : List ScheduleLine) → n ≤ most_nodes → IsService service → IsChecked service
     → All (RequestFits service) requests → Headline service requests seed n lines
+
+-- after each front of the lines, whatever an active node would cut is faithful wherever an event is below it: so the case of a cut that isn't never comes
+pub record StaysFaithful (service : Declarations) (requests : List Request) (seed n : ℕ) (lines : List ScheduleLine) : Type 0 where
+  pub cuts : AtFronts lines (λ front. EachCutIsFaithful service seed (world_after service requests seed n front))
+
+-- so it is of a checked service, where the requests fit it, the lines name what is there and are at most 2^63, and the numbers of the service and of the requests are of 64 bits
+abbrev pub RunsStayFaithful : Type 0
+RunsStayFaithful =
+    (service : Declarations) (requests : List Request) (seed n : ℕ) (lines : List ScheduleLine) → n ≤ most_nodes → IsService service → IsChecked service → ServiceIsTyped service
+    → All (RequestFits service) requests → All RequestIsTyped requests → All (LineFits n (length requests) service.lanes) lines → length lines ≤ 2 ^ 63 → StaysFaithful service requests seed n lines
