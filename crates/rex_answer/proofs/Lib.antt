@@ -1,4 +1,3 @@
 pub mod There
 pub mod Judged
 pub mod Ended
-pub mod Whole

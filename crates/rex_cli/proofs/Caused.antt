@@ -1,10 +1,11 @@
 -- What an answer's status says of the service is what each status is caused by.
-use Rattle.std.proofs.Common.{◌≡◌, ◌⊎◌, ℕ, List, Option, Some, None, refl}
-use Rattle.std.specs.Prelude.{◌↔◌, IfSome}
+use Rattle.std.proofs.Common.{◌≡◌, ◌⊎◌, ℕ, List, Option, Some, None, refl, subst}
+use Rattle.std.specs.Prelude.{◌↔◌}
 use Rattle.rex_syntax.specs.declared.service.Declarations.{Declarations}
 use Rattle.rex_traits.specs.Causes.{Rose}
+use Rattle.rex_traits.specs.Growth.{ForGrowth}
 use Rattle.rex_answer.specs.Due.{Due}
-use Rattle.rex_answer.specs.Outcome.{Ends}
+use Rattle.rex_answer.specs.Outcome.{Gives, Ends}
 use Rattle.rex_answer.specs.Causes.{Judges, IsBroken}
 use Rattle.rex_answer.proofs.Judged.{unread, unchecked, never_two}
 use Rattle.rex_answer.proofs.Ended.{ended_well}
@@ -36,13 +37,16 @@ caused (Some (Soak seed size workers)) input status j = record {
   unchecked = (λ three. absurd cc, λ h. absurd h);
 }
 
--- the same of an input that may not be told
-pub caused_if : (left : Option (List ℕ)) (command : Option Command) (status : ℕ) → IfSome left (λ input. JudgesFor command input status) → IfSome left (λ input. IsCaused command input status)
-caused_if None command status h = tt
-caused_if (Some input) command status h = caused command input status h
+-- of all bytes by which others grew
+pub caused_for : (before now : List ℕ) (command : Option Command) (status : ℕ) → ForGrowth before now (λ input. JudgesFor command input status) → ForGrowth before now (λ input. IsCaused command input status)
+caused_for before now command status judges = λ input grown. caused command input status (judges input grown)
 
--- where 0 is due of an input that may not be told and the sink counted no fault, the status is 0 or 6, whatever the source counted
-pub complete_if : (Q : Type 0) (left : Option (List ℕ)) (due : List ℕ → Due) (d : Due) (status before after : ℕ) → IfSome left (λ input. d ≡ due input) → Ends d before after status
-    → IfSome left (λ input. (due input).status ≡ 0 → Q → (Rose before after → ⊥) → (status ≡ 0) ⊎ (status ≡ 6))
-complete_if Q None due d status before after is ends = tt
-complete_if Q (Some input) due d status before after is ends = λ zero q quiet. ended_well d (due input) status before after is ends zero quiet
+-- where 0 is due of such bytes and the sink counted no fault, the status is 0 or 6, whatever the source counted
+pub complete_for : (Q : Type 0) (before now : List ℕ) (due : List ℕ → Due) (d : Due) (status faults_before faults_now : ℕ) → ForGrowth before now (λ input. d ≡ due input) → Ends d faults_before faults_now status
+    → ForGrowth before now (λ input. (due input).status ≡ 0 → Q → (Rose faults_before faults_now → ⊥) → (status ≡ 0) ⊎ (status ≡ 6))
+complete_for Q before now due d status faults_before faults_now is ends = λ input grown zero q quiet. ended_well d (due input) status faults_before faults_now (is input grown) ends zero quiet
+
+-- what is due of such bytes was given
+pub given_for : (before now : List ℕ) (due : List ℕ → Due) (d : Due) (taken_before taken_now : List ℕ) (status : ℕ) → ForGrowth before now (λ input. d ≡ due input) → Gives d taken_before taken_now status
+    → ForGrowth before now (λ input. Gives (due input) taken_before taken_now status)
+given_for before now due d taken_before taken_now status is gives = λ input grown. subst (λ (x : Due). Gives x taken_before taken_now status) (is input grown) gives

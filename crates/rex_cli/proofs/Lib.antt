@@ -1,4 +1,3 @@
-pub mod Whole
 pub mod Caused
 pub mod Soaking
 mod Examples

@@ -1,5 +1,5 @@
 -- What commands read, where the records of their runs are kept, and how many workers replay.
-use Rattle.std.specs.Prelude.{ℕ, Bool, true, false, List, [], Option, Some, None, if◌then◌else◌}
+use Rattle.std.specs.Prelude.{ℕ, Bool, true, false, Option, Some, None}
 use Rattle.rex_command.specs.declared.commands.Command.{Command}
 use Rattle.rex_command.specs.declared.commands.Command.TheVariants.{Run, Trace, Check, Generate, Soak}
 
@@ -39,7 +39,3 @@ keeps_journals_for (Some command) = keeps_journals command
 abbrev pub workers_for : Option Command → ℕ
 workers_for None = 1
 workers_for (Some command) = workers_of command
-
--- the input: what the source has, where it tells that; nothing where no input is read
-abbrev pub input_for : Option Command → Option (List ℕ) → Option (List ℕ)
-input_for command left = if reads command then left else Some []

@@ -1,6 +1,7 @@
-ghost use Rattle.std.specs.Prelude.{◌≡◌, ◌≤◌, ◌<◌, ◌+◌, ◌⊎◌, ℕ, Bool, [], true, false, Some, None, IsSome, map, IfOk, IfSome, IsErrOf, string_bytes};
-ghost use Rattle.std.specs.Io.KnownBytes.{IsAtEnd};
+ghost use Rattle.std.specs.Prelude.{◌≡◌, ◌≤◌, ◌<◌, ◌+◌, ◌⊎◌, ℕ, Bool, true, false, Some, IsSome, map, IfOk, IfSome, IsErrOf, string_bytes};
 ghost use Rattle.rex_traits.specs.Causes.{Rose};
+ghost use Rattle.rex_traits.specs.Growth.{ForGrowth, Grows};
+ghost use Rattle.rex_traits.specs.Inputs.{IsWholeInput};
 ghost use Rattle.rex_answer.specs.Outcome.{Gives, Ends};
 ghost use Rattle.rex_command.specs.Laws.{Fits};
 ghost use Rattle.rex_command.specs.Reading as spec;
@@ -18,7 +19,7 @@ ghost use Rattle.rex_cli.specs.Headline.{Committed};
 ghost use Rattle.rex_state.specs.Counts.{AreCounted};
 ghost use Rattle.rex_state.specs.Machine.{run};
 ghost use Rattle.rex_state.specs.Sound.{IsSound};
-ghost use Rattle.rex_streams.specs.declared.reading.ReadFault.TheVariants as fault;
+ghost use Rattle.rex_traits.specs.declared.reading.ReadFault.TheVariants as fault;
 
 use crate::answers::{Plan, Response, response_to, usage};
 use crate::worlds::{KeptWorld, begin};
@@ -27,9 +28,8 @@ use rex_crew::Crew;
 use rex_event::Event;
 use rex_replay::{ByCall, ReplayCall, Replayer};
 use rex_state::state::State;
-use rex_streams::{ReadFault, read_input};
 use rex_syntax::checked::Checked;
-use rex_traits::{Gate, Sink, Source, Store};
+use rex_traits::{Gate, ReadFault, Sink, Source, Store, read_input};
 use rex_world::{RunFault, World};
 use std::alloc::{AllocError, Global};
 use std::thread::Threads;
@@ -56,10 +56,11 @@ fn read_and_respond<R: Replayer, S: Source>(
 ) -> Result<Response, ReadFault>
     requires fits { Fits command }
     requires reads { inputs.reads_input command ≡ true }
-    ensures due { IfOk result (λ r. IfSome (S.left source.old) (λ input. due_of r ≡ due.due_command command input)) }
-    ensures judges { IfOk result (λ r. IfSome (S.left source.old) (λ input. JudgesFor (Some command) input (due_of r).status)) }
-    ensures whole { IfOk result (λ r. (due_of r).status ≡ 0 → IsAtEnd (S.left source.new)) }
-    ensures headline { (workers : ℕ) (journal : Bool) → command ≡ commands.Run workers journal → IfOk result (λ r. (due_of r).status ≡ 0 → IfSome (S.left source.old) Committed) }
+    ensures due { IfOk result (λ r. ForGrowth (S.given source.old) (S.given source.new) (λ input. due_of r ≡ due.due_command command input)) }
+    ensures judges { IfOk result (λ r. ForGrowth (S.given source.old) (S.given source.new) (λ input. JudgesFor (Some command) input (due_of r).status)) }
+    ensures grows { Grows (S.given source.old) (S.given source.new) }
+    ensures whole { IfOk result (λ _. ForGrowth (S.given source.old) (S.given source.new) (IsWholeInput (S.ended source.new) (S.left source.old) (S.left source.new))) }
+    ensures headline { (workers : ℕ) (journal : Bool) → command ≡ commands.Run workers journal → IfOk result (λ r. (due_of r).status ≡ 0 → ForGrowth (S.given source.old) (S.given source.new) Committed) }
     ensures low { IfOk result (λ r. (due_of r).status < 4) }
     ensures fits { IfOk result MayRun }
     ensures kept { IfOk result (IsKept (inputs.keeps_journals command)) }
@@ -84,11 +85,12 @@ fn respond<R: Replayer, S: Source>(
     source: &mut S,
 ) -> Result<Response, ReadFault>
     requires fits { IfSome command Fits }
-    ensures due { IfOk result (λ r. IfSome (inputs.input_for command (S.left source.old)) (λ input. due_of r ≡ due.due_for command input)) }
-    ensures judges { IfOk result (λ r. IfSome (inputs.input_for command (S.left source.old)) (λ input. JudgesFor command input (due_of r).status)) }
-    ensures whole { inputs.reads command ≡ true → IfOk result (λ r. (due_of r).status ≡ 0 → IsAtEnd (S.left source.new)) }
+    ensures due { IfOk result (λ r. ForGrowth (S.given source.old) (S.given source.new) (λ input. due_of r ≡ due.due_for command input)) }
+    ensures judges { IfOk result (λ r. ForGrowth (S.given source.old) (S.given source.new) (λ input. JudgesFor command input (due_of r).status)) }
+    ensures grows { Grows (S.given source.old) (S.given source.new) }
+    ensures whole { inputs.reads command ≡ true → IfOk result (λ _. ForGrowth (S.given source.old) (S.given source.new) (IsWholeInput (S.ended source.new) (S.left source.old) (S.left source.new))) }
     ensures unread { inputs.reads command ≡ false → (source.new ≡ source.old) × (IsErrOf result fault.Failed → ⊥) }
-    ensures headline { (workers : ℕ) (journal : Bool) → command ≡ Some (commands.Run workers journal) → IfOk result (λ r. (due_of r).status ≡ 0 → IfSome (S.left source.old) Committed) }
+    ensures headline { (workers : ℕ) (journal : Bool) → command ≡ Some (commands.Run workers journal) → IfOk result (λ r. (due_of r).status ≡ 0 → ForGrowth (S.given source.old) (S.given source.new) Committed) }
     ensures low { IfOk result (λ r. (due_of r).status < 4) }
     ensures fits { IfOk result MayRun }
     ensures kept { IfOk result (IsKept (inputs.keeps_journals_for command)) }
@@ -122,7 +124,7 @@ fn run_world<T: Store, R: Replayer, K: Sink>(
     requires running { IsRunning plan.now.service world }
     requires of { IsOf plan.now.scenario world }
     requires begins { world_of plan.now.service world ≡ beginning plan.now.scenario.nodes }
-    ensures gives { Gives (record { status = 0; text = report_of plan.now.service plan.now.scenario }) (K.held sink.old) (K.held sink.new) result }
+    ensures gives { Gives (record { status = 0; text = report_of plan.now.service plan.now.scenario }) (K.taken sink.old) (K.taken sink.new) result }
     ensures ends { Ends (record { status = 0; text = report_of plan.now.service plan.now.scenario }) (K.faults sink.old) (K.faults sink.new) result }
 {
     match world.run(&plan.service, replayer, &plan.scenario, sink) {
@@ -135,7 +137,7 @@ fn run_world<T: Store, R: Replayer, K: Sink>(
 // Runs a plan, and answers the status.
 fn run_plan<R: Replayer, K: Sink>(alloc: Global, replayer: &mut R, plan: &Plan, sink: &mut K) -> u8
     requires fits { ScenarioFits plan.now.service plan.now.scenario }
-    ensures gives { Gives (record { status = 0; text = report_of plan.now.service plan.now.scenario }) (K.held sink.old) (K.held sink.new) result }
+    ensures gives { Gives (record { status = 0; text = report_of plan.now.service plan.now.scenario }) (K.taken sink.old) (K.taken sink.new) result }
     ensures ends { Ends (record { status = 0; text = report_of plan.now.service plan.now.scenario }) (K.faults sink.old) (K.faults sink.new) result }
 {
     match begin(alloc, plan) {
@@ -154,7 +156,7 @@ fn give<R: Replayer, K: Sink>(
 ) -> u8
     requires fits { MayRun response.now }
     requires low { (due_of response.now).status < 4 }
-    ensures gives { Gives (due_of response.now) (K.held sink.old) (K.held sink.new) result }
+    ensures gives { Gives (due_of response.now) (K.taken sink.old) (K.taken sink.new) result }
     ensures ends { Ends (due_of response.now) (K.faults sink.old) (K.faults sink.new) result }
 {
     match response {
@@ -173,18 +175,19 @@ fn obey<C: ReplayCall + Drop, S: Source, K: Sink>(
 ) -> u8
     requires replays { C.replays call }
     requires fits { IfSome command Fits }
-    ensures run { IfSome (inputs.input_for command (S.left source.old)) (λ input. Gives (due.due_for command input) (K.held sink.old) (K.held sink.new) result) }
-    ensures causes { result < 4 → IfSome (inputs.input_for command (S.left source.old)) (λ input. IsCaused command input result) }
-    ensures whole { inputs.reads command ≡ true → result ≡ 0 → IsAtEnd (S.left source.new) }
+    ensures run { ForGrowth (S.given source.old) (S.given source.new) (λ input. Gives (due.due_for command input) (K.taken sink.old) (K.taken sink.new) result) }
+    ensures causes { result < 4 → ForGrowth (S.given source.old) (S.given source.new) (λ input. IsCaused command input result) }
+    ensures grows { Grows (S.given source.old) (S.given source.new) }
+    ensures whole { inputs.reads command ≡ true → result < 4 → ForGrowth (S.given source.old) (S.given source.new) (IsWholeInput (S.ended source.new) (S.left source.old) (S.left source.new)) }
     ensures unread { inputs.reads command ≡ false → (source.new ≡ source.old) × (result ≡ 4 → ⊥) }
     ensures reads { S.calls source.new ≤ S.calls source.old + 4194305 }
     ensures read_fault { result ≡ 4 → Rose (S.faults source.old) (S.faults source.new) }
     ensures write_fault { result ≡ 5 → Rose (K.faults sink.old) (K.faults sink.new) }
     ensures known { result ≤ 6 }
-    ensures complete { IfSome (inputs.input_for command (S.left source.old)) (λ input. (due.due_for command input).status ≡ 0
+    ensures complete { ForGrowth (S.given source.old) (S.given source.new) (λ input. (due.due_for command input).status ≡ 0
         → (Rose (S.faults source.old) (S.faults source.new) → ⊥) → (Rose (K.faults sink.old) (K.faults sink.new) → ⊥)
         → (result ≡ 0) ⊎ (result ≡ 6)) }
-    ensures headline { (workers : ℕ) (journal : Bool) → command ≡ Some (commands.Run workers journal) → result ≡ 0 → IfSome (S.left source.old) Committed }
+    ensures headline { (workers : ℕ) (journal : Bool) → command ≡ Some (commands.Run workers journal) → result ≡ 0 → ForGrowth (S.given source.old) (S.given source.new) Committed }
 {
     let mut replayer = ByCall::new(call);
     match respond(alloc, &mut replayer, command, source) {
@@ -232,19 +235,21 @@ pub fn rex_main<R: Threads + Sync, S: Source, K: Sink, G: Gate + Sync>(
     sink: &mut K,
     gate: &G,
 ) -> u8
-    // Below 4 the status and what was written are what the words and the input ask for, however many workers replay, and
-    // whether the nodes keep their records in journals or not.
-    ensures run { IfSome (inputs.input_for (spec.command_of (map string_bytes words.now)) (S.left source.old)) (λ input. Gives (due.due (map string_bytes words.now) input) (K.held sink.old) (K.held sink.new) result) }
+    // Below 4 the status and the bytes that the sink took are what the words ask for of the bytes that the source gave in this call,
+    // however many workers replay, and whether the nodes keep their records in journals or not. At 4 the sink took none, and
+    // above it a front of those.
+    ensures run { ForGrowth (S.given source.old) (S.given source.new) (λ input. Gives (due.due (map string_bytes words.now) input) (K.taken sink.old) (K.taken sink.new) result) }
 
-    // Below 4 it is 1 exactly where the input is no scenario or no service, 2 exactly where the words are no command
+    // Below 4 it is 1 exactly where those bytes are no scenario or no service, 2 exactly where the words are no command
     // line, and 3 exactly where the service isn't checked.
-    ensures causes { result < 4 → IfSome (inputs.input_for (spec.command_of (map string_bytes words.now)) (S.left source.old)) (λ input. IsCaused (spec.command_of (map string_bytes words.now)) input result) }
+    ensures causes { result < 4 → ForGrowth (S.given source.old) (S.given source.new) (λ input. IsCaused (spec.command_of (map string_bytes words.now)) input result) }
 
-    // Words that are no command line are answered whatever the source.
-    ensures usage { spec.command_of (map string_bytes words.now) ≡ None → Gives due.due_usage (K.held sink.old) (K.held sink.new) result }
+    // There are such bytes: those that the source gave before stay where they were.
+    ensures grows { Grows (S.given source.old) (S.given source.new) }
 
-    // At 0 the input was read to its end, where one is read.
-    ensures whole { inputs.reads (spec.command_of (map string_bytes words.now)) ≡ true → result ≡ 0 → IsAtEnd (S.left source.new) }
+    // Below 4, where an input is read, those bytes are a whole input: the source has ended, or gave 4,194,305 bytes; and of what
+    // a source in memory had none is left then.
+    ensures whole { inputs.reads (spec.command_of (map string_bytes words.now)) ≡ true → result < 4 → ForGrowth (S.given source.old) (S.given source.new) (IsWholeInput (S.ended source.new) (S.left source.old) (S.left source.new)) }
 
     // Where none is read, the source stays as it was, and no read fails.
     ensures unread { inputs.reads (spec.command_of (map string_bytes words.now)) ≡ false → (source.new ≡ source.old) × (result ≡ 4 → ⊥) }
@@ -258,12 +263,12 @@ pub fn rex_main<R: Threads + Sync, S: Source, K: Sink, G: Gate + Sync>(
     ensures known { result ≤ 6 }
 
     // Where 0 is due and no fault was counted, the status is 0, or want of memory.
-    ensures complete { IfSome (inputs.input_for (spec.command_of (map string_bytes words.now)) (S.left source.old)) (λ input. (due.due (map string_bytes words.now) input).status ≡ 0
+    ensures complete { ForGrowth (S.given source.old) (S.given source.new) (λ input. (due.due (map string_bytes words.now) input).status ≡ 0
         → (Rose (S.faults source.old) (S.faults source.new) → ⊥) → (Rose (K.faults sink.old) (K.faults sink.new) → ⊥)
         → (result ≡ 0) ⊎ (result ≡ 6)) }
 
     // At 0 the run that the report tells of keeps its agreed trace, and what it has released.
-    ensures headline { (workers : ℕ) (journal : Bool) → spec.command_of (map string_bytes words.now) ≡ Some (commands.Run workers journal) → result ≡ 0 → IfSome (S.left source.old) Committed }
+    ensures headline { (workers : ℕ) (journal : Bool) → spec.command_of (map string_bytes words.now) ≡ Some (commands.Run workers journal) → result ≡ 0 → ForGrowth (S.given source.old) (S.given source.new) Committed }
 {
     match command_of(alloc, words) {
         Ok(command) => {

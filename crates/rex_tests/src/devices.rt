@@ -1,7 +1,7 @@
 //! Devices that fail at each of their calls in turn, while three nodes agree.
 
 ghost use Rattle.std.specs.Prelude.{Some};
-ghost use Rattle.rex_traits.specs.Memory.{mem_left, reads};
+ghost use Rattle.rex_traits.specs.Memory.{mem_ended, mem_given, mem_left, reads};
 
 use crate::runs::status_over;
 use rex_traits::{Failed, MemSink, MemSource, OpenGate, Source};
@@ -79,6 +79,10 @@ struct Slow {
 }
 
 impl Source for Slow {
+    ghost given = { λ s. mem_given s.source };
+
+    ghost ended = { λ s. mem_ended s.source };
+
     ghost left = { λ s. Some (mem_left s.source) };
 
     ghost faults = { λ s. (reads s.source).faults };

@@ -1,5 +1,4 @@
-use rex_streams::{ReadFault, read_input, write_all};
-use rex_traits::{MemSink, MemSource, SinkFault};
+use rex_traits::{MemSink, MemSource, ReadFault, SinkFault, read_input, write_all};
 use std::test::*;
 
 #[test]

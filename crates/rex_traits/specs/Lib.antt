@@ -1,5 +1,7 @@
 pub mod Causes
 pub mod Chains
+pub mod Growth
+pub mod Inputs
 pub mod Keeping
 pub mod Memory
 pub mod Obeying

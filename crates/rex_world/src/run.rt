@@ -2,9 +2,8 @@
 
 ghost use Rattle.std.specs.Prelude.{◌≡◌, ◌≤◌, ◌<◌, ◌+◌, ◌^◌, ◌++◌, [], true, length, OnOk, OnErr, IsErrOf};
 ghost use Rattle.std.specs.List.{All};
-ghost use Rattle.std.specs.Io.KnownBytes.{Appends};
-ghost use Rattle.rex_traits.specs.Causes.{Rose, TellsAlike};
-ghost use Rattle.rex_streams.specs.Front.{AppendsFront};
+ghost use Rattle.rex_traits.specs.Causes.{Rose};
+ghost use Rattle.rex_traits.specs.Growth.{GrowsByFront};
 ghost use Rattle.rex_syntax.specs.Versions.{has_old_form};
 ghost use Rattle.rex_schedule.specs.Fits.{FormFits, LineFits, ScenarioFits};
 ghost use Rattle.rex_cluster.specs.World.{row};
@@ -19,9 +18,8 @@ use crate::report::push_effects;
 use crate::world::World;
 use rex_replay::Replayer;
 use rex_schedule::{Scenario, ScheduleLine};
-use rex_streams::write_all;
 use rex_syntax::checked::Checked;
-use rex_traits::{Sink, SinkFault, Store};
+use rex_traits::{Sink, SinkFault, Store, write_all};
 use std::alloc::AllocError;
 
 /// So many bytes of a report wait at most before they are written, and the lines of one schedule line more.
@@ -45,10 +43,9 @@ impl From<AllocError> for RunFault {
 
 // Writes what waits, where it is much or the last.
 fn write_waiting<K: Sink>(sink: &mut K, waiting: &mut Vec<u8>, least: usize) -> Result<(), RunFault>
-    ensures ok { OnOk result (IsWritten (K.held sink.old) (K.held sink.new) waiting.new.items [] waiting.old.items) }
+    ensures ok { OnOk result (IsWritten (K.taken sink.old) (K.taken sink.new) waiting.new.items [] waiting.old.items) }
     ensures all { OnOk result (least ≡ 0 → waiting.new.items ≡ []) }
-    ensures front { OnErr result (AppendsFront (K.held sink.old) (K.held sink.new) waiting.old.items) }
-    ensures told { TellsAlike (K.held sink.old) (K.held sink.new) }
+    ensures front { OnErr result (GrowsByFront (K.taken sink.old) (K.taken sink.new) waiting.old.items) }
     ensures later { K.faults sink.old ≤ K.faults sink.new }
     ensures failed { IsErrOf result fault.Failed → Rose (K.faults sink.old) (K.faults sink.new) }
 {
@@ -105,12 +102,11 @@ impl<S: Store> World<S> {
         requires fits { LineFits (nodes_of self.old) (length self.old.requests) svc.now.lanes line.now }
         requires form { FormFits (has_old_form svc.now) line.now }
         requires count { self.old.done + 1 < 2 ^ 32 }
-        ensures written { OnOk result (IsWritten (K.held sink.old) (K.held sink.new) waiting.new.items [] (waiting.old.items ++ effects_text svc.now (self.old.done + 1) (row svc.now self.old.requests self.old.seed (nodes_of self.old) (world_of svc.now self.old) line.now).effects)) }
-        ensures front { OnErr result (AppendsFront (K.held sink.old) (K.held sink.new) (waiting.old.items ++ effects_text svc.now (self.old.done + 1) (row svc.now self.old.requests self.old.seed (nodes_of self.old) (world_of svc.now self.old) line.now).effects)) }
+        ensures written { OnOk result (IsWritten (K.taken sink.old) (K.taken sink.new) waiting.new.items [] (waiting.old.items ++ effects_text svc.now (self.old.done + 1) (row svc.now self.old.requests self.old.seed (nodes_of self.old) (world_of svc.now self.old) line.now).effects)) }
+        ensures front { OnErr result (GrowsByFront (K.taken sink.old) (K.taken sink.new) (waiting.old.items ++ effects_text svc.now (self.old.done + 1) (row svc.now self.old.requests self.old.seed (nodes_of self.old) (world_of svc.now self.old) line.now).effects)) }
         ensures world { OnOk result (world_of svc.now self.new ≡ (row svc.now self.old.requests self.old.seed (nodes_of self.old) (world_of svc.now self.old) line.now).world) }
         ensures running { OnOk result (IsRunning svc.now self.new) }
         ensures same { OnOk result (IsSame self.old self.new) }
-        ensures told { TellsAlike (K.held sink.old) (K.held sink.new) }
         ensures later { K.faults sink.old ≤ K.faults sink.new }
         ensures failed { IsErrOf result fault.Failed → Rose (K.faults sink.old) (K.faults sink.new) }
     {
@@ -126,9 +122,8 @@ impl<S: Store> World<S> {
         sink: &mut K,
     ) -> Result<(), RunFault>
         requires { IsRunning svc.now self.now }
-        ensures whole { OnOk result (Appends (K.held sink.old) (K.held sink.new) (waiting.old.items ++ ends_text svc.now 1 (world_of svc.now self.now).nodes)) }
-        ensures front { AppendsFront (K.held sink.old) (K.held sink.new) (waiting.old.items ++ ends_text svc.now 1 (world_of svc.now self.now).nodes) }
-        ensures told { TellsAlike (K.held sink.old) (K.held sink.new) }
+        ensures whole { OnOk result (K.taken sink.new ≡ K.taken sink.old ++ (waiting.old.items ++ ends_text svc.now 1 (world_of svc.now self.now).nodes)) }
+        ensures front { GrowsByFront (K.taken sink.old) (K.taken sink.new) (waiting.old.items ++ ends_text svc.now 1 (world_of svc.now self.now).nodes) }
         ensures later { K.faults sink.old ≤ K.faults sink.new }
         ensures failed { IsErrOf result fault.Failed → Rose (K.faults sink.old) (K.faults sink.new) }
     {
@@ -148,10 +143,9 @@ impl<S: Store> World<S> {
         requires fits { ScenarioFits svc.now scenario.now }
         requires of { IsOf scenario.now self.old }
         requires count { self.old.done + length scenario.now.schedule < 2 ^ 32 }
-        ensures whole { OnOk result (Appends (K.held sink.old) (K.held sink.new) (report_from svc.now scenario.now.requests scenario.now.seed scenario.now.nodes (world_of svc.now self.old) scenario.now.schedule)) }
-        ensures front { AppendsFront (K.held sink.old) (K.held sink.new) (report_from svc.now scenario.now.requests scenario.now.seed scenario.now.nodes (world_of svc.now self.old) scenario.now.schedule) }
+        ensures whole { OnOk result (K.taken sink.new ≡ K.taken sink.old ++ report_from svc.now scenario.now.requests scenario.now.seed scenario.now.nodes (world_of svc.now self.old) scenario.now.schedule) }
+        ensures front { GrowsByFront (K.taken sink.old) (K.taken sink.new) (report_from svc.now scenario.now.requests scenario.now.seed scenario.now.nodes (world_of svc.now self.old) scenario.now.schedule) }
         ensures leads { OnOk result (DidLines svc.now scenario.now self.old self.new) }
-        ensures told { TellsAlike (K.held sink.old) (K.held sink.new) }
         ensures later { K.faults sink.old ≤ K.faults sink.new }
         ensures failed { IsErrOf result fault.Failed → Rose (K.faults sink.old) (K.faults sink.new) }
     {
@@ -175,11 +169,10 @@ impl<S: Store> World<S> {
         requires fits { ScenarioFits svc.now scenario.now }
         requires of { IsOf scenario.now self.old }
         requires count { self.old.done + length scenario.now.schedule < 2 ^ 32 }
-        ensures whole { OnOk result (Appends (K.held sink.old) (K.held sink.new) (report_from svc.now scenario.now.requests scenario.now.seed scenario.now.nodes (world_of svc.now self.old) scenario.now.schedule)) }
-        ensures front { AppendsFront (K.held sink.old) (K.held sink.new) (report_from svc.now scenario.now.requests scenario.now.seed scenario.now.nodes (world_of svc.now self.old) scenario.now.schedule) }
+        ensures whole { OnOk result (K.taken sink.new ≡ K.taken sink.old ++ report_from svc.now scenario.now.requests scenario.now.seed scenario.now.nodes (world_of svc.now self.old) scenario.now.schedule) }
+        ensures front { GrowsByFront (K.taken sink.old) (K.taken sink.new) (report_from svc.now scenario.now.requests scenario.now.seed scenario.now.nodes (world_of svc.now self.old) scenario.now.schedule) }
         ensures leads { OnOk result (DidLines svc.now scenario.now self.old self.new) }
         ensures broken { OnErr result (self.new.broken ≡ true) }
-        ensures told { TellsAlike (K.held sink.old) (K.held sink.new) }
         ensures later { K.faults sink.old ≤ K.faults sink.new }
         ensures failed { IsErrOf result fault.Failed → Rose (K.faults sink.old) (K.faults sink.new) }
     {

@@ -1,4 +1,3 @@
-pub mod Whole
 pub mod Gives
 pub mod Worded
 pub mod Played

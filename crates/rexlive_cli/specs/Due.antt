@@ -49,5 +49,11 @@ abbrev pub IsDueIn : Recording → Result Sections (ℕ × ScenarioCode) → Opt
 IsDueIn recording (Ok s) line due = IsDueAt recording (scenario_of s) (service_of s.service) line due
 IsDueIn recording (Err e) line due = due ≡ due_refused e.0 (scenario_code e.1)
 
+-- the same of an input
 abbrev pub IsDue : Recording → List ℕ → Due → Type 0
 IsDue recording input due = IsDueIn recording (unscheduled_answer_of input) (line_beyond recording (beyond_words input)) due
+
+-- something that is due to words and an input: the usage, where the words are no command line
+abbrev pub IsDueFor : Option Recording → List ℕ → Due → Type 0
+IsDueFor None input due = due ≡ due_usage
+IsDueFor (Some recording) input due = IsDue recording input due

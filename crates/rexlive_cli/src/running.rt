@@ -1,22 +1,19 @@
 //! The top call.
 
-ghost use Rattle.std.specs.Prelude.{◌≡◌, ◌≤◌, ◌<◌, ◌+◌, ◌⊎◌, ℕ, IfOk, IfSome, IsErrOf, Some, None, map, string_bytes};
-ghost use Rattle.std.specs.Io.KnownBytes.{IsAtEnd};
+ghost use Rattle.std.specs.Prelude.{◌≡◌, ◌≤◌, ◌<◌, ◌+◌, ◌⊎◌, IfOk, IsErrOf, IsSome, Some, None, map, string_bytes};
 ghost use Rattle.rex_traits.specs.Causes.{Rose};
-ghost use Rattle.rex_syntax.specs.declared.service.Declarations.{Declarations};
-ghost use Rattle.rex_syntax.specs.Check.{IsChecked};
-ghost use Rattle.rex_streams.specs.declared.reading.ReadFault.TheVariants as fault;
+ghost use Rattle.rex_traits.specs.Growth.{ForGrowth, Grows};
+ghost use Rattle.rex_traits.specs.Inputs.{IsWholeInput};
+ghost use Rattle.rex_traits.specs.declared.reading.ReadFault.TheVariants as fault;
 ghost use Rattle.rex_answer.specs.Causes.{Judges};
-ghost use Rattle.rex_answer.specs.Outcome.{Gives};
 ghost use Rattle.rexlive_cli.specs.Due as due;
-ghost use Rattle.rexlive_cli.specs.Outcome.{GivesSome, IsCaused, played_service};
+ghost use Rattle.rexlive_cli.specs.Outcome.{GivesSome, IsCaused, IsPlayable, played_service};
 ghost use Rattle.rexlive_cli.specs.Recording as spec;
 
 use crate::answers::{answer_input, usage};
 use crate::recording::{Recording, recording_of};
 use rex_answer::Answer;
-use rex_streams::{ReadFault, read_input};
-use rex_traits::{Gate, Sink, Source};
+use rex_traits::{Gate, ReadFault, Sink, Source, read_input};
 use std::alloc::Global;
 use std::sync::Wait;
 use std::thread::Threads;
@@ -30,11 +27,11 @@ fn read_and_answer<R: Threads + Sync, W: Wait + Sync, S: Source, G: Gate + Sync>
     source: &mut S,
     gate: &G,
 ) -> Result<Answer, ReadFault>
-    ensures due { IfOk result (λ a. IfSome (S.left source.old) (λ input. due.IsDue recording input a)) }
-    ensures judges { IfOk result (λ a. IfSome (S.left source.old) (λ input. Judges (played_service recording input) a.status)) }
-    ensures whole { IfOk result (λ a. a.status ≡ 0 → IsAtEnd (S.left source.new)) }
+    ensures due { IfOk result (λ a. ForGrowth (S.given source.old) (S.given source.new) (λ input. due.IsDue recording input a)) }
+    ensures judges { IfOk result (λ a. ForGrowth (S.given source.old) (S.given source.new) (λ input. Judges (played_service recording input) a.status)) }
+    ensures grows { Grows (S.given source.old) (S.given source.new) }
+    ensures whole { IfOk result (λ _. ForGrowth (S.given source.old) (S.given source.new) (IsWholeInput (S.ended source.new) (S.left source.old) (S.left source.new))) }
     ensures low { IfOk result (λ a. a.status < 4) }
-    ensures used { IfOk result (λ a. a.status ≡ 2 → ⊥) }
     ensures later { S.faults source.old ≤ S.faults source.new }
     ensures reads { S.calls source.new ≤ S.calls source.old + 4194305 }
     ensures failed { IsErrOf result fault.Failed → Rose (S.faults source.old) (S.faults source.new) }
@@ -58,15 +55,15 @@ fn play_input<R: Threads + Sync, W: Wait + Sync, S: Source, K: Sink, G: Gate + S
     sink: &mut K,
     gate: &G,
 ) -> u8
-    ensures run { IfSome (S.left source.old) (λ input. GivesSome (due.IsDue recording input) (K.held sink.old) (K.held sink.new) result) }
-    ensures causes { result < 4 → IfSome (S.left source.old) (λ input. IsCaused (played_service recording input) result) }
-    ensures whole { result ≡ 0 → IsAtEnd (S.left source.new) }
+    ensures run { ForGrowth (S.given source.old) (S.given source.new) (λ input. GivesSome (due.IsDueFor (Some recording) input) (K.taken sink.old) (K.taken sink.new) result) }
+    ensures causes { result < 4 → ForGrowth (S.given source.old) (S.given source.new) (λ input. IsCaused (Some recording) input result) }
+    ensures grows { Grows (S.given source.old) (S.given source.new) }
+    ensures whole { result < 4 → ForGrowth (S.given source.old) (S.given source.new) (IsWholeInput (S.ended source.new) (S.left source.old) (S.left source.new)) }
     ensures reads { S.calls source.new ≤ S.calls source.old + 4194305 }
     ensures read_fault { result ≡ 4 → Rose (S.faults source.old) (S.faults source.new) }
     ensures write_fault { result ≡ 5 → Rose (K.faults sink.old) (K.faults sink.new) }
     ensures known { result ≤ 6 }
-    ensures used { result ≡ 2 → ⊥ }
-    ensures complete { IfSome (S.left source.old) (λ input. (service : Declarations) → played_service recording input ≡ Some service → IsChecked service
+    ensures complete { ForGrowth (S.given source.old) (S.given source.new) (λ input. IsPlayable (Some recording) input
         → (Rose (S.faults source.old) (S.faults source.new) → ⊥) → (Rose (K.faults sink.old) (K.faults sink.new) → ⊥)
         → (result ≡ 0) ⊎ (result ≡ 6)) }
 {
@@ -96,19 +93,23 @@ pub fn live_main<R: Threads + Sync, W: Wait + Sync, S: Source, K: Sink, G: Gate 
     sink: &mut K,
     gate: &G,
 ) -> u8
-    // Below 4 the status and what was written are what is due to the input, for one of the histories that lanes may record so.
-    ensures run { IfSome (spec.recording_of (map string_bytes words.now)) (λ recording. IfSome (S.left source.old) (λ input. GivesSome (due.IsDue recording input) (K.held sink.old) (K.held sink.new) result)) }
+    // Below 4 the status and the bytes that the sink took are what the words ask for of the bytes that the source gave in this call,
+    // for one of the histories that lanes may record so. At 4 the sink took none, and above it none, or a front of such.
+    ensures run { ForGrowth (S.given source.old) (S.given source.new) (λ input. GivesSome (due.IsDueFor (spec.recording_of (map string_bytes words.now)) input) (K.taken sink.old) (K.taken sink.new) result) }
 
-    // Below 4 it is 1 exactly where the input is no scenario without schedule lines, or has a line that lock words can't record and
-    // are to record, and 3 exactly where its service isn't checked.
-    ensures causes { result < 4 → IfSome (spec.recording_of (map string_bytes words.now)) (λ recording. IfSome (S.left source.old) (λ input. IsCaused (played_service recording input) result)) }
+    // Below 4 it is 1 exactly where those bytes are no scenario without schedule lines, or have a line that lock words can't record
+    // and are to record, 2 exactly where the words are no command line, and 3 exactly where the service isn't checked.
+    ensures causes { result < 4 → ForGrowth (S.given source.old) (S.given source.new) (λ input. IsCaused (spec.recording_of (map string_bytes words.now)) input result) }
 
-    // Words that are no command line are answered whatever the source, which stays as it was; others are not answered so.
-    ensures usage { spec.recording_of (map string_bytes words.now) ≡ None → Gives due.due_usage (K.held sink.old) (K.held sink.new) result × (source.new ≡ source.old) × (result ≡ 4 → ⊥) }
-    ensures used { result ≡ 2 → spec.recording_of (map string_bytes words.now) ≡ None }
+    // There are such bytes: those that the source gave before stay where they were.
+    ensures grows { Grows (S.given source.old) (S.given source.new) }
 
-    // At 0 the input was read to its end.
-    ensures whole { result ≡ 0 → IsAtEnd (S.left source.new) }
+    // Below 4, where the words are a command line, those bytes are a whole input: the source has ended, or gave 4,194,305 bytes; and
+    // of what a source in memory had none is left then.
+    ensures whole { IsSome (spec.recording_of (map string_bytes words.now)) → result < 4 → ForGrowth (S.given source.old) (S.given source.new) (IsWholeInput (S.ended source.new) (S.left source.old) (S.left source.new)) }
+
+    // Where they are none, the source stays as it was, and no read fails.
+    ensures unread { spec.recording_of (map string_bytes words.now) ≡ None → (source.new ≡ source.old) × (result ≡ 4 → ⊥) }
 
     // At most 4,194,305 reads are made.
     ensures reads { S.calls source.new ≤ S.calls source.old + 4194305 }
@@ -118,11 +119,11 @@ pub fn live_main<R: Threads + Sync, W: Wait + Sync, S: Source, K: Sink, G: Gate 
     ensures write_fault { result ≡ 5 → Rose (K.faults sink.old) (K.faults sink.new) }
     ensures known { result ≤ 6 }
 
-    // Where the input is a scenario with a checked service, no schedule line and no line that can't be recorded so, and no fault
+    // Where those bytes are a scenario with a checked service, no schedule line and no line that can't be recorded so, and no fault
     // was counted, the status is 0, or want of memory.
-    ensures complete { IfSome (spec.recording_of (map string_bytes words.now)) (λ recording. IfSome (S.left source.old) (λ input. (service : Declarations) → played_service recording input ≡ Some service → IsChecked service
+    ensures complete { ForGrowth (S.given source.old) (S.given source.new) (λ input. IsPlayable (spec.recording_of (map string_bytes words.now)) input
         → (Rose (S.faults source.old) (S.faults source.new) → ⊥) → (Rose (K.faults sink.old) (K.faults sink.new) → ⊥)
-        → (result ≡ 0) ⊎ (result ≡ 6))) }
+        → (result ≡ 0) ⊎ (result ≡ 6)) }
 {
     if let Some(recording) = recording_of(words) {
         return play_input(rt, wait, alloc, recording, source, sink, gate);

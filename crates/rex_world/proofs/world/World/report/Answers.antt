@@ -12,7 +12,7 @@ use Rattle.rex_world.proofs.world.World.report.Goals as goal
 
 pub returns-in_err-write_line-clause-front : goal.returns-in_err-write_line-clause-front
 returns-in_err-write_line-clause-front g c =
-    front_next (g.K.Sink.held c.args.sink.now) (g.K.Sink.held c.loop-line.sink) (g.K.Sink.held c.write_line.new.sink) c.loop-line.waiting.items
+    front_next (g.K.Sink.taken c.args.sink.now) (g.K.Sink.taken c.loop-line.sink) (g.K.Sink.taken c.write_line.new.sink) c.loop-line.waiting.items
     (effects_text c.args.svc.now (c.loop-line.self.done + 1) (row c.args.svc.now c.loop-line.self.requests c.loop-line.self.seed (nodes_of c.loop-line.self) (world_of c.args.svc.now c.loop-line.self) c.line-item.result).effects)
     _ (report_from c.args.svc.now c.args.scenario.now.requests c.args.scenario.now.seed c.args.scenario.now.nodes (next_of c.args.svc.now c.loop-line.self c.line-item.result) (drop (c.loop-line.line-index + 1) c.args.scenario.now.schedule))
     _ c.loop-line.invariant.written
@@ -30,23 +30,22 @@ loop-line-preserved g c = record {
       c.in_ok-write_line.ensures.world c.loop-line.invariant.world;
   same = same_both c.args.self.now c.loop-line.self c.write_line.new.self c.loop-line.invariant.same c.in_ok-write_line.ensures.same;
   written =
-      subst (λ (x : ModelWorld). IsWritten (g.K.Sink.held c.args.sink.now) (g.K.Sink.held c.write_line.new.sink) c.write_line.new.waiting.items (report_from c.args.svc.now c.args.scenario.now.requests c.args.scenario.now.seed c.args.scenario.now.nodes x (drop (c.loop-line.line-index + 1) c.args.scenario.now.schedule)) (report_from c.args.svc.now c.args.scenario.now.requests c.args.scenario.now.seed c.args.scenario.now.nodes (world_of c.args.svc.now c.args.self.now) c.args.scenario.now.schedule))
+      subst (λ (x : ModelWorld). IsWritten (g.K.Sink.taken c.args.sink.now) (g.K.Sink.taken c.write_line.new.sink) c.write_line.new.waiting.items (report_from c.args.svc.now c.args.scenario.now.requests c.args.scenario.now.seed c.args.scenario.now.nodes x (drop (c.loop-line.line-index + 1) c.args.scenario.now.schedule)) (report_from c.args.svc.now c.args.scenario.now.requests c.args.scenario.now.seed c.args.scenario.now.nodes (world_of c.args.svc.now c.args.self.now) c.args.scenario.now.schedule))
       (sym c.in_ok-write_line.ensures.world)
-      (written_next (g.K.Sink.held c.args.sink.now) (g.K.Sink.held c.loop-line.sink) (g.K.Sink.held c.write_line.new.sink) c.loop-line.waiting.items
+      (written_next (g.K.Sink.taken c.args.sink.now) (g.K.Sink.taken c.loop-line.sink) (g.K.Sink.taken c.write_line.new.sink) c.loop-line.waiting.items
       (effects_text c.args.svc.now (c.loop-line.self.done + 1) (row c.args.svc.now c.loop-line.self.requests c.loop-line.self.seed (nodes_of c.loop-line.self) (world_of c.args.svc.now c.loop-line.self) c.line-item.result).effects)
       _ (report_from c.args.svc.now c.args.scenario.now.requests c.args.scenario.now.seed c.args.scenario.now.nodes (next_of c.args.svc.now c.loop-line.self c.line-item.result) (drop (c.loop-line.line-index + 1) c.args.scenario.now.schedule))
       _ c.loop-line.invariant.written
       (report_next c.args.svc.now c.args.scenario.now c.loop-line.self c.line-item.result (drop (c.loop-line.line-index + 1) c.args.scenario.now.schedule) _ c.loop-line.invariant.of
       (drop_next c.args.scenario.now.schedule c.as_slice-line-items.result.now c.loop-line.line-index c.line-item.result c.as_slice-line-items.ensures c.loop-line-test.true c.line-item.is))
       c.write_line.new.waiting.items c.in_ok-write_line.ensures.written);
-  told = c.in_ok-write_line.ensures.told ∙ c.loop-line.invariant.told;
   later = omega (arith, c.in_ok-write_line.ensures.later, c.loop-line.invariant.later);
 }
 
 pub returns-clause-whole : goal.returns-clause-whole
 returns-clause-whole g c =
     on_ok_weaker c.write_ends.result
-    (written_last (g.K.Sink.held c.args.sink.now) (g.K.Sink.held c.loop-line.sink) (g.K.Sink.held c.write_ends.new.sink) c.loop-line.waiting.items
+    (written_last (g.K.Sink.taken c.args.sink.now) (g.K.Sink.taken c.loop-line.sink) (g.K.Sink.taken c.write_ends.new.sink) c.loop-line.waiting.items
     (ends_text c.args.svc.now 1 (world_of c.args.svc.now c.loop-line.self).nodes) _ _ c.loop-line.invariant.written
     (ap (report_from c.args.svc.now c.args.scenario.now.requests c.args.scenario.now.seed c.args.scenario.now.nodes (world_of c.args.svc.now c.loop-line.self))
     (drop_end c.args.scenario.now.schedule c.as_slice-line-items.result.now c.loop-line.line-index c.as_slice-line-items.ensures c.loop-line-test.false)))
@@ -54,7 +53,7 @@ returns-clause-whole g c =
 
 pub returns-clause-front : goal.returns-clause-front
 returns-clause-front g c =
-    front_next (g.K.Sink.held c.args.sink.now) (g.K.Sink.held c.loop-line.sink) (g.K.Sink.held c.write_ends.new.sink) c.loop-line.waiting.items
+    front_next (g.K.Sink.taken c.args.sink.now) (g.K.Sink.taken c.loop-line.sink) (g.K.Sink.taken c.write_ends.new.sink) c.loop-line.waiting.items
     (ends_text c.args.svc.now 1 (world_of c.args.svc.now c.loop-line.self).nodes) _ [] _ c.loop-line.invariant.written
     (ap (report_from c.args.svc.now c.args.scenario.now.requests c.args.scenario.now.seed c.args.scenario.now.nodes (world_of c.args.svc.now c.loop-line.self))
     (drop_end c.args.scenario.now.schedule c.as_slice-line-items.result.now c.loop-line.line-index c.as_slice-line-items.ensures c.loop-line-test.false)

@@ -1,5 +1,4 @@
 use Rattle.std.proofs.Common.{◌≡◌, ◌+◌, ◌≤◌, drop}
-use Rattle.rex_traits.specs.Causes.{TellsAlike}
 use Rattle.rex_cluster.specs.World.{after_lines}
 use Rattle.rex_world.specs.Kept.{IsOf, IsRunning, IsSame}
 use Rattle.rex_world.specs.Report.{report_from}
@@ -16,9 +15,8 @@ invariant-loop-line g l = record {
   world : after_lines l.svc l.scenario.requests l.scenario.seed l.scenario.nodes (world_of l.svc l.self) (drop l.line-index l.scenario.schedule)
       ≡ after_lines l.svc l.scenario.requests l.scenario.seed l.scenario.nodes (world_of l.svc l.initial.self) l.scenario.schedule;
   same : IsSame l.initial.self l.self;
-  written : IsWritten (g.K.Sink.held l.initial.sink) (g.K.Sink.held l.sink) l.waiting.items
+  written : IsWritten (g.K.Sink.taken l.initial.sink) (g.K.Sink.taken l.sink) l.waiting.items
       (report_from l.svc l.scenario.requests l.scenario.seed l.scenario.nodes (world_of l.svc l.self) (drop l.line-index l.scenario.schedule))
       (report_from l.svc l.scenario.requests l.scenario.seed l.scenario.nodes (world_of l.svc l.initial.self) l.scenario.schedule);
-  told : TellsAlike (g.K.Sink.held l.initial.sink) (g.K.Sink.held l.sink);
   later : g.K.Sink.faults l.initial.sink ≤ g.K.Sink.faults l.sink;
 }

@@ -1,9 +1,10 @@
-ghost use Rattle.std.specs.Prelude.{◌≡◌, ◌+◌, ◌<◌, ◌≤◌, length, IfOk, IsErrOf};
-ghost use Rattle.std.specs.Io.KnownBytes.{Consumes, IsAtEnd};
+ghost use Rattle.std.specs.Prelude.{◌≡◌, ◌+◌, ◌++◌, ◌≤◌, length, IfOk, IsErrOf};
 ghost use Rattle.rex_traits.specs.Causes.{Rose, TellsAlike};
-ghost use Rattle.rex_streams.specs.declared.reading.ReadFault.TheVariants as fault;
+ghost use Rattle.rex_traits.specs.Growth.{Grows};
+ghost use Rattle.rex_traits.specs.Inputs.{IsWholeInput};
+ghost use Rattle.rex_traits.specs.declared.reading.ReadFault.TheVariants as fault;
 
-use rex_traits::Source;
+use crate::Source;
 use std::alloc::Global;
 
 /// Why an input was not read.
@@ -28,8 +29,9 @@ pub struct Input {
 
 /// Reads a source to its end, or `MOST` bytes of it. Each turn makes one read, and each but the last takes at least a byte.
 pub fn read_input<S: Source>(alloc: Global, source: &mut S) -> Result<Input, ReadFault>
-    ensures taken { IfOk result (λ i. Consumes (S.left source.old) (S.left source.new) i.bytes.items) }
-    ensures whole { IfOk result (λ i. length i.bytes.items < 4194305 → IsAtEnd (S.left source.new)) }
+    ensures given { IfOk result (λ i. S.given source.new ≡ S.given source.old ++ i.bytes.items) }
+    ensures whole { IfOk result (λ i. IsWholeInput (S.ended source.new) (S.left source.old) (S.left source.new) i.bytes.items) }
+    ensures grows { Grows (S.given source.old) (S.given source.new) }
     ensures most { IfOk result (λ i. length i.bytes.items ≤ 4194305) }
     ensures turns { IfOk result (λ i. i.turns ≤ length i.bytes.items + 1) }
     ensures few_turns { IfOk result (λ i. i.turns ≤ 4194305) }
