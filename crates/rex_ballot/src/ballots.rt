@@ -17,7 +17,7 @@ pub const ROUND_BALLOTS: u64 = 16;
 pub const INSTANCES: u32 = 65_535;
 
 /// The most values of which a node tells another one that asks for what is chosen.
-pub const TOLD_VALUES: usize = 64;
+pub const TOLD_VALUES: u32 = 64;
 
 /// Whether a number is a node's.
 pub fn is_node(n: u8) -> bool

@@ -1,6 +1,7 @@
 //! What is so at each moment of a board. Each function is the statement that its contract makes, and does nothing.
 
-ghost use Rattle.rex_board.specs.Laws.{ViewsKnowWhatIsSo, LanesHaveOneView, FreshLanesStandAtTheStart, LaneWordsRiseByOne, OtherStepsKeepLaneWords, DoneEventsWereDue};
+ghost use Rattle.rex_board.specs.Laws.{ViewsKnowWhatIsSo, LanesHaveOneView, FreshLanesStandAtTheStart, LaneWordsRiseByOne, OtherStepsKeepLaneWords};
+ghost use Rattle.rex_board.specs.Laws.{DoneEventsWereDue};
 
 /// At each moment what the view of a lane's seat knows is so: its count is the lane's word, its frame and the copies of
 /// what it holds are those of the state at the lane words, and its bounds are at most the words.

@@ -15,11 +15,13 @@ impl LaneSeat {
     /// Does the lane's next event, whose causes are known to be done: the store of the lane's word is the moment, and
     /// then the lane's own frame and copies go on to its next event.
     pub(crate) fn perform(&mut self, words: &Words, svc: &Checked, event: &Event)
-        requires table { (self.old.seat.table_id ≡ words.now.table_id) × (words.now.table_id.words ≡ LANES + variables_in words.now.key) × (self.old.seat.me.0.key ≡ words.now.key) × (self.old.lane < LANES) }
+        requires table { (self.old.seat.table_id ≡ words.now.table_id) × (words.now.table_id.words ≡ LANES + variables_in words.now.key)
+            × (self.old.seat.me.0.key ≡ words.now.key) × (self.old.lane < LANES) }
         requires service { svc.now ≡ service_of words.now.key }
         requires ready { IsReady words.now.key self.old event.now }
         requires loaded { (lock : ℕ) → Takes event.now lock → AreLoaded words.now.key self.old lock (variables_in words.now.key) }
-        requires stored { (lock : ℕ) → GivesUp event.now lock → HoldsAlone self.old.frame lock → AreStored words.now.key self.old lock (variables_in words.now.key) }
+        requires stored { (lock : ℕ) → GivesUp event.now lock → HoldsAlone self.old.frame lock
+            → AreStored words.now.key self.old lock (variables_in words.now.key) }
         requires counted { event.now.index + 1 < 2 ^ 32 }
         requires wide { length self.old.copies.items ≡ variables_in words.now.key }
         ensures later { IsLater self.old self.new }

@@ -16,7 +16,8 @@ use rex_syntax::locks::LOCKS;
 
 /// The lock that an event takes, in some mode.
 fn taken_lock(event: &Event) -> Option<u8>
-    ensures taken { MatchOption result ((lock : ℕ) → Takes event.now lock → ⊥) (λ lock. Takes event.now lock × ((other : ℕ) → Takes event.now other → other ≡ lock)) }
+    ensures taken { MatchOption result ((lock : ℕ) → Takes event.now lock → ⊥) (λ lock. Takes event.now lock
+        × ((other : ℕ) → Takes event.now other → other ≡ lock)) }
 {
     match event.kind {
         Kind::AcqEx { lock }
@@ -29,7 +30,8 @@ fn taken_lock(event: &Event) -> Option<u8>
 
 /// The lock that an event gives up.
 fn released_lock(event: &Event) -> Option<u8>
-    ensures released { MatchOption result ((lock : ℕ) → GivesUp event.now lock → ⊥) (λ lock. GivesUp event.now lock × ((other : ℕ) → GivesUp event.now other → other ≡ lock)) }
+    ensures released { MatchOption result ((lock : ℕ) → GivesUp event.now lock → ⊥) (λ lock. GivesUp event.now lock
+        × ((other : ℕ) → GivesUp event.now other → other ≡ lock)) }
 {
     match event.kind {
         Kind::RelEx { lock } | Kind::RelSh { lock } | Kind::Wait { lock, .. } => Some(lock),
@@ -41,7 +43,8 @@ impl LaneSeat {
     /// Does the lane's next event, whose causes are known to be done: it first loads the variables whose guard the event
     /// takes, and stores those whose guard it gives up.
     fn do_event(&mut self, words: &Words, svc: &Checked, event: &Event)
-        requires table { (self.old.seat.table_id ≡ words.now.table_id) × (words.now.table_id.words ≡ LANES + variables_in words.now.key) × (self.old.seat.me.0.key ≡ words.now.key) × (self.old.lane < LANES) }
+        requires table { (self.old.seat.table_id ≡ words.now.table_id) × (words.now.table_id.words ≡ LANES + variables_in words.now.key)
+            × (self.old.seat.me.0.key ≡ words.now.key) × (self.old.lane < LANES) }
         requires service { svc.now ≡ service_of words.now.key }
         requires ready { IsReady words.now.key self.old event.now }
         requires names { (lock : ℕ) → GivesUp event.now lock → lock < LOCKS }
@@ -80,7 +83,8 @@ impl LaneSeat {
         requires names { (lock : ℕ) → GivesUp event.now lock → lock < LOCKS }
         requires wide { length self.old.copies.items ≡ variables_in words.now.key }
         ensures preparing { IsPreparing self.old self.new }
-        ensures stored { (lock : ℕ) → GivesUp event.now lock → HoldsAlone self.old.frame lock → AreStored words.now.key self.new lock (variables_in words.now.key) }
+        ensures stored { (lock : ℕ) → GivesUp event.now lock → HoldsAlone self.old.frame lock
+            → AreStored words.now.key self.new lock (variables_in words.now.key) }
     {
         if let Some(lock) = released_lock(event) {
             self.publish_all(words, svc, lock);

@@ -1,3 +1,5 @@
+//! A vector clock: for each lane, how many of its first events it covers.
+
 ghost use Rattle.std.specs.Prelude.{◌≡◌, ◌<◌, ◌≤◌, ℕ};
 ghost use Rattle.rex_event.specs.Cuts.{count_at};
 ghost use Rattle.rex_clocks.specs.Counts as spec;

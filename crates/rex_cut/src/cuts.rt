@@ -1,3 +1,5 @@
+//! The greatest consistent cut of a trace below limits.
+
 ghost use Rattle.std.specs.Prelude.{◌≡◌, ◌<◌, ◌≤◌, true, [], ◌&&◌, not, length, IfOk, OnOk};
 ghost use Rattle.std.specs.List.{All};
 ghost use Rattle.rex_event.specs.Cuts as cuts;

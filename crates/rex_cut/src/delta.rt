@@ -1,3 +1,5 @@
+//! The delta below a cut: its events, each with the least causes that are right for them.
+
 ghost use Rattle.std.specs.Prelude.{◌≡◌, ◌<◌, ◌≤◌, length, IfOk};
 ghost use Rattle.std.specs.List.{All};
 ghost use Rattle.rex_event.specs.Cuts as cuts;

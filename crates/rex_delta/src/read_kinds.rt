@@ -4,7 +4,8 @@ ghost use Rattle.std.specs.Prelude.{◌≡◌, ◌^◌, ◌≤◌, nat_lt, IfErr
 ghost use Rattle.rex_event.specs.Limits.{most_lanes};
 ghost use Rattle.rex_event.specs.declared.event.Kind.TheVariants.{AcqEx, AcqSh, RelEx, RelSh, TryOk, TryBusy, Wait, Wake};
 ghost use Rattle.rex_wire.specs.Decoding.{ReadsOn, IsBad};
-ghost use Rattle.rex_delta.specs.Reading.{place_at, arguments_at, begin_at, lock_at, condition_at, signal_at, broadcast_at, clock_at, random_at, reply_at, content_at, kind_at};
+ghost use Rattle.rex_delta.specs.Reading.{place_at, arguments_at, begin_at, lock_at, condition_at, signal_at, broadcast_at, clock_at, random_at};
+ghost use Rattle.rex_delta.specs.Reading.{reply_at, content_at, kind_at};
 
 use crate::limits::PLACES;
 use rex_event::{CLIENTS, Kind, SEQUENCES};

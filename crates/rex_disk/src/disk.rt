@@ -1,3 +1,5 @@
+//! What is said of any disk: what its calls do, and which bytes a stop may leave.
+
 ghost use Rattle.std.specs.Prelude.{◌≡◌, ◌≤◌, ◌<◌, ◌+◌, ◌-◌, ◌^◌, List, ℕ, Bool, IsTrue};
 ghost use Rattle.std.specs.Prelude.{length, take, drop, OnOk, is_err};
 ghost use Rattle.rex_disk.specs.Calls.{Call, Counts, HasRoom, Reaches, UsesRoom};
@@ -53,7 +55,8 @@ pub trait Disk {
         ensures bytes { IsTrue (meets self.old) → OnOk result (buf.new ≡ take (length buf.old) (drop at (seen self.old))) }
         ensures length { length (seen self.new) ≡ length (seen self.old) }
         ensures seen { IsTrue (meets self.old) → seen self.new ≡ seen self.old }
-        ensures time { IsTrue (meets self.old) → Rests (moment self.old) (moment self.new) (left_since self.old) (left_since self.new) (may_leave self.old) (may_leave self.new) }
+        ensures time { IsTrue (meets self.old) → Rests (moment self.old) (moment self.new) (left_since self.old) (left_since self.new)
+            (may_leave self.old) (may_leave self.new) }
         ensures cause { Counts (faults self.old) (faults self.new) result }
         ensures room { UsesRoom 0 0 (calls_left self.old) (calls_left self.new) (bytes_left self.old) (bytes_left self.new) }
         ensures gives { gives self.old (Reads at (length buf.old)) (is_err result) self.new }
@@ -95,7 +98,8 @@ pub trait Disk {
         ensures room { OnOk result (HasRoom calls bytes (calls_left self.new) (bytes_left self.new) (length (seen self.new))) }
         ensures length { length (seen self.new) ≡ length (seen self.old) }
         ensures seen { IsTrue (meets self.old) → seen self.new ≡ seen self.old }
-        ensures time { IsTrue (meets self.old) → Rests (moment self.old) (moment self.new) (left_since self.old) (left_since self.new) (may_leave self.old) (may_leave self.new) }
+        ensures time { IsTrue (meets self.old) → Rests (moment self.old) (moment self.new) (left_since self.old) (left_since self.new)
+            (may_leave self.old) (may_leave self.new) }
         ensures faults { faults self.new ≡ faults self.old }
         ensures gives { gives self.old (Reserves calls bytes) (is_err result) self.new }
         ensures model { meets self.new ≡ meets self.old };

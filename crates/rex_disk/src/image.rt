@@ -77,7 +77,8 @@ pub(crate) fn image_of(
     log: &[Entry],
     written: &[u8],
 ) -> Result<Vec<u8>, AllocError>
-    ensures { (first : List ℕ) (done : List Done) → held.items ≡ seen_after first done → image.items ≡ image_after fill first done → IfOk result (λ r. r.items ≡ image_after fill first (decoded done log.now written.now)) }
+    ensures { (first : List ℕ) (done : List Done) → held.items ≡ seen_after first done → image.items ≡ image_after fill first done
+        → IfOk result (λ r. r.items ≡ image_after fill first (decoded done log.now written.now)) }
 {
     let [entry, later @ ..] = log else {
         return Ok(image);

@@ -1,4 +1,7 @@
-ghost use Rattle.std.specs.Prelude.{◌≡◌, ◌<◌, ◌≤◌, ◌==◌, ◌+◌, ◌-◌, ◌^◌, ◌++◌, ◌∷◌, [], length, refl, take, drop, true, false, vec_capacity, vec_len, IfOk, IsTrue, OnErr, OnOk, cond, max};
+//! A disk in memory: it keeps a record of its writes and syncs, and fails the calls that are named or planned.
+
+ghost use Rattle.std.specs.Prelude.{◌≡◌, ◌<◌, ◌≤◌, ◌==◌, ◌+◌, ◌-◌, ◌^◌, ◌++◌, ◌∷◌, [], length, refl, take, drop, true, false, vec_capacity, vec_len};
+ghost use Rattle.std.specs.Prelude.{IfOk, IsTrue, OnErr, OnOk, cond, max};
 ghost use Rattle.std.specs.List.{list_any};
 ghost use Rattle.rex_disk.specs.Calls.{HasRoom, UsesRoom};
 ghost use Rattle.rex_disk.specs.Calls.Call.{Reads, Writes, Syncs};

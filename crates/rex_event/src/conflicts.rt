@@ -1,3 +1,5 @@
+//! Which two events of a trace conflict, so that one has to come before the other.
+
 ghost use Rattle.std.specs.Prelude.{◌≡◌, ◌<◌};
 ghost use Rattle.rex_event.specs.Conflict as spec;
 

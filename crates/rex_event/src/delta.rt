@@ -1,3 +1,5 @@
+//! Causes of events, cuts of a trace, and deltas, which are its pieces.
+
 ghost use Rattle.std.specs.Prelude.{◌≡◌};
 ghost use Rattle.rex_event.specs.Cuts.{is_below};
 
@@ -7,7 +9,7 @@ use rex_list::List;
 /// The most events of a delta.
 pub const DELTA_EVENTS: usize = 4096;
 
-/// The most events of a history: those of as many deltas of the most events as there may be instances of agreement, 65,535.
+/// The most events of a history: those of as many deltas of the most events as there may be instances of agreement.
 pub const HISTORY_EVENTS: usize = 268_431_360;
 
 /// An event on which another one rests, by its lane and its index.

@@ -1,3 +1,5 @@
+//! Events of lanes: what a lane did, and how many events it did before.
+
 use rex_list::Arguments;
 
 /// The most lanes of a trace.

@@ -1,3 +1,5 @@
+//! The whole text of a scenario, from its first line to the last round of its schedule.
+
 ghost use Rattle.std.specs.Prelude.{◌≡◌, ◌++◌, ◌<◌, IfOk, OnOk};
 ghost use Rattle.std.specs.String.{string_bytes};
 ghost use Rattle.rex_gen.specs.Scenario as spec;

@@ -1,3 +1,5 @@
+//! What is done to the disk when an entry is committed, and when the records of a journal are recovered.
+
 ghost use Rattle.std.specs.Prelude.{◌≡◌, ◌<◌, ◌≤◌, ◌+◌, ◌-◌, ◌^◌, ◌++◌, ◌∷◌, [], ℕ, List, Option, Some, None, IsTrue, IfErr, IfOk, OnOk, length, take};
 ghost use Rattle.rex_disk.specs.Calls.{Counts, HasRoom, Reaches, UsesRoom};
 ghost use Rattle.rex_disk.specs.Stops.{LeavesOnly, Only, Torn, overwritten};
@@ -33,7 +35,8 @@ pub(crate) fn write_through<D: Disk>(disk: &mut D, at: u64, bytes: &[u8]) -> Res
     requires room { length bytes.now ≤ D.bytes_left disk.old }
     ensures written { IsTrue (D.meets disk.old) → OnOk result (D.seen disk.new ≡ overwritten at bytes.now (D.seen disk.old)) }
     ensures durable { IsTrue (D.meets disk.old) → OnOk result (Only (D.seen disk.new) (D.may_leave disk.new)) }
-    ensures any_moment { IsTrue (D.meets disk.old) → Only (D.seen disk.old) (D.may_leave disk.old) → LeavesOnly D.moment D.left_since disk.old disk.new (Torn at (length bytes.now) (D.seen disk.old)) }
+    ensures any_moment { IsTrue (D.meets disk.old) → Only (D.seen disk.old) (D.may_leave disk.old)
+        → LeavesOnly D.moment D.left_since disk.old disk.new (Torn at (length bytes.now) (D.seen disk.old)) }
     ensures calls { WritesThrough D.gives at bytes.now disk.old disk.new result }
     ensures length { Reaches (at + length bytes.now) (length (D.seen disk.old)) (length (D.seen disk.new)) result }
     ensures cause { Counts (D.faults disk.old) (D.faults disk.new) result }
@@ -51,9 +54,15 @@ pub(crate) fn commit<D: Disk>(disk: &mut D, gate: u64, spelled: &[u8]) -> Result
     requires fits { length (D.seen disk.old) + length spelled.now + 1 < 2 ^ 64 }
     requires calls { 4 ≤ D.calls_left disk.old }
     requires room { length spelled.now + 1 ≤ D.bytes_left disk.old }
-    ensures settled { (records : List (List ℕ)) (one_more : List ℕ) → IsSettled D.meets D.seen D.may_leave disk.old records gate → spelled.now ≡ entry one_more → length one_more < 2 ^ 32 → OnOk result (IsSettled D.meets D.seen D.may_leave disk.new (records ++ one_more ∷ []) (gate + length spelled.now)) }
-    ensures any_moment { (records : List (List ℕ)) (one_more : List ℕ) → IsTrue (D.meets disk.old) → IsSettled D.meets D.seen D.may_leave disk.old records gate → spelled.now ≡ entry one_more → length one_more < 2 ^ 32 → LeavesOnly D.moment D.left_since disk.old disk.new (StandsFor records (Some one_more)) }
-    ensures front { (records : List (List ℕ)) (one_more : List ℕ) → IsSettled D.meets D.seen D.may_leave disk.old records gate → spelled.now ≡ entry one_more → length one_more < 2 ^ 32 → IfErr result (λ left. LeavesFront D.meets D.seen disk.new records one_more gate (gate + length spelled.now) left) }
+    ensures settled { (records : List (List ℕ)) (one_more : List ℕ) → IsSettled D.meets D.seen D.may_leave disk.old records gate
+        → spelled.now ≡ entry one_more → length one_more < 2 ^ 32 → OnOk result
+        (IsSettled D.meets D.seen D.may_leave disk.new (records ++ one_more ∷ []) (gate + length spelled.now)) }
+    ensures any_moment { (records : List (List ℕ)) (one_more : List ℕ) → IsTrue (D.meets disk.old)
+        → IsSettled D.meets D.seen D.may_leave disk.old records gate → spelled.now ≡ entry one_more → length one_more < 2 ^ 32
+        → LeavesOnly D.moment D.left_since disk.old disk.new (StandsFor records (Some one_more)) }
+    ensures front { (records : List (List ℕ)) (one_more : List ℕ) → IsSettled D.meets D.seen D.may_leave disk.old records gate
+        → spelled.now ≡ entry one_more → length one_more < 2 ^ 32 → IfErr result
+        (λ left. LeavesFront D.meets D.seen disk.new records one_more gate (gate + length spelled.now) left) }
     ensures calls { Commits D.gives gate spelled.now disk.old disk.new result }
     ensures cause { Counts (D.faults disk.old) (D.faults disk.new) result }
     ensures model { D.meets disk.new ≡ D.meets disk.old }
@@ -73,7 +82,8 @@ fn open_gate<D: Disk>(disk: &mut D, gate: u64) -> Result<(), GateLeft>
     requires room { 1 ≤ D.bytes_left disk.old }
     ensures written { IsTrue (D.meets disk.old) → Opened (D.seen disk.new ≡ overwritten gate (1 ∷ []) (D.seen disk.old)) result }
     ensures durable { IsTrue (D.meets disk.old) → OnOk result (Only (D.seen disk.new) (D.may_leave disk.new)) }
-    ensures any_moment { IsTrue (D.meets disk.old) → Only (D.seen disk.old) (D.may_leave disk.old) → LeavesOnly D.moment D.left_since disk.old disk.new (Torn gate 1 (D.seen disk.old)) }
+    ensures any_moment { IsTrue (D.meets disk.old) → Only (D.seen disk.old) (D.may_leave disk.old)
+        → LeavesOnly D.moment D.left_since disk.old disk.new (Torn gate 1 (D.seen disk.old)) }
     ensures calls { OpensGate D.gives gate disk.old disk.new result }
     ensures length { OnOk result (length (D.seen disk.new) ≡ length (D.seen disk.old)) }
     ensures cause { Counts (D.faults disk.old) (D.faults disk.new) result }
@@ -95,7 +105,8 @@ pub(crate) fn recover<D: Disk>(alloc: Global, disk: &mut D) -> Result<Found, Ope
     ensures settled { IfOk result (λ f. IsSettled D.meets D.seen D.may_leave disk.new f.records.items f.gate) }
     ensures bad { IsTrue (D.meets disk.old) → IfErr result (IsCauseIn (D.seen disk.old)) }
     ensures unread { IsTrue (D.meets disk.old) → IfErr result (Leaves (D.seen disk.old) (D.seen disk.new)) }
-    ensures any_moment { (records : List (List ℕ)) (pending : Option (List ℕ)) → IsTrue (D.meets disk.old) → AllShort records → AllStandFor (D.may_leave disk.old) records pending → LeavesOnly D.moment D.left_since disk.old disk.new (StandsFor records pending) }
+    ensures any_moment { (records : List (List ℕ)) (pending : Option (List ℕ)) → IsTrue (D.meets disk.old) → AllShort records
+        → AllStandFor (D.may_leave disk.old) records pending → LeavesOnly D.moment D.left_since disk.old disk.new (StandsFor records pending) }
     ensures calls { Opens D.gives disk.old disk.new result }
     ensures cause { CountsFailed (D.faults disk.old) (D.faults disk.new) result }
     ensures model { D.meets disk.new ≡ D.meets disk.old }
@@ -112,9 +123,11 @@ fn close_gate<D: Disk>(disk: &mut D, bytes: &[u8], gate: usize) -> Result<(), Fa
     requires len { length bytes.now ≡ length (D.seen disk.old) }
     requires within { gate ≤ length bytes.now }
     requires room { HasRoom 2 1 (D.calls_left disk.old) (D.bytes_left disk.old) (length (D.seen disk.old)) }
-    ensures closed { IsTrue (D.meets disk.old) → bytes.now ≡ D.seen disk.old → OnOk result (take (gate + 1) (D.seen disk.new) ≡ take gate (D.seen disk.old) ++ 0 ∷ []) }
+    ensures closed { IsTrue (D.meets disk.old) → bytes.now ≡ D.seen disk.old
+        → OnOk result (take (gate + 1) (D.seen disk.new) ≡ take gate (D.seen disk.old) ++ 0 ∷ []) }
     ensures durable { IsTrue (D.meets disk.old) → Only (D.seen disk.old) (D.may_leave disk.old) → OnOk result (Only (D.seen disk.new) (D.may_leave disk.new)) }
-    ensures any_moment { IsTrue (D.meets disk.old) → bytes.now ≡ D.seen disk.old → Only (D.seen disk.old) (D.may_leave disk.old) → LeavesOnly D.moment D.left_since disk.old disk.new (IsClosing gate (D.seen disk.old)) }
+    ensures any_moment { IsTrue (D.meets disk.old) → bytes.now ≡ D.seen disk.old → Only (D.seen disk.old) (D.may_leave disk.old)
+        → LeavesOnly D.moment D.left_since disk.old disk.new (IsClosing gate (D.seen disk.old)) }
     ensures within { OnOk result (gate < length (D.seen disk.new)) }
     ensures calls { Closes D.gives gate disk.old disk.new result }
     ensures cause { Counts (D.faults disk.old) (D.faults disk.new) result }

@@ -1,3 +1,5 @@
+//! A journal as a keeper. An append in which the disk fails breaks it, until it is reopened.
+
 ghost use Rattle.std.specs.Prelude.{◌≡◌, ◌<◌, ◌≤◌, ◌+◌, ◌-◌, ◌^◌, ◌++◌, ◌∷◌, [], ℕ, List as Items, Option, Some, None};
 ghost use Rattle.std.specs.Prelude.{false, true, refl, Bool, IsTrue, IfErr, IfOk, OnErr, OnOk, MatchResult, length};
 ghost use Rattle.std.proofs.Common.{inl};
@@ -51,7 +53,10 @@ impl<D: Disk> JournalKeeper<D> {
         ensures safe { IfOk result (λ k. IsTrue (D.meets k.disk) → AllStandFor (D.may_leave k.disk) k.records None) }
         ensures bad { IsTrue (D.meets disk) → IfErr result (λ r. IsCauseIn (D.seen disk) r.fault) }
         ensures unread { IsTrue (D.meets disk) → IfErr result (λ r. Leaves (D.seen disk) (D.seen r.disk) r.fault) }
-        ensures any_moment { (records : Items (Items ℕ)) (pending : Option (Items ℕ)) → IsTrue (D.meets disk) → AllShort records → AllStandFor (D.may_leave disk) records pending → MatchResult result (λ k. LeavesOnly D.moment D.left_since disk k.disk (StandsFor records pending)) (λ r. LeavesOnly D.moment D.left_since disk r.disk (StandsFor records pending)) }
+        ensures any_moment { (records : Items (Items ℕ)) (pending : Option (Items ℕ)) → IsTrue (D.meets disk) → AllShort records
+            → AllStandFor (D.may_leave disk) records pending → MatchResult result
+            (λ k. LeavesOnly D.moment D.left_since disk k.disk (StandsFor records pending))
+            (λ r. LeavesOnly D.moment D.left_since disk r.disk (StandsFor records pending)) }
         ensures calls { MatchResult result (λ k. Goes D.gives disk k.disk) (λ r. EndsAs D.gives disk r.disk r.fault) }
         ensures cause { MatchResult result (λ k. D.faults k.disk ≡ D.faults disk) (λ r. CountsAs r.fault (D.faults disk) (D.faults r.disk)) }
         ensures model { MatchResult result (λ k. D.meets k.disk ≡ D.meets disk) (λ r. D.meets r.disk ≡ D.meets disk) }
@@ -69,7 +74,10 @@ impl<D: Disk> JournalKeeper<D> {
         ensures safe { IfOk result (λ k. IsTrue (D.meets k.disk) → AllStandFor (D.may_leave k.disk) k.records None) }
         ensures bad { IsTrue (D.meets self.disk) → IfErr result (λ r. IsCauseIn (D.seen self.disk) r.fault) }
         ensures unread { IsTrue (D.meets self.disk) → IfErr result (λ r. Leaves (D.seen self.disk) (D.seen r.disk) r.fault) }
-        ensures any_moment { (records : Items (Items ℕ)) (pending : Option (Items ℕ)) → IsTrue (D.meets self.disk) → AllShort records → AllStandFor (D.may_leave self.disk) records pending → MatchResult result (λ k. LeavesOnly D.moment D.left_since self.disk k.disk (StandsFor records pending)) (λ r. LeavesOnly D.moment D.left_since self.disk r.disk (StandsFor records pending)) }
+        ensures any_moment { (records : Items (Items ℕ)) (pending : Option (Items ℕ)) → IsTrue (D.meets self.disk) → AllShort records
+            → AllStandFor (D.may_leave self.disk) records pending → MatchResult result
+            (λ k. LeavesOnly D.moment D.left_since self.disk k.disk (StandsFor records pending))
+            (λ r. LeavesOnly D.moment D.left_since self.disk r.disk (StandsFor records pending)) }
         ensures calls { MatchResult result (λ k. Goes D.gives self.disk k.disk) (λ r. EndsAs D.gives self.disk r.disk r.fault) }
         ensures cause { MatchResult result (λ k. D.faults k.disk ≡ D.faults self.disk) (λ r. CountsAs r.fault (D.faults self.disk) (D.faults r.disk)) }
         ensures model { MatchResult result (λ k. D.meets k.disk ≡ D.meets self.disk) (λ r. D.meets r.disk ≡ D.meets self.disk) }
@@ -89,7 +97,10 @@ impl<D: Disk> JournalKeeper<D> {
         ensures safe { IfOk result (λ k. IsTrue (D.meets k.disk) → AllStandFor (D.may_leave k.disk) k.records None) }
         ensures bad { IsTrue (D.meets disk) → IfErr result (λ r. IsCauseIn (D.seen disk) r.fault) }
         ensures unread { IsTrue (D.meets disk) → IfErr result (λ r. Leaves (D.seen disk) (D.seen r.disk) r.fault) }
-        ensures any_moment { (records : Items (Items ℕ)) (pending : Option (Items ℕ)) → IsTrue (D.meets disk) → AllShort records → AllStandFor (D.may_leave disk) records pending → MatchResult result (λ k. LeavesOnly D.moment D.left_since disk k.disk (StandsFor records pending)) (λ r. LeavesOnly D.moment D.left_since disk r.disk (StandsFor records pending)) }
+        ensures any_moment { (records : Items (Items ℕ)) (pending : Option (Items ℕ)) → IsTrue (D.meets disk) → AllShort records
+            → AllStandFor (D.may_leave disk) records pending → MatchResult result
+            (λ k. LeavesOnly D.moment D.left_since disk k.disk (StandsFor records pending))
+            (λ r. LeavesOnly D.moment D.left_since disk r.disk (StandsFor records pending)) }
         ensures calls { MatchResult result (λ k. Goes D.gives disk k.disk) (λ r. EndsAs D.gives disk r.disk r.fault) }
         ensures cause { MatchResult result (λ k. D.faults k.disk ≡ D.faults disk) (λ r. CountsAs r.fault (D.faults disk) (D.faults r.disk)) }
         ensures model { MatchResult result (λ k. D.meets k.disk ≡ D.meets disk) (λ r. D.meets r.disk ≡ D.meets disk) }
@@ -141,7 +152,8 @@ impl<D: Disk> Keeper for JournalKeeper<D> {
         ensures cause { CountsAppend self.old.broken (D.faults self.old.disk) (D.faults self.new.disk) self.old.refused self.new.refused result }
         ensures safe { IsTrue (D.meets self.new.disk) → self.new.broken ≡ false → AllStandFor (D.may_leave self.new.disk) self.new.records None }
         ensures untouched { self.old.broken ≡ true → self.new.disk ≡ self.old.disk }
-        ensures any_moment { IsTrue (D.meets self.old.disk) → self.old.broken ≡ false → LeavesOnly D.moment D.left_since self.old.disk self.new.disk (StandsFor self.old.records (Some bytes.now)) }
+        ensures any_moment { IsTrue (D.meets self.old.disk) → self.old.broken ≡ false
+            → LeavesOnly D.moment D.left_since self.old.disk self.new.disk (StandsFor self.old.records (Some bytes.now)) }
         ensures model { D.meets self.new.disk ≡ D.meets self.old.disk }
     {
         if self.broken {
@@ -221,7 +233,8 @@ fn prepare<D: Disk>(
     ensures room { IfOk result (λ e. HasRoom 4 (length e.items + 1) (D.calls_left disk.new) (D.bytes_left disk.new) (length (D.seen disk.new))) }
     ensures length { length (D.seen disk.new) ≡ length (D.seen disk.old) }
     ensures seen { IsTrue (D.meets disk.old) → D.seen disk.new ≡ D.seen disk.old }
-    ensures time { IsTrue (D.meets disk.old) → Rests (D.moment disk.old) (D.moment disk.new) (D.left_since disk.old) (D.left_since disk.new) (D.may_leave disk.old) (D.may_leave disk.new) }
+    ensures time { IsTrue (D.meets disk.old) → Rests (D.moment disk.old) (D.moment disk.new) (D.left_since disk.old) (D.left_since disk.new)
+        (D.may_leave disk.old) (D.may_leave disk.new) }
     ensures faults { D.faults disk.new ≡ D.faults disk.old }
     ensures calls { (failed : Bool) × D.gives disk.old (Reserves 4 (length bytes.now + 6)) failed disk.new }
     ensures taken { OnOk result (D.gives disk.old (Reserves 4 (length bytes.now + 6)) false disk.new) }

@@ -299,7 +299,7 @@ fn text_of(alloc: Global, svc: &Checked, world: &World<MemKeeper>) -> Result<Vec
 }
 
 /// Leads a history that runs from the service's start to agreement among the nodes of a scenario, whose schedule isn't done: node 1 is
-/// elected, is handed the history in blocks of 4,096 events and cuts each, and the others replay what was agreed. The answer is the
+/// elected, is handed the history in blocks of `DELTA_EVENTS` events and cuts each, and the others replay what was agreed. The answer is the
 /// agreed trace and the end lines. To which states the events lead is found by the replayer, for node 1 on a thread of its own, one
 /// block ahead of the one that is being agreed on.
 pub fn lead<T: Threads + Sync, R: Replayer + Send + Drop>(

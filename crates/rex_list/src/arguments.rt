@@ -1,3 +1,5 @@
+//! The arguments of a request: a list of at most four numbers that takes no memory.
+
 ghost use Rattle.std.specs.Prelude.{◌≡◌, ◌<◌, ◌++◌, ◌∷◌, [], length, ◌≤◌, ◌==◌};
 
 use std::marker::Model;

@@ -1,3 +1,5 @@
+//! A list on the heap, of which contracts see just the items.
+
 ghost use Rattle.std.specs.Prelude.{◌≡◌, ◌<◌, ◌++◌, ◌∷◌, [], List as Items, length, OnOk, OnErr, ◌==◌};
 
 use std::alloc::{AllocError, Global};

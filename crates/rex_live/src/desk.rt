@@ -54,7 +54,8 @@ impl<S: Setting> Model for Desk<S> {
 
     ghost view = { λ d. record { floor = record { history = d.history.items; state = state_of S.service d.history.items; dice = d.dice }; out = d.out; begun = d.begun; given_up = d.is_given_up } };
 
-    ghost invariant = { λ d. IsDesk S.service S.requests d.requests S.dice d.events.total d.places d.kept (record { history = d.history.items; state = state_of S.service d.history.items; dice = d.dice }) d.out };
+    ghost invariant = { λ d. IsDesk S.service S.requests d.requests S.dice d.events.total d.places d.kept
+        (record { history = d.history.items; state = state_of S.service d.history.items; dice = d.dice }) d.out };
 }
 
 /// The places of the requests at a service's start.

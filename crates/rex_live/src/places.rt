@@ -3,7 +3,8 @@
 ghost use Rattle.std.specs.Prelude.{◌≡◌, ◌≢◌, ℕ, ◌+◌, ◌<◌, ◌≤◌, IfOk, length, replicate, true, false, Some, slice_index_or};
 ghost use Rattle.rex_event.specs.Conflict.{named_client};
 ghost use Rattle.rex_state.specs.Machine.{no_entry};
-ghost use Rattle.rex_live.specs.Places.{request_at, place_at, last_of, IsOf, IsPast, IsOffered, IsLinkedFrom, IsLinked, ArePassed, IsWantedAt, AreNoted, ArePlaces, HasPlaces, HadPlaces, IsLeastBelow};
+ghost use Rattle.rex_live.specs.Places.{request_at, place_at, last_of, IsOf, IsPast, IsOffered, IsLinkedFrom, IsLinked, ArePassed, IsWantedAt};
+ghost use Rattle.rex_live.specs.Places.{AreNoted, ArePlaces, HasPlaces, HadPlaces, IsLeastBelow};
 ghost use Rattle.rex_live.specs.Places as spec;
 
 use rex_event::{CLIENT_ENTRIES, Kind};
@@ -63,7 +64,8 @@ fn pass(requests: &[Request], nexts: &[usize], client: u16, from: usize, last: u
     requires client { client < CLIENT_ENTRIES }
     requires own { IsOf requests.now client from }
     ensures own { IsOf requests.now client result }
-    ensures passed { (place : ℕ) → from ≤ place → place < result → (request_at requests.now place).client ≡ client → (request_at requests.now place).sequence ≤ last }
+    ensures passed { (place : ℕ) → from ≤ place → place < result → (request_at requests.now place).client ≡ client
+        → (request_at requests.now place).sequence ≤ last }
 {
     let mut place = from;
     while place < requests.len() && requests[place].sequence <= last {
@@ -93,7 +95,8 @@ fn seek(
     requires own { IsOf requests.now client from }
     ensures own { IsOf requests.now client result }
     ensures is { result < length requests.now → spec.is_next service.now last (request_at requests.now result) ≡ true }
-    ensures sought { (place : ℕ) → from ≤ place → place < result → (request_at requests.now place).client ≡ client → spec.is_next service.now last (request_at requests.now place) ≡ false }
+    ensures sought { (place : ℕ) → from ≤ place → place < result → (request_at requests.now place).client ≡ client
+        → spec.is_next service.now last (request_at requests.now place) ≡ false }
 {
     let mut place = from;
     while place < requests.len() && !is_wanted(service, last, &requests[place]) {
@@ -305,7 +308,8 @@ impl Places {
     )
         requires { HadPlaces service.now requests.now kind.now entries.now self.old }
         ensures places { ArePlaces service.now requests.now entries.now self.new.nexts.items self.new.passed.items self.new.wanted.items }
-        ensures others { (client : ℕ) → named_client kind.now ≡ Some client → (other : ℕ) → other ≢ client → place_at self.new.wanted.items other ≡ place_at self.old.wanted.items other }
+        ensures others { (client : ℕ) → named_client kind.now ≡ Some client → (other : ℕ) → other ≢ client
+            → place_at self.new.wanted.items other ≡ place_at self.old.wanted.items other }
         ensures open_at { self.new.open_at ≡ self.old.open_at }
     {
         if let Kind::Begin { client, .. } = kind

@@ -1,6 +1,7 @@
 //! A lane's try of an event under a floor's lock, by its own thread or another lane's, and what is to be done after it.
 
-ghost use Rattle.std.specs.Prelude.{◌≡◌, ◌+◌, ◌<◌, ◌≤◌, IfErr, IfNone, IfOk, IfSome, IsErrOf, IsOkUnless, IsSome, OnErr, OnOk, OnSome, is_some, None, true, false};
+ghost use Rattle.std.specs.Prelude.{◌≡◌, ◌+◌, ◌<◌, ◌≤◌, IfErr, IfNone, IfOk, IfSome, IsErrOf, IsOkUnless, IsSome, OnErr, OnOk, OnSome, is_some, None};
+ghost use Rattle.std.specs.Prelude.{true, false};
 ghost use Rattle.rex_live.specs.Desk.{HasNoTurn, IsAbsent, NoneIsAbsent, has_begun};
 ghost use Rattle.rex_live.specs.Halting.{Halts};
 ghost use Rattle.rex_live.specs.Floor as spec;
@@ -44,7 +45,8 @@ impl<S: Setting> Desk<S> {
         requires there { lane < S.service.lanes }
         ensures absent { IfOk result (λ is. is ≡ true → IsAbsent S.service S.requests self.now.floor self.now.out self.now.begun lane) }
         ensures back { IfOk result (λ is. is ≡ false → has_begun self.now.begun lane ≡ false → is_out self.now.out lane ≡ false) }
-        ensures stays { IfOk result (λ is. is ≡ false → has_begun self.now.begun lane ≡ false → spec.next_event S.service S.requests self.now.floor lane ≡ None) }
+        ensures stays { IfOk result (λ is. is ≡ false → has_begun self.now.begun lane ≡ false
+            → spec.next_event S.service S.requests self.now.floor lane ≡ None) }
     {
         let _service = svc.declarations();
         if !self.begun[lane as usize] {

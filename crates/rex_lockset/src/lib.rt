@@ -18,7 +18,7 @@
 //! - `reply` stands where nothing is held, else C7.
 //!
 //! After the lines comes the bound on steps: one for a line, the greater one of two branches, and for a loop its turns,
-//! each with a step more. Above 100,000 the handler is refused as a whole with C9. Handlers go in order and lines in
+//! each with a step more. Above the most, `STEPS`, the handler is refused as a whole with C9. Handlers go in order and lines in
 //! order, lines that never run like all others, and the first refusal is the answer.
 #![tactic(auto)]
 

@@ -1,6 +1,7 @@
 //! What the bytes of records say. Each function is the statement that its contract makes, and does nothing.
 
-ghost use Rattle.rex_log.specs.Laws.{OneMoreIsRead, PastsReadTheSame, LongerPastsReadTheSame, RecordsSayTheSame, ReadListsAreRecords, MessagesSayTheSame, StatesAreTold};
+ghost use Rattle.rex_log.specs.Laws.{OneMoreIsRead, PastsReadTheSame, LongerPastsReadTheSame, RecordsSayTheSame, ReadListsAreRecords};
+ghost use Rattle.rex_log.specs.Laws.{MessagesSayTheSame, StatesAreTold};
 
 /// A record that is due behind others is read with them.
 pub fn one_more_is_read()

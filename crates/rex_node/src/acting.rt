@@ -109,8 +109,15 @@ impl Acting {
         requires recorder { IsRecorder svc.now self.old.recorder }
         requires there { lane < svc.now.lanes }
         requires count { (lane_of self.old.recorder.state lane).done + 1 < 2 ^ 32 }
-        ensures turn { IfOk result (λ t. t ≡ turn_of svc.now self.old.recorder.state self.old.recorder.queue (length self.old.recorder.live) lane now (pcg32 self.old.dice).0) }
-        ensures ok { IfOk result (λ t. self.new ≡ record { recorder = turned svc.now self.old.recorder t; dice = dice_after (does_draw svc.now self.old.recorder.state (length self.old.recorder.live) lane) self.old.dice; proposed = self.old.proposed; answers = self.old.answers }) }
+        ensures turn { IfOk result (λ t. t ≡ turn_of svc.now self.old.recorder.state self.old.recorder.queue (length self.old.recorder.live) lane now
+            (pcg32 self.old.dice).0) }
+        ensures ok { IfOk result (λ t. self.new ≡ record {
+          recorder = turned svc.now self.old.recorder t;
+          dice = dice_after
+              (does_draw svc.now self.old.recorder.state (length self.old.recorder.live) lane) self.old.dice;
+          proposed = self.old.proposed;
+          answers = self.old.answers;
+        }) }
         ensures err { OnErr result (self.new ≡ self.old) }
         ensures kept { IsRecorder svc.now self.new.recorder }
     {
@@ -158,7 +165,8 @@ impl Acting {
         requires recorder { IsRecorder svc.now self.old.recorder }
         requires consistent { IsConsistent self.old.recorder.live self.old.proposed }
         ensures ok { OnOk result (self.new ≡ settling svc.now self.old) }
-        ensures effects { OnOk result (draft.new.effects.items ≡ draft.old.effects.items ++ map values.release_effect (releases self.old.recorder.start.clients (below self.old.proposed self.old.recorder.live))) }
+        ensures effects { OnOk result (draft.new.effects.items ≡ draft.old.effects.items ++ map values.release_effect
+            (releases self.old.recorder.start.clients (below self.old.proposed self.old.recorder.live))) }
         ensures sends { OnOk result (draft.new.sends.items ≡ draft.old.sends.items) }
     {
         let known = events_below(alloc, &self.proposed, self.recorder.trace())?;

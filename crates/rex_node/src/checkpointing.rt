@@ -163,7 +163,8 @@ impl<K: Keeper> Node<K> {
         requires node { IsNode K.records svc.now P.past self.old }
         requires count { K.faults self.old.keeper < 2 ^ 64 - 1 }
         ensures refused { Refuses (refusal_of_checkpoint (here_of K.records svc.now P.past self.old)) result }
-        ensures told { IfOk result (Does K.records K.append_gives K.faults svc.now P.past (calls.checkpoint Two (service_of svc.now self.old.seed) self.old.id) self.old self.new) }
+        ensures told { IfOk result (Does K.records K.append_gives K.faults svc.now P.past
+            (calls.checkpoint Two (service_of svc.now self.old.seed) self.old.id) self.old self.new) }
         ensures down { IfOk result (EndsDown self.old.id (K.faults self.old.keeper) (K.faults self.new.keeper) self.new.up) }
         ensures left { LeavesAll K.records K.append_gives K.faults result self.old self.new }
         ensures same { IsSpared result self.old self.new }
@@ -178,7 +179,8 @@ impl<K: Keeper> Node<K> {
         requires node { IsNode K.records svc.now P.past self.old }
         requires count { K.faults self.old.keeper < 2 ^ 64 - 1 }
         ensures refused { Refuses (refusal_of_checkpoint (here_of K.records svc.now P.past self.old)) result }
-        ensures told { IfOk result (Does K.records K.append_gives K.faults svc.now P.past (calls.checkpoint One (service_of svc.now self.old.seed) self.old.id) self.old self.new) }
+        ensures told { IfOk result (Does K.records K.append_gives K.faults svc.now P.past
+            (calls.checkpoint One (service_of svc.now self.old.seed) self.old.id) self.old self.new) }
         ensures down { IfOk result (EndsDown self.old.id (K.faults self.old.keeper) (K.faults self.new.keeper) self.new.up) }
         ensures left { LeavesAll K.records K.append_gives K.faults result self.old self.new }
         ensures same { IsSpared result self.old self.new }
@@ -197,7 +199,8 @@ impl<K: Keeper> Node<K> {
         requires node { IsNode K.records svc.now P.past self.old }
         requires count { K.faults self.old.keeper < 2 ^ 64 - 1 }
         ensures refused { Refuses (refusal_of_checkpoint (here_of K.records svc.now P.past self.old)) result }
-        ensures told { IfOk result (Does K.records K.append_gives K.faults svc.now P.past (calls.checkpoint version (service_of svc.now self.old.seed) self.old.id) self.old self.new) }
+        ensures told { IfOk result (Does K.records K.append_gives K.faults svc.now P.past
+            (calls.checkpoint version (service_of svc.now self.old.seed) self.old.id) self.old self.new) }
         ensures down { IfOk result (EndsDown self.old.id (K.faults self.old.keeper) (K.faults self.new.keeper) self.new.up) }
         ensures left { LeavesAll K.records K.append_gives K.faults result self.old self.new }
         ensures same { IsSpared result self.old self.new }

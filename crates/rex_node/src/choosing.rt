@@ -1,6 +1,7 @@
 //! What a node is told of chosen values and of greater promises, and what it tells of chosen values.
 
-ghost use Rattle.std.specs.Prelude.{◌≡◌, ◌<◌, ◌≤◌, ◌+◌, ◌-◌, ◌++◌, ◌∷◌, ◌^◌, [], map, take, slice_index_or, suc, length, true, option_map, IfOk, OnOk, OnErr, is_some};
+ghost use Rattle.std.specs.Prelude.{◌≡◌, ◌<◌, ◌≤◌, ◌+◌, ◌-◌, ◌++◌, ◌∷◌, ◌^◌, [], map, take, slice_index_or, suc, length, true, option_map, IfOk};
+ghost use Rattle.std.specs.Prelude.{OnOk, OnErr, is_some};
 ghost use Rattle.rex_ballot.specs.Ballot.{IsInstance};
 ghost use Rattle.rex_ballot.specs.Proposals.{IsValue};
 ghost use Rattle.rex_paxos.specs.Proposer.{ProposerValue};
@@ -44,8 +45,10 @@ impl<K: Keeper> Node<K> {
         requires value { IsValue value.now }
         requires runs { RunsOn svc.now (calls.on_chosen self.old.id instance value.now) (so_far K.records svc.now P.past self.old draft.old) }
         requires count { K.faults self.old.keeper < 2 ^ 64 - 1 }
-        ensures ends { IfOk result (Ends K.records K.append_gives K.faults svc.now P.past (calls.on_chosen self.old.id instance value.now) (whole P.past self.old) (whole P.past self.new) draft.old draft.new) }
-        ensures stuck { OnErr result (IsStuck K.records K.append_gives K.faults svc.now P.past (calls.on_chosen self.old.id instance value.now) (whole P.past self.old) (whole P.past self.new) draft.old) }
+        ensures ends { IfOk result (Ends K.records K.append_gives K.faults svc.now P.past (calls.on_chosen self.old.id instance value.now)
+            (whole P.past self.old) (whole P.past self.new) draft.old draft.new) }
+        ensures stuck { OnErr result (IsStuck K.records K.append_gives K.faults svc.now P.past (calls.on_chosen self.old.id instance value.now)
+            (whole P.past self.old) (whole P.past self.new) draft.old) }
         ensures same { IsSame (whole P.past self.old) (whole P.past self.new) }
     {
         let _service = svc.declarations();
@@ -75,8 +78,10 @@ impl<K: Keeper> Node<K> {
         requires value { IsValue value.now }
         requires runs { RunsOn svc.now (calls.on_chosen self.old.id instance value.now) (so_far K.records svc.now P.past self.old draft.old) }
         requires count { K.faults self.old.keeper < 2 ^ 64 - 1 }
-        ensures ends { IfOk result (Ends K.records K.append_gives K.faults svc.now P.past (calls.on_chosen self.old.id instance value.now) (whole P.past self.old) (whole P.past self.new) draft.old draft.new) }
-        ensures stuck { OnErr result (IsStuck K.records K.append_gives K.faults svc.now P.past (calls.on_chosen self.old.id instance value.now) (whole P.past self.old) (whole P.past self.new) draft.old) }
+        ensures ends { IfOk result (Ends K.records K.append_gives K.faults svc.now P.past (calls.on_chosen self.old.id instance value.now)
+            (whole P.past self.old) (whole P.past self.new) draft.old draft.new) }
+        ensures stuck { OnErr result (IsStuck K.records K.append_gives K.faults svc.now P.past (calls.on_chosen self.old.id instance value.now)
+            (whole P.past self.old) (whole P.past self.new) draft.old) }
         ensures same { IsSame (whole P.past self.old) (whole P.past self.new) }
     {
         let _service = svc.declarations();
@@ -102,7 +107,8 @@ impl<K: Keeper> Node<K> {
     ) -> Result<(), AllocError>
         requires room { length (knows P.past self.old) < INSTANCES }
         ensures chosen { OnOk result (whole P.past self.new ≡ record (leaving (whole P.past self.old)) { known = knows P.past self.old ++ value.now ∷ [] }) }
-        ensures told { OnOk result (Tells draft.old draft.new (effect.Known self.old.id instance ∷ followed self.old.id (role_of self.old.acceptor self.old.proposer (is_some self.old.acting)))) }
+        ensures told { OnOk result (Tells draft.old draft.new (effect.Known self.old.id instance ∷ followed self.old.id
+            (role_of self.old.acceptor self.old.proposer (is_some self.old.acting)))) }
         ensures keeper { self.new.keeper ≡ self.old.keeper }
         ensures base { self.new.base ≡ self.old.base }
         ensures same { IsSame (whole P.past self.old) (whole P.past self.new) }
@@ -122,8 +128,10 @@ impl<K: Keeper> Node<K> {
     ) -> Result<Going, AllocError>
         requires node { IsNode K.records svc.now P.past self.old }
         requires up { self.old.up ≡ true }
-        ensures ends { IfOk result (Ends K.records K.append_gives K.faults svc.now P.past (λ d. calls.on_nack self.old.id promised d d.node.role) (whole P.past self.old) (whole P.past self.new) draft.old draft.new) }
-        ensures stuck { OnErr result (IsStuck K.records K.append_gives K.faults svc.now P.past (λ d. calls.on_nack self.old.id promised d d.node.role) (whole P.past self.old) (whole P.past self.new) draft.old) }
+        ensures ends { IfOk result (Ends K.records K.append_gives K.faults svc.now P.past (λ d. calls.on_nack self.old.id promised d d.node.role)
+            (whole P.past self.old) (whole P.past self.new) draft.old draft.new) }
+        ensures stuck { OnErr result (IsStuck K.records K.append_gives K.faults svc.now P.past (λ d. calls.on_nack self.old.id promised d d.node.role)
+            (whole P.past self.old) (whole P.past self.new) draft.old) }
         ensures same { IsSame (whole P.past self.old) (whole P.past self.new) }
     {
         let _service = svc.declarations();
@@ -157,8 +165,10 @@ impl<K: Keeper> Node<K> {
         requires node { IsNode K.records svc.now P.past self.old }
         requires up { self.old.up ≡ true }
         requires past { Begins (records.known (here_of K.records svc.now P.past self.old).log) P.past }
-        ensures ends { IfOk result (Ends K.records K.append_gives K.faults svc.now P.past (calls.on_ask self.old.id from first) (whole P.past self.old) (whole P.past self.new) draft.old draft.new) }
-        ensures stuck { OnErr result (IsStuck K.records K.append_gives K.faults svc.now P.past (calls.on_ask self.old.id from first) (whole P.past self.old) (whole P.past self.new) draft.old) }
+        ensures ends { IfOk result (Ends K.records K.append_gives K.faults svc.now P.past (calls.on_ask self.old.id from first) (whole P.past self.old)
+            (whole P.past self.new) draft.old draft.new) }
+        ensures stuck { OnErr result (IsStuck K.records K.append_gives K.faults svc.now P.past (calls.on_ask self.old.id from first)
+            (whole P.past self.old) (whole P.past self.new) draft.old) }
         ensures tells { draft.old.sends.items ≡ [] → OnOk result (AreTold svc.now P.past draft.new.sends.items) }
         ensures same { IsSame (whole P.past self.old) (whole P.past self.new) }
     {
@@ -187,7 +197,8 @@ impl<K: Keeper> Node<K> {
         requires first { first ≤ length (knows P.past self.now) }
         requires few { length (knows P.past self.now) ≤ INSTANCES }
         ensures effects { OnOk result (draft.new.effects.items ≡ draft.old.effects.items) }
-        ensures sends { OnOk result (map (message_in P.past) draft.new.sends.items ≡ map (message_in P.past) draft.old.sends.items ++ take TOLD_VALUES (calls.tell self.now.id to first 1 (knows P.past self.now))) }
+        ensures sends { OnOk result (map (message_in P.past) draft.new.sends.items ≡ map (message_in P.past) draft.old.sends.items ++ take TOLD_VALUES
+            (calls.tell self.now.id to first 1 (knows P.past self.now))) }
         ensures tells { draft.old.sends.items ≡ [] → OnOk result (AreTold svc.now P.past draft.new.sends.items) }
     {
         let _service = svc.declarations();
@@ -204,7 +215,8 @@ impl<K: Keeper> Node<K> {
         requires held { self.now.offset ≤ place }
         requires there { place < length (knows P.past self.now) }
         requires few { length (knows P.past self.now) ≤ INSTANCES }
-        ensures { OnOk result (Sends draft.old draft.new (answering self.now.id to (sent.Chosen (place + 1) (slice_index_or (knows P.past self.now) place [])))) }
+        ensures { OnOk result (Sends draft.old draft.new (answering self.now.id to
+            (sent.Chosen (place + 1) (slice_index_or (knows P.past self.now) place [])))) }
     {
         let instance = place + 1;
         let Look::Value(value) = self.known.get(instance) else {

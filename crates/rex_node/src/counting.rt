@@ -43,10 +43,15 @@ impl<K: Keeper> Node<K> {
         requires up { self.old.up ≡ true }
         requires from { IsNodeOf self.old.nodes from }
         requires reported { All IsProposal reported.now }
-        requires runs { RunsOn svc.now (λ d. calls.on_promise self.old.nodes (service_of svc.now self.old.seed) self.old.id from ballot (map proposal_in reported.now) d d.node.role) (so_far K.records svc.now P.past self.old draft.old) }
+        requires runs { RunsOn svc.now (λ d. calls.on_promise self.old.nodes (service_of svc.now self.old.seed) self.old.id from ballot
+            (map proposal_in reported.now) d d.node.role) (so_far K.records svc.now P.past self.old draft.old) }
         requires count { K.faults self.old.keeper < 2 ^ 64 - 1 }
-        ensures ends { IfOk result (Ends K.records K.append_gives K.faults svc.now P.past (λ d. calls.on_promise self.old.nodes (service_of svc.now self.old.seed) self.old.id from ballot (map proposal_in reported.now) d d.node.role) (whole P.past self.old) (whole P.past self.new) draft.old draft.new) }
-        ensures stuck { OnErr result (IsStuck K.records K.append_gives K.faults svc.now P.past (λ d. calls.on_promise self.old.nodes (service_of svc.now self.old.seed) self.old.id from ballot (map proposal_in reported.now) d d.node.role) (whole P.past self.old) (whole P.past self.new) draft.old) }
+        ensures ends { IfOk result (Ends K.records K.append_gives K.faults svc.now P.past
+            (λ d. calls.on_promise self.old.nodes (service_of svc.now self.old.seed) self.old.id from ballot (map proposal_in reported.now) d d.node.role)
+            (whole P.past self.old) (whole P.past self.new) draft.old draft.new) }
+        ensures stuck { OnErr result (IsStuck K.records K.append_gives K.faults svc.now P.past
+            (λ d. calls.on_promise self.old.nodes (service_of svc.now self.old.seed) self.old.id from ballot (map proposal_in reported.now) d d.node.role)
+            (whole P.past self.old) (whole P.past self.new) draft.old) }
         ensures same { IsSame (whole P.past self.old) (whole P.past self.new) }
     {
         let _service = svc.declarations();
@@ -130,10 +135,15 @@ impl<K: Keeper> Node<K> {
         requires node { IsNode K.records svc.now P.past self.old }
         requires up { self.old.up ≡ true }
         requires from { IsNodeOf self.old.nodes from }
-        requires runs { RunsOn svc.now (λ d. calls.on_voted self.old.nodes (service_of svc.now self.old.seed) self.old.id from ballot instance d d.node.role) (so_far K.records svc.now P.past self.old draft.old) }
+        requires runs { RunsOn svc.now (λ d. calls.on_voted self.old.nodes
+            (service_of svc.now self.old.seed) self.old.id from ballot instance d d.node.role) (so_far K.records svc.now P.past self.old draft.old) }
         requires count { K.faults self.old.keeper < 2 ^ 64 - 1 }
-        ensures ends { IfOk result (Ends K.records K.append_gives K.faults svc.now P.past (λ d. calls.on_voted self.old.nodes (service_of svc.now self.old.seed) self.old.id from ballot instance d d.node.role) (whole P.past self.old) (whole P.past self.new) draft.old draft.new) }
-        ensures stuck { OnErr result (IsStuck K.records K.append_gives K.faults svc.now P.past (λ d. calls.on_voted self.old.nodes (service_of svc.now self.old.seed) self.old.id from ballot instance d d.node.role) (whole P.past self.old) (whole P.past self.new) draft.old) }
+        ensures ends { IfOk result (Ends K.records K.append_gives K.faults svc.now P.past
+            (λ d. calls.on_voted self.old.nodes (service_of svc.now self.old.seed) self.old.id from ballot instance d d.node.role) (whole P.past self.old)
+            (whole P.past self.new) draft.old draft.new) }
+        ensures stuck { OnErr result (IsStuck K.records K.append_gives K.faults svc.now P.past
+            (λ d. calls.on_voted self.old.nodes (service_of svc.now self.old.seed) self.old.id from ballot instance d d.node.role) (whole P.past self.old)
+            (whole P.past self.new) draft.old) }
         ensures same { IsSame (whole P.past self.old) (whole P.past self.new) }
     {
         match self.acceptance_vote(from, ballot, instance) {
@@ -199,10 +209,15 @@ impl<K: Keeper> Node<K> {
         requires up { self.old.up ≡ true }
         requires from { IsNodeOf self.old.nodes from }
         requires vote { acceptance_vote_on self.old.proposer ballot instance from ≡ vote.Quorum }
-        requires runs { RunsOn svc.now (λ d. calls.on_voted self.old.nodes (service_of svc.now self.old.seed) self.old.id from ballot instance d d.node.role) (so_far K.records svc.now P.past self.old draft.old) }
+        requires runs { RunsOn svc.now (λ d. calls.on_voted self.old.nodes
+            (service_of svc.now self.old.seed) self.old.id from ballot instance d d.node.role) (so_far K.records svc.now P.past self.old draft.old) }
         requires count { K.faults self.old.keeper < 2 ^ 64 - 1 }
-        ensures ends { IfOk result (Ends K.records K.append_gives K.faults svc.now P.past (λ d. calls.on_voted self.old.nodes (service_of svc.now self.old.seed) self.old.id from ballot instance d d.node.role) (whole P.past self.old) (whole P.past self.new) draft.old draft.new) }
-        ensures stuck { OnErr result (IsStuck K.records K.append_gives K.faults svc.now P.past (λ d. calls.on_voted self.old.nodes (service_of svc.now self.old.seed) self.old.id from ballot instance d d.node.role) (whole P.past self.old) (whole P.past self.new) draft.old) }
+        ensures ends { IfOk result (Ends K.records K.append_gives K.faults svc.now P.past
+            (λ d. calls.on_voted self.old.nodes (service_of svc.now self.old.seed) self.old.id from ballot instance d d.node.role) (whole P.past self.old)
+            (whole P.past self.new) draft.old draft.new) }
+        ensures stuck { OnErr result (IsStuck K.records K.append_gives K.faults svc.now P.past
+            (λ d. calls.on_voted self.old.nodes (service_of svc.now self.old.seed) self.old.id from ballot instance d d.node.role) (whole P.past self.old)
+            (whole P.past self.new) draft.old) }
         ensures same { IsSame (whole P.past self.old) (whole P.past self.new) }
     {
         let _service = svc.declarations();

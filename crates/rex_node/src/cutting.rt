@@ -9,11 +9,13 @@ ghost use Rattle.rex_event.specs.Cuts.{below};
 ghost use Rattle.rex_cut.specs.Greatest.{greatest_cut};
 ghost use Rattle.rex_cluster.specs.Lanes as lanes;
 ghost use Rattle.rex_record.specs.Kept.{IsRecorder};
-ghost use Rattle.rex_node.specs.Cutting.{CanMakePiece, CanPropose, HasPiece, IsIdle, MakesPieceOf, ProposesCut, ProposesCutShort, ProposesPiece, ProposesPieceShort, cut_before, has_open, with_cut};
+ghost use Rattle.rex_node.specs.Cutting.{CanMakePiece, CanPropose, HasPiece, IsIdle, MakesPieceOf, ProposesCut, ProposesCutShort, ProposesPiece};
+ghost use Rattle.rex_node.specs.Cutting.{ProposesPieceShort, cut_before, has_open, with_cut};
 ghost use Rattle.rex_log.specs.Log.{proposal_in};
 ghost use Rattle.rex_node.specs.Telling.{AreTold};
 ghost use Rattle.rex_node.specs.Parts.{ActingValue, here_of, open_of, role_of, IsNode, IsSame, StaysNode, knows, whole};
-ghost use Rattle.rex_node.specs.Calls.{AreLimits, CanBeCut, Does, EndsDown, IsSpared, Leaves, RefusesThen, counts_for, if_active, if_up, refusal_of_lead, refusal_of_none, refusal_of_open, refusal_of_cut};
+ghost use Rattle.rex_node.specs.Calls.{AreLimits, CanBeCut, Does, EndsDown, IsSpared, Leaves, RefusesThen, counts_for, if_active, if_up};
+ghost use Rattle.rex_node.specs.Calls.{refusal_of_lead, refusal_of_none, refusal_of_open, refusal_of_cut};
 
 use crate::going::Going;
 use crate::node::Node;
@@ -33,7 +35,8 @@ use std::mem::replace;
 impl<K: Keeper> Node<K> {
     // Why the node doesn't cut, before it makes the cut.
     fn cut_refusal<P: Past>(&self) -> Option<Refusal>
-        ensures why { result ≡ if_up self.now.up (if_active (role_of self.now.acceptor self.now.proposer (is_some self.now.acting)) (refusal_of_lead (role_of self.now.acceptor self.now.proposer (is_some self.now.acting)) (length (knows P.past self.now)))) }
+        ensures why { result ≡ if_up self.now.up (if_active (role_of self.now.acceptor self.now.proposer (is_some self.now.acting))
+            (refusal_of_lead (role_of self.now.acceptor self.now.proposer (is_some self.now.acting)) (length (knows P.past self.now)))) }
         ensures acts { result ≡ None → IsSome self.now.acting }
     {
         if let Some(refusal) = self.active_refusal() {
@@ -63,8 +66,11 @@ impl<K: Keeper> Node<K> {
     fn piece<P: Past>(&self, svc: &Checked, limits: Option<&[u32]>) -> Result<Piece, Refusal>
         requires node { IsNode K.records svc.now P.past self.now }
         requires limits { AreLimits svc.now (option_copied limits) }
-        requires spelling { CanBeCut (here_of K.records svc.now P.past self.now) (counts_for svc.now (here_of K.records svc.now P.past self.now) (option_copied limits)) }
-        ensures refused { RefusesThen (refusal_of_cut (here_of K.records svc.now P.past self.now) (length (knows P.past self.now))) (refusal_of_none (below (greatest_cut (counts_for svc.now (here_of K.records svc.now P.past self.now) (option_copied limits.entry)) (here_of K.records svc.now P.past self.now).work.live) (here_of K.records svc.now P.past self.now).work.live)) result }
+        requires spelling { CanBeCut (here_of K.records svc.now P.past self.now)
+            (counts_for svc.now (here_of K.records svc.now P.past self.now) (option_copied limits)) }
+        ensures refused { RefusesThen (refusal_of_cut (here_of K.records svc.now P.past self.now) (length (knows P.past self.now)))
+            (refusal_of_none (below (greatest_cut (counts_for svc.now (here_of K.records svc.now P.past self.now) (option_copied limits.entry))
+            (here_of K.records svc.now P.past self.now).work.live) (here_of K.records svc.now P.past self.now).work.live)) result }
         ensures can { IfOk result (CanPropose (whole P.past self.now) (option_copied limits.entry)) }
     {
         match self.cut_refusal::<P>() {
@@ -111,8 +117,10 @@ impl<K: Keeper> Node<K> {
         requires cut { IsOwnCut svc.now (whole P.past self.old) value.now }
         requires fits { values_fit svc.now (knows P.past self.old ++ value.now ∷ []) ≡ true }
         requires count { K.faults self.old.keeper < 2 ^ 64 - 1 }
-        ensures ends { IfOk result (ProposesCut K.records K.append_gives K.faults svc.now P.past events value.now (whole P.past self.old) (whole P.past self.new) draft.old draft.new) }
-        ensures stuck { OnErr result (ProposesCutShort K.records K.append_gives K.faults svc.now P.past events value.now (whole P.past self.old) (whole P.past self.new) draft.old) }
+        ensures ends { IfOk result (ProposesCut K.records K.append_gives K.faults svc.now P.past events value.now (whole P.past self.old)
+            (whole P.past self.new) draft.old draft.new) }
+        ensures stuck { OnErr result (ProposesCutShort K.records K.append_gives K.faults svc.now P.past events value.now (whole P.past self.old)
+            (whole P.past self.new) draft.old) }
         ensures same { IsSame (whole P.past self.old) (whole P.past self.new) }
     {
         let node = self.id;
@@ -143,8 +151,10 @@ impl<K: Keeper> Node<K> {
         requires node { IsNode K.records svc.now P.past self.old }
         requires can { HasPiece svc.now (whole P.past self.old) piece }
         requires count { K.faults self.old.keeper < 2 ^ 64 - 1 }
-        ensures ends { IfOk result (ProposesPiece K.records K.append_gives K.faults svc.now P.past piece.cut.counts (whole P.past self.old) (whole P.past self.new) draft.old draft.new) }
-        ensures stuck { OnErr result (ProposesPieceShort K.records K.append_gives K.faults svc.now P.past piece.cut.counts (whole P.past self.old) (whole P.past self.new) draft.old) }
+        ensures ends { IfOk result (ProposesPiece K.records K.append_gives K.faults svc.now P.past piece.cut.counts (whole P.past self.old)
+            (whole P.past self.new) draft.old draft.new) }
+        ensures stuck { OnErr result (ProposesPieceShort K.records K.append_gives K.faults svc.now P.past piece.cut.counts (whole P.past self.old)
+            (whole P.past self.new) draft.old) }
         ensures same { IsSame (whole P.past self.old) (whole P.past self.new) }
     {
         let _service = svc.declarations();
@@ -161,13 +171,20 @@ impl<K: Keeper> Node<K> {
     pub fn cut<P: Past>(&mut self, svc: &Checked, limits: Option<&[u32]>) -> Result<Step, Refusal>
         requires node { IsNode K.records svc.now P.past self.old }
         requires limits { AreLimits svc.now (option_copied limits) }
-        requires spelling { CanBeCut (here_of K.records svc.now P.past self.old) (counts_for svc.now (here_of K.records svc.now P.past self.old) (option_copied limits)) }
+        requires spelling { CanBeCut (here_of K.records svc.now P.past self.old)
+            (counts_for svc.now (here_of K.records svc.now P.past self.old) (option_copied limits)) }
         requires count { K.faults self.old.keeper < 2 ^ 64 - 1 }
-        ensures refused { RefusesThen (refusal_of_cut (here_of K.records svc.now P.past self.old) (length (knows P.past self.old))) (refusal_of_none (below (greatest_cut (counts_for svc.now (here_of K.records svc.now P.past self.old) (option_copied limits.entry)) (here_of K.records svc.now P.past self.old).work.live) (here_of K.records svc.now P.past self.old).work.live)) result }
-        ensures told { IfOk result (Does K.records K.append_gives K.faults svc.now P.past (lanes.cut svc.now self.old.seed self.old.nodes self.old.id (counts_for svc.now (here_of K.records svc.now P.past self.old) (option_copied limits.entry))) self.old self.new) }
+        ensures refused { RefusesThen (refusal_of_cut (here_of K.records svc.now P.past self.old) (length (knows P.past self.old)))
+            (refusal_of_none (below (greatest_cut (counts_for svc.now (here_of K.records svc.now P.past self.old) (option_copied limits.entry))
+            (here_of K.records svc.now P.past self.old).work.live) (here_of K.records svc.now P.past self.old).work.live)) result }
+        ensures told { IfOk result (Does K.records K.append_gives K.faults svc.now P.past
+            (lanes.cut svc.now self.old.seed self.old.nodes self.old.id
+            (counts_for svc.now (here_of K.records svc.now P.past self.old) (option_copied limits.entry))) self.old self.new) }
         ensures tells { IfOk result (λ step. AreTold svc.now P.past step.sends) }
         ensures down { IfOk result (EndsDown self.old.id (K.faults self.old.keeper) (K.faults self.new.keeper) self.new.up) }
-        ensures left { Leaves K.records K.append_gives K.faults svc.now P.past (lanes.cut svc.now self.old.seed self.old.nodes self.old.id (counts_for svc.now (here_of K.records svc.now P.past self.old) (option_copied limits.entry))) result self.old self.new }
+        ensures left { Leaves K.records K.append_gives K.faults svc.now P.past
+            (lanes.cut svc.now self.old.seed self.old.nodes self.old.id
+            (counts_for svc.now (here_of K.records svc.now P.past self.old) (option_copied limits.entry))) result self.old self.new }
         ensures same { IsSpared result self.old self.new }
         ensures kept { StaysNode K.records svc.now P.past self.old self.new }
     {

@@ -40,13 +40,16 @@ impl<K: Keeper> Node<K> {
         replayer: &mut R,
     ) -> Result<Step, Refusal>
         requires node { IsNode K.records svc.now P.past self.old }
-        requires runs { RunsOn svc.now (calls.elect self.old.nodes (service_of svc.now self.old.seed) self.old.id) (begin (here_of K.records svc.now P.past self.old)) }
+        requires runs { RunsOn svc.now (calls.elect self.old.nodes (service_of svc.now self.old.seed) self.old.id)
+            (begin (here_of K.records svc.now P.past self.old)) }
         requires count { K.faults self.old.keeper < 2 ^ 64 - 1 }
         ensures refused { Refuses (refusal_of_elect self.old.id (here_of K.records svc.now P.past self.old)) result }
-        ensures told { IfOk result (Does K.records K.append_gives K.faults svc.now P.past (calls.elect self.old.nodes (service_of svc.now self.old.seed) self.old.id) self.old self.new) }
+        ensures told { IfOk result (Does K.records K.append_gives K.faults svc.now P.past
+            (calls.elect self.old.nodes (service_of svc.now self.old.seed) self.old.id) self.old self.new) }
         ensures tells { IfOk result (λ step. AreTold svc.now P.past step.sends) }
         ensures down { IfOk result (EndsDown self.old.id (K.faults self.old.keeper) (K.faults self.new.keeper) self.new.up) }
-        ensures left { Leaves K.records K.append_gives K.faults svc.now P.past (calls.elect self.old.nodes (service_of svc.now self.old.seed) self.old.id) result self.old self.new }
+        ensures left { Leaves K.records K.append_gives K.faults svc.now P.past
+            (calls.elect self.old.nodes (service_of svc.now self.old.seed) self.old.id) result self.old self.new }
         ensures same { IsSpared result self.old self.new }
         ensures kept { StaysNode K.records svc.now P.past self.old self.new }
     {
@@ -75,10 +78,13 @@ impl<K: Keeper> Node<K> {
         requires up { self.old.up ≡ true }
         requires left { ballot_left self.old.id self.old.acceptor.promised ≡ Some ballot }
         requires least { IsLeastAbove self.old.id self.old.acceptor.promised ballot }
-        requires runs { RunsOn svc.now (calls.elect self.old.nodes (service_of svc.now self.old.seed) self.old.id) (so_far K.records svc.now P.past self.old draft.old) }
+        requires runs { RunsOn svc.now (calls.elect self.old.nodes (service_of svc.now self.old.seed) self.old.id)
+            (so_far K.records svc.now P.past self.old draft.old) }
         requires count { K.faults self.old.keeper < 2 ^ 64 - 1 }
-        ensures ends { IfOk result (Ends K.records K.append_gives K.faults svc.now P.past (calls.elect self.old.nodes (service_of svc.now self.old.seed) self.old.id) (whole P.past self.old) (whole P.past self.new) draft.old draft.new) }
-        ensures stuck { OnErr result (IsStuck K.records K.append_gives K.faults svc.now P.past (calls.elect self.old.nodes (service_of svc.now self.old.seed) self.old.id) (whole P.past self.old) (whole P.past self.new) draft.old) }
+        ensures ends { IfOk result (Ends K.records K.append_gives K.faults svc.now P.past
+            (calls.elect self.old.nodes (service_of svc.now self.old.seed) self.old.id) (whole P.past self.old) (whole P.past self.new) draft.old draft.new) }
+        ensures stuck { OnErr result (IsStuck K.records K.append_gives K.faults svc.now P.past
+            (calls.elect self.old.nodes (service_of svc.now self.old.seed) self.old.id) (whole P.past self.old) (whole P.past self.new) draft.old) }
         ensures same { IsSame (whole P.past self.old) (whole P.past self.new) }
     {
         let _service = svc.declarations();
@@ -100,7 +106,9 @@ impl<K: Keeper> Node<K> {
         ensures stands { OnOk result (whole P.past self.new ≡ standing (whole P.past self.old) ballot) }
         ensures turns { IfOk result (λ turns. turns ≡ 2 * length (candidate_of (whole P.past self.old) ballot).reported + 3) }
         ensures effects { OnOk result (draft.new.effects.items ≡ draft.old.effects.items ++ effect.Candidate self.old.id ballot ∷ []) }
-        ensures sends { OnOk result (map (message_in P.past) draft.new.sends.items ≡ map (message_in P.past) draft.old.sends.items ++ calls.others self.old.nodes self.old.id (content_in P.past (sent.Prepare ballot (length (knows P.past self.old) + 1)))) }
+        ensures sends { OnOk result (map (message_in P.past) draft.new.sends.items ≡ map
+            (message_in P.past) draft.old.sends.items ++ calls.others self.old.nodes self.old.id
+            (content_in P.past (sent.Prepare ballot (length (knows P.past self.old) + 1)))) }
         ensures keeper { self.new.keeper ≡ self.old.keeper }
         ensures base { self.new.base ≡ self.old.base }
         ensures same { IsSame (whole P.past self.old) (whole P.past self.new) }

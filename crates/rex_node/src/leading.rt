@@ -1,6 +1,7 @@
 //! How a node that leads, or asks to, goes on.
 
-ghost use Rattle.std.specs.Prelude.{◌≡◌, ◌<◌, ◌≤◌, ◌+◌, ◌*◌, ◌-◌, ◌++◌, ◌∷◌, ◌^◌, [], length, map, unwrap_or, true, false, suc, is_some, option_map, None, Some, IfSome, IsSome, IfOk, OnOk, OnErr};
+ghost use Rattle.std.specs.Prelude.{◌≡◌, ◌<◌, ◌≤◌, ◌+◌, ◌*◌, ◌-◌, ◌++◌, ◌∷◌, ◌^◌, [], length, map, unwrap_or, true, false, suc, is_some, option_map};
+ghost use Rattle.std.specs.Prelude.{None, Some, IfSome, IsSome, IfOk, OnOk, OnErr};
 ghost use Rattle.std.specs.Option.{option_copied};
 ghost use Rattle.rex_ballot.specs.Ballot.{IsInstance};
 ghost use Rattle.rex_ballot.specs.Proposals.{IsValue};
@@ -15,7 +16,8 @@ ghost use Rattle.rex_node.specs.Going.{Ends, IsStuck, RunsOn, so_far, MayGoOn};
 ghost use Rattle.rex_msg.specs.declared.message.Content.TheVariants as sent;
 ghost use Rattle.rex_report.specs.declared.effect.Effect.TheVariants as effect;
 ghost use Rattle.rex_node.specs.Leading as spec;
-ghost use Rattle.rex_node.specs.Leading.{CanSettle, FromLead, IsOwnCut, releases_in, Opens, OpensShort, HasOpened, Learns, LearnsShort, HasLearned, IsActive, IsFree, IsLonger, GoesRound, opened, knowing, goes_on};
+ghost use Rattle.rex_node.specs.Leading.{CanSettle, FromLead, IsOwnCut, releases_in, Opens, OpensShort, HasOpened, Learns, LearnsShort, HasLearned};
+ghost use Rattle.rex_node.specs.Leading.{IsActive, IsFree, IsLonger, GoesRound, opened, knowing, goes_on};
 
 use crate::acting::Acting;
 use crate::going::{Going, Round};
@@ -54,7 +56,8 @@ impl<K: Keeper> Node<K> {
         draft: &mut Draft,
         content: &Content,
     ) -> Result<(), AllocError>
-        ensures sends { OnOk result (map (message_in P.past) draft.new.sends.items ≡ map (message_in P.past) draft.old.sends.items ++ calls.others self.now.nodes self.now.id (content_in P.past content.now)) }
+        ensures sends { OnOk result (map (message_in P.past) draft.new.sends.items ≡ map
+            (message_in P.past) draft.old.sends.items ++ calls.others self.now.nodes self.now.id (content_in P.past content.now)) }
         ensures effects { OnOk result (draft.new.effects.items ≡ draft.old.effects.items) }
     {
         for before in 0..self.nodes {
@@ -85,10 +88,12 @@ impl<K: Keeper> Node<K> {
         requires value { IsValue value.now }
         requires cut { IsOwnCut svc.now (whole P.past self.old) value.now }
         requires count { K.faults self.old.keeper < 2 ^ 64 - 1 }
-        ensures opens { IfOk result (Opens K.records K.append_gives K.faults svc.now P.past told instance value.now (whole P.past self.old) (whole P.past self.new) draft.old draft.new) }
+        ensures opens { IfOk result (Opens K.records K.append_gives K.faults svc.now P.past told instance value.now (whole P.past self.old)
+            (whole P.past self.new) draft.old draft.new) }
         ensures parts { IfOk result (HasOpened (whole P.past self.old) (whole P.past self.new) instance value.now) }
         ensures longer { IfOk result (IsLonger K.records (whole P.past self.old) (whole P.past self.new)) }
-        ensures stuck { OnErr result (OpensShort K.records K.append_gives K.faults svc.now P.past told instance value.now (whole P.past self.old) (whole P.past self.new) draft.old) }
+        ensures stuck { OnErr result (OpensShort K.records K.append_gives K.faults svc.now P.past told instance value.now (whole P.past self.old)
+            (whole P.past self.new) draft.old) }
         ensures same { IsSame (whole P.past self.old) (whole P.past self.new) }
     {
         let ballot = self.own_ballot().unwrap_or(0);
@@ -117,7 +122,9 @@ impl<K: Keeper> Node<K> {
         requires leads { IsSome self.old.proposer }
         ensures opened { OnOk result (whole P.past self.new ≡ opened (whole P.past self.old) instance value.now) }
         ensures effects { OnOk result (draft.new.effects.items ≡ draft.old.effects.items ++ told ∷ []) }
-        ensures sends { OnOk result (FromLead (whole P.past self.old) (λ l. map (message_in P.past) draft.new.sends.items ≡ map (message_in P.past) draft.old.sends.items ++ calls.others self.old.nodes self.old.id (content_in P.past (sent.Accept l.ballot instance value.now)))) }
+        ensures sends { OnOk result (FromLead (whole P.past self.old) (λ l. map (message_in P.past) draft.new.sends.items ≡ map
+            (message_in P.past) draft.old.sends.items ++ calls.others self.old.nodes self.old.id
+            (content_in P.past (sent.Accept l.ballot instance value.now)))) }
         ensures keeper { self.new.keeper ≡ self.old.keeper }
         ensures base { self.new.base ≡ self.old.base }
         ensures same { IsSame (whole P.past self.old) (whole P.past self.new) }
@@ -155,10 +162,12 @@ impl<K: Keeper> Node<K> {
         requires fits { values_fit svc.now (knows P.past self.old ++ value.now ∷ []) ≡ true }
         requires cut { IsOwnCut svc.now (whole P.past self.old) value.now }
         requires count { K.faults self.old.keeper < 2 ^ 64 - 1 }
-        ensures learns { IfOk result (Learns K.records K.append_gives K.faults svc.now P.past instance value.now (whole P.past self.old) (whole P.past self.new) draft.old draft.new) }
+        ensures learns { IfOk result (Learns K.records K.append_gives K.faults svc.now P.past instance value.now (whole P.past self.old)
+            (whole P.past self.new) draft.old draft.new) }
         ensures parts { IfOk result (HasLearned svc.now (whole P.past self.old) (whole P.past self.new) instance value.now) }
         ensures longer { IfOk result (IsLonger K.records (whole P.past self.old) (whole P.past self.new)) }
-        ensures stuck { OnErr result (LearnsShort K.records K.append_gives K.faults svc.now P.past instance value.now (whole P.past self.old) (whole P.past self.new) draft.old) }
+        ensures stuck { OnErr result (LearnsShort K.records K.append_gives K.faults svc.now P.past instance value.now (whole P.past self.old)
+            (whole P.past self.new) draft.old) }
         ensures same { IsSame (whole P.past self.old) (whole P.past self.new) }
     {
         let _service = svc.declarations();
@@ -187,7 +196,8 @@ impl<K: Keeper> Node<K> {
         requires room { length (knows P.past self.old) < INSTANCES }
         ensures knows { OnOk result (whole P.past self.new ≡ knowing svc.now (whole P.past self.old) instance value.now) }
         ensures effects { OnOk result (draft.new.effects.items ≡ draft.old.effects.items ++ effect.Known self.old.id instance ∷ releases_in self.old.acting) }
-        ensures sends { OnOk result (map (message_in P.past) draft.new.sends.items ≡ map (message_in P.past) draft.old.sends.items ++ calls.others self.old.nodes self.old.id (content_in P.past (sent.Chosen instance value.now))) }
+        ensures sends { OnOk result (map (message_in P.past) draft.new.sends.items ≡ map
+            (message_in P.past) draft.old.sends.items ++ calls.others self.old.nodes self.old.id (content_in P.past (sent.Chosen instance value.now))) }
         ensures keeper { self.new.keeper ≡ self.old.keeper }
         ensures base { self.new.base ≡ self.old.base }
         ensures same { IsSame (whole P.past self.old) (whole P.past self.new) }
@@ -248,10 +258,13 @@ impl<K: Keeper> Node<K> {
         requires next { instance ≡ length (knows P.past self.old) + 1 }
         requires reported { spec.reported_value self.old.proposer instance ≡ Some value.now }
         requires turns { MayGoOn (whole P.past self.old) turns }
-        requires runs { RunsOn svc.now (calls.settle turns self.old.nodes (service_of svc.now self.old.seed) self.old.id) (so_far K.records svc.now P.past self.old draft.old) }
+        requires runs { RunsOn svc.now (calls.settle turns self.old.nodes (service_of svc.now self.old.seed) self.old.id)
+            (so_far K.records svc.now P.past self.old draft.old) }
         requires count { K.faults self.old.keeper < 2 ^ 64 - 1 }
-        ensures goes { IfOk result (GoesRound K.records K.append_gives K.faults svc.now P.past turns (whole P.past self.old) (whole P.past self.new) draft.old draft.new) }
-        ensures stuck { OnErr result (IsStuck K.records K.append_gives K.faults svc.now P.past (calls.settle turns self.old.nodes (service_of svc.now self.old.seed) self.old.id) (whole P.past self.old) (whole P.past self.new) draft.old) }
+        ensures goes { IfOk result (GoesRound K.records K.append_gives K.faults svc.now P.past turns (whole P.past self.old)
+            (whole P.past self.new) draft.old draft.new) }
+        ensures stuck { OnErr result (IsStuck K.records K.append_gives K.faults svc.now P.past
+            (calls.settle turns self.old.nodes (service_of svc.now self.old.seed) self.old.id) (whole P.past self.old) (whole P.past self.new) draft.old) }
         ensures same { IsSame (whole P.past self.old) (whole P.past self.new) }
     {
         let _service = svc.declarations();
@@ -288,10 +301,13 @@ impl<K: Keeper> Node<K> {
         requires up { self.old.up ≡ true }
         requires free { IsFree self.old.proposer (is_some self.old.acting) }
         requires turns { MayGoOn (whole P.past self.old) turns }
-        requires runs { RunsOn svc.now (calls.settle turns self.old.nodes (service_of svc.now self.old.seed) self.old.id) (so_far K.records svc.now P.past self.old draft.old) }
+        requires runs { RunsOn svc.now (calls.settle turns self.old.nodes (service_of svc.now self.old.seed) self.old.id)
+            (so_far K.records svc.now P.past self.old draft.old) }
         requires count { K.faults self.old.keeper < 2 ^ 64 - 1 }
-        ensures goes { IfOk result (GoesRound K.records K.append_gives K.faults svc.now P.past turns (whole P.past self.old) (whole P.past self.new) draft.old draft.new) }
-        ensures stuck { OnErr result (IsStuck K.records K.append_gives K.faults svc.now P.past (calls.settle turns self.old.nodes (service_of svc.now self.old.seed) self.old.id) (whole P.past self.old) (whole P.past self.new) draft.old) }
+        ensures goes { IfOk result (GoesRound K.records K.append_gives K.faults svc.now P.past turns (whole P.past self.old)
+            (whole P.past self.new) draft.old draft.new) }
+        ensures stuck { OnErr result (IsStuck K.records K.append_gives K.faults svc.now P.past
+            (calls.settle turns self.old.nodes (service_of svc.now self.old.seed) self.old.id) (whole P.past self.old) (whole P.past self.new) draft.old) }
         ensures same { IsSame (whole P.past self.old) (whole P.past self.new) }
     {
         let _service = svc.declarations();
@@ -323,10 +339,14 @@ impl<K: Keeper> Node<K> {
         requires up { self.old.up ≡ true }
         requires free { IsFree self.old.proposer (is_some self.old.acting) }
         requires turns { MayGoOn (whole P.past self.old) turns }
-        requires runs { RunsOn svc.now (calls.settle turns self.old.nodes (service_of svc.now self.old.seed) self.old.id) (so_far K.records svc.now P.past self.old draft.old) }
+        requires runs { RunsOn svc.now (calls.settle turns self.old.nodes (service_of svc.now self.old.seed) self.old.id)
+            (so_far K.records svc.now P.past self.old draft.old) }
         requires count { K.faults self.old.keeper < 2 ^ 64 - 1 }
-        ensures ends { IfOk result (Ends K.records K.append_gives K.faults svc.now P.past (calls.settle turns self.old.nodes (service_of svc.now self.old.seed) self.old.id) (whole P.past self.old) (whole P.past self.new) draft.old draft.new) }
-        ensures stuck { OnErr result (IsStuck K.records K.append_gives K.faults svc.now P.past (calls.settle turns self.old.nodes (service_of svc.now self.old.seed) self.old.id) (whole P.past self.old) (whole P.past self.new) draft.old) }
+        ensures ends { IfOk result (Ends K.records K.append_gives K.faults svc.now P.past
+            (calls.settle turns self.old.nodes (service_of svc.now self.old.seed) self.old.id) (whole P.past self.old)
+            (whole P.past self.new) draft.old draft.new) }
+        ensures stuck { OnErr result (IsStuck K.records K.append_gives K.faults svc.now P.past
+            (calls.settle turns self.old.nodes (service_of svc.now self.old.seed) self.old.id) (whole P.past self.old) (whole P.past self.new) draft.old) }
         ensures same { IsSame (whole P.past self.old) (whole P.past self.new) }
     {
         let mut left = turns;
@@ -380,7 +400,8 @@ impl<K: Keeper> Node<K> {
         requires acting { self.old.acting ≡ None }
         ensures active { OnOk result (IsActive svc.now (whole P.past self.old) (whole P.past self.new)) }
         ensures same { IsSame (whole P.past self.old) (whole P.past self.new) }
-        ensures effects { OnOk result (draft.new.effects.items ≡ draft.old.effects.items ++ effect.Active self.old.id (unwrap_or (option_map (λ (p : ProposerValue). p.ballot) self.old.proposer) 0) ∷ []) }
+        ensures effects { OnOk result (draft.new.effects.items ≡ draft.old.effects.items ++ effect.Active self.old.id
+            (unwrap_or (option_map (λ (p : ProposerValue). p.ballot) self.old.proposer) 0) ∷ []) }
         ensures sends { OnOk result (draft.new.sends.items ≡ draft.old.sends.items) }
         ensures err { OnErr result (whole P.past self.new ≡ (whole P.past self.old)) }
     {

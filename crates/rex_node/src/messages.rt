@@ -49,13 +49,19 @@ impl<K: Keeper> Node<K> {
         requires here { message.now.to ≡ self.old.id }
         requires past { Begins (records.known (here_of K.records svc.now P.past self.old).log) P.past }
         requires right { IsRight svc.now P.past message.now.content }
-        requires runs { RunsOn svc.now (calls.receive self.old.nodes (service_of svc.now self.old.seed) self.old.id message.now.from (content_in P.past message.now.content)) (begin (here_of K.records svc.now P.past self.old)) }
+        requires runs { RunsOn svc.now (calls.receive self.old.nodes (service_of svc.now self.old.seed) self.old.id message.now.from
+            (content_in P.past message.now.content)) (begin (here_of K.records svc.now P.past self.old)) }
         requires count { K.faults self.old.keeper < 2 ^ 64 - 1 }
-        ensures refused { RefusesThen (refusal_up (here_of K.records svc.now P.past self.old)) (refusal_of_content svc.now (here_of K.records svc.now P.past self.old) message.now.content) result }
-        ensures told { IfOk result (Does K.records K.append_gives K.faults svc.now P.past (calls.receive self.old.nodes (service_of svc.now self.old.seed) self.old.id message.now.from (content_in P.past message.now.content)) self.old self.new) }
+        ensures refused { RefusesThen (refusal_up (here_of K.records svc.now P.past self.old))
+            (refusal_of_content svc.now (here_of K.records svc.now P.past self.old) message.now.content) result }
+        ensures told { IfOk result (Does K.records K.append_gives K.faults svc.now P.past
+            (calls.receive self.old.nodes (service_of svc.now self.old.seed) self.old.id message.now.from
+            (content_in P.past message.now.content)) self.old self.new) }
         ensures tells { IfOk result (λ step. AreTold svc.now P.past step.sends) }
         ensures down { IfOk result (EndsDown self.old.id (K.faults self.old.keeper) (K.faults self.new.keeper) self.new.up) }
-        ensures left { Leaves K.records K.append_gives K.faults svc.now P.past (calls.receive self.old.nodes (service_of svc.now self.old.seed) self.old.id message.now.from (content_in P.past message.now.content)) result self.old self.new }
+        ensures left { Leaves K.records K.append_gives K.faults svc.now P.past
+            (calls.receive self.old.nodes (service_of svc.now self.old.seed) self.old.id message.now.from
+            (content_in P.past message.now.content)) result self.old self.new }
         ensures same { IsSpared result self.old self.new }
         ensures kept { StaysNode K.records svc.now P.past self.old self.new }
         ensures taken { KeepsAsTold message.now.content (K.records self.old.keeper) (K.records self.new.keeper) }
@@ -108,10 +114,15 @@ impl<K: Keeper> Node<K> {
         requires past { Begins (records.known (here_of K.records svc.now P.past self.old).log) P.past }
         requires right { IsRight svc.now P.past message.now.content }
         requires told { IsToldState svc.now (length (knows P.past self.old)) message.now.content told }
-        requires runs { RunsOn svc.now (calls.receive self.old.nodes (service_of svc.now self.old.seed) self.old.id message.now.from (content_in P.past message.now.content)) (so_far K.records svc.now P.past self.old draft.old) }
+        requires runs { RunsOn svc.now (calls.receive self.old.nodes (service_of svc.now self.old.seed) self.old.id message.now.from
+            (content_in P.past message.now.content)) (so_far K.records svc.now P.past self.old draft.old) }
         requires count { K.faults self.old.keeper < 2 ^ 64 - 1 }
-        ensures ends { IfOk result (Ends K.records K.append_gives K.faults svc.now P.past (calls.receive self.old.nodes (service_of svc.now self.old.seed) self.old.id message.now.from (content_in P.past message.now.content)) (whole P.past self.old) (whole P.past self.new) draft.old draft.new) }
-        ensures stuck { OnErr result (IsStuck K.records K.append_gives K.faults svc.now P.past (calls.receive self.old.nodes (service_of svc.now self.old.seed) self.old.id message.now.from (content_in P.past message.now.content)) (whole P.past self.old) (whole P.past self.new) draft.old) }
+        ensures ends { IfOk result (Ends K.records K.append_gives K.faults svc.now P.past
+            (calls.receive self.old.nodes (service_of svc.now self.old.seed) self.old.id message.now.from (content_in P.past message.now.content))
+            (whole P.past self.old) (whole P.past self.new) draft.old draft.new) }
+        ensures stuck { OnErr result (IsStuck K.records K.append_gives K.faults svc.now P.past
+            (calls.receive self.old.nodes (service_of svc.now self.old.seed) self.old.id message.now.from (content_in P.past message.now.content))
+            (whole P.past self.old) (whole P.past self.new) draft.old) }
         ensures tells { draft.old.sends.items ≡ [] → OnOk result (AreTold svc.now P.past draft.new.sends.items) }
         ensures same { IsSame (whole P.past self.old) (whole P.past self.new) }
         ensures taken { KeepsAsTold message.now.content (K.records self.old.keeper) (K.records self.new.keeper) }

@@ -164,8 +164,10 @@ impl<K: Keeper> Node<K> {
         requires node { IsNode K.records svc.now P.past self.old }
         requires request { RequestFits svc.now request.now }
         ensures refused { Refuses (refusal_active (here_of K.records svc.now P.past self.old)) result }
-        ensures told { IfOk result (λ answer. effect_of request.now answer ∷ [] ≡ (submit_request svc.now (Some request.now) (begin (here_of K.records svc.now P.past self.old))).effects) }
-        ensures node { OnOk result (LeadsTo (submit_request svc.now (Some request.now)) (here_of K.records svc.now P.past self.old) (here_of K.records svc.now P.past self.new)) }
+        ensures told { IfOk result (λ answer. effect_of request.now answer ∷ [] ≡
+            (submit_request svc.now (Some request.now) (begin (here_of K.records svc.now P.past self.old))).effects) }
+        ensures node { OnOk result (LeadsTo (submit_request svc.now (Some request.now)) (here_of K.records svc.now P.past self.old)
+            (here_of K.records svc.now P.past self.new)) }
         ensures same { OnErr result (self.new ≡ self.old) }
         ensures keeper { self.new.keeper ≡ self.old.keeper }
         ensures kept { StaysNode K.records svc.now P.past self.old self.new }
@@ -188,7 +190,8 @@ impl<K: Keeper> Node<K> {
         requires count { (lane_of (live_state svc.now (here_of K.records svc.now P.past self.old)) lane).done + 1 < 2 ^ 32 }
         ensures refused { Refuses (refusal_active (here_of K.records svc.now P.past self.old)) result }
         ensures told { IfOk result (λ turn. turn ≡ turn_at svc.now (here_of K.records svc.now P.past self.old) lane now) }
-        ensures node { IfOk result (λ turn. LeadsTo (turned svc.now lane turn) (here_of K.records svc.now P.past self.old) (here_of K.records svc.now P.past self.new)) }
+        ensures node { IfOk result (λ turn. LeadsTo (turned svc.now lane turn) (here_of K.records svc.now P.past self.old)
+            (here_of K.records svc.now P.past self.new)) }
         ensures same { OnErr result (self.new ≡ self.old) }
         ensures keeper { self.new.keeper ≡ self.old.keeper }
         ensures kept { StaysNode K.records svc.now P.past self.old self.new }
@@ -211,7 +214,8 @@ impl<K: Keeper> Node<K> {
         requires count { (lane_of (live_state svc.now (here_of K.records svc.now P.past self.old)) event.now.lane).done + 1 < 2 ^ 32 }
         ensures refused { Refuses (refusal_active (here_of K.records svc.now P.past self.old)) result }
         ensures told { IfOk result (λ turn. turn ≡ takes.taken_in svc.now (here_of K.records svc.now P.past self.old) event.now) }
-        ensures node { IfOk result (λ turn. LeadsTo (takes.taken turn) (here_of K.records svc.now P.past self.old) (here_of K.records svc.now P.past self.new)) }
+        ensures node { IfOk result (λ turn. LeadsTo (takes.taken turn) (here_of K.records svc.now P.past self.old)
+            (here_of K.records svc.now P.past self.new)) }
         ensures same { OnErr result (self.new ≡ self.old) }
         ensures keeper { self.new.keeper ≡ self.old.keeper }
         ensures kept { StaysNode K.records svc.now P.past self.old self.new }
@@ -239,7 +243,8 @@ impl<K: Keeper> Node<K> {
         requires runs { run svc.now (live_state svc.now (here_of K.records svc.now P.past self.old)) events.now ≡ Some state }
         requires counted { AreCounted events.now }
         ensures refused { Refuses (refusal_active (here_of K.records svc.now P.past self.old)) result }
-        ensures node { OnOk result (LeadsTo (take_each svc.now events.now) (here_of K.records svc.now P.past self.old) (here_of K.records svc.now P.past self.new)) }
+        ensures node { OnOk result (LeadsTo (take_each svc.now events.now) (here_of K.records svc.now P.past self.old)
+            (here_of K.records svc.now P.past self.new)) }
         ensures same { OnErr result (self.new ≡ self.old) }
         ensures keeper { self.new.keeper ≡ self.old.keeper }
         ensures kept { StaysNode K.records svc.now P.past self.old self.new }

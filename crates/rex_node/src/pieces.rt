@@ -61,7 +61,8 @@ impl Acting {
     ) -> Result<Piece, Refusal>
         requires recorder { IsRecorder svc.now self.now.recorder }
         requires limits { AreLimits svc.now (option_copied limits) }
-        requires spelling { 0 < length (below (cut_in self.now (option_copied limits)) self.now.recorder.live) → CutIsSpelled self.now.recorder.live (cut_in self.now (option_copied limits)) }
+        requires spelling { 0 < length (below (cut_in self.now (option_copied limits)) self.now.recorder.live)
+            → CutIsSpelled self.now.recorder.live (cut_in self.now (option_copied limits)) }
         ensures { MakesPiece self.now (cut_in self.now (option_copied limits.entry)) result }
     {
         let _service = svc.declarations();

@@ -44,8 +44,10 @@ impl<K: Keeper> Node<K> {
         requires ballot { IsBallot ballot }
         requires count { K.faults self.old.keeper < 2 ^ 64 - 1 }
         requires past { Begins (records.known (here_of K.records svc.now P.past self.old).log) P.past }
-        ensures ends { IfOk result (Ends K.records K.append_gives K.faults svc.now P.past (calls.on_prepare self.old.id from ballot first) (whole P.past self.old) (whole P.past self.new) draft.old draft.new) }
-        ensures stuck { OnErr result (IsStuck K.records K.append_gives K.faults svc.now P.past (calls.on_prepare self.old.id from ballot first) (whole P.past self.old) (whole P.past self.new) draft.old) }
+        ensures ends { IfOk result (Ends K.records K.append_gives K.faults svc.now P.past (calls.on_prepare self.old.id from ballot first)
+            (whole P.past self.old) (whole P.past self.new) draft.old draft.new) }
+        ensures stuck { OnErr result (IsStuck K.records K.append_gives K.faults svc.now P.past (calls.on_prepare self.old.id from ballot first)
+            (whole P.past self.old) (whole P.past self.new) draft.old) }
         ensures tells { draft.old.sends.items ≡ [] → OnOk result (AreTold svc.now P.past draft.new.sends.items) }
         ensures same { IsSame (whole P.past self.old) (whole P.past self.new) }
     {
@@ -83,8 +85,10 @@ impl<K: Keeper> Node<K> {
         requires value { IsValue value.now }
         requires count { K.faults self.old.keeper < 2 ^ 64 - 1 }
         requires past { Begins (records.known (here_of K.records svc.now P.past self.old).log) P.past }
-        ensures ends { IfOk result (Ends K.records K.append_gives K.faults svc.now P.past (calls.on_accept self.old.id from ballot instance value.now) (whole P.past self.old) (whole P.past self.new) draft.old draft.new) }
-        ensures stuck { OnErr result (IsStuck K.records K.append_gives K.faults svc.now P.past (calls.on_accept self.old.id from ballot instance value.now) (whole P.past self.old) (whole P.past self.new) draft.old) }
+        ensures ends { IfOk result (Ends K.records K.append_gives K.faults svc.now P.past (calls.on_accept self.old.id from ballot instance value.now)
+            (whole P.past self.old) (whole P.past self.new) draft.old draft.new) }
+        ensures stuck { OnErr result (IsStuck K.records K.append_gives K.faults svc.now P.past
+            (calls.on_accept self.old.id from ballot instance value.now) (whole P.past self.old) (whole P.past self.new) draft.old) }
         ensures tells { draft.old.sends.items ≡ [] → OnOk result (AreTold svc.now P.past draft.new.sends.items) }
         ensures same { IsSame (whole P.past self.old) (whole P.past self.new) }
     {
@@ -123,8 +127,10 @@ impl<K: Keeper> Node<K> {
         requires late { self.old.offset < first }
         requires above { self.old.acceptor.promised < ballot }
         requires count { K.faults self.old.keeper < 2 ^ 64 - 1 }
-        ensures ends { IfOk result (Ends K.records K.append_gives K.faults svc.now P.past (calls.on_prepare self.old.id from ballot first) (whole P.past self.old) (whole P.past self.new) draft.old draft.new) }
-        ensures stuck { OnErr result (IsStuck K.records K.append_gives K.faults svc.now P.past (calls.on_prepare self.old.id from ballot first) (whole P.past self.old) (whole P.past self.new) draft.old) }
+        ensures ends { IfOk result (Ends K.records K.append_gives K.faults svc.now P.past (calls.on_prepare self.old.id from ballot first)
+            (whole P.past self.old) (whole P.past self.new) draft.old draft.new) }
+        ensures stuck { OnErr result (IsStuck K.records K.append_gives K.faults svc.now P.past (calls.on_prepare self.old.id from ballot first)
+            (whole P.past self.old) (whole P.past self.new) draft.old) }
         ensures tells { draft.old.sends.items ≡ [] → OnOk result (AreTold svc.now P.past draft.new.sends.items) }
         ensures same { IsSame (whole P.past self.old) (whole P.past self.new) }
     {
@@ -158,8 +164,10 @@ impl<K: Keeper> Node<K> {
         requires late { self.old.offset < instance }
         requires fresh { answer_to_accept self.old.acceptor ballot instance ≡ asked.Accept true }
         requires count { K.faults self.old.keeper < 2 ^ 64 - 1 }
-        ensures ends { IfOk result (Ends K.records K.append_gives K.faults svc.now P.past (calls.on_accept self.old.id from ballot instance value.now) (whole P.past self.old) (whole P.past self.new) draft.old draft.new) }
-        ensures stuck { OnErr result (IsStuck K.records K.append_gives K.faults svc.now P.past (calls.on_accept self.old.id from ballot instance value.now) (whole P.past self.old) (whole P.past self.new) draft.old) }
+        ensures ends { IfOk result (Ends K.records K.append_gives K.faults svc.now P.past (calls.on_accept self.old.id from ballot instance value.now)
+            (whole P.past self.old) (whole P.past self.new) draft.old draft.new) }
+        ensures stuck { OnErr result (IsStuck K.records K.append_gives K.faults svc.now P.past
+            (calls.on_accept self.old.id from ballot instance value.now) (whole P.past self.old) (whole P.past self.new) draft.old) }
         ensures tells { draft.old.sends.items ≡ [] → OnOk result (AreTold svc.now P.past draft.new.sends.items) }
         ensures same { IsSame (whole P.past self.old) (whole P.past self.new) }
     {
@@ -182,7 +190,8 @@ impl<K: Keeper> Node<K> {
     // The promise is written down, and the node is a follower.
     fn raised<P: Past>(&mut self, draft: &mut Draft, ballot: u64) -> Result<(), AllocError>
         ensures raised { OnOk result (whole P.past self.new ≡ record (leaving (whole P.past self.old)) { acceptor = promising self.old.acceptor ballot }) }
-        ensures told { OnOk result (Tells draft.old draft.new (effect.Promised self.old.id ballot ∷ followed self.old.id (role_of self.old.acceptor self.old.proposer (is_some self.old.acting)))) }
+        ensures told { OnOk result (Tells draft.old draft.new (effect.Promised self.old.id ballot ∷ followed self.old.id
+            (role_of self.old.acceptor self.old.proposer (is_some self.old.acting)))) }
         ensures keeper { self.new.keeper ≡ self.old.keeper }
         ensures base { self.new.base ≡ self.old.base }
         ensures same { IsSame (whole P.past self.old) (whole P.past self.new) }
@@ -202,8 +211,12 @@ impl<K: Keeper> Node<K> {
         instance: u32,
         value: &[u8],
     ) -> Result<(), AllocError>
-        ensures accepted { OnOk result (whole P.past self.new ≡ record (leaving (whole P.past self.old)) { acceptor = accepting self.old.acceptor (record { instance = instance; ballot = ballot; value = value.now }) }) }
-        ensures told { OnOk result (Tells draft.old draft.new (effect.Accepted self.old.id ballot instance ∷ followed self.old.id (role_of self.old.acceptor self.old.proposer (is_some self.old.acting)))) }
+        ensures accepted { OnOk result (whole P.past self.new ≡ record (leaving (whole P.past self.old)) {
+          acceptor = accepting self.old.acceptor
+              (record { instance = instance; ballot = ballot; value = value.now });
+        }) }
+        ensures told { OnOk result (Tells draft.old draft.new (effect.Accepted self.old.id ballot instance ∷ followed self.old.id
+            (role_of self.old.acceptor self.old.proposer (is_some self.old.acting)))) }
         ensures keeper { self.new.keeper ≡ self.old.keeper }
         ensures base { self.new.base ≡ self.old.base }
         ensures same { IsSame (whole P.past self.old) (whole P.past self.new) }

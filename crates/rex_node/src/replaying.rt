@@ -12,7 +12,8 @@ ghost use Rattle.rex_cluster.specs.Values.{service_of, trace_of};
 ghost use Rattle.rex_node.specs.Parts as parts;
 ghost use Rattle.rex_log.specs.Log.{proposal_in};
 ghost use Rattle.rex_node.specs.Parts.{here_of, open_of, role_of, IsKept, IsNode, StaysNode, knows, whole};
-ghost use Rattle.rex_node.specs.Calls.{AreLimits, CanBeCut, Does, EndsDown, Leaves, Refuses, RefusesThen, counts_for, if_active, if_up, refusal_of_lead, refusal_of_none, refusal_of_open, refusal_of_cut, refusal_of_checkpoint, refusal_of_replay};
+ghost use Rattle.rex_node.specs.Calls.{AreLimits, CanBeCut, Does, EndsDown, Leaves, Refuses, RefusesThen, counts_for, if_active, if_up};
+ghost use Rattle.rex_node.specs.Calls.{refusal_of_lead, refusal_of_none, refusal_of_open, refusal_of_cut, refusal_of_checkpoint, refusal_of_replay};
 
 use crate::node::Node;
 use crate::refusal::Refusal;

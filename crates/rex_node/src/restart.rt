@@ -74,10 +74,13 @@ impl<K: Keeper> Node<K> {
         requires there { (0 < id) × (id ≤ nodes) }
         requires few { nodes ≤ most_nodes }
         ensures up { IfOk result (CameUp K.records svc.now P.past id nodes seed keeper) }
-        ensures kept { values_fit svc.now (known (log_of svc.now P.past (K.records keeper))) ≡ true → HasRightBase svc.now (log_of svc.now P.past (K.records keeper)) → HasForgotten P.past (log_of svc.now P.past (K.records keeper)) → IfOk result (IsNode K.records svc.now P.past) }
+        ensures kept { values_fit svc.now (known (log_of svc.now P.past (K.records keeper))) ≡ true
+            → HasRightBase svc.now (log_of svc.now P.past (K.records keeper)) → HasForgotten P.past (log_of svc.now P.past (K.records keeper))
+            → IfOk result (IsNode K.records svc.now P.past) }
         ensures back { IfErr result (λ e. e.keeper ≡ keeper) }
         ensures fault { IfErr result (λ e. IsRestartFault svc.now (K.records keeper) e.fault) }
-        ensures read { AreRead svc.now P.past (K.records keeper) → AreStated svc.now (K.records keeper) → list_all (spells svc.now) (known (log_of svc.now P.past (K.records keeper))) ≡ true → IfErr result (λ e. e.fault ≡ OutOfMemory) }
+        ensures read { AreRead svc.now P.past (K.records keeper) → AreStated svc.now (K.records keeper)
+            → list_all (spells svc.now) (known (log_of svc.now P.past (K.records keeper))) ≡ true → IfErr result (λ e. e.fault ≡ OutOfMemory) }
     {
         match recall(alloc, svc, &keeper) {
             Err(fault) => Err(NotStarted { keeper, fault }),

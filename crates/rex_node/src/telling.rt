@@ -85,7 +85,8 @@ impl<K: Keeper> Node<K> {
     pub fn stamp<P: Past>(&self, svc: &Checked, client: u16) -> u32
         requires node { IsNode K.records svc.now P.past self.now }
         requires client { client ≤ CLIENTS }
-        ensures active { self.now.up ≡ true → is_active (here_of K.records svc.now P.past self.now).role ≡ true → result ≡ stamp_at (here_of K.records svc.now P.past self.now) client }
+        ensures active { self.now.up ≡ true → is_active (here_of K.records svc.now P.past self.now).role ≡ true
+            → result ≡ stamp_at (here_of K.records svc.now P.past self.now) client }
         ensures idle { self.now.acting ≡ None → result ≡ self.now.offset }
     {
         stamp_in(&self.acting, self.known.offset(), client)

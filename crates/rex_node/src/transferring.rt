@@ -99,8 +99,10 @@ impl<K: Keeper> Node<K> {
         requires held { self.old.offset < self.old.base }
         requires past { Begins (known (here_of K.records svc.now P.past self.old).log) P.past }
         requires count { K.faults self.old.keeper < 2 ^ 64 - 1 }
-        ensures ends { IfOk result (Ends K.records K.append_gives K.faults svc.now P.past (calls.drop_known self.old.id) (whole P.past self.old) (whole P.past self.new) draft.old draft.new) }
-        ensures stuck { OnErr result (IsStuck K.records K.append_gives K.faults svc.now P.past (calls.drop_known self.old.id) (whole P.past self.old) (whole P.past self.new) draft.old) }
+        ensures ends { IfOk result (Ends K.records K.append_gives K.faults svc.now P.past (calls.drop_known self.old.id) (whole P.past self.old)
+            (whole P.past self.new) draft.old draft.new) }
+        ensures stuck { OnErr result (IsStuck K.records K.append_gives K.faults svc.now P.past (calls.drop_known self.old.id) (whole P.past self.old)
+            (whole P.past self.new) draft.old) }
         ensures same { IsSame (whole P.past self.old) (whole P.past self.new) }
     {
         let _service = svc.declarations();
@@ -163,10 +165,15 @@ impl<K: Keeper> Node<K> {
         requires value { IsValue snapshot.now }
         requires told { IsToldState svc.now (length (knows P.past self.old)) (sent.Snapshot deltas snapshot.now) told }
         requires right { IsRight svc.now P.past (sent.Snapshot deltas snapshot.now) }
-        requires runs { RunsOn svc.now (calls.on_snapshot (service_of svc.now self.old.seed) self.old.id (first deltas P.past)) (so_far K.records svc.now P.past self.old draft.old) }
+        requires runs { RunsOn svc.now (calls.on_snapshot (service_of svc.now self.old.seed) self.old.id (first deltas P.past))
+            (so_far K.records svc.now P.past self.old draft.old) }
         requires count { K.faults self.old.keeper < 2 ^ 64 - 1 }
-        ensures ends { IfOk result (Ends K.records K.append_gives K.faults svc.now P.past (calls.on_snapshot (service_of svc.now self.old.seed) self.old.id (first deltas P.past)) (whole P.past self.old) (whole P.past self.new) draft.old draft.new) }
-        ensures stuck { OnErr result (IsStuck K.records K.append_gives K.faults svc.now P.past (calls.on_snapshot (service_of svc.now self.old.seed) self.old.id (first deltas P.past)) (whole P.past self.old) (whole P.past self.new) draft.old) }
+        ensures ends { IfOk result (Ends K.records K.append_gives K.faults svc.now P.past
+            (calls.on_snapshot (service_of svc.now self.old.seed) self.old.id (first deltas P.past)) (whole P.past self.old)
+            (whole P.past self.new) draft.old draft.new) }
+        ensures stuck { OnErr result (IsStuck K.records K.append_gives K.faults svc.now P.past
+            (calls.on_snapshot (service_of svc.now self.old.seed) self.old.id (first deltas P.past)) (whole P.past self.old)
+            (whole P.past self.new) draft.old) }
         ensures same { IsSame (whole P.past self.old) (whole P.past self.new) }
         ensures taken { KeepsAsTold (sent.Snapshot deltas snapshot.now) (K.records self.old.keeper) (K.records self.new.keeper) }
     {
@@ -199,8 +206,12 @@ impl<K: Keeper> Node<K> {
         requires leads { LeadTo svc.now P.past deltas state }
         requires fits { values_fit svc.now (first deltas P.past) ≡ true }
         requires count { K.faults self.old.keeper < 2 ^ 64 - 1 }
-        ensures ends { IfOk result (Ends K.records K.append_gives K.faults svc.now P.past (calls.on_snapshot (service_of svc.now self.old.seed) self.old.id (first deltas P.past)) (whole P.past self.old) (whole P.past self.new) draft.old draft.new) }
-        ensures stuck { OnErr result (IsStuck K.records K.append_gives K.faults svc.now P.past (calls.on_snapshot (service_of svc.now self.old.seed) self.old.id (first deltas P.past)) (whole P.past self.old) (whole P.past self.new) draft.old) }
+        ensures ends { IfOk result (Ends K.records K.append_gives K.faults svc.now P.past
+            (calls.on_snapshot (service_of svc.now self.old.seed) self.old.id (first deltas P.past)) (whole P.past self.old)
+            (whole P.past self.new) draft.old draft.new) }
+        ensures stuck { OnErr result (IsStuck K.records K.append_gives K.faults svc.now P.past
+            (calls.on_snapshot (service_of svc.now self.old.seed) self.old.id (first deltas P.past)) (whole P.past self.old)
+            (whole P.past self.new) draft.old) }
         ensures same { IsSame (whole P.past self.old) (whole P.past self.new) }
         ensures taken { KeepsAsTold (sent.Snapshot deltas snapshot.now) (K.records self.old.keeper) (K.records self.new.keeper) }
     {
@@ -249,7 +260,8 @@ impl<K: Keeper> Node<K> {
     // The node has taken over the state after so many values, and is a follower.
     fn tell_moved<P: Past>(&mut self, draft: &mut Draft, deltas: u32) -> Result<(), AllocError>
         ensures ok { OnOk result (whole P.past self.new ≡ leaving (whole P.past self.old)) }
-        ensures told { OnOk result (Tells draft.old draft.new (effect.Transferred self.old.id deltas ∷ followed self.old.id (role_of self.old.acceptor self.old.proposer (is_some self.old.acting)))) }
+        ensures told { OnOk result (Tells draft.old draft.new (effect.Transferred self.old.id deltas ∷ followed self.old.id
+            (role_of self.old.acceptor self.old.proposer (is_some self.old.acting)))) }
         ensures err { OnErr result (whole P.past self.new ≡ (whole P.past self.old)) }
     {
         let node = self.id;

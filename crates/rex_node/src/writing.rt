@@ -37,7 +37,8 @@ impl<K: Keeper> Node<K> {
     ) -> Result<Going, AllocError>
         requires count { K.faults self.old.keeper < 2 ^ 64 - 1 }
         requires spelling { HasSpelling rec.now }
-        ensures appends { IfOk result (Appends K.records K.faults K.append_gives (whole P.past self.old) (whole P.past self.new) draft.old draft.new (record_bytes rec.now)) }
+        ensures appends { IfOk result (Appends K.records K.faults K.append_gives (whole P.past self.old) (whole P.past self.new) draft.old draft.new
+            (record_bytes rec.now)) }
         ensures stands { OnErr result (Stands K.records K.faults K.append_gives (whole P.past self.old) (whole P.past self.new)) }
         ensures same { IsSame (whole P.past self.old) (whole P.past self.new) }
     {

@@ -9,7 +9,9 @@ use crate::codes::{count_code, number_code};
 use crate::language::{Above, Form, ServiceCode};
 use crate::least::{fits, least};
 use rex_syntax::locks::LOCKS;
-use rex_syntax::service::{CONDITIONS, HANDLERS, LANES, LockKind, MOST_FIRST, PARAMETERS, SEMAPHORES, VARIABLES};
+use rex_syntax::service::{
+    CONDITIONS, HANDLERS, LANES, LockKind, MOST_FIRST, PARAMETERS, SEMAPHORES, VARIABLES,
+};
 
 impl Above {
     // `lanes N`

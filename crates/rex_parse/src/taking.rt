@@ -12,7 +12,10 @@ use crate::language::{Above, Meaning, OpenHandler};
 use rex_list::List;
 use rex_syntax::line::Line;
 use rex_syntax::locks::LOCKS;
-use rex_syntax::service::{CONDITIONS, Condition, HANDLERS, Handler, LOCALS, Lock, LockKind, PARAMETERS, SEMAPHORES, Semaphore, Variable};
+use rex_syntax::service::{
+    CONDITIONS, Condition, HANDLERS, Handler, LOCALS, Lock, LockKind, PARAMETERS, SEMAPHORES,
+    Semaphore, Variable,
+};
 use std::alloc::{AllocError, Global};
 
 impl OpenHandler {

@@ -1,3 +1,5 @@
+//! The least causes of each event, found from the summary of those before it that conflict with it.
+
 ghost use Rattle.std.specs.Prelude.{◌≡◌, ℕ, ◌+◌, ◌<◌, ◌≤◌, length, IfOk};
 ghost use Rattle.std.specs.List.{All};
 ghost use Rattle.rex_event.specs.Cuts.{count_at};

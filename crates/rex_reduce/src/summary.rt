@@ -1,3 +1,5 @@
+//! Summaries of events: a clock that covers them and what comes before, and one that covers only what comes before.
+
 ghost use Rattle.std.specs.Prelude.{◌≡◌, ◌<◌};
 ghost use Rattle.rex_event.specs.Cuts.{count_at};
 ghost use Rattle.rex_reduce.specs.Summaries as spec;

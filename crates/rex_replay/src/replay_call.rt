@@ -34,7 +34,8 @@ pub trait ReplayCall {
 impl<F: Fn(Global, &Checked, &State, &[Event]) -> Result<State, AllocError>> ReplayCall for F {
     ghost use Rattle.rex_replay.specs.Calls.{ReplaysEvents};
 
-    ghost replays = { λ f. ReplaysEvents _ _ (λ alloc svc from events. F.pre f alloc svc from events) (λ alloc svc from events r. F.post f alloc svc from events r) };
+    ghost replays = { λ f. ReplaysEvents _ _ (λ alloc svc from events. F.pre f alloc svc from events)
+        (λ alloc svc from events r. F.post f alloc svc from events r) };
 
     fn call(
         &self,

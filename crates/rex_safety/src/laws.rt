@@ -2,14 +2,22 @@
 //! come back, and active nodes may be handed events that no line spells. Each function is the statement that its contract makes, and
 //! does nothing.
 
-ghost use Rattle.rex_safety.specs.Laws.{ChosenValuesAgree, KnownBeginsAgreed, ListsOnlyGrow, KnownListsArePrefixes, AgreedTracesRun, BasesAreRight, AgreedListsAreGiven, NodesHoldAgreed, TransfersStayRight, RulesAreKept, RepliesStand, RepliesAreAgreed, RequestsHappenOnce, ActiveTracesRun, CutsAreFaithful, LeadersGoOnToTheEnd, NextValuesFit, NumbersStayInRange, CountsAreFew, AgreedCausesAreLeast, AgreedCutsGoFirst, ValuesStayBytes, ValuesStayShort, NodesStayKept};
-ghost use Rattle.rex_safety.specs.Keeping.{BeginningsAreKept, StepsAreKept, LinesAreKept, KeptValuesFit, KeptBasesAreRight, KeptCutsAreSpelled, KeptCutsAreFaithful, KeptCountsHaveRoom};
+ghost use Rattle.rex_safety.specs.Laws.{ChosenValuesAgree, KnownBeginsAgreed, ListsOnlyGrow, KnownListsArePrefixes, AgreedTracesRun, BasesAreRight};
+ghost use Rattle.rex_safety.specs.Laws.{AgreedListsAreGiven, NodesHoldAgreed, TransfersStayRight, RulesAreKept, RepliesStand, RepliesAreAgreed};
+ghost use Rattle.rex_safety.specs.Laws.{RequestsHappenOnce, ActiveTracesRun, CutsAreFaithful, LeadersGoOnToTheEnd, NextValuesFit, NumbersStayInRange};
+ghost use Rattle.rex_safety.specs.Laws.{CountsAreFew, AgreedCausesAreLeast, AgreedCutsGoFirst, ValuesStayBytes, ValuesStayShort, NodesStayKept};
+ghost use Rattle.rex_safety.specs.Keeping.{BeginningsAreKept, StepsAreKept, LinesAreKept, KeptValuesFit, KeptBasesAreRight, KeptCutsAreSpelled};
+ghost use Rattle.rex_safety.specs.Keeping.{KeptCutsAreFaithful, KeptCountsHaveRoom};
 ghost use Rattle.rex_safety.specs.Rounds.{RoundsStayFew, RoundsAreLeft, DoingsKeepRoundsFew, DoingsLeaveRounds};
 ghost use Rattle.rex_safety.specs.Faithful.{CutsStayFaithful, DoingsKeepCutsFaithful};
 ghost use Rattle.rex_cluster.specs.Limits.{ValuesLeadToLimitedStates};
 ghost use Rattle.rex_cluster.specs.Migrating.{MigrationsSayTheSame, MigrationsKeepStates, MigrationsHappenOnce};
 ghost use Rattle.rex_safety.specs.Seeing.{ReadsAreReported, ReadsAreOfTheAgreed, ReadsNeverGoBack, ReadsShowReplies};
-ghost use Rattle.rex_safety.specs.Doings.{TakesAreKept, DoingsAreKept, DoingsAgree, DoingsBeginAgreed, DoingsOnlyGrow, DoingsGivePrefixes, DoingsRun, DoingsKeepBases, DoingsGiveAgreed, DoingsHoldAgreed, DoingsTransferRightly, DoingsHappenOnce, DoingsKeepReplies, DoingsKeepAgreed, DoingsLetCutsGoFirst, DoingsKeepCausesLeast, DoingsFitNext, DoingsKeepBytes, DoingsKeepShort, DoingsKeepRules, DoingsKeepNodes, DoingsRunActives, DoingsKeepNumbers, DoingsReportReads, DoingsTellAgreed, DoingsNeverGoBack, DoingsShowReplies};
+ghost use Rattle.rex_safety.specs.Doings.{TakesAreKept, DoingsAreKept, DoingsAgree, DoingsBeginAgreed, DoingsOnlyGrow, DoingsGivePrefixes, DoingsRun};
+ghost use Rattle.rex_safety.specs.Doings.{DoingsKeepBases, DoingsGiveAgreed, DoingsHoldAgreed, DoingsTransferRightly, DoingsHappenOnce};
+ghost use Rattle.rex_safety.specs.Doings.{DoingsKeepReplies, DoingsKeepAgreed, DoingsLetCutsGoFirst, DoingsKeepCausesLeast, DoingsFitNext};
+ghost use Rattle.rex_safety.specs.Doings.{DoingsKeepBytes, DoingsKeepShort, DoingsKeepRules, DoingsKeepNodes, DoingsRunActives, DoingsKeepNumbers};
+ghost use Rattle.rex_safety.specs.Doings.{DoingsReportReads, DoingsTellAgreed, DoingsNeverGoBack, DoingsShowReplies};
 
 /// Two values that are chosen for one instance are equal (Lamport, 2001).
 pub fn chosen_values_agree()

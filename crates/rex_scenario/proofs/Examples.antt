@@ -1,18 +1,25 @@
--- Scenarios, and what they say.
-use Rattle.std.proofs.Common.{◌≡◌, ℕ, Bool, List, [], ◌∷◌, ◌++◌, ◌<◌, ◌≤◌, length, map, true, false, Option, Some, None, Result, Ok, Err, refl, codes}
+-- Scenarios, what they say, and lines that several codes fit.
+use Rattle.std.proofs.Common.{◌≡◌, ℕ, Bool, List, [], ◌∷◌, ◌++◌, ◌<◌, ◌≤◌, length, map, true, false, Option, Some, None, Result, Ok, Err, refl, codes, arith, inl, inr, subst}
 use Rattle.std.specs.Prelude.{pos}
 use Rattle.std.specs.Result.{result_err}
 use Rattle.std.proofs.lemmas.Bool.{lt-ltb, le-leb}
 use Rattle.std.specs.Fmt.{digits}
-use Rattle.rex_text.specs.Text.{words_of}
+use Rattle.std.proofs.lemmas.List.Sums.{AllPass-from_list_all}
+use Rattle.rex_text.specs.Text.{words_of, is_allowed}
 use Rattle.rex_parse.specs.Words.{is_name}
+use Rattle.rex_parse.specs.Above.{nothing}
+use Rattle.rex_parse.specs.Fitting.{HasWords}
+use Rattle.rex_parse.specs.LeastCode.{IsLeast}
 use Rattle.rex_parse.specs.Table.{new_code, lock_code, variable_code, local_code, number_code, expr_code}
 use Rattle.rex_parse.specs.declared.language.ServiceCode.TheVariants as service
 use Rattle.rex_syntax.specs.declared.request.Request.{Request}
 use Rattle.rex_scenario.specs.Requests.{is_repeated, place_code}
 use Rattle.rex_syntax.specs.declared.version.Version.TheVariants.{One, Two}
 use Rattle.rex_scenario.specs.Schedule.{step_of, is_there, schedule_code}
-use Rattle.rex_scenario.specs.Reading.{start, answer_from, answer_of, unscheduled_answer_of, scenario_of}
+use Rattle.rex_scenario.specs.Headings.{is_due}
+use Rattle.rex_scenario.specs.Fitting.{Fits}
+use Rattle.rex_scenario.specs.LeastCode.{rank}
+use Rattle.rex_scenario.specs.Reading.{line_code, start, answer_from, answer_of, unscheduled_answer_of, scenario_of}
 use Rattle.rex_scenario.specs.declared.scenario.ScenarioCode.{ScenarioCode}
 use Rattle.rex_scenario.specs.declared.scenario.ScenarioCode.TheVariants as code
 use Rattle.rex_schedule.specs.declared.scenario.ScheduleLine.{ScheduleLine}
@@ -20,6 +27,8 @@ use Rattle.rex_schedule.specs.declared.scenario.ScheduleLine.TheVariants.{Elect,
 use Rattle.rex_scenario.specs.declared.schedule.Step.{Step}
 use Rattle.rex_scenario.specs.declared.schedule.Step.TheVariants as step
 use Rattle.rex_scenario.specs.declared.scenario.Sections.{Sections}
+use Rattle.rex_scenario.specs.declared.scenario.Stage.TheVariants as stage
+use Rattle.rex_scenario.proofs.FitsLeast.{lines_get_the_least}
 
 -- lines as a text, each with a LF
 text_of : List (List ℕ) → List ℕ
@@ -282,3 +291,69 @@ too_many_lines lanes = refl
 
 too_many_requests : (earlier : List Request) (r : Request) → is_repeated earlier r ≡ false → 65536 ≤ length earlier → place_code earlier r ≡ Some code.TooManyRequests
 too_many_requests earlier r new full = rw (new, le-leb 65536 (length earlier) full) refl
+
+-- ---- the codes that fit a line
+
+-- in the requests, after one of client 1, where the service has no handler
+requested : Sections
+requested = record {
+  stage = stage.Requests;
+  scheduled = true;
+  nodes = 1;
+  seed = 0;
+  service = nothing;
+  requests = (record { client = 1; sequence = 1; handler = 0; arguments = [] }) ∷ [];
+  schedule = [];
+  beyond = None;
+}
+
+-- the same client and sequence, and a handler that isn't there
+requested_again : List ℕ
+requested_again = codes "1 1 add"
+
+requested_again_has : HasWords requested_again (codes "1") (codes "1" ∷ codes "add" ∷ [])
+unfolding requested_again
+requested_again_has = record { allowed = AllPass-from_list_all is_allowed requested_again refl; meant = refl; words = refl }
+
+-- S6 fits it, for the handler
+call_fits : Fits requested requested_again code.BadCall
+unfolding requested
+call_fits = (codes "1", codes "1" ∷ codes "add" ∷ [], requested_again_has, (refl, refl))
+
+-- and S7, for the client and the sequence
+repeated_fits : Fits requested requested_again code.Repeated
+unfolding requested digits
+repeated_fits = (codes "1", codes "1" ∷ codes "add" ∷ [], requested_again_has, (refl, (0, record { client = 1; sequence = 1; handler = 0; arguments = [] }, omega arith, refl, (refl, refl))))
+
+-- S7 would be a wrong answer
+repeated_is_wrong : ¬ (IsLeast rank (Fits requested requested_again) code.Repeated)
+repeated_is_wrong l = l.least code.BadCall (omega arith) call_fits
+
+-- in a service of which no line has come
+empty_service : Sections
+empty_service = record { stage = stage.Service; scheduled = true; nodes = 1; seed = 0; service = nothing; requests = []; schedule = []; beyond = None }
+
+-- a heading that isn't due
+too_early : List ℕ
+too_early = codes "%schedule"
+
+too_early_has : HasWords too_early (codes "%schedule") []
+unfolding too_early
+too_early_has = record { allowed = AllPass-from_list_all is_allowed too_early refl; meant = refl; words = refl }
+
+-- S3 fits it, since the requests are due
+early_fits : Fits empty_service too_early code.OutOfPlace
+unfolding empty_service
+early_fits = (codes "%schedule", [], too_early_has, inl (refl, λ next b. let same : Some stage.Schedule ≡ Some next = b.named in let due : is_due stage.Service stage.Schedule ≡ true = subst (λ x. is_due stage.Service x ≡ true) (let one : next ≡ stage.Schedule = cc in one) b.due in cc))
+
+-- and P14, since no handler was declared
+unended_fits : Fits empty_service too_early (code.Service service.Unended)
+unfolding empty_service too_early
+unended_fits = (refl, inl (refl, inr refl))
+
+-- S3 would be a wrong answer, and so would none
+early_is_wrong : ¬ (IsLeast rank (Fits empty_service too_early) code.OutOfPlace)
+early_is_wrong l = l.least (code.Service service.Unended) (omega arith) unended_fits
+
+nothing_is_wrong : line_code empty_service too_early ≡ None → ⊥
+nothing_is_wrong e = (lines_get_the_least empty_service too_early).none.0 e (code.Service service.Unended) unended_fits

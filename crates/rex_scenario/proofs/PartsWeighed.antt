@@ -7,7 +7,7 @@ use Rattle.std.proofs.lemmas.Bool.{le-leb, leb-true}
 use Rattle.std.proofs.lemmas.Bool.Decides.{Decides-eqb}
 use Rattle.rex_text.specs.Text.{Word}
 use Rattle.rex_syntax.specs.declared.request.Request.{Request}
-use Rattle.rex_version.specs.Versions.{is_old_size}
+use Rattle.rex_syntax.specs.Versions.{is_old_size}
 use Rattle.rex_parse.specs.Words.{is_name}
 use Rattle.rex_parse.specs.declared.language.Above.{Above}
 use Rattle.rex_scenario.specs.Headings.{begun_by, is_due, if_due, is_whole, begin_code, heading_code}

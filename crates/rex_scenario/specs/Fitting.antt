@@ -4,7 +4,7 @@ use Rattle.std.specs.Bool.{IsFalse}
 use Rattle.std.specs.List.{Any}
 use Rattle.rex_text.specs.Text.{Word, words_of, is_allowed}
 use Rattle.rex_syntax.specs.declared.request.Request.{Request}
-use Rattle.rex_version.specs.Versions.{is_old_size}
+use Rattle.rex_syntax.specs.Versions.{is_old_size}
 use Rattle.rex_parse.specs.Fitting as service
 use Rattle.rex_parse.specs.declared.language.Above.{Above}
 use Rattle.rex_parse.specs.declared.language.ServiceCode.{ServiceCode}

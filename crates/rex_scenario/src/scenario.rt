@@ -11,7 +11,7 @@ use std::alloc::AllocError;
 pub enum ScenarioCode {
     /// A line of the service is refused.
     Service(ServiceCode),
-    /// S1: the text has more than 4,194,304 bytes.
+    /// S1: the text has more than `SCENARIO_BYTES` bytes.
     TooLong,
     /// S2: a byte isn't allowed, outside the service.
     BadByte,

@@ -17,8 +17,8 @@ pub fn start_is_limited()
     ensures { StartIsLimited }
 {}
 
-/// An event leads from a sound state within the limits to one within them, as long as its lane did fewer than 268,431,360
-/// events and, of a begin, the client and the sequence are in their ranges.
+/// An event leads from a sound state within the limits to one within them, as long as its lane did fewer events
+/// than a history has at most and, of a begin, the client and the sequence are in their ranges.
 pub fn events_keep_limits()
     ensures { EventsKeepLimits }
 {}

@@ -7,7 +7,8 @@ ghost use Rattle.std.specs.Int.{w16};
 ghost use Rattle.rex_wire.specs.Decoding.{ReadsOn};
 ghost use Rattle.rex_wire.specs.Reading.{allowed_at};
 ghost use Rattle.rex_snapshot.specs.Allowed.{may_be_new_client, may_be_line};
-ghost use Rattle.rex_snapshot.specs.Reading.{into_array, values_at, turn_at, turns_at, held_by, phase_of, handler_at, line_at, frame_at, waits_by, busy_at, placed_at, seat_at, seats_at};
+ghost use Rattle.rex_snapshot.specs.Reading.{into_array, values_at, turn_at, turns_at, held_by, phase_of, handler_at, line_at, frame_at, waits_by};
+ghost use Rattle.rex_snapshot.specs.Reading.{busy_at, placed_at, seat_at, seats_at};
 
 use crate::allowed::{condition_of, may_be_line, may_be_new_client};
 use crate::locksets::lockset_at;

@@ -15,7 +15,7 @@ abbrev pub joined : List (List Event) → List Event
 joined [] = []
 joined (block ∷ blocks) = block ++ joined blocks
 
--- a block has some events and at most 4,096, whose requests and numbers are in their ranges
+-- a block has some events and no more than a delta, whose requests and numbers are in their ranges
 pub record IsBlock (block : List Event) : Type 0 where
   pub some : 0 < length block
   pub few : length block ≤ DELTA_EVENTS

@@ -21,7 +21,7 @@ pub enum CheckCode {
     HeldAtReply,
     /// C8: a wait while not exactly its lock is held, or a signal without its lock.
     ConditionLock,
-    /// C9: the bound on steps is above 100,000.
+    /// C9: the bound on steps is above the most.
     TooLong,
     /// C10: a lock is held where a semaphore is taken down.
     HeldAtDown,

@@ -1,3 +1,5 @@
+//! Ranges of the numbers of nodes, ballots and instances, the least ballot above a promise, and proposals by instance.
+
 use rex_ballot::{
     Proposal, Proposals, ballot_above, copy_all, is_ballot, is_instance, is_node, node_of,
 };

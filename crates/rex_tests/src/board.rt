@@ -1,3 +1,5 @@
+//! A board on which two lanes share a lock, in either order, while a third one is blocked.
+
 ghost use Rattle.std.specs.Prelude.{◌≡◌, ◌≢◌, ◌<◌, ℕ, true, length, slice_index_or, Some, IsSome};
 ghost use Rattle.rex_state.specs.Sound.{IsSound};
 ghost use Rattle.rex_state.specs.Machine.{next, run};

@@ -1,3 +1,5 @@
+//! Words, inputs and failing devices, and what the program `rex` answers to each.
+
 use crate::runs::{COUNTER, REPORT, run};
 use std::alloc::AllocGlobal;
 use std::process::Abort;

@@ -1,3 +1,5 @@
+//! Clocks that cover what they merge, and copy what others cover.
+
 use rex_clocks::Clock;
 use std::test::*;
 

@@ -1,3 +1,5 @@
+//! Command lines that are read, and words that are no command line.
+
 use rex_command::{Command, command_of};
 use std::alloc::{AllocGlobal, Global};
 use std::test::*;

@@ -1,3 +1,5 @@
+//! Crews of several sizes, which agree with one thread.
+
 ghost use Rattle.std.specs.Prelude.{◌≡◌, ◌<◌, ◌≤◌, Some, IsSome, IfOk, IsTrue};
 ghost use Rattle.rex_state.specs.Machine.{run};
 ghost use Rattle.rex_state.specs.Sound.{IsSound};

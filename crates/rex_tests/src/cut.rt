@@ -1,3 +1,5 @@
+//! Traces that are cut, and events and causes for other tests.
+
 ghost use Rattle.std.specs.Prelude.{◌≡◌, ◌<◌, length};
 ghost use Rattle.rex_cut.specs.Greatest.{IsCutOf};
 ghost use Rattle.rex_cut.specs.Traces as traces;

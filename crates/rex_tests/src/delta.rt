@@ -1,3 +1,5 @@
+//! Deltas that are read and written, and bytes whose first bad field is named.
+
 ghost use Rattle.std.specs.Prelude.{◌+◌, ◌≤◌, length, IfOk};
 ghost use Rattle.rex_delta.specs.Spelling.{IsDelta};
 

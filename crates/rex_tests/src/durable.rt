@@ -1,3 +1,5 @@
+//! Records, what they say of a node, and the record of a failed append.
+
 use rex_durable::{Rec, RecoverFault, append, recover};
 use rex_list::List;
 use rex_traits::{Fate, KeepFault, Keeper, MemKeeper, SureKeeper};

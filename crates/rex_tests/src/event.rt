@@ -1,3 +1,5 @@
+//! Events that conflict or don't, and those that a cut contains.
+
 use rex_event::{Cut, Event, Kind, conflict};
 use rex_list::List;
 use std::test::*;

@@ -1,3 +1,5 @@
+//! What a client is answered before its reply is known, and once it is.
+
 ghost use Rattle.rex_state.specs.Sound.{IsSound};
 
 use crate::services::checked;

@@ -1,3 +1,5 @@
+//! A generated scenario of one round, and one of ten.
+
 use rex_gen::scenario;
 use std::test::*;
 

@@ -1,3 +1,5 @@
+//! A journal on a disk in memory: its bytes, what a stop at each call of an append leaves, and failures.
+
 ghost use Rattle.std.specs.Prelude.{◌≡◌, ◌+◌, false, IfOk};
 
 use rex_disk::{Fill, MemDisk};

@@ -1,3 +1,5 @@
+//! A list and arguments, which keep what is pushed.
+
 use rex_list::{Arguments, List};
 use std::test::*;
 

@@ -1,3 +1,5 @@
+//! Runs of the program `rexlive` over memory: their statuses, and lanes that run beside each other and are woken.
+
 use crate::gates::{CountingGate, HoldingGate, SleepingGate};
 use crate::runs::Outcome;
 use rex_threads::{both, processors};

@@ -1,3 +1,5 @@
+//! A counter that doesn't take its lock and is refused, and the lines at which one that does holds it.
+
 use crate::services::{checked, service};
 use rex_lockset::{CheckError, Refused, check};
 use rex_syntax::checked::Checked;

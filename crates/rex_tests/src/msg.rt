@@ -1,3 +1,5 @@
+//! Messages that are read and written, and bytes whose first bad field is named.
+
 ghost use Rattle.std.specs.Prelude.{◌+◌, ◌≤◌, length};
 
 use rex_msg::{DecodeError, decode, encode};

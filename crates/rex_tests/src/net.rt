@@ -1,3 +1,5 @@
+//! Messages that stay under their numbers.
+
 use rex_net::Net;
 use std::test::*;
 

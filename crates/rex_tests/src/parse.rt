@@ -1,3 +1,5 @@
+//! A handler whose blocks lead to their ends, and a service that is refused at its first bad line.
+
 use crate::services::service;
 use rex_parse::{ReadError, ServiceCode, read_service};
 use rex_syntax::line::Line;

@@ -1,3 +1,5 @@
+//! What an acceptor promises and accepts, what a proposer counts, and what a learner takes in order.
+
 use rex_ballot::{Proposal, Proposals};
 use rex_paxos::{Acceptor, Asked, Choice, Count, Learner, Prepared, Proposer, Vote, Why};
 use std::test::*;

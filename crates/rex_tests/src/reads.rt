@@ -1,3 +1,5 @@
+//! A client that reads at one node after another, and never goes back.
+
 use rex_reads::{Read, Seen, admitted};
 use std::test::*;
 

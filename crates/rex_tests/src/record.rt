@@ -1,3 +1,5 @@
+//! Turns of a recorder, the replies that settling releases, and events and blocks that it is handed.
+
 ghost use Rattle.std.specs.Prelude.{◌<◌, ◌≤◌, ◌+◌, IsTrue};
 ghost use Rattle.rex_event.specs.Cuts.{IsConsistent};
 ghost use Rattle.rex_record.specs.Kept.{CanBegin, IsRecorder};

@@ -1,3 +1,5 @@
+//! Traces whose least causes are known, and how many causes a delta of one has.
+
 ghost use Rattle.std.specs.Prelude.{◌≡◌};
 ghost use Rattle.std.specs.List.{All};
 ghost use Rattle.rex_cut.specs.Greatest.{IsCutOf};

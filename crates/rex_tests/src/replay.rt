@@ -1,3 +1,5 @@
+//! A recorder's trace, replayed on one thread and by a call.
+
 ghost use Rattle.std.specs.Prelude.{IsTrue};
 ghost use Rattle.rex_record.specs.Kept.{IsRecorder};
 ghost use Rattle.rex_state.specs.Counts.{AreCounted};

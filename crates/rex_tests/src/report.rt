@@ -1,3 +1,5 @@
+//! The lines of effects, of ends and of a delta, as they are written.
+
 use crate::delta::{HANDED_ON, delta_of};
 use crate::services::service;
 use rex_event::{Event, Kind};

@@ -1,3 +1,5 @@
+//! Runs of whole scenarios over memory, and their reports.
+
 use crate::gates::HoldingGate;
 use rex_cli::rex_main;
 use rex_traits::{Gate, MemSink, MemSource, OpenGate, Source};

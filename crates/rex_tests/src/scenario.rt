@@ -1,3 +1,5 @@
+//! A scenario that is read, and lines at which scenarios are refused.
+
 use rex_scenario::{ScenarioCode, ScenarioError, read_scenario, read_unscheduled};
 use std::test::*;
 

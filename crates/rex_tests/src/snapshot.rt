@@ -1,3 +1,5 @@
+//! Snapshots in both versions that are read and written, and bytes whose first bad field is named.
+
 ghost use Rattle.std.specs.Prelude.{◌≡◌, true, IfOk};
 ghost use Rattle.rex_syntax.specs.Versions.{has_old_form};
 ghost use Rattle.rex_state.specs.Sound.{IsSound};

@@ -1,3 +1,5 @@
+//! States that follow the events of a request, and a copy that goes its own way.
+
 ghost use Rattle.rex_state.specs.Sound.{IsSound};
 
 use crate::services::checked;

@@ -1,3 +1,5 @@
+//! An input that is read to its end, one whose read fails, and an output that is written in pieces.
+
 use rex_traits::{MemSink, MemSource, ReadFault, SinkFault, read_input, write_all};
 use std::test::*;
 

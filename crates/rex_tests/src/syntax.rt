@@ -1,3 +1,5 @@
+//! Names that are numbered in order.
+
 use rex_syntax::names::Names;
 use std::test::*;
 

@@ -1,3 +1,5 @@
+//! Texts that are split into lines and words, and numbers that are read and spelled.
+
 ghost use Rattle.std.specs.Prelude.{◌<◌, length};
 
 use rex_text::{lines, push_i64, push_u64, raw_lines, read_i64, read_u64, words};

@@ -1,3 +1,5 @@
+//! Jobs that wait for each other, so that each needs a thread of its own.
+
 use rex_threads::{both, map_vec};
 use std::alloc::AllocError;
 use std::sync::Barrier;

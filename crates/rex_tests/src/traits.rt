@@ -1,3 +1,5 @@
+//! Sources, sinks and keepers in memory, which fail as planned or never, and the adapters over std.
+
 ghost use Rattle.std.specs.Prelude.{◌≤◌, IfOk};
 
 use rex_traits::{

@@ -1,3 +1,5 @@
+//! What a window holds after three values, after two of them were forgotten, and after a jump.
+
 use rex_transfer::{Look, Window};
 use std::process::Abort;
 use std::test::*;

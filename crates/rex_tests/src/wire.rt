@@ -1,3 +1,5 @@
+//! Numbers that are written and read, and bytes that are too few for one.
+
 use rex_wire::{Over, Reader, Short, Writer};
 use std::test::*;
 

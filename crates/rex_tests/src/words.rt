@@ -1,3 +1,5 @@
+//! Two lanes that meet at a lock, and what its word tells of who holds it.
+
 ghost use Rattle.std.specs.Prelude.{◌≡◌, ◌<◌, None, length};
 ghost use Rattle.rex_scenario.specs.Beyond.{IsPlain};
 ghost use Rattle.rex_schedule.specs.Fits.{ScenarioFits};

@@ -1,3 +1,5 @@
+//! Iterators over the lines of a text, as they stand or as words, and over the words of a line.
+
 ghost use Rattle.std.specs.Prelude.{◌^◌, length};
 ghost use Rattle.std.specs.Iterator.{YieldsFirstBy, YieldsFirstRef, at_most};
 

@@ -1,3 +1,5 @@
+//! Reading words as numbers, unsigned and signed.
+
 ghost use Rattle.std.specs.Prelude.{◌≡◌, ◌-◌, ◌^◌, ◌<◌, ◌≤◌, ◌⊎◌, IfNone, IfSome, negsuc};
 ghost use Rattle.rex_text.specs.Numbers.{i64_at, u64_at};
 

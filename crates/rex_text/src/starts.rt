@@ -1,3 +1,5 @@
+//! The calls that split a text into lines, and a line into words.
+
 ghost use Rattle.std.specs.Prelude.{◌≡◌, ◌+◌, ◌<◌, ◌^◌, length};
 ghost use Rattle.rex_text.specs.Left.{lines_left, starts_below, words_left};
 ghost use Rattle.rex_text.specs.Left.{word_lines_below, word_lines_left};

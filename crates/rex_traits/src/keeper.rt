@@ -1,3 +1,5 @@
+//! What is said of any keeper: it keeps records, each after those before it, and never takes one away.
+
 ghost use Rattle.std.specs.Prelude.{◌≡◌, ◌<◌, ◌-◌, ◌^◌, List, ℕ, [], Err, Result, length, slice_index_or};
 ghost use Rattle.rex_traits.specs.Causes.{HasCause};
 ghost use Rattle.rex_traits.specs.Keeping.{AppendsRecord, IsKeeperFault, StandsUnlessFailed};

@@ -1,3 +1,5 @@
+//! Keepers in memory: one that fails only for want of memory, and one that can be armed, so that its next append fails.
+
 ghost use Rattle.std.specs.Prelude.{◌≡◌, ◌<◌, ◌-◌, ◌^◌, ◌++◌, ◌∷◌, [], refl, OnErr, OnOk};
 ghost use Rattle.rex_traits.specs.Keeping.{FailsNever, FollowsArming, after_fault, armed_to, unused_keeper};
 ghost use Rattle.rex_traits.specs.Stores.{fresh_store, value_by};

@@ -1,3 +1,5 @@
+//! A store that fails only as it is armed, used as a keeper in memory is.
+
 ghost use Rattle.std.specs.Prelude.{◌≡◌, ◌≤◌, ◌<◌, ◌+◌, ◌-◌, ◌^◌, false, length, refl, IsTrue, IfOk};
 ghost use Rattle.rex_traits.specs.Keeping.{armed_to};
 ghost use Rattle.rex_traits.specs.Stores.{value_by};

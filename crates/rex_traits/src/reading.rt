@@ -1,3 +1,5 @@
+//! Reading a source to its end, or to one byte more than an input may have.
+
 ghost use Rattle.std.specs.Prelude.{◌≡◌, ◌+◌, ◌++◌, ◌≤◌, length, IfOk, IsErrOf};
 ghost use Rattle.rex_traits.specs.Causes.{Rose, TellsAlike};
 ghost use Rattle.rex_traits.specs.Growth.{Grows};

@@ -1,3 +1,5 @@
+//! What is said of any store: a keeper that can be armed, and reopened after a stop. `MemKeeper` is one.
+
 ghost use Rattle.std.specs.Prelude.{◌≡◌, ◌≤◌, ◌<◌, ◌+◌, ◌-◌, ◌^◌, List, ℕ, Bool, true, false, IsTrue, IfErr, IfOk, Option, Result};
 ghost use Rattle.rex_traits.specs.Stores.{Obeys, armed_to, reopened, value_by};
 ghost use Rattle.rex_traits.specs.StoreLaws.{memory_counts, memory_obeys};
@@ -34,19 +36,24 @@ pub trait Store: Keeper + Drop {
 
     /// Lets the next append fail, with its record kept or lost. A second call replaces the first. Nothing else changes.
     fn arm(&mut self, fate: Fate)
-        ensures { IsTrue (as_armed self.old) → value_by Self.records Self.faults armed broken as_armed self.new ≡ armed_to fate (value_by Self.records Self.faults armed broken as_armed self.old) };
+        ensures { IsTrue (as_armed self.old) → value_by Self.records Self.faults armed broken as_armed self.new ≡ armed_to fate
+            (value_by Self.records Self.faults armed broken as_armed self.old) };
 
     /// Reopens the store as a stop of the machine may have left it. The records, the arming and the count of faults stay.
     fn reopen(self) -> Result<Self, ReopenFault>
         requires count { Self.faults self < 2 ^ 64 - 1 }
-        ensures reopened { IsTrue (as_armed self) → IfOk result (λ s. value_by Self.records Self.faults armed broken as_armed s ≡ reopened (value_by Self.records Self.faults armed broken as_armed self)) }
+        ensures reopened { IsTrue (as_armed self) → IfOk result (λ s. value_by Self.records Self.faults armed broken as_armed s ≡ reopened
+            (value_by Self.records Self.faults armed broken as_armed self)) }
         ensures memory { IsTrue (as_armed self) → IfErr result (λ e. e ≡ reopen_fault.OutOfMemory) };
 
     /// An append fails once at most.
-    ghost counts: { (old new : Self) (bytes : List ℕ) (result : Result (Unit {0}) KeepFault) → Self.append_gives old bytes result new → Self.faults new ≤ Self.faults old + 1 };
+    ghost counts: { (old new : Self) (bytes : List ℕ) (result : Result (Unit {0}) KeepFault) → Self.append_gives old bytes result new
+        → Self.faults new ≤ Self.faults old + 1 };
 
     /// As long as it isn't broken, a store that fails only as it is armed obeys its arming.
-    ghost obeys: { (old new : Self) (bytes : List ℕ) (result : Result (Unit {0}) KeepFault) → Self.append_gives old bytes result new → IsTrue (as_armed old) → broken old ≡ false → Obeys (value_by Self.records Self.faults armed broken as_armed old) (value_by Self.records Self.faults armed broken as_armed new) bytes result };
+    ghost obeys: { (old new : Self) (bytes : List ℕ) (result : Result (Unit {0}) KeepFault) → Self.append_gives old bytes result new
+        → IsTrue (as_armed old) → broken old ≡ false → Obeys (value_by Self.records Self.faults armed broken as_armed old)
+        (value_by Self.records Self.faults armed broken as_armed new) bytes result };
 }
 
 impl Store for MemKeeper {

@@ -1,3 +1,5 @@
+//! Writing a whole output to a sink, piece by piece.
+
 ghost use Rattle.std.specs.Prelude.{◌≡◌, ◌≤◌, ◌++◌, OnOk, IsErrOf};
 ghost use Rattle.rex_traits.specs.Causes.{Rose};
 ghost use Rattle.rex_traits.specs.Growth.{GrowsByFront};

@@ -28,7 +28,8 @@ impl<S: Store> World<S> {
     ) -> Result<bool, AllocError>
         requires running { IsRunning svc.now self.old }
         requires there { place < length self.old.handed.items }
-        ensures did { IfOk result (HandsOver svc.now self.old.requests self.old.seed (nodes_of self.old) (world_of svc.now self.old) (world_of svc.now self.new) told.old told.new place waited) }
+        ensures did { IfOk result (HandsOver svc.now self.old.requests self.old.seed (nodes_of self.old) (world_of svc.now self.old)
+            (world_of svc.now self.new) told.old told.new place waited) }
         ensures running { OnOk result (IsRunning svc.now self.new) }
         ensures same { OnOk result (IsSame self.old self.new) }
         ensures done { OnOk result (self.new.done ≡ self.old.done) }
@@ -48,7 +49,8 @@ impl<S: Store> World<S> {
         told: &mut Told,
     ) -> Result<bool, AllocError>
         requires running { IsRunning svc.now self.old }
-        ensures did { IfOk result (HandsAllOver svc.now self.old.requests self.old.seed (nodes_of self.old) (world_of svc.now self.old) (world_of svc.now self.new) told.old told.new) }
+        ensures did { IfOk result (HandsAllOver svc.now self.old.requests self.old.seed (nodes_of self.old) (world_of svc.now self.old)
+            (world_of svc.now self.new) told.old told.new) }
         ensures running { OnOk result (IsRunning svc.now self.new) }
         ensures same { OnOk result (IsSame self.old self.new) }
         ensures done { OnOk result (self.new.done ≡ self.old.done) }
@@ -70,7 +72,8 @@ impl<S: Store> World<S> {
         told: &mut Told,
     ) -> Result<(), AllocError>
         requires running { IsRunning svc.now self.old }
-        ensures did { OnOk result (DidSteps svc.now self.old.requests self.old.seed (nodes_of self.old) (world_of svc.now self.old) (world_of svc.now self.new) told.old told.new (model.steps_of (world_of svc.now self.old) line.Flush)) }
+        ensures did { OnOk result (DidSteps svc.now self.old.requests self.old.seed (nodes_of self.old) (world_of svc.now self.old)
+            (world_of svc.now self.new) told.old told.new (model.steps_of (world_of svc.now self.old) line.Flush)) }
         ensures running { OnOk result (IsRunning svc.now self.new) }
         ensures same { OnOk result (IsSame self.old self.new) }
         ensures done { OnOk result (self.new.done ≡ self.old.done) }

@@ -51,7 +51,8 @@ impl<S: Store> World<S> {
         requires fits { ScenarioFits svc.now scenario.now }
         requires of { IsOf scenario.now self.old }
         requires count { self.old.done + length scenario.now.schedule < 2 ^ 32 }
-        ensures world { OnOk result (world_of svc.now self.new ≡ after_lines svc.now scenario.now.requests scenario.now.seed scenario.now.nodes (world_of svc.now self.old) scenario.now.schedule) }
+        ensures world { OnOk result (world_of svc.now self.new ≡ after_lines svc.now scenario.now.requests scenario.now.seed scenario.now.nodes
+            (world_of svc.now self.old) scenario.now.schedule) }
         ensures releases { IfOk result (λ es. es.items ≡ spec.releases_from svc.now scenario.now (world_of svc.now self.old) scenario.now.schedule) }
         ensures running { OnOk result (IsRunning svc.now self.new) }
     {

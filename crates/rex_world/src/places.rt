@@ -60,7 +60,8 @@ pub(crate) fn elect_at<P: Past, S: Store, R: Replayer>(
     requires there { IsNode (length seats.old) number }
     requires few { length seats.old ≤ most_nodes }
     requires seats { AreSeats svc.now P.past seed (length seats.old) 1 seats.old }
-    requires runs { RunsOn svc.now (calls.elect (length seats.old) (service_of svc.now seed) number) (begin (disarmed (node_at (heres svc.now P.past seats.old) number))) }
+    requires runs { RunsOn svc.now (calls.elect (length seats.old) (service_of svc.now seed) number)
+        (begin (disarmed (node_at (heres svc.now P.past seats.old) number))) }
     ensures acts { ActsAt svc.now P.past seed (calls.elect (length seats.old) (service_of svc.now seed) number) number seats.old seats.new result }
 {
     let nodes = seats.len() as u8;
@@ -83,8 +84,10 @@ pub(crate) fn on_message_at<P: Past, S: Store, R: Replayer>(
     requires spelling { HasSpelling message.now }
     requires past { Begins (known (node_at (heres svc.now P.past seats.old) message.now.to).log) P.past }
     requires tells { IsTold svc.now P.past message.now.content }
-    requires runs { RunsOn svc.now (calls.receive (length seats.old) (service_of svc.now seed) message.now.to message.now.from (content_in P.past message.now.content)) (begin (disarmed (node_at (heres svc.now P.past seats.old) message.now.to))) }
-    ensures acts { ActsAt svc.now P.past seed (calls.receive (length seats.old) (service_of svc.now seed) message.now.to message.now.from (content_in P.past message.now.content)) message.now.to seats.old seats.new result }
+    requires runs { RunsOn svc.now (calls.receive (length seats.old) (service_of svc.now seed) message.now.to message.now.from
+        (content_in P.past message.now.content)) (begin (disarmed (node_at (heres svc.now P.past seats.old) message.now.to))) }
+    ensures acts { ActsAt svc.now P.past seed (calls.receive (length seats.old) (service_of svc.now seed) message.now.to message.now.from
+        (content_in P.past message.now.content)) message.now.to seats.old seats.new result }
 {
     let nodes = seats.len() as u8;
     seats[message.to as usize - 1].on_message::<P, R>(svc, replayer, seed, nodes, message)
@@ -104,7 +107,8 @@ pub(crate) fn submit_at<P: Past, S: Store>(
     requires few { length seats.old ≤ most_nodes }
     requires seats { AreSeats svc.now P.past seed (length seats.old) 1 seats.old }
     requires request { RequestFits svc.now request.now }
-    ensures acts { ActsAt svc.now P.past seed (λ d. lanes.active_only (is_active d.node.role) d (lanes.submit_request svc.now (Some request.now) d)) number seats.old seats.new result }
+    ensures acts { ActsAt svc.now P.past seed (λ d. lanes.active_only (is_active d.node.role) d
+        (lanes.submit_request svc.now (Some request.now) d)) number seats.old seats.new result }
 {
     let nodes = seats.len() as u8;
     seats[number as usize - 1].submit::<P>(alloc, svc, seed, nodes, number, request)
@@ -125,8 +129,10 @@ pub(crate) fn lane_at<P: Past, S: Store>(
     requires few { length seats.old ≤ most_nodes }
     requires seats { AreSeats svc.now P.past seed (length seats.old) 1 seats.old }
     requires lane { lane < svc.now.lanes }
-    requires count { (node_at (heres svc.now P.past seats.old) number).up ≡ true → (lane_of (lanes.live_state svc.now (node_at (heres svc.now P.past seats.old) number)) lane).done + 1 < 2 ^ 32 }
-    ensures acts { ActsAt svc.now P.past seed (λ d. lanes.active_only (is_active d.node.role) d (lanes.lane_turn svc.now done lane d)) number seats.old seats.new result }
+    requires count { (node_at (heres svc.now P.past seats.old) number).up ≡ true
+        → (lane_of (lanes.live_state svc.now (node_at (heres svc.now P.past seats.old) number)) lane).done + 1 < 2 ^ 32 }
+    ensures acts { ActsAt svc.now P.past seed (λ d. lanes.active_only (is_active d.node.role) d
+        (lanes.lane_turn svc.now done lane d)) number seats.old seats.new result }
 {
     let nodes = seats.len() as u8;
     seats[number as usize - 1].lane::<P>(alloc, svc, seed, nodes, number, lane, done)
@@ -144,7 +150,8 @@ pub(crate) fn take_at<P: Past, S: Store>(
     requires there { IsNode (length seats.old) number }
     requires few { length seats.old ≤ most_nodes }
     requires seats { AreSeats svc.now P.past seed (length seats.old) 1 seats.old }
-    requires count { (node_at (heres svc.now P.past seats.old) number).up ≡ true → (lane_of (lanes.live_state svc.now (node_at (heres svc.now P.past seats.old) number)) event.now.lane).done + 1 < 2 ^ 32 }
+    requires count { (node_at (heres svc.now P.past seats.old) number).up ≡ true
+        → (lane_of (lanes.live_state svc.now (node_at (heres svc.now P.past seats.old) number)) event.now.lane).done + 1 < 2 ^ 32 }
     ensures { IsHandedAt svc.now P.past seed number event.now seats.old seats.new result }
 {
     let nodes = seats.len() as u8;
@@ -164,7 +171,8 @@ pub(crate) fn take_block_at<P: Past, S: Store>(
     requires there { IsNode (length seats.old) number }
     requires few { length seats.old ≤ most_nodes }
     requires seats { AreSeats svc.now P.past seed (length seats.old) 1 seats.old }
-    requires runs { (node_at (heres svc.now P.past seats.old) number).up ≡ true → run svc.now (lanes.live_state svc.now (node_at (heres svc.now P.past seats.old) number)) events.now ≡ Some state }
+    requires runs { (node_at (heres svc.now P.past seats.old) number).up ≡ true
+        → run svc.now (lanes.live_state svc.now (node_at (heres svc.now P.past seats.old) number)) events.now ≡ Some state }
     requires counted { AreCounted events.now }
     ensures { IsHandedBlockAt svc.now P.past seed number events.now seats.old seats.new result }
 {
@@ -185,9 +193,14 @@ pub(crate) fn cut_at<P: Past, S: Store>(
     requires few { length seats.old ≤ most_nodes }
     requires seats { AreSeats svc.now P.past seed (length seats.old) 1 seats.old }
     requires limits { AreLimits svc.now (option_copied limits) }
-    requires spelling { (node_at (heres svc.now P.past seats.old) number).up ≡ true → CanBeCut (node_at (heres svc.now P.past seats.old) number) (counts_for svc.now (node_at (heres svc.now P.past seats.old) number) (option_copied limits)) }
-    requires runs { RunsOn svc.now (lanes.cut svc.now seed (length seats.old) number (counts_for svc.now (node_at (heres svc.now P.past seats.old) number) (option_copied limits))) (begin (disarmed (node_at (heres svc.now P.past seats.old) number))) }
-    ensures acts { ActsAt svc.now P.past seed (lanes.cut svc.now seed (length seats.old) number (counts_for svc.now (node_at (heres svc.now P.past seats.old) number) (option_copied limits.entry))) number seats.old seats.new result }
+    requires spelling { (node_at (heres svc.now P.past seats.old) number).up ≡ true
+        → CanBeCut (node_at (heres svc.now P.past seats.old) number) (counts_for svc.now (node_at (heres svc.now P.past seats.old) number)
+        (option_copied limits)) }
+    requires runs { RunsOn svc.now (lanes.cut svc.now seed (length seats.old) number
+        (counts_for svc.now (node_at (heres svc.now P.past seats.old) number) (option_copied limits)))
+        (begin (disarmed (node_at (heres svc.now P.past seats.old) number))) }
+    ensures acts { ActsAt svc.now P.past seed (lanes.cut svc.now seed (length seats.old) number
+        (counts_for svc.now (node_at (heres svc.now P.past seats.old) number) (option_copied limits.entry))) number seats.old seats.new result }
 {
     let nodes = seats.len() as u8;
     seats[number as usize - 1].cut::<P>(svc, seed, nodes, number, limits)

@@ -75,8 +75,10 @@ impl<S: Store> World<S> {
         requires fits { LineFits (nodes_of self.old) (length self.old.requests) svc.now.lanes line.now }
         requires form { FormFits (has_old_form svc.now) line.now }
         requires count { self.old.done + 1 < 2 ^ 32 }
-        ensures told { OnOk result (waiting.new.items ≡ waiting.old.items ++ effects_text svc.now (self.old.done + 1) (row svc.now self.old.requests self.old.seed (nodes_of self.old) (world_of svc.now self.old) line.now).effects) }
-        ensures world { OnOk result (world_of svc.now self.new ≡ (row svc.now self.old.requests self.old.seed (nodes_of self.old) (world_of svc.now self.old) line.now).world) }
+        ensures told { OnOk result (waiting.new.items ≡ waiting.old.items ++ effects_text svc.now (self.old.done + 1)
+            (row svc.now self.old.requests self.old.seed (nodes_of self.old) (world_of svc.now self.old) line.now).effects) }
+        ensures world { OnOk result (world_of svc.now self.new ≡ (row svc.now self.old.requests self.old.seed (nodes_of self.old)
+            (world_of svc.now self.old) line.now).world) }
         ensures running { OnOk result (IsRunning svc.now self.new) }
         ensures same { OnOk result (IsSame self.old self.new) }
         ensures broken { OnErr result (self.new.broken ≡ true) }
@@ -102,9 +104,14 @@ impl<S: Store> World<S> {
         requires fits { LineFits (nodes_of self.old) (length self.old.requests) svc.now.lanes line.now }
         requires form { FormFits (has_old_form svc.now) line.now }
         requires count { self.old.done + 1 < 2 ^ 32 }
-        ensures written { OnOk result (IsWritten (K.taken sink.old) (K.taken sink.new) waiting.new.items [] (waiting.old.items ++ effects_text svc.now (self.old.done + 1) (row svc.now self.old.requests self.old.seed (nodes_of self.old) (world_of svc.now self.old) line.now).effects)) }
-        ensures front { OnErr result (GrowsByFront (K.taken sink.old) (K.taken sink.new) (waiting.old.items ++ effects_text svc.now (self.old.done + 1) (row svc.now self.old.requests self.old.seed (nodes_of self.old) (world_of svc.now self.old) line.now).effects)) }
-        ensures world { OnOk result (world_of svc.now self.new ≡ (row svc.now self.old.requests self.old.seed (nodes_of self.old) (world_of svc.now self.old) line.now).world) }
+        ensures written { OnOk result (IsWritten (K.taken sink.old) (K.taken sink.new) waiting.new.items []
+            (waiting.old.items ++ effects_text svc.now (self.old.done + 1)
+            (row svc.now self.old.requests self.old.seed (nodes_of self.old) (world_of svc.now self.old) line.now).effects)) }
+        ensures front { OnErr result (GrowsByFront (K.taken sink.old) (K.taken sink.new)
+            (waiting.old.items ++ effects_text svc.now (self.old.done + 1)
+            (row svc.now self.old.requests self.old.seed (nodes_of self.old) (world_of svc.now self.old) line.now).effects)) }
+        ensures world { OnOk result (world_of svc.now self.new ≡ (row svc.now self.old.requests self.old.seed (nodes_of self.old)
+            (world_of svc.now self.old) line.now).world) }
         ensures running { OnOk result (IsRunning svc.now self.new) }
         ensures same { OnOk result (IsSame self.old self.new) }
         ensures later { K.faults sink.old ≤ K.faults sink.new }
@@ -143,8 +150,10 @@ impl<S: Store> World<S> {
         requires fits { ScenarioFits svc.now scenario.now }
         requires of { IsOf scenario.now self.old }
         requires count { self.old.done + length scenario.now.schedule < 2 ^ 32 }
-        ensures whole { OnOk result (K.taken sink.new ≡ K.taken sink.old ++ report_from svc.now scenario.now.requests scenario.now.seed scenario.now.nodes (world_of svc.now self.old) scenario.now.schedule) }
-        ensures front { GrowsByFront (K.taken sink.old) (K.taken sink.new) (report_from svc.now scenario.now.requests scenario.now.seed scenario.now.nodes (world_of svc.now self.old) scenario.now.schedule) }
+        ensures whole { OnOk result (K.taken sink.new ≡ K.taken sink.old ++ report_from svc.now scenario.now.requests scenario.now.seed scenario.now.nodes
+            (world_of svc.now self.old) scenario.now.schedule) }
+        ensures front { GrowsByFront (K.taken sink.old) (K.taken sink.new)
+            (report_from svc.now scenario.now.requests scenario.now.seed scenario.now.nodes (world_of svc.now self.old) scenario.now.schedule) }
         ensures leads { OnOk result (DidLines svc.now scenario.now self.old self.new) }
         ensures later { K.faults sink.old ≤ K.faults sink.new }
         ensures failed { IsErrOf result fault.Failed → Rose (K.faults sink.old) (K.faults sink.new) }
@@ -169,8 +178,10 @@ impl<S: Store> World<S> {
         requires fits { ScenarioFits svc.now scenario.now }
         requires of { IsOf scenario.now self.old }
         requires count { self.old.done + length scenario.now.schedule < 2 ^ 32 }
-        ensures whole { OnOk result (K.taken sink.new ≡ K.taken sink.old ++ report_from svc.now scenario.now.requests scenario.now.seed scenario.now.nodes (world_of svc.now self.old) scenario.now.schedule) }
-        ensures front { GrowsByFront (K.taken sink.old) (K.taken sink.new) (report_from svc.now scenario.now.requests scenario.now.seed scenario.now.nodes (world_of svc.now self.old) scenario.now.schedule) }
+        ensures whole { OnOk result (K.taken sink.new ≡ K.taken sink.old ++ report_from svc.now scenario.now.requests scenario.now.seed scenario.now.nodes
+            (world_of svc.now self.old) scenario.now.schedule) }
+        ensures front { GrowsByFront (K.taken sink.old) (K.taken sink.new)
+            (report_from svc.now scenario.now.requests scenario.now.seed scenario.now.nodes (world_of svc.now self.old) scenario.now.schedule) }
         ensures leads { OnOk result (DidLines svc.now scenario.now self.old self.new) }
         ensures broken { OnErr result (self.new.broken ≡ true) }
         ensures later { K.faults sink.old ≤ K.faults sink.new }

@@ -22,7 +22,8 @@ ghost use Rattle.rex_log.specs.Messages.{content_in, message_in};
 ghost use Rattle.rex_node.specs.Telling.{AreTold, IsTold};
 ghost use Rattle.rex_report.specs.declared.effect.Effect.TheVariants as effect;
 ghost use Rattle.rex_world.specs.Blocks.{IsHandedBlock};
-ghost use Rattle.rex_world.specs.Seats.{HasKeeper, IsRunner, IsSeat, StaysRunner, StaysSeat, armed_in, disarmed, here_at, here_in, is_up_in, keeper_in, records_of};
+ghost use Rattle.rex_world.specs.Seats.{HasKeeper, IsRunner, IsSeat, StaysRunner, StaysSeat, armed_in, disarmed, here_at, here_in, is_up_in};
+ghost use Rattle.rex_world.specs.Seats.{keeper_in, records_of};
 ghost use Rattle.rex_world.specs.Calls.{Acts, CameBack, IsWhole, Starts, IsStarted};
 ghost use Rattle.rex_world.specs.Places.{IsHanded};
 
@@ -62,7 +63,8 @@ fn started<P: Past, S: Store>(
 ) -> Result<Step, Refusal>
     requires runner { IsRunner svc.now P.past seed nodes number node.now }
     requires up { node.now.up ≡ true }
-    ensures effects { IfOk result (λ step. step.effects ≡ effect.Started number (promise (here_at svc.now P.past node.now).log) (length (known (here_at svc.now P.past node.now).log)) node.now.replayed ∷ []) }
+    ensures effects { IfOk result (λ step. step.effects ≡ effect.Started number (promise (here_at svc.now P.past node.now).log)
+        (length (known (here_at svc.now P.past node.now).log)) node.now.replayed ∷ []) }
     ensures sends { IfOk result (λ step. step.sends ≡ []) }
     ensures memory { IfErr result (λ e. e ≡ Refusal.OutOfMemory) }
 {
@@ -146,7 +148,8 @@ impl<S: Store> Seat<S> {
     ) -> Result<Step, Refusal>
         requires seat { IsSeat svc.now P.past seed nodes number self.old }
         requires runs { RunsOn svc.now (calls.elect nodes (service_of svc.now seed) number) (begin (disarmed (here_in svc.now P.past self.old))) }
-        ensures acts { Acts P.past (calls.elect nodes (service_of svc.now seed) number) number (here_in svc.now P.past self.old) (here_in svc.now P.past self.new) result }
+        ensures acts { Acts P.past (calls.elect nodes (service_of svc.now seed) number) number (here_in svc.now P.past self.old)
+            (here_in svc.now P.past self.new) result }
         ensures tells { IfOk result (λ step. AreTold svc.now P.past step.sends) }
         ensures seat { IsWhole result → StaysSeat svc.now P.past seed nodes number self.old self.new }
     {
@@ -170,8 +173,10 @@ impl<S: Store> Seat<S> {
         requires spelling { HasSpelling message.now }
         requires past { Begins (known (here_in svc.now P.past self.old).log) P.past }
         requires tells { IsTold svc.now P.past message.now.content }
-        requires runs { RunsOn svc.now (calls.receive nodes (service_of svc.now seed) message.now.to message.now.from (content_in P.past message.now.content)) (begin (disarmed (here_in svc.now P.past self.old))) }
-        ensures acts { Acts P.past (calls.receive nodes (service_of svc.now seed) message.now.to message.now.from (content_in P.past message.now.content)) message.now.to (here_in svc.now P.past self.old) (here_in svc.now P.past self.new) result }
+        requires runs { RunsOn svc.now (calls.receive nodes (service_of svc.now seed) message.now.to message.now.from
+            (content_in P.past message.now.content)) (begin (disarmed (here_in svc.now P.past self.old))) }
+        ensures acts { Acts P.past (calls.receive nodes (service_of svc.now seed) message.now.to message.now.from
+            (content_in P.past message.now.content)) message.now.to (here_in svc.now P.past self.old) (here_in svc.now P.past self.new) result }
         ensures tells { IfOk result (λ step. AreTold svc.now P.past step.sends) }
         ensures seat { IsWhole result → StaysSeat svc.now P.past seed nodes message.now.to self.old self.new }
     {
@@ -193,7 +198,8 @@ impl<S: Store> Seat<S> {
     ) -> Result<Step, Refusal>
         requires seat { IsSeat svc.now P.past seed nodes number self.old }
         requires request { RequestFits svc.now request.now }
-        ensures acts { Acts P.past (λ d. lanes.active_only (is_active d.node.role) d (lanes.submit_request svc.now (Some request.now) d)) number (here_in svc.now P.past self.old) (here_in svc.now P.past self.new) result }
+        ensures acts { Acts P.past (λ d. lanes.active_only (is_active d.node.role) d (lanes.submit_request svc.now (Some request.now) d)) number
+            (here_in svc.now P.past self.old) (here_in svc.now P.past self.new) result }
         ensures seat { IsWhole result → StaysSeat svc.now P.past seed nodes number self.old self.new }
     {
         match self {
@@ -215,8 +221,10 @@ impl<S: Store> Seat<S> {
     ) -> Result<Step, Refusal>
         requires seat { IsSeat svc.now P.past seed nodes number self.old }
         requires there { lane < svc.now.lanes }
-        requires count { (here_in svc.now P.past self.old).up ≡ true → (lane_of (lanes.live_state svc.now (here_in svc.now P.past self.old)) lane).done + 1 < 2 ^ 32 }
-        ensures acts { Acts P.past (λ d. lanes.active_only (is_active d.node.role) d (lanes.lane_turn svc.now done lane d)) number (here_in svc.now P.past self.old) (here_in svc.now P.past self.new) result }
+        requires count { (here_in svc.now P.past self.old).up ≡ true → (lane_of
+            (lanes.live_state svc.now (here_in svc.now P.past self.old)) lane).done + 1 < 2 ^ 32 }
+        ensures acts { Acts P.past (λ d. lanes.active_only (is_active d.node.role) d (lanes.lane_turn svc.now done lane d)) number
+            (here_in svc.now P.past self.old) (here_in svc.now P.past self.new) result }
         ensures seat { IsWhole result → StaysSeat svc.now P.past seed nodes number self.old self.new }
     {
         if !self.is_up() {
@@ -238,7 +246,8 @@ impl<S: Store> Seat<S> {
         event: &Event,
     ) -> Result<Turn, Refusal>
         requires seat { IsSeat svc.now P.past seed nodes number self.old }
-        requires count { (here_in svc.now P.past self.old).up ≡ true → (lane_of (lanes.live_state svc.now (here_in svc.now P.past self.old)) event.now.lane).done + 1 < 2 ^ 32 }
+        requires count { (here_in svc.now P.past self.old).up ≡ true → (lane_of
+            (lanes.live_state svc.now (here_in svc.now P.past self.old)) event.now.lane).done + 1 < 2 ^ 32 }
         ensures handed { IsHanded svc.now event.now (here_in svc.now P.past self.old) (here_in svc.now P.past self.new) result }
         ensures seat { StaysSeat svc.now P.past seed nodes number self.old self.new }
     {
@@ -262,7 +271,8 @@ impl<S: Store> Seat<S> {
         state: State,
     ) -> Result<(), Refusal>
         requires seat { IsSeat svc.now P.past seed nodes number self.old }
-        requires runs { (here_in svc.now P.past self.old).up ≡ true → run svc.now (lanes.live_state svc.now (here_in svc.now P.past self.old)) events.now ≡ Some state }
+        requires runs { (here_in svc.now P.past self.old).up ≡ true → run svc.now
+            (lanes.live_state svc.now (here_in svc.now P.past self.old)) events.now ≡ Some state }
         requires counted { AreCounted events.now }
         ensures handed { IsHandedBlock svc.now events.now (here_in svc.now P.past self.old) (here_in svc.now P.past self.new) result }
         ensures seat { StaysSeat svc.now P.past seed nodes number self.old self.new }
@@ -287,9 +297,13 @@ impl<S: Store> Seat<S> {
     ) -> Result<Step, Refusal>
         requires seat { IsSeat svc.now P.past seed nodes number self.old }
         requires limits { AreLimits svc.now (option_copied limits) }
-        requires spelling { (here_in svc.now P.past self.old).up ≡ true → CanBeCut (here_in svc.now P.past self.old) (counts_for svc.now (here_in svc.now P.past self.old) (option_copied limits)) }
-        requires runs { RunsOn svc.now (lanes.cut svc.now seed nodes number (counts_for svc.now (here_in svc.now P.past self.old) (option_copied limits))) (begin (disarmed (here_in svc.now P.past self.old))) }
-        ensures acts { Acts P.past (lanes.cut svc.now seed nodes number (counts_for svc.now (here_in svc.now P.past self.old) (option_copied limits.entry))) number (here_in svc.now P.past self.old) (here_in svc.now P.past self.new) result }
+        requires spelling { (here_in svc.now P.past self.old).up ≡ true
+            → CanBeCut (here_in svc.now P.past self.old) (counts_for svc.now (here_in svc.now P.past self.old) (option_copied limits)) }
+        requires runs { RunsOn svc.now (lanes.cut svc.now seed nodes number (counts_for svc.now (here_in svc.now P.past self.old) (option_copied limits)))
+            (begin (disarmed (here_in svc.now P.past self.old))) }
+        ensures acts { Acts P.past (lanes.cut svc.now seed nodes number
+            (counts_for svc.now (here_in svc.now P.past self.old) (option_copied limits.entry))) number (here_in svc.now P.past self.old)
+            (here_in svc.now P.past self.new) result }
         ensures tells { IfOk result (λ step. AreTold svc.now P.past step.sends) }
         ensures seat { IsWhole result → StaysSeat svc.now P.past seed nodes number self.old self.new }
     {
@@ -332,7 +346,8 @@ impl<S: Store> Seat<S> {
     ) -> Result<Step, Refusal>
         requires has { has_version svc.now version ≡ true }
         requires seat { IsSeat svc.now P.past seed nodes number self.old }
-        ensures acts { Acts P.past (calls.checkpoint version (service_of svc.now seed) number) number (here_in svc.now P.past self.old) (here_in svc.now P.past self.new) result }
+        ensures acts { Acts P.past (calls.checkpoint version (service_of svc.now seed) number) number (here_in svc.now P.past self.old)
+            (here_in svc.now P.past self.new) result }
         ensures seat { IsWhole result → StaysSeat svc.now P.past seed nodes number self.old self.new }
     {
         match self {

@@ -13,7 +13,7 @@ ghost use Rattle.rex_world.specs.World.{nodes_of};
 use crate::places::show_at;
 use crate::seats::Seat;
 use crate::world::World;
-use rex_event::{CLIENTS, CLIENT_ENTRIES, Event, Kind};
+use rex_event::{CLIENT_ENTRIES, CLIENTS, Event, Kind};
 use rex_log::Past;
 use rex_node::{Refusal, Step};
 use rex_reads::{Read, Seen};

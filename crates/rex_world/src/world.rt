@@ -237,7 +237,8 @@ impl<S: Store> World<S> {
         requires fits { LineFits (nodes_of self.old) (length self.old.requests) svc.now.lanes line.now }
         requires form { FormFits (has_old_form svc.now) line.now }
         requires kind { ArmsNone line.now }
-        ensures did { OnOk result (DidSteps svc.now self.old.requests self.old.seed (nodes_of self.old) (world_of svc.now self.old) (world_of svc.now self.new) told.old told.new (steps_of (world_of svc.now self.old) line.now)) }
+        ensures did { OnOk result (DidSteps svc.now self.old.requests self.old.seed (nodes_of self.old) (world_of svc.now self.old)
+            (world_of svc.now self.new) told.old told.new (steps_of (world_of svc.now self.old) line.now)) }
         ensures running { OnOk result (IsRunning svc.now self.new) }
         ensures same { OnOk result (IsSame self.old self.new) }
         ensures done { OnOk result (self.new.done ≡ self.old.done) }
@@ -254,8 +255,10 @@ impl<S: Store> World<S> {
         requires running { IsRunning svc.now self.old }
         requires there { IsNode (nodes_of self.old) node }
         requires count { self.old.done + 1 < 2 ^ 32 }
-        ensures effects { IfOk result (λ effects. effects ≡ (row svc.now self.old.requests self.old.seed (nodes_of self.old) (world_of svc.now self.old) (line.KeepFail node kept)).effects) }
-        ensures world { OnOk result (world_of svc.now self.new ≡ (row svc.now self.old.requests self.old.seed (nodes_of self.old) (world_of svc.now self.old) (line.KeepFail node kept)).world) }
+        ensures effects { IfOk result (λ effects. effects ≡ (row svc.now self.old.requests self.old.seed (nodes_of self.old) (world_of svc.now self.old)
+            (line.KeepFail node kept)).effects) }
+        ensures world { OnOk result (world_of svc.now self.new ≡ (row svc.now self.old.requests self.old.seed (nodes_of self.old)
+            (world_of svc.now self.old) (line.KeepFail node kept)).world) }
         ensures running { OnOk result (IsRunning svc.now self.new) }
         ensures same { OnOk result (IsSame self.old self.new) }
     {
@@ -278,8 +281,10 @@ impl<S: Store> World<S> {
         requires fits { LineFits (nodes_of self.old) (length self.old.requests) svc.now.lanes line.now }
         requires form { FormFits (has_old_form svc.now) line.now }
         requires count { self.old.done + 1 < 2 ^ 32 }
-        ensures effects { IfOk result (λ effects. effects ≡ (row svc.now self.old.requests self.old.seed (nodes_of self.old) (world_of svc.now self.old) line.now).effects) }
-        ensures world { OnOk result (world_of svc.now self.new ≡ (row svc.now self.old.requests self.old.seed (nodes_of self.old) (world_of svc.now self.old) line.now).world) }
+        ensures effects { IfOk result (λ effects. effects ≡ (row svc.now self.old.requests self.old.seed (nodes_of self.old)
+            (world_of svc.now self.old) line.now).effects) }
+        ensures world { OnOk result (world_of svc.now self.new ≡ (row svc.now self.old.requests self.old.seed (nodes_of self.old)
+            (world_of svc.now self.old) line.now).world) }
         ensures running { OnOk result (IsRunning svc.now self.new) }
         ensures same { OnOk result (IsSame self.old self.new) }
     {
@@ -325,10 +330,12 @@ impl<S: Store> World<S> {
         requires running { IsRunning svc.now self.old }
         requires there { IsNode (nodes_of self.old) node }
         requires begins { All BeginsInRange events.now }
-        requires runs { (node_at (world_of svc.now self.old).nodes node).up ≡ true → run svc.now (live_state svc.now (node_at (world_of svc.now self.old).nodes node)) events.now ≡ Some state }
+        requires runs { (node_at (world_of svc.now self.old).nodes node).up ≡ true
+            → run svc.now (live_state svc.now (node_at (world_of svc.now self.old).nodes node)) events.now ≡ Some state }
         requires counted { AreCounted events.now }
         ensures refused { Refuses (refusal_active (node_at (world_of svc.now self.old).nodes node)) result }
-        ensures world { OnOk result (world_of svc.now self.new ≡ after_doings svc.now self.old.requests self.old.seed (nodes_of self.old) (world_of svc.now self.old) (takes_at node events.now)) }
+        ensures world { OnOk result (world_of svc.now self.new ≡ after_doings svc.now self.old.requests self.old.seed (nodes_of self.old)
+            (world_of svc.now self.old) (takes_at node events.now)) }
         ensures unchanged { OnErr result (world_of svc.now self.new ≡ world_of svc.now self.old) }
         ensures running { IsWhole result → IsRunning svc.now self.new }
         ensures same { IsSame self.old self.new }
@@ -359,8 +366,10 @@ impl<S: Store> World<S> {
         requires fits { LineFits (nodes_of self.old) (length self.old.requests) svc.now.lanes line.now }
         requires form { FormFits (has_old_form svc.now) line.now }
         requires count { self.old.done + 1 < 2 ^ 32 }
-        ensures effects { IfOk result (λ effects. effects ≡ (row svc.now self.old.requests self.old.seed (nodes_of self.old) (world_of svc.now self.old) line.now).effects) }
-        ensures world { OnOk result (world_of svc.now self.new ≡ (row svc.now self.old.requests self.old.seed (nodes_of self.old) (world_of svc.now self.old) line.now).world) }
+        ensures effects { IfOk result (λ effects. effects ≡ (row svc.now self.old.requests self.old.seed (nodes_of self.old)
+            (world_of svc.now self.old) line.now).effects) }
+        ensures world { OnOk result (world_of svc.now self.new ≡ (row svc.now self.old.requests self.old.seed (nodes_of self.old)
+            (world_of svc.now self.old) line.now).world) }
         ensures running { OnOk result (IsRunning svc.now self.new) }
         ensures same { OnOk result (IsSame self.old self.new) }
         ensures broken { OnErr result (self.new.broken ≡ true) }

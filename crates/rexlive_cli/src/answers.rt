@@ -102,7 +102,10 @@ fn workers_for<R: Threads>(rt: &R, recording: Recording, svc: &Checked) -> u8
 {
     match recording {
         Recording::Floor => 1,
-        Recording::Words => svc.declarations().lanes.min(processors(rt).min(WORKERS as usize) as u8),
+        Recording::Words => svc
+            .declarations()
+            .lanes
+            .min(processors(rt).min(WORKERS as usize) as u8),
     }
 }
 
