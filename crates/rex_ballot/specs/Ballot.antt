@@ -1,5 +1,5 @@
 -- Nodes, ballots and instances, and the ballot that a node takes next.
-use Rattle.std.specs.Prelude.{◌≡◌, ℕ, ◌+◌, ◌-◌, ◌*◌, ◌/◌, ◌%◌, ◌^◌, ◌<◌, ◌≤◌, Bool, ◌&&◌, nat_le, Option, Some, None, if◌then◌else◌}
+use Rattle.std.specs.Prelude.{◌≡◌, ℕ, ◌+◌, ◌-◌, ◌*◌, ◌/◌, ◌%◌, ◌<◌, ◌≤◌, Bool, ◌&&◌, nat_le, Option, Some, None, if◌then◌else◌}
 use Rattle.rex_ballot.specs.Limits.{most_nodes}
 use Rattle.rex_ballot.specs.declared.ballots.TheConstants.{ROUNDS, ROUND_BALLOTS, INSTANCES}
 

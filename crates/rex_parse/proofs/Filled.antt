@@ -64,7 +64,7 @@ fill_of [] [] e = refl
 fill_of [] (w ∷ ws) e = absurd cc
 fill_of (s ∷ ss) [] e = absurd cc
 fill_of (Expression ∷ ss) (w ∷ ws) e = omega arith
-fill_of (Heading ∷ ss) (w ∷ ws) e = let le : length ws ≤ 4 = few (length ws) e in (omega arith, omega arith)
+fill_of (Heading ∷ ss) (w ∷ ws) e = (omega arith, omega (arith, few (length ws) e))
 fill_of (Fixed f ∷ ss) (w ∷ ws) e =
     let here : w ≡ f = fixed_is f w (or_first (not (bytes_eq w f)) (is_misshapen ss ws) e) in
     (ws, ap (λ (x : Word). x ∷ ws) here, fill_of ss ws (or_second (not (bytes_eq w f)) (is_misshapen ss ws) e))

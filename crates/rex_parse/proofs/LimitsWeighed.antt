@@ -10,7 +10,9 @@ use Rattle.rex_syntax.specs.Limits.{most_variables}
 use Rattle.rex_parse.specs.Words.{least, fits}
 use Rattle.rex_parse.specs.Above.{is_local, blocks_of, innermost}
 use Rattle.rex_parse.specs.Table.{Slot, Fixed, Heading, LocalName, Expression, slots, is_loop, lines_of_open, limit_code, locals_code, order_code, is_lanes}
-use Rattle.rex_parse.specs.Fitting.{terms, news, slot_places, places, places_of, IsTooDeep, IsFull, MakesLocal, MakesTooMany, IsOutOfOrder, RepliesInside}
+use Rattle.rex_syntax.specs.declared.locks.TheConstants.{LOCKS}
+use Rattle.rex_syntax.specs.declared.service.TheConstants.{SEMAPHORES, CONDITIONS, HANDLERS, LINES, LOCALS}
+use Rattle.rex_parse.specs.Fitting.{term_places, new_places, slot_places, places, places_of, IsTooDeep, IsFull, MakesLocal, MakesTooMany, IsOutOfOrder, RepliesInside}
 use Rattle.rex_parse.specs.declared.language.Above.{Above}
 use Rattle.rex_parse.specs.declared.language.Form.{Form}
 use Rattle.rex_parse.specs.declared.language.Form.TheVariants as form
@@ -61,13 +63,13 @@ inside_decides a _ = no_test _ (λ h. let e = h.0 in cc)
 
 full : Above → Form → Bool
 full a form.Lanes = false
-full a form.Lock = nat_le 64 (length a.locks)
-full a form.RwLock = nat_le 64 (length a.locks)
-full a form.Sem = nat_le 64 (length a.semaphores)
-full a form.Cond = nat_le 64 (length a.conditions)
+full a form.Lock = nat_le LOCKS (length a.locks)
+full a form.RwLock = nat_le LOCKS (length a.locks)
+full a form.Sem = nat_le SEMAPHORES (length a.semaphores)
+full a form.Cond = nat_le CONDITIONS (length a.conditions)
 full a form.Var = nat_le most_variables (length a.variables)
-full a form.Handler = nat_le 64 (length a.handlers)
-full a _ = nat_le 256 (lines_of_open a.open_handler)
+full a form.Handler = nat_le HANDLERS (length a.handlers)
+full a _ = nat_le LINES (lines_of_open a.open_handler)
 
 full_decides : (a : Above) (f : Form) → Decides (full a f) (IsFull a f)
 unfolding full
@@ -86,12 +88,12 @@ abbrev is_local_slot : Slot → Bool
 is_local_slot LocalName = true
 is_local_slot _ = false
 
-no_local_news : (a : Above) (before ws : List Word) → ¬ (Somewhere (MakesLocal a) (news before ws))
+no_local_news : (a : Above) (before ws : List Word) → ¬ (Somewhere (MakesLocal a) (new_places before ws))
 no_local_news a before [] h = h
 no_local_news a before (w ∷ ws) (inl h) = h
 no_local_news a before (w ∷ ws) (inr h) = no_local_news a (before ++ w ∷ []) ws h
 
-no_local_terms : (a : Above) (ws : List Word) → ¬ (Somewhere (MakesLocal a) (terms ws))
+no_local_terms : (a : Above) (ws : List Word) → ¬ (Somewhere (MakesLocal a) (term_places ws))
 no_local_terms a [] h = h
 no_local_terms a (w ∷ []) (inl h) = h
 no_local_terms a (w ∷ []) (inr h) = h
@@ -140,16 +142,16 @@ makes_not : (a : Above) (ss : List Slot) (ws : List Word) → list_any is_local_
 makes_not a ss ws e = no_test _ (λ h. no_local a ss ws e (any_to (MakesLocal a) (places ss ws) h.0))
 
 seventeenth : Above → Form → List Word → Bool
-seventeenth a form.Let ws = makes a ws && nat_le 16 (length a.locals)
-seventeenth a form.Clock ws = makes a ws && nat_le 16 (length a.locals)
-seventeenth a form.Random ws = makes a ws && nat_le 16 (length a.locals)
+seventeenth a form.Let ws = makes a ws && nat_le LOCALS (length a.locals)
+seventeenth a form.Clock ws = makes a ws && nat_le LOCALS (length a.locals)
+seventeenth a form.Random ws = makes a ws && nat_le LOCALS (length a.locals)
 seventeenth a _ ws = false
 
 seventeenth_decides : (a : Above) (f : Form) (ws : List Word) → Decides (seventeenth a f ws) (MakesTooMany a (places_of f ws))
 unfolding seventeenth
-seventeenth_decides a form.Let ws = and_parts (makes a ws) (nat_le 16 (length a.locals)) _ _ (makes_decides a (Fixed (codes "=") ∷ Expression ∷ []) ws refl) (at_least _ _)
-seventeenth_decides a form.Clock ws = and_parts (makes a ws) (nat_le 16 (length a.locals)) _ _ (makes_decides a [] ws refl) (at_least _ _)
-seventeenth_decides a form.Random ws = and_parts (makes a ws) (nat_le 16 (length a.locals)) _ _ (makes_decides a [] ws refl) (at_least _ _)
+seventeenth_decides a form.Let ws = and_parts (makes a ws) (nat_le LOCALS (length a.locals)) _ _ (makes_decides a (Fixed (codes "=") ∷ Expression ∷ []) ws refl) (at_least _ _)
+seventeenth_decides a form.Clock ws = and_parts (makes a ws) (nat_le LOCALS (length a.locals)) _ _ (makes_decides a [] ws refl) (at_least _ _)
+seventeenth_decides a form.Random ws = and_parts (makes a ws) (nat_le LOCALS (length a.locals)) _ _ (makes_decides a [] ws refl) (at_least _ _)
 seventeenth_decides a f ws = makes_not a (slots f) ws refl
 
 -- ---- all of them
@@ -206,10 +208,10 @@ of_locals true false = refl
 of_locals false true = refl
 of_locals false false = refl
 
-made_local : (a : Above) (ws : List Word) (m : Bool) → of_limits false (m || (makes a ws && nat_le 16 (length a.locals))) false ≡ least (locals_code a ws) (fits m TooMany)
+made_local : (a : Above) (ws : List Word) (m : Bool) → of_limits false (m || (makes a ws && nat_le LOCALS (length a.locals))) false ≡ least (locals_code a ws) (fits m TooMany)
 unfolding makes
 made_local a [] m = counted m
-made_local a (w ∷ ws) m = of_locals (not (is_local a w) && nat_le 16 (length a.locals)) m
+made_local a (w ∷ ws) m = of_locals (not (is_local a w) && nat_le LOCALS (length a.locals)) m
 
 limits_are : (a : Above) (f : Form) (ws : List Word) → of_limits (deep a f) (full a f || seventeenth a f ws) (inside a f) ≡ limit_code a f ws
 unfolding deep full seventeenth inside

@@ -5,7 +5,7 @@ use Rattle.std.proofs.lemmas.Bool.Decides.{Decides-ltb}
 use Rattle.rex_text.specs.Text.{Word}
 use Rattle.rex_parse.specs.Words.{least, fits, rank}
 use Rattle.rex_parse.specs.Table.{Slot, Fixed, Count, Number, New, Heading, LockName, LockOf, SemaphoreName, ConditionName, VariableName, LocalName, Expression, count_of, operand_code, operator_code, expr_code, whole_expr_code, new_code, parameters_code, heading_code, slot_code, slots_code}
-use Rattle.rex_parse.specs.Fitting.{Kind, AnyLock, LockOfKind, ASemaphore, ACondition, AVariable, ALocal, NumberFrom, SignedNumber, NameOf, NewName, Operand, Operator, Place, At, Whole, terms, news, slot_places, places, IsEven}
+use Rattle.rex_parse.specs.Fitting.{Kind, AnyLock, LockOfKind, ASemaphore, ACondition, AVariable, ALocal, NumberFrom, SignedNumber, NameOf, NewName, Operand, Operator, Place, At, Whole, term_places, new_places, slot_places, places, IsEven}
 use Rattle.rex_parse.specs.declared.language.Above.{Above}
 use Rattle.rex_parse.specs.declared.language.ServiceCode.{ServiceCode}
 use Rattle.rex_parse.specs.declared.language.ServiceCode.TheVariants.{BadExpression}
@@ -39,28 +39,28 @@ empty_least : (a : Above) (d : ServiceCode) → FitsEven 0 d ⊎ FitsPlaces a []
 empty_least a d (inl h) = rw h.0 (omega arith)
 empty_least a d (inr h) = absurd h
 
-terms_to : (a : Above) (w o : Word) (ws : List Word) (c : ServiceCode) → (FitsPlace a (At Operand w) c ⊎ FitsPlace a (At Operator o) c) ⊎ (FitsEven (length ws) c ⊎ FitsPlaces a (terms ws) c)
-    → FitsEven (length (w ∷ o ∷ ws)) c ⊎ FitsPlaces a (terms (w ∷ o ∷ ws)) c
+terms_to : (a : Above) (w o : Word) (ws : List Word) (c : ServiceCode) → (FitsPlace a (At Operand w) c ⊎ FitsPlace a (At Operator o) c) ⊎ (FitsEven (length ws) c ⊎ FitsPlaces a (term_places ws) c)
+    → FitsEven (length (w ∷ o ∷ ws)) c ⊎ FitsPlaces a (term_places (w ∷ o ∷ ws)) c
 terms_to a w o ws c (inl (inl h)) = inr (inl h)
 terms_to a w o ws c (inl (inr h)) = inr (inr (inl h))
 terms_to a w o ws c (inr (inl h)) = inl (h.0, even_more (length ws) h.1)
 terms_to a w o ws c (inr (inr h)) = inr (inr (inr h))
 
-terms_from : (a : Above) (w o : Word) (ws : List Word) (c : ServiceCode) → FitsEven (length (w ∷ o ∷ ws)) c ⊎ FitsPlaces a (terms (w ∷ o ∷ ws)) c
-    → (FitsPlace a (At Operand w) c ⊎ FitsPlace a (At Operator o) c) ⊎ (FitsEven (length ws) c ⊎ FitsPlaces a (terms ws) c)
+terms_from : (a : Above) (w o : Word) (ws : List Word) (c : ServiceCode) → FitsEven (length (w ∷ o ∷ ws)) c ⊎ FitsPlaces a (term_places (w ∷ o ∷ ws)) c
+    → (FitsPlace a (At Operand w) c ⊎ FitsPlace a (At Operator o) c) ⊎ (FitsEven (length ws) c ⊎ FitsPlaces a (term_places ws) c)
 terms_from a w o ws c (inl h) = inr (inl (h.0, even_less (length ws) h.1))
 terms_from a w o ws c (inr (inl h)) = inl (inl h)
 terms_from a w o ws c (inr (inr (inl h))) = inl (inr h)
 terms_from a w o ws c (inr (inr (inr h))) = inr (inr h)
 
-terms_weighed : (a : Above) (ws : List Word) → Weighs (λ c. FitsEven (length ws) c ⊎ FitsPlaces a (terms ws) c) (expr_code a ws)
+terms_weighed : (a : Above) (ws : List Word) → Weighs (λ c. FitsEven (length ws) c ⊎ FitsPlaces a (term_places ws) c) (expr_code a ws)
 unfolding expr_code
 terms_weighed a [] = (inl (refl, even_none), empty_least a)
 terms_weighed a (w ∷ []) =
-    weighs_same (FitsPlace a (At Operand w)) (λ c. FitsEven 1 c ⊎ FitsPlaces a (terms (w ∷ [])) c) (operand_code a w)
+    weighs_same (FitsPlace a (At Operand w)) (λ c. FitsEven 1 c ⊎ FitsPlaces a (term_places (w ∷ [])) c) (operand_code a w)
     (λ c h. inr (inl h)) (λ c h. elim h [ inl x ↦ absurd (one_odd x.1) | inr (inl y) ↦ y | inr (inr z) ↦ absurd z ]) (operand a w)
 terms_weighed a (w ∷ o ∷ ws) =
-    weighs_same _ (λ c. FitsEven (length (w ∷ o ∷ ws)) c ⊎ FitsPlaces a (terms (w ∷ o ∷ ws)) c) (least (least (operand_code a w) (operator_code o)) (expr_code a ws))
+    weighs_same _ (λ c. FitsEven (length (w ∷ o ∷ ws)) c ⊎ FitsPlaces a (term_places (w ∷ o ∷ ws)) c) (least (least (operand_code a w) (operator_code o)) (expr_code a ws))
     (terms_to a w o ws) (terms_from a w o ws)
     (weighs_both _ _ (least (operand_code a w) (operator_code o)) (expr_code a ws) (weighs_both _ _ (operand_code a w) (operator_code o) (operand a w) (operator a o)) (terms_weighed a ws))
 
@@ -79,21 +79,21 @@ whole_from a n spots c (inl h) =
     elim parts.1 [ inl even ↦ inr (inl (parts.0, even)) | inr long ↦ inl (parts.0, long) ]
 whole_from a n spots c (inr h) = inr (inr h)
 
-expression : (a : Above) (ws : List Word) → Weighs (FitsPlaces a (Whole (length ws) ∷ terms ws)) (whole_expr_code a ws)
+expression : (a : Above) (ws : List Word) → Weighs (FitsPlaces a (Whole (length ws) ∷ term_places ws)) (whole_expr_code a ws)
 expression a ws =
-    weighs_same _ (FitsPlaces a (Whole (length ws) ∷ terms ws)) (whole_expr_code a ws) (whole_to a (length ws) (terms ws)) (whole_from a (length ws) (terms ws))
+    weighs_same _ (FitsPlaces a (Whole (length ws) ∷ term_places ws)) (whole_expr_code a ws) (whole_to a (length ws) (term_places ws)) (whole_from a (length ws) (term_places ws))
     (weighs_both _ _ (fits (nat_lt 15 (length ws)) BadExpression) (expr_code a ws) (weighs_test (15 < length ws) (nat_lt 15 (length ws)) BadExpression (Decides-ltb 15 (length ws))) (terms_weighed a ws))
 
 -- ---- a heading
 
-parameters : (a : Above) (before ws : List Word) → Weighs (FitsPlaces a (news before ws)) (parameters_code a before ws)
+parameters : (a : Above) (before ws : List Word) → Weighs (FitsPlaces a (new_places before ws)) (parameters_code a before ws)
 parameters a before [] = λ c h. h
 parameters a before (w ∷ ws) = weighs_both _ _ _ (parameters_code a (before ++ w ∷ []) ws) (new_place a before w) (parameters a (before ++ w ∷ []) ws)
 
 new_alone : (a : Above) (w : Word) → Weighs (FitsPlace a (At (NewName []) w)) (new_code a w)
 new_alone a w = subst (Weighs (FitsPlace a (At (NewName []) w))) (first_new a w) (new_place a [] w)
 
-heading : (a : Above) (w : Word) (ws : List Word) → Weighs (FitsPlaces a (news [] (w ∷ ws))) (heading_code a w ws)
+heading : (a : Above) (w : Word) (ws : List Word) → Weighs (FitsPlaces a (new_places [] (w ∷ ws))) (heading_code a w ws)
 heading a w ws = weighs_both _ _ (new_code a w) (parameters_code a (w ∷ []) ws) (new_alone a w) (parameters a (w ∷ []) ws)
 
 -- ---- slots

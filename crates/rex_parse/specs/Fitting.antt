@@ -1,14 +1,17 @@
--- Which codes fit a line, by what its words are, whichever of them is answered.
-use Rattle.std.specs.Prelude.{◌≡◌, ◌≢◌, ◌*◌, ◌<◌, ◌≤◌, ◌⊎◌, ◌++◌, ℕ, Bool, true, false, List, [], ◌∷◌, length, count_by, slice_get, Option, Some, None, IsTrue, IsSome, IsNone, option_map, if◌then◌else◌}
+-- Which codes fit a line, by what its words are, whichever of them is answered. P1, P2 and P3 fit alone; P4 to P13 fit side by side.
+use Rattle.std.specs.Prelude.{◌≡◌, ◌≢◌, ◌+◌, ◌*◌, ◌<◌, ◌≤◌, ◌⊎◌, ◌++◌, ℕ, Bool, true, false, List, [], ◌∷◌, length, count_by, slice_get, Option, Some, None, IsTrue, IsSome, IsNone, option_map, if◌then◌else◌}
 use Rattle.std.specs.Bool.{IsFalse}
 use Rattle.std.specs.List.{AllPass, Any, Contains}
 use Rattle.rex_text.specs.Text.{Word, words_of, is_skipped, is_allowed}
 use Rattle.rex_text.specs.Numbers.{i64_at}
 use Rattle.rex_syntax.specs.Limits.{most_variables}
+use Rattle.rex_syntax.specs.declared.locks.TheConstants.{LOCKS}
+use Rattle.rex_syntax.specs.declared.service.TheConstants.{SEMAPHORES, CONDITIONS, HANDLERS, LINES, LOCALS, LOOPS, PARAMETERS}
 use Rattle.rex_syntax.specs.declared.service.LockKind.{LockKind}
 use Rattle.rex_parse.specs.Words.{is_name}
 use Rattle.rex_parse.specs.Above.{meaning_of, is_declared, is_local, is_open, blocks_of, innermost}
 use Rattle.rex_parse.specs.Table.{Slot, Fixed, Count, Number, New, Heading, LockName, LockOf, SemaphoreName, ConditionName, VariableName, LocalName, Expression, form_of, is_inside, suits, slots, is_of_kind, count_of, begins_number, operator_of, is_loop, lines_of_open}
+use Rattle.rex_parse.specs.declared.codes.TheConstants.{EXPRESSION_WORDS}
 use Rattle.rex_parse.specs.declared.language.Above.{Above}
 use Rattle.rex_parse.specs.declared.language.ServiceCode.{ServiceCode}
 use Rattle.rex_parse.specs.declared.language.ServiceCode.TheVariants.{BadByte, Misplaced, BadForm, NoName, NoNumber, BadExpression, Undeclared, WrongKind, Taken, TooDeep, TooMany, LanesFirst, ReplyInBlock, Unended}
@@ -80,15 +83,15 @@ pub data Place : Type 0 where
   Whole : ℕ → Place
 
 -- the places of the words of an expression: operands are due at the first, third, fifth word and so on, operators at the others
-abbrev pub terms : List Word → List Place
-terms [] = []
-terms (w ∷ []) = At Operand w ∷ []
-terms (w ∷ o ∷ ws) = At Operand w ∷ At Operator o ∷ terms ws
+abbrev pub term_places : List Word → List Place
+term_places [] = []
+term_places (w ∷ []) = At Operand w ∷ []
+term_places (w ∷ o ∷ ws) = At Operand w ∷ At Operator o ∷ term_places ws
 
 -- the places of names that a line makes, which has made these before
-abbrev pub news : List Word → List Word → List Place
-news before [] = []
-news before (w ∷ ws) = At (NewName before) w ∷ news (before ++ w ∷ []) ws
+abbrev pub new_places : List Word → List Word → List Place
+new_places before [] = []
+new_places before (w ∷ ws) = At (NewName before) w ∷ new_places (before ++ w ∷ []) ws
 
 -- the places of a slot that begins with a word, before others to the end of the line
 abbrev pub slot_places : Slot → Word → List Word → List Place
@@ -96,14 +99,14 @@ slot_places (Fixed f) w ws = []
 slot_places (Count low high) w ws = At (NumberFrom low high) w ∷ []
 slot_places Number w ws = At SignedNumber w ∷ []
 slot_places New w ws = At (NewName []) w ∷ []
-slot_places Heading w ws = news [] (w ∷ ws)
+slot_places Heading w ws = new_places [] (w ∷ ws)
 slot_places LockName w ws = At (NameOf AnyLock) w ∷ []
 slot_places (LockOf kind) w ws = At (NameOf (LockOfKind kind)) w ∷ []
 slot_places SemaphoreName w ws = At (NameOf ASemaphore) w ∷ []
 slot_places ConditionName w ws = At (NameOf ACondition) w ∷ []
 slot_places VariableName w ws = At (NameOf AVariable) w ∷ []
 slot_places LocalName w ws = At (NameOf ALocal) w ∷ []
-slot_places Expression w ws = Whole (length (w ∷ ws)) ∷ terms (w ∷ ws)
+slot_places Expression w ws = Whole (length (w ∷ ws)) ∷ term_places (w ∷ ws)
 
 -- the places of slots that words fill
 abbrev pub places : List Slot → List Word → List Place
@@ -132,11 +135,11 @@ LacksNumber _ = ⊥
 abbrev pub IsEven : ℕ → Type 0
 IsEven n = (k : ℕ) × (n ≡ 2 * k)
 
--- P6: an operand neither begins as a number nor is a name, a word is no operator where one is due, or an expression has an even number of words or more than fifteen
+-- P6: an operand neither begins as a number nor is a name, a word is no operator where one is due, or an expression has an even number of words or too many
 abbrev pub SpoilsExpression : Place → Type 0
 SpoilsExpression (At Operand w) = IsFalse (begins_number w) × IsFalse (is_name w)
 SpoilsExpression (At Operator w) = IsNone (operator_of w)
-SpoilsExpression (Whole n) = IsEven n ⊎ (15 < n)
+SpoilsExpression (Whole n) = IsEven n ⊎ (EXPRESSION_WORDS < n)
 SpoilsExpression _ = ⊥
 
 -- a word is a name, and stands for nothing
@@ -165,31 +168,31 @@ abbrev pub IsTaken : Above → Place → Type 0
 IsTaken a (At (NewName before) w) = IsTrue (is_name w) × (IsTrue (is_declared a w) ⊎ Contains before w)
 IsTaken a _ = ⊥
 
--- P10: a `repeat` stands inside four open ones
+-- P10: a `repeat` stands inside as many open ones as may be
 abbrev pub IsTooDeep : Above → Form → Type 0
-IsTooDeep a f = (f ≡ form.Repeat) × (4 ≤ count_by is_loop (blocks_of a))
+IsTooDeep a f = (f ≡ form.Repeat) × (LOOPS ≤ count_by is_loop (blocks_of a))
 
--- as many are there as may be of what a line of a form adds one to
+-- P11: as many are there as may be of what a line of a form adds one to
 abbrev pub IsFull : Above → Form → Type 0
 IsFull a form.Lanes = ⊥
-IsFull a form.Lock = 64 ≤ length a.locks
-IsFull a form.RwLock = 64 ≤ length a.locks
-IsFull a form.Sem = 64 ≤ length a.semaphores
-IsFull a form.Cond = 64 ≤ length a.conditions
+IsFull a form.Lock = LOCKS ≤ length a.locks
+IsFull a form.RwLock = LOCKS ≤ length a.locks
+IsFull a form.Sem = SEMAPHORES ≤ length a.semaphores
+IsFull a form.Cond = CONDITIONS ≤ length a.conditions
 IsFull a form.Var = most_variables ≤ length a.variables
-IsFull a form.Handler = 64 ≤ length a.handlers
-IsFull a _ = 256 ≤ lines_of_open a.open_handler
+IsFull a form.Handler = HANDLERS ≤ length a.handlers
+IsFull a _ = LINES ≤ lines_of_open a.open_handler
 
 -- a place makes a local
 abbrev pub MakesLocal : Above → Place → Type 0
 MakesLocal a (At (NameOf ALocal) w) = IsFalse (is_local a w)
 MakesLocal a _ = ⊥
 
--- a line makes a local, where sixteen are there
+-- P11, too: a line makes a local, where sixteen are there
 abbrev pub MakesTooMany : Above → List Place → Type 0
-MakesTooMany a spots = Any (MakesLocal a) spots × (16 ≤ length a.locals)
+MakesTooMany a spots = Any (MakesLocal a) spots × (LOCALS ≤ length a.locals)
 
--- P12: no number of lanes is declared and the line declares none, or both
+-- P12: no number of lanes is declared and the line declares none, or one is and the line declares one again
 abbrev pub IsOutOfOrder : Above → Form → Type 0
 IsOutOfOrder a f = (IsNone a.lanes × (f ≢ form.Lanes)) ⊎ (IsSome a.lanes × (f ≡ form.Lanes))
 
@@ -221,7 +224,7 @@ pub record StandsAs (a : Above) (w : Word) (f : Form) : Type 0 where
 abbrev pub Fill : List Slot → List Word → Type 0
 Fill [] ws = ws ≡ []
 Fill (Expression ∷ ss) ws = 0 < length ws
-Fill (Heading ∷ ss) ws = (0 < length ws) × (length ws ≤ 5)
+Fill (Heading ∷ ss) ws = (0 < length ws) × (length ws ≤ PARAMETERS + 1)
 Fill (Fixed f ∷ ss) ws = (rest : List Word) × (ws ≡ f ∷ rest) × Fill ss rest
 Fill (s ∷ ss) ws = (w : Word) × (rest : List Word) × (ws ≡ w ∷ rest) × Fill ss rest
 

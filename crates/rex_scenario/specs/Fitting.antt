@@ -8,6 +8,7 @@ use Rattle.rex_syntax.specs.Versions.{is_old_size}
 use Rattle.rex_parse.specs.Fitting as service
 use Rattle.rex_parse.specs.declared.language.Above.{Above}
 use Rattle.rex_parse.specs.declared.language.ServiceCode.{ServiceCode}
+use Rattle.rex_schedule.specs.declared.scenario.TheConstants.{REQUESTS, SCHEDULE_LINES}
 use Rattle.rex_scenario.specs.Headings.{is_heading, begun_by, is_due, is_whole}
 use Rattle.rex_scenario.specs.Requests.{client_of, sequence_of, is_request, is_call}
 use Rattle.rex_scenario.specs.Schedule.{step_of, is_there, has_limits, has_form}
@@ -52,7 +53,7 @@ abbrev pub FitsRequest : Above → List Request → List Word → ScenarioCode �
 FitsRequest a earlier ws BadRequest = IsFalse (is_request ws)
 FitsRequest a earlier ws BadCall = IsFalse (is_call a ws)
 FitsRequest a earlier ws Repeated = IsRepeated earlier ws
-FitsRequest a earlier ws TooManyRequests = 65536 ≤ length earlier
+FitsRequest a earlier ws TooManyRequests = REQUESTS ≤ length earlier
 FitsRequest a earlier ws _ = ⊥
 
 -- ---- schedule lines
@@ -77,10 +78,10 @@ HasWrongLimits s ws = (st : Step) × (step_of s.service ws ≡ Some st) × IsFal
 abbrev pub HasNoOldForm : Sections → List Word → Type 0
 HasNoOldForm s ws = (st : Step) × (step_of s.service ws ≡ Some st) × IsFalse (has_form (is_old_size (lanes_of s) (length s.service.variables)) st)
 
--- a code fits a schedule line: S8, S9 past the 100,000th, S10, S12 or S13
+-- a code fits a schedule line: S8, S9 where as many were read as may be, S10, S12 or S13
 abbrev pub FitsStep : Sections → List Word → ScenarioCode → Type 0
 FitsStep s ws BadLine = IsBadLine s ws
-FitsStep s ws TooManyLines = 100000 ≤ length s.schedule
+FitsStep s ws TooManyLines = SCHEDULE_LINES ≤ length s.schedule
 FitsStep s ws NotThere = NamesNothing s ws
 FitsStep s ws WrongLimits = HasWrongLimits s ws
 FitsStep s ws NoOldForm = HasNoOldForm s ws

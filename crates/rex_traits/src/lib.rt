@@ -30,7 +30,7 @@ pub use mem_keeper::{Fate, MemKeeper, SureKeeper};
 pub use mem_sink::{MemSink, SureSink};
 pub use mem_source::{MemSource, SureSource};
 pub use obedient::Obedient;
-pub use reading::{Input, MOST, ReadFault, read_input};
+pub use reading::{Input, READ_BYTES, ReadFault, read_input};
 pub use sink::{Sink, SinkFault};
 pub use source::{Failed, Source};
 pub use standard::{StdSink, StdSource};

@@ -23,6 +23,7 @@ use Rattle.rex_words.specs.declared.stamped.Stamped.{Stamped}
 use Rattle.rex_words.specs.declared.view.Knowledge.{Knowledge}
 use Rattle.rex_words.specs.Stamps.{greatest_stamp}
 use Rattle.rex_words.specs.Recorded.{lane_for, IsDealt}
+use Rattle.rex_words.specs.declared.limits.TheConstants.{IDLE_EVENTS}
 
 -- ---- the parts of an assignment
 
@@ -77,9 +78,9 @@ abbrev pub begin_next : Declarations → ℕ → StateValue → Option Request �
 begin_next service lane s None = None
 begin_next service lane s (Some q) = begin_if service lane s q
 
--- what an idle lane begins; nothing, where it has more than 899,999 events
+-- what an idle lane begins; nothing, where it has more events than an idle lane may have that begins
 abbrev pub begins_at : Assignment → ℕ → Knowledge → Option Kind
-begins_at r lane k = if nat_lt 899999 (length k.list) then None else begin_next (service_of r) lane k.own (slice_get (lane_requests r lane) (begun_in k.list))
+begins_at r lane k = if nat_lt IDLE_EVENTS (length k.list) then None else begin_next (service_of r) lane k.own (slice_get (lane_requests r lane) (begun_in k.list))
 
 -- what a busy lane does by itself at a line: the clock gives the lane's own events so far
 abbrev pub does_at : Assignment → ℕ → Knowledge → Frame → Line → Option Kind

@@ -12,11 +12,12 @@ use Rattle.rex_words.specs.declared.seat.WordSeat.{WordSeat}
 use Rattle.rex_words.specs.declared.choice.Choice.{Choice}
 use Rattle.rex_words.specs.declared.choice.Choice.TheVariants.{Idle, Full, Alone, Acquire, Try, Release}
 use Rattle.rex_words.specs.Alone.{begin_next}
+use Rattle.rex_words.specs.declared.limits.TheConstants.{IDLE_EVENTS}
 
 -- an idle lane, after so many events, by the begin of its next request
 abbrev pub idle_choice : ℕ → Option Kind → Choice
 idle_choice count None = Idle
-idle_choice count (Some begin) = if nat_lt 899999 count then Full else Alone begin
+idle_choice count (Some begin) = if nat_lt IDLE_EVENTS count then Full else Alone begin
 
 -- a busy lane at a line; a lane of plain locks stands at no other line
 abbrev pub busy_choice : Frame → List ℤ → ℕ → ℕ → Line → Choice

@@ -10,6 +10,7 @@ use Rattle.rex_state.specs.Start.{start_of}
 use Rattle.rex_record.specs.Value.{is_begin}
 use Rattle.rex_words.specs.Alone.{begin_next}
 use Rattle.rex_words.specs.Dealing.{requests_for}
+use Rattle.rex_words.specs.declared.limits.TheConstants.{IDLE_EVENTS}
 
 -- the events of a lane in a history
 abbrev pub events_of : ℕ → List Event → List Event
@@ -23,9 +24,9 @@ begins_in events = filter (λ (e : Event). is_begin e.kind) events
 abbrev pub next_request : Declarations → List Request → ℕ → List Event → Option Request
 next_request service requests lane history = slice_get (requests_for service.lanes lane requests) (length (begins_in (events_of lane history)))
 
--- the history runs to a state in which the lane is idle, and its next request may not begin, or it has more than 899,999 events
+-- the history runs to a state in which the lane is idle, and its next request may not begin, or it has more events than an idle lane may have that begins one
 pub record EndsOver (service : Declarations) (requests : List Request) (lane : ℕ) (history : List Event) : Type 0 where
   pub state : StateValue
   pub runs : run service (start_of service) history ≡ Some state
   pub idle : frame_at state lane ≡ None
-  pub over : (begin_next service lane state (next_request service requests lane history) ≡ None) ⊎ (899999 < length (events_of lane history))
+  pub over : (begin_next service lane state (next_request service requests lane history) ≡ None) ⊎ (IDLE_EVENTS < length (events_of lane history))

@@ -23,6 +23,7 @@ use Rattle.rex_words.specs.Own.{IsOwn}
 use Rattle.rex_words.specs.Seats.{IsSeatOf}
 use Rattle.rex_words.specs.Turns.{IsIdle, IsFull}
 use Rattle.rex_words.specs.Dealing.{IsAssignmentOf}
+use Rattle.rex_words.specs.declared.limits.TheConstants.{LANE_EVENTS, IDLE_EVENTS, ALL_EVENTS}
 use Rattle.rex_syntax.specs.declared.service.Declarations.{Declarations}
 use Rattle.rex_syntax.specs.declared.request.Request.{Request}
 
@@ -36,7 +37,7 @@ pub record AreSeats (r : Assignment) (z : TableId) (n : ℕ) (seats : List WordS
   pub count : length seats ≡ n
   pub each : (lane : ℕ) (d : WordSeat) → lane < n → IsSeatAt r z lane (slice_index_or seats lane d)
 
--- the events of the seats' lanes, in order of stamp and then of lane, at most 64,000,000: they say what they should, and run from the service's
+-- the events of the seats' lanes, in order of stamp and then of lane, no more than all lanes may have: they say what they should, and run from the service's
 -- start to a state with which each seat's own state agrees
 pub record IsHistoryOf (r : Assignment) (seats : List WordSeat) (history : List Event) : Type 0 where
   pub list : List Stamped
@@ -44,7 +45,7 @@ pub record IsHistoryOf (r : Assignment) (seats : List WordSeat) (history : List 
   pub events : events_in list ≡ history
   pub state : StateValue
   pub runs : run (service_of r) (start_of (service_of r)) history ≡ Some state
-  pub short : length history ≤ 64000000
+  pub short : length history ≤ ALL_EVENTS
   pub lanes : (x : Stamped) → Has x list → x.event.lane < (service_of r).lanes
   pub mine : (lane : ℕ) (d : WordSeat) → lane < (service_of r).lanes → lane_list list lane ≡ (slice_index_or seats lane d).events.items
   pub told : (lane : ℕ) → lane < (service_of r).lanes → AreTold r lane (lane_list list lane)
@@ -61,10 +62,10 @@ pub record IsOver (r : Assignment) (z : TableId) (lane : ℕ) (m : WordSeat) : T
 abbrev pub open_in : Assignment → StateValue → ℕ → List Stamped → Option Kind
 open_in r s lane list = begin_next (service_of r) lane s (slice_get (lane_requests r lane) (begun_in list))
 
--- in this state of all lanes a lane that did these events is over: it is idle, and has no request that may begin, or one but more than 899,999 events
+-- in this state of all lanes a lane that did these events is over: it is idle, and has no request that may begin, or one but more events than an idle lane may have that begins it
 pub record HasEnded (r : Assignment) (s : StateValue) (lane : ℕ) (list : List Stamped) : Type 0 where
   pub idle : frame_at s lane ≡ None
-  pub over : (open_in r s lane list ≡ None) ⊎ ((open_in r s lane list ≢ None) × (899999 < length list))
+  pub over : (open_in r s lane list ≡ None) ⊎ ((open_in r s lane list ≢ None) × (IDLE_EVENTS < length list))
 
 -- lanes of the service recorded this history of the requests, and each is over, in the state to which the history runs
 pub record IsRecording (service : Declarations) (requests : List Request) (seed : ℕ) (history : List Event) : Type 0 where
@@ -148,7 +149,7 @@ pub record IsCollected (r : Assignment) (gathered : List Gathered) (seats : List
   pub quiet : (e : Event) → Has e held → IsQuiet (service_of r) e
   pub list_is : now.list ≡ list
   pub own_is : (d : WordSeat) → now.own ≡ (slice_index_or seats lane d).state
-  pub few : length list ≤ 1000000
+  pub few : length list ≤ LANE_EVENTS
   pub told : AreTold r lane list
 
 -- the seats of the lanes from n on were taken in, and the lists are theirs

@@ -29,6 +29,7 @@ use Rattle.rex_words.specs.Stamps.{greatest_stamp, lane_list, lock_stamp}
 use Rattle.rex_words.specs.Recorded.{IsRecorded}
 use Rattle.rex_words.specs.Own.{value_at, IsOwn}
 use Rattle.rex_words.specs.Alone.{service_of, requests_of}
+use Rattle.rex_words.specs.declared.limits.TheConstants.{LANE_EVENTS}
 
 -- ---- what is assigned
 
@@ -137,9 +138,9 @@ abbrev pub events_known : (ℕ → Knowledge) → ℕ → ℕ
 events_known know zero = 0
 events_known know (suc n) = events_known know n + length (know n).list
 
--- a lane has at most 1,000,000 events, and no stamp is above the number of all events, so that words have room for stamps
+-- a lane has no more events than there is room for, and no stamp is above the number of all events, so that words have room for stamps
 pub record IsBounded (r : Assignment) (know : ℕ → Knowledge) : Type 0 where
-  pub few : (lane : ℕ) → lane < (service_of r).lanes → length (know lane).list ≤ 1000000
+  pub few : (lane : ℕ) → lane < (service_of r).lanes → length (know lane).list ≤ LANE_EVENTS
   pub stamps : (lane : ℕ) → lane < (service_of r).lanes → greatest_stamp (know lane).list ≤ events_known know (service_of r).lanes
 
 -- what is known of the lanes is so at the words; each view says what is known; and a lane that had no view yet did nothing

@@ -23,6 +23,7 @@ use Rattle.rex_words.specs.Stamps.{greatest_stamp}
 use Rattle.rex_words.specs.Recorded.{lane_for}
 use Rattle.rex_words.specs.Alone.{service_of, lane_requests, dice_of, rolled, drawn, is_draw, begun_in, draws_in, AreTold, DoAlone, IsQuiet}
 use Rattle.rex_words.specs.Budget.{left_at}
+use Rattle.rex_words.specs.declared.limits.TheConstants.{LANE_EVENTS, OTHER_EVENTS}
 
 -- a lane's locksets have a mode for each lock that there can be
 abbrev pub AreWhole : StateValue → Type 0
@@ -37,10 +38,10 @@ pub record IsLaneOf (r : Assignment) (m : WordSeat) : Type 0 where
   pub exclusive : (lock : ℕ) → mode_at m.state m.lane lock ≢ Free → mode_at m.state m.lane lock ≡ Exclusive
   pub count : (lane_of m.state m.lane).done ≡ length m.events.items
   pub mine : (f : Frame) → frame_at m.state m.lane ≡ Some f → lane_for (service_of r).lanes f.client ≡ m.lane
-  pub few : length m.events.items + left_at (service_of r) (frame_at m.state m.lane) ≤ 1000000
-  pub room : 1000000 ≤ vec_capacity m.events
+  pub few : length m.events.items + left_at (service_of r) (frame_at m.state m.lane) ≤ LANE_EVENTS
+  pub room : LANE_EVENTS ≤ vec_capacity m.events
   pub stamp : m.stamp ≡ greatest_stamp m.events.items
-  pub low : m.stamp ≤ length m.events.items + 63000000
+  pub low : m.stamp ≤ length m.events.items + OTHER_EVENTS
   pub requests : m.requests.items ≡ lane_requests r m.lane
   pub begun : m.begun ≡ begun_in m.events.items
   pub random : m.random ≡ drawn (dice_of r m.lane) (draws_in m.events.items)

@@ -18,6 +18,7 @@ use Rattle.rex_words.specs.Words.{stamp_in, owner_in, word_of}
 use Rattle.rex_words.specs.Stamps.{greatest_stamp}
 use Rattle.rex_words.specs.Alone.{service_of, own_event, with_event, HasEntered}
 use Rattle.rex_words.specs.Moment.{locks_in, variables_in, guard, first_known}
+use Rattle.rex_words.specs.declared.limits.TheConstants.{OTHER_EVENTS}
 
 -- a seat's view, and the slots that it holds, of which words have none
 abbrev pub ViewAndSlots : Type 0
@@ -47,9 +48,9 @@ looking k lock found = record k { noted_lock = lock; noted = found; loaded = [];
 abbrev pub looked_view : View → Knowledge → View
 looked_view v k = record v { knows = k; loads = v.loads + 1 }
 
--- the other lanes have at most 63,000,000 events, so that the stamp that was found is no greater than this and the number of the lane's own
+-- the other lanes have no more events than they may, so that the stamp that was found is no greater than this and the number of the lane's own
 abbrev pub HasLowStamp : Knowledge → ℕ → Type 0
-HasLowStamp k found = stamp_in found ≤ length k.list + 63000000
+HasLowStamp k found = stamp_in found ≤ length k.list + OTHER_EVENTS
 
 pub record HasLooked (v : View) (lock found : ℕ) (v' : View) : Type 0 where
   pub first : Knowledge

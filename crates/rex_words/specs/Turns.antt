@@ -21,6 +21,7 @@ use Rattle.rex_words.specs.Words.{stamp_in, owner_in}
 use Rattle.rex_words.specs.Alone.{service_of, begin_next}
 use Rattle.rex_words.specs.Moment.{guard, locks_in}
 use Rattle.rex_words.specs.Seats.{IsLaneOf, IsSeatOf}
+use Rattle.rex_words.specs.declared.limits.TheConstants.{IDLE_EVENTS, OTHER_EVENTS}
 
 -- ---- seats between steps on words
 
@@ -79,7 +80,7 @@ pub record IsFetching (r : Assignment) (m : WordSeat) (lock word : ℕ) : Type 0
   pub lock_is : noted_lock_of m ≡ lock
   pub word_is : noted_of m ≡ word
   pub unowned : owner_in word ≡ 0
-  pub low : stamp_in word ≤ length m.events.items + 63000000
+  pub low : stamp_in word ≤ length m.events.items + OTHER_EVENTS
   pub free : mode_at m.state m.lane lock ≡ Free
 
 -- of the first n variables each with this guard is marked as loaded
@@ -104,7 +105,7 @@ pub record IsAhead (r : Assignment) (z : TableId) (m : WordSeat) (k : Kind) (sta
   pub leads : next (service_of r) m.state (event_at m.state m.lane k) ≡ Some m.seat.me.0.knows.own
   pub list : m.seat.me.0.knows.list ≡ m.events.items ++ (record { stamp = stamp; event = event_at m.state m.lane k }) ∷ []
   pub later : m.stamp < stamp
-  pub low : stamp ≤ length m.events.items + 63000001
+  pub low : stamp ≤ length m.events.items + (OTHER_EVENTS + 1)
 
 -- ---- answers
 
@@ -117,11 +118,11 @@ pub record IsIdle (r : Assignment) (m : WordSeat) : Type 0 where
   pub idle : frame_at m.state m.lane ≡ None
   pub none : open_of r m ≡ None
 
--- the lane is idle and has a request that may begin, but more than 899,999 events
+-- the lane is idle and has a request that may begin, but more events than an idle lane may have that begins it
 pub record IsFull (r : Assignment) (m : WordSeat) : Type 0 where
   pub idle : frame_at m.state m.lane ≡ None
   pub some : open_of r m ≢ None
-  pub many : 899999 < length m.events.items
+  pub many : IDLE_EVENTS < length m.events.items
 
 -- neither is so
 pub record GoesOn (r : Assignment) (m : WordSeat) : Type 0 where

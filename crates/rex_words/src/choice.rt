@@ -8,6 +8,7 @@ ghost use Rattle.rex_words.specs.Seats.{IsLaneOf};
 ghost use Rattle.rex_words.specs.Choice as spec;
 ghost use Rattle.rex_words.specs.declared.assignment.Assignment.{Assignment};
 
+use crate::limits::{IDLE_EVENTS, LANE_EVENTS};
 use crate::seat::WordSeat;
 use rex_event::{Event, Kind};
 use rex_frame::frame::Frame;
@@ -38,7 +39,7 @@ fn idle_choice(count: usize, begin: Option<Kind>) -> Choice
     match begin {
         None => Choice::Idle,
         Some(kind) => {
-            if 899_999 < count {
+            if IDLE_EVENTS < count {
                 Choice::Full
             } else {
                 Choice::Alone(kind)
@@ -65,7 +66,7 @@ fn busy_choice(
     count: usize,
     random: u32,
 ) -> Choice
-    requires few { count ≤ 1000000 }
+    requires few { count ≤ LANE_EVENTS }
     requires handler { frame.now.handler < length service.now.handlers }
     requires place { frame.now.place < length (lines.lines_of service.now frame.now.handler) }
     requires fits { LineFits (length frame.now.locals.items) (length variables.now) (lines.line_of service.now frame.now) }

@@ -53,7 +53,7 @@ pub fn others_stay_own()
     ensures { OthersStayOwn }
 {}
 
-/// At the end of a history that lanes recorded each is idle, and has no request that may begin, or has more than 899,999 events.
+/// At the end of a history that lanes recorded each is idle, and has no request that may begin, or has too many events to begin it.
 pub fn recordings_end_over()
     ensures { RecordingsEndOver }
 {}

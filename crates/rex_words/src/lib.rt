@@ -7,6 +7,7 @@ mod assignment;
 mod choice;
 mod gather;
 pub mod laws;
+mod limits;
 mod locks;
 mod merge;
 mod plays;

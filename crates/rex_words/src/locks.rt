@@ -11,6 +11,7 @@ ghost use Rattle.rex_words.specs.Words.{stamp_in, owner_in};
 ghost use Rattle.rex_words.specs.Seats.{IsSeatOf};
 ghost use Rattle.rex_words.specs.Turns.{IsSettled, StandsAt, IsPreparing, IsFetching, AreLoaded, IsPublishing, IsAhead, HasFound, HasFailed, IsCounted, loads_of, failures_of};
 
+use crate::limits::OTHER_EVENTS;
 use crate::plays::{Acquire, Fetch, Look, Publish, Release, TakeByTry, Try};
 use crate::seat::{LockWords, WordSeat};
 use rex_syntax::checked::Checked;
@@ -43,7 +44,7 @@ impl WordSeat {
         ensures id { self.new.seat.id ≡ self.old.seat.id }
         ensures found { HasFound self.old self.new lock result }
         ensures failures { failures_of self.new ≡ failures_of self.old }
-        ensures low { stamp_in result ≤ length self.old.events.items + 63000000 }
+        ensures low { stamp_in result ≤ length self.old.events.items + OTHER_EVENTS }
     {
         words.load::<Look>(&mut self.seat, lock as usize)
     }
@@ -60,7 +61,7 @@ impl WordSeat {
         ensures id { self.new.seat.id ≡ self.old.seat.id }
         ensures found { HasFound self.old self.new lock result }
         ensures failures { failures_of self.new ≡ failures_of self.old }
-        ensures low { stamp_in result ≤ length self.old.events.items + 63000000 }
+        ensures low { stamp_in result ≤ length self.old.events.items + OTHER_EVENTS }
     {
         words.load::<Try>(&mut self.seat, lock as usize)
     }

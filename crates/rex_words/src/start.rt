@@ -10,6 +10,7 @@ ghost use Rattle.rex_words.specs.Tables.{IsWords, IsHosting, assignment_of, tabl
 ghost use Rattle.rex_words.specs.Dealing.{CanRecord, IsAssignmentOf, requests_for, AreZeros, HasValueWords, AreWordsFor, IsFreshSeat, AreDealt};
 
 use crate::assignment::Assignment;
+use crate::limits::LANE_EVENTS;
 use crate::locks::word_for;
 use crate::plays::Deal;
 use crate::seat::{LockWords, WordSeat};
@@ -22,9 +23,6 @@ use rex_state::state::State;
 use rex_syntax::checked::Checked;
 use rex_syntax::request::Request;
 use std::alloc::{AllocError, Global};
-
-/// How many events of a lane there is room for.
-const EVENTS: usize = 1_000_000;
 
 /// The words of locks.
 fn lock_words(alloc: Global, count: usize) -> Result<Vec<u64>, AllocError>
@@ -107,7 +105,7 @@ fn deal(
     let lanes = svc.declarations().lanes;
     let state = State::start(alloc, svc)?;
     let requests = requests_of_lane(alloc, lanes, lane, requests)?;
-    let events = Vec::with_capacity(alloc, EVENTS)?;
+    let events = Vec::with_capacity(alloc, LANE_EVENTS)?;
     let mut dice = Lcg64Xsh32::new(seed, lane as u64 + 1);
     let random = dice.next_word();
     let seat = words.split_seat::<Deal>(host);
@@ -164,7 +162,7 @@ fn assign(
 
 impl<'a> Words<'a> {
     /// Words on which the lanes of a service are to record, their host, and the seats of the lanes in their order. A client's
-    /// requests go to one lane, in their order. There is room for 1,000,000 events of each lane. It fails only for want of
+    /// requests go to one lane, in their order. There is room for `LANE_EVENTS` events of each lane. It fails only for want of
     /// memory.
     pub fn new(
         alloc: Global,

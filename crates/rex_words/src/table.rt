@@ -29,6 +29,6 @@ pub enum WordTurn {
     Again { had: u64, seen: u64 },
     /// The lane is idle, and has no request that may begin.
     Idle,
-    /// The lane is idle, and has more than 899,999 events, too many to begin its next request.
+    /// The lane is idle, and has more than `IDLE_EVENTS` events, too many to begin its next request.
     Full,
 }
