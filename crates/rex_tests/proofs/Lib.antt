@@ -1,6 +1,4 @@
 pub mod Begins
 pub mod Boards
-pub mod Elected
 pub mod Fronts
-pub mod Knowing
 pub mod WordSeats

@@ -1,15 +1,13 @@
-//! The tests of all libraries, by their public calls alone: a file for each library, and one for the runs of whole
-//! scenarios over memory. There is nothing here for a program to use.
+//! The tests of the libraries below a node and beside it, by their public calls alone: a file for each library. The services
+//! that tests need are read from texts, for the tests of whole runs, too.
 //!
-//! A crate that has tests is proved once more with them, so they all stand in this one.
+//! A crate that has tests is proved once more with them, so they stand in this one and in `rex_run_tests`.
 #![tactic(auto)]
 
 #[cfg(test)]
 mod ballot;
 #[cfg(test)]
 mod board;
-#[cfg(test)]
-mod cli;
 #[cfg(test)]
 mod clocks;
 #[cfg(test)]
@@ -21,15 +19,11 @@ mod cut;
 #[cfg(test)]
 mod delta;
 #[cfg(test)]
-mod devices;
-#[cfg(test)]
 mod durable;
 #[cfg(test)]
 mod event;
 #[cfg(test)]
 mod gate;
-#[cfg(test)]
-mod gates;
 #[cfg(test)]
 mod generator;
 #[cfg(test)]
@@ -37,15 +31,11 @@ mod journal;
 #[cfg(test)]
 mod list;
 #[cfg(test)]
-mod live;
-#[cfg(test)]
 mod lockset;
 #[cfg(test)]
 mod msg;
 #[cfg(test)]
 mod net;
-#[cfg(test)]
-mod node;
 #[cfg(test)]
 mod parse;
 #[cfg(test)]
@@ -73,11 +63,8 @@ mod replay;
 #[cfg(test)]
 mod report;
 #[cfg(test)]
-mod runs;
-#[cfg(test)]
 mod scenario;
-#[cfg(test)]
-mod services;
+pub mod services;
 #[cfg(test)]
 mod snapshot;
 #[cfg(test)]
@@ -98,5 +85,3 @@ mod transfer;
 mod wire;
 #[cfg(test)]
 mod words;
-#[cfg(test)]
-mod world;

@@ -2,8 +2,8 @@ use Rattle.std.proofs.Common.{rules, ◌≡◌, true, [], ◌∷◌, subst, sym}
 use Rattle.rex_event.specs.declared.event.Kind.TheVariants.{Begin}
 use Rattle.rex_state.specs.Start.{start_of}
 use Rattle.rex_state.specs.Machine.{lane_of, enabled}
-use Rattle.rex_tests.proofs.Knowing.{SaysAll, kept, says_all}
-use Rattle.rex_tests.proofs.node.knowing.Goals as goal
+use Rattle.rex_run_tests.proofs.Knowing.{SaysAll, kept, says_all}
+use Rattle.rex_run_tests.proofs.node.knowing.Goals as goal
 
 pub returns : goal.returns
 returns g c =

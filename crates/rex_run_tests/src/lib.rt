@@ -1,0 +1,20 @@
+//! The tests of nodes, worlds and programs, over memory: calls of a node, the runs of whole scenarios, lanes as threads, and
+//! failing devices. There is nothing here for a program to use.
+//!
+//! They stand apart from `rex_tests`, so that its tests are proved while nodes and worlds still are.
+#![tactic(auto)]
+
+#[cfg(test)]
+mod cli;
+#[cfg(test)]
+mod devices;
+#[cfg(test)]
+mod gates;
+#[cfg(test)]
+mod live;
+#[cfg(test)]
+mod node;
+#[cfg(test)]
+mod runs;
+#[cfg(test)]
+mod world;
