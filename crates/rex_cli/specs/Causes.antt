@@ -5,6 +5,7 @@ use Rattle.rex_parse.specs.Reading.{answer_of as service_answer}
 use Rattle.rex_parse.specs.After.{service_of}
 use Rattle.rex_parse.specs.declared.language.Above.{Above}
 use Rattle.rex_parse.specs.declared.language.ServiceCode.{ServiceCode}
+use Rattle.rex_scenario.specs.declared.reading.TheConstants.{SCENARIO_BYTES}
 use Rattle.rex_scenario.specs.Reading.{answer_of as scenario_answer}
 use Rattle.rex_answer.specs.Causes.{scenario_service, Judges, IsBroken}
 use Rattle.rex_command.specs.declared.commands.Command.{Command}
@@ -19,7 +20,7 @@ plain_service (Err e) = None
 abbrev pub service_in : Command → List ℕ → Option Declarations
 service_in (Run workers journal) input = scenario_service (scenario_answer input)
 service_in Trace input = scenario_service (scenario_answer input)
-service_in Check input = if nat_lt 4194304 (length input) then None else plain_service (service_answer input)
+service_in Check input = if nat_lt SCENARIO_BYTES (length input) then None else plain_service (service_answer input)
 service_in (Generate seed size) input = None
 service_in (Soak seed size workers) input = None
 

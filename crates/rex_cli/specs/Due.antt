@@ -6,6 +6,7 @@ use Rattle.rex_parse.specs.Reading.{answer_of as service_answer}
 use Rattle.rex_parse.specs.After.{service_of}
 use Rattle.rex_parse.specs.declared.language.Above.{Above}
 use Rattle.rex_parse.specs.declared.language.ServiceCode.{ServiceCode}
+use Rattle.rex_scenario.specs.declared.reading.TheConstants.{SCENARIO_BYTES}
 use Rattle.rex_scenario.specs.Reading.{answer_of as scenario_answer, scenario_of}
 use Rattle.rex_schedule.specs.declared.scenario.Scenario.{Scenario}
 use Rattle.rex_scenario.specs.declared.scenario.ScenarioCode.{ScenarioCode}
@@ -101,7 +102,7 @@ due_generated seed size = record { status = 0; text = scenario_text seed size }
 abbrev pub due_command : Command → List ℕ → Due
 due_command (Run workers journal) input = due_run (scenario_answer input)
 due_command Trace input = due_trace (scenario_answer input)
-due_command Check input = if nat_lt 4194304 (length input) then due_refused 0 (scenario_code TooLong) else due_check (service_answer input)
+due_command Check input = if nat_lt SCENARIO_BYTES (length input) then due_refused 0 (scenario_code TooLong) else due_check (service_answer input)
 due_command (Generate seed size) input = due_generated seed size
 due_command (Soak seed size workers) input = due_soak seed size (scenario_answer (scenario_text seed size))
 

@@ -5,6 +5,7 @@ ghost use Rattle.rex_syntax.specs.Service.{IsService};
 ghost use Rattle.rex_lockset.specs.Refusal.{refusal_of as refusal};
 ghost use Rattle.rex_schedule.specs.Fits.{ScenarioFits};
 ghost use Rattle.rex_schedule.specs.Typed.{ScenarioIsTyped};
+ghost use Rattle.rex_traits.specs.declared.reading.TheConstants.{READ_BYTES};
 ghost use Rattle.rex_answer.specs.Causes.{Judges};
 ghost use Rattle.rex_report.specs.Pieces.{spaced};
 ghost use Rattle.rex_cli.specs.Due as due;
@@ -24,9 +25,13 @@ use rex_report::{Piece, push_pieces};
 use rex_scenario::{SCENARIO_BYTES, Scenario, ScenarioCode, ScenarioError, read_scenario};
 use rex_syntax::checked::Checked;
 use rex_syntax::service::{Declarations, Service};
+use rex_traits::READ_BYTES;
 use rex_world::laws::{headline_holds, runs_stay_faithful};
 use rex_world::trace;
 use std::alloc::{AllocError, Global};
+
+// What is read of an input is enough to tell one that is too long.
+const _: () = prove!(READ_BYTES == SCENARIO_BYTES + 1);
 
 /// A scenario, its checked service, and whether its nodes keep their records in journals or in lists.
 #[derive(Drop)]
@@ -98,7 +103,7 @@ fn trace_scenario(alloc: Global, scenario: Scenario, service: Service) -> Result
 
 // What `trace` answers.
 fn trace_input(alloc: Global, input: &[u8]) -> Result<Answer, AllocError>
-    requires { length input.now ≤ 4194305 }
+    requires { length input.now ≤ READ_BYTES }
     ensures due { IfOk result (λ a. a ≡ due.due_command commands.Trace input.now) }
     ensures judges { IfOk result (λ a. Judges (service_in commands.Trace input.now) a.status) }
 {
@@ -111,7 +116,7 @@ fn trace_input(alloc: Global, input: &[u8]) -> Result<Answer, AllocError>
 
 // What `run` asks for.
 fn run_input(alloc: Global, input: &[u8], in_journals: bool) -> Result<Response, AllocError>
-    requires { length input.now ≤ 4194305 }
+    requires { length input.now ≤ READ_BYTES }
     ensures due { IfOk result (λ r. due_of r ≡ due.due_command (commands.Run 1 false) input.now) }
     ensures judges { IfOk result (λ r. Judges (service_in (commands.Run 1 false) input.now) (due_of r).status) }
     ensures headline { IfOk result (λ r. (due_of r).status ≡ 0 → Committed input.now) }
@@ -179,7 +184,7 @@ fn check_service(alloc: Global, service: &Declarations) -> Result<Answer, AllocE
 
 // What `check` answers.
 fn check_input(alloc: Global, input: &[u8]) -> Result<Answer, AllocError>
-    requires { length input.now ≤ 4194305 }
+    requires { length input.now ≤ READ_BYTES }
     ensures due { IfOk result (λ a. a ≡ due.due_command commands.Check input.now) }
     ensures judges { IfOk result (λ a. Judges (service_in commands.Check input.now) a.status) }
 {
@@ -200,11 +205,12 @@ pub(crate) fn response_to<R: Replayer>(
     command: Command,
     input: &[u8],
 ) -> Result<Response, AllocError>
-    requires long { length input.now ≤ 4194305 }
+    requires long { length input.now ≤ READ_BYTES }
     requires fits { Fits command }
     ensures due { IfOk result (λ r. due_of r ≡ due.due_command command input.now) }
     ensures judges { IfOk result (λ r. JudgesCommand command input.now (due_of r).status) }
-    ensures headline { (workers : ℕ) (journal : Bool) → command ≡ commands.Run workers journal → IfOk result (λ r. (due_of r).status ≡ 0 → Committed input.now) }
+    ensures headline { (workers : ℕ) (journal : Bool) → command ≡ commands.Run workers journal
+        → IfOk result (λ r. (due_of r).status ≡ 0 → Committed input.now) }
     ensures fits { IfOk result MayRun }
     ensures kept { IfOk result (IsKept (keeps_journals command)) }
 {

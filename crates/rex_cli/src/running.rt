@@ -1,7 +1,11 @@
+//! The top call: an input is read where the command reads one, what is asked for is written, and a status is answered.
+
 ghost use Rattle.std.specs.Prelude.{◌≡◌, ◌≤◌, ◌<◌, ◌+◌, ◌⊎◌, ℕ, Bool, true, false, Some, IsSome, map, IfOk, IfSome, IsErrOf, string_bytes};
 ghost use Rattle.rex_traits.specs.Causes.{Rose};
 ghost use Rattle.rex_traits.specs.Growth.{ForGrowth, Grows};
 ghost use Rattle.rex_traits.specs.Inputs.{IsWholeInput};
+ghost use Rattle.rex_traits.specs.declared.reading.TheConstants.{READ_BYTES};
+ghost use Rattle.rex_threads.specs.declared.parallelism.TheConstants.{WORKERS};
 ghost use Rattle.rex_answer.specs.Outcome.{Gives, Ends};
 ghost use Rattle.rex_command.specs.Laws.{Fits};
 ghost use Rattle.rex_command.specs.Reading as spec;
@@ -59,13 +63,15 @@ fn read_and_respond<R: Replayer, S: Source>(
     ensures due { IfOk result (λ r. ForGrowth (S.given source.old) (S.given source.new) (λ input. due_of r ≡ due.due_command command input)) }
     ensures judges { IfOk result (λ r. ForGrowth (S.given source.old) (S.given source.new) (λ input. JudgesFor (Some command) input (due_of r).status)) }
     ensures grows { Grows (S.given source.old) (S.given source.new) }
-    ensures whole { IfOk result (λ _. ForGrowth (S.given source.old) (S.given source.new) (IsWholeInput (S.ended source.new) (S.left source.old) (S.left source.new))) }
-    ensures headline { (workers : ℕ) (journal : Bool) → command ≡ commands.Run workers journal → IfOk result (λ r. (due_of r).status ≡ 0 → ForGrowth (S.given source.old) (S.given source.new) Committed) }
+    ensures whole { IfOk result (λ _. ForGrowth (S.given source.old) (S.given source.new)
+        (IsWholeInput (S.ended source.new) (S.left source.old) (S.left source.new))) }
+    ensures headline { (workers : ℕ) (journal : Bool) → command ≡ commands.Run workers journal
+        → IfOk result (λ r. (due_of r).status ≡ 0 → ForGrowth (S.given source.old) (S.given source.new) Committed) }
     ensures low { IfOk result (λ r. (due_of r).status < 4) }
     ensures fits { IfOk result MayRun }
     ensures kept { IfOk result (IsKept (inputs.keeps_journals command)) }
     ensures later { S.faults source.old ≤ S.faults source.new }
-    ensures reads { S.calls source.new ≤ S.calls source.old + 4194305 }
+    ensures reads { S.calls source.new ≤ S.calls source.old + READ_BYTES }
     ensures failed { IsErrOf result fault.Failed → Rose (S.faults source.old) (S.faults source.new) }
 {
     match read_input(alloc, source) {
@@ -88,14 +94,16 @@ fn respond<R: Replayer, S: Source>(
     ensures due { IfOk result (λ r. ForGrowth (S.given source.old) (S.given source.new) (λ input. due_of r ≡ due.due_for command input)) }
     ensures judges { IfOk result (λ r. ForGrowth (S.given source.old) (S.given source.new) (λ input. JudgesFor command input (due_of r).status)) }
     ensures grows { Grows (S.given source.old) (S.given source.new) }
-    ensures whole { inputs.reads command ≡ true → IfOk result (λ _. ForGrowth (S.given source.old) (S.given source.new) (IsWholeInput (S.ended source.new) (S.left source.old) (S.left source.new))) }
+    ensures whole { inputs.reads command ≡ true → IfOk result (λ _. ForGrowth (S.given source.old) (S.given source.new)
+        (IsWholeInput (S.ended source.new) (S.left source.old) (S.left source.new))) }
     ensures unread { inputs.reads command ≡ false → (source.new ≡ source.old) × (IsErrOf result fault.Failed → ⊥) }
-    ensures headline { (workers : ℕ) (journal : Bool) → command ≡ Some (commands.Run workers journal) → IfOk result (λ r. (due_of r).status ≡ 0 → ForGrowth (S.given source.old) (S.given source.new) Committed) }
+    ensures headline { (workers : ℕ) (journal : Bool) → command ≡ Some (commands.Run workers journal)
+        → IfOk result (λ r. (due_of r).status ≡ 0 → ForGrowth (S.given source.old) (S.given source.new) Committed) }
     ensures low { IfOk result (λ r. (due_of r).status < 4) }
     ensures fits { IfOk result MayRun }
     ensures kept { IfOk result (IsKept (inputs.keeps_journals_for command)) }
     ensures later { S.faults source.old ≤ S.faults source.new }
-    ensures reads { S.calls source.new ≤ S.calls source.old + 4194305 }
+    ensures reads { S.calls source.new ≤ S.calls source.old + READ_BYTES }
     ensures failed { IsErrOf result fault.Failed → Rose (S.faults source.old) (S.faults source.new) }
 {
     let Some(command) = command else {
@@ -175,19 +183,22 @@ fn obey<C: ReplayCall + Drop, S: Source, K: Sink>(
 ) -> u8
     requires replays { C.replays call }
     requires fits { IfSome command Fits }
-    ensures run { ForGrowth (S.given source.old) (S.given source.new) (λ input. Gives (due.due_for command input) (K.taken sink.old) (K.taken sink.new) result) }
+    ensures run { ForGrowth (S.given source.old) (S.given source.new) (λ input. Gives (due.due_for command input) (K.taken sink.old)
+        (K.taken sink.new) result) }
     ensures causes { result < 4 → ForGrowth (S.given source.old) (S.given source.new) (λ input. IsCaused command input result) }
     ensures grows { Grows (S.given source.old) (S.given source.new) }
-    ensures whole { inputs.reads command ≡ true → result < 4 → ForGrowth (S.given source.old) (S.given source.new) (IsWholeInput (S.ended source.new) (S.left source.old) (S.left source.new)) }
+    ensures whole { inputs.reads command ≡ true → result < 4 → ForGrowth (S.given source.old) (S.given source.new)
+        (IsWholeInput (S.ended source.new) (S.left source.old) (S.left source.new)) }
     ensures unread { inputs.reads command ≡ false → (source.new ≡ source.old) × (result ≡ 4 → ⊥) }
-    ensures reads { S.calls source.new ≤ S.calls source.old + 4194305 }
+    ensures reads { S.calls source.new ≤ S.calls source.old + READ_BYTES }
     ensures read_fault { result ≡ 4 → Rose (S.faults source.old) (S.faults source.new) }
     ensures write_fault { result ≡ 5 → Rose (K.faults sink.old) (K.faults sink.new) }
     ensures known { result ≤ 6 }
     ensures complete { ForGrowth (S.given source.old) (S.given source.new) (λ input. (due.due_for command input).status ≡ 0
         → (Rose (S.faults source.old) (S.faults source.new) → ⊥) → (Rose (K.faults sink.old) (K.faults sink.new) → ⊥)
         → (result ≡ 0) ⊎ (result ≡ 6)) }
-    ensures headline { (workers : ℕ) (journal : Bool) → command ≡ Some (commands.Run workers journal) → result ≡ 0 → ForGrowth (S.given source.old) (S.given source.new) Committed }
+    ensures headline { (workers : ℕ) (journal : Bool) → command ≡ Some (commands.Run workers journal) → result ≡ 0
+        → ForGrowth (S.given source.old) (S.given source.new) Committed }
 {
     let mut replayer = ByCall::new(call);
     match respond(alloc, &mut replayer, command, source) {
@@ -201,7 +212,7 @@ fn obey<C: ReplayCall + Drop, S: Source, K: Sink>(
 fn workers_for(command: Option<Command>) -> u8
     requires { IfSome command Fits }
     ensures number { result ≡ inputs.workers_for command }
-    ensures few { (0 < result) × (result ≤ 16) }
+    ensures few { (0 < result) × (result ≤ WORKERS) }
 {
     match command {
         Some(Command::Run { workers, .. }) => workers,
@@ -238,24 +249,27 @@ pub fn rex_main<R: Threads + Sync, S: Source, K: Sink, G: Gate + Sync>(
     // Below 4 the status and the bytes that the sink took are what the words ask for of the bytes that the source gave in this call,
     // however many workers replay, and whether the nodes keep their records in journals or not. At 4 the sink took none, and
     // above it a front of those.
-    ensures run { ForGrowth (S.given source.old) (S.given source.new) (λ input. Gives (due.due (map string_bytes words.now) input) (K.taken sink.old) (K.taken sink.new) result) }
+    ensures run { ForGrowth (S.given source.old) (S.given source.new) (λ input. Gives (due.due (map string_bytes words.now) input) (K.taken sink.old)
+        (K.taken sink.new) result) }
 
     // Below 4 it is 1 exactly where those bytes are no scenario or no service, 2 exactly where the words are no command
     // line, and 3 exactly where the service isn't checked.
-    ensures causes { result < 4 → ForGrowth (S.given source.old) (S.given source.new) (λ input. IsCaused (spec.command_of (map string_bytes words.now)) input result) }
+    ensures causes { result < 4 → ForGrowth (S.given source.old) (S.given source.new)
+        (λ input. IsCaused (spec.command_of (map string_bytes words.now)) input result) }
 
     // There are such bytes: those that the source gave before stay where they were.
     ensures grows { Grows (S.given source.old) (S.given source.new) }
 
     // Below 4, where an input is read, those bytes are a whole input: the source has ended, or gave 4,194,305 bytes; and of what
     // a source in memory had none is left then.
-    ensures whole { inputs.reads (spec.command_of (map string_bytes words.now)) ≡ true → result < 4 → ForGrowth (S.given source.old) (S.given source.new) (IsWholeInput (S.ended source.new) (S.left source.old) (S.left source.new)) }
+    ensures whole { inputs.reads (spec.command_of (map string_bytes words.now)) ≡ true → result < 4
+        → ForGrowth (S.given source.old) (S.given source.new) (IsWholeInput (S.ended source.new) (S.left source.old) (S.left source.new)) }
 
     // Where none is read, the source stays as it was, and no read fails.
     ensures unread { inputs.reads (spec.command_of (map string_bytes words.now)) ≡ false → (source.new ≡ source.old) × (result ≡ 4 → ⊥) }
 
     // At most 4,194,305 reads are made.
-    ensures reads { S.calls source.new ≤ S.calls source.old + 4194305 }
+    ensures reads { S.calls source.new ≤ S.calls source.old + READ_BYTES }
 
     // A fault is answered only where it was counted.
     ensures read_fault { result ≡ 4 → Rose (S.faults source.old) (S.faults source.new) }
@@ -268,7 +282,8 @@ pub fn rex_main<R: Threads + Sync, S: Source, K: Sink, G: Gate + Sync>(
         → (result ≡ 0) ⊎ (result ≡ 6)) }
 
     // At 0 the run that the report tells of keeps its agreed trace, and what it has released.
-    ensures headline { (workers : ℕ) (journal : Bool) → spec.command_of (map string_bytes words.now) ≡ Some (commands.Run workers journal) → result ≡ 0 → ForGrowth (S.given source.old) (S.given source.new) Committed }
+    ensures headline { (workers : ℕ) (journal : Bool) → spec.command_of (map string_bytes words.now) ≡ Some (commands.Run workers journal) → result ≡ 0
+        → ForGrowth (S.given source.old) (S.given source.new) Committed }
 {
     match command_of(alloc, words) {
         Ok(command) => {

@@ -1,8 +1,7 @@
 -- The lanes of which something is covered, as more is.
-use Rattle.std.proofs.Common.{◌≡◌, ◌⊎◌, inl, inr, ⊎_elim, ℕ, zero, suc, max, ◌+◌, ◌<◌, ◌≤◌, List, [], ◌∷◌, length, replicate, refl, sym, ap, ◌∙◌, arith}
+use Rattle.std.proofs.Common.{◌≡◌, ◌⊎◌, inl, inr, ⊎_elim, ℕ, zero, suc, max, ◌+◌, ◌<◌, ◌≤◌, List, [], ◌∷◌, length, refl, sym, ap, ◌∙◌, arith}
 use Rattle.rex_event.specs.Cuts.{count_at}
-use Rattle.rex_event.specs.declared.event.TheConstants.{LANES}
-use Rattle.rex_clocks.specs.Counts.{none, ticked, merged}
+use Rattle.rex_clocks.specs.Counts.{ticked, merged}
 use Rattle.rex_clocks.specs.Used.{after_lane, used}
 
 -- what a lane before others makes of the number

@@ -1,21 +1,20 @@
 -- Which calls tell no state.
 use Rattle.std.proofs.Common.{ℕ, zero, suc, Bool, true, false, cond, List, [], ◌∷◌, ◌++◌, length, Option, Some, None, eqb}
-use Rattle.std.specs.Prelude.{take, ◌==◌, nat_lt, nat_le}
+use Rattle.std.specs.Prelude.{◌==◌, nat_lt, nat_le}
 use Rattle.rex_syntax.specs.declared.service.Declarations.{Declarations}
 use Rattle.rex_event.specs.declared.event.Event.{Event}
 use Rattle.rex_event.specs.Cuts.{below}
 use Rattle.rex_cut.specs.Greatest.{greatest_cut}
 use Rattle.rex_report.specs.declared.effect.Effect.{Effect}
 use Rattle.rex_report.specs.declared.effect.Effect.TheVariants as effect
-use Rattle.rex_syntax.specs.declared.version.Version.{Version}
-use Rattle.rex_cluster.specs.Records.{Rec, Proposal, promise, offset, known, base}
-use Rattle.rex_cluster.specs.Records.Rec.{Promised, Accepted, Known, Checkpoint, Dropped, Transferred}
+use Rattle.rex_cluster.specs.Records.{Rec, Proposal, promise, known}
+use Rattle.rex_cluster.specs.Records.Rec.{Promised, Accepted, Known, Transferred}
 use Rattle.rex_cluster.specs.Quorum.{is_in, is_majority, ballot_above, round_of}
 use Rattle.rex_cluster.specs.Node.{Service, Content, Message, Lead, Role, Failure}
 use Rattle.rex_cluster.specs.Node.Failure.{After}
 use Rattle.rex_cluster.specs.Node.Content.{Prepare, Promise, Accept, Accepted as Voted, Chosen as Chose, Nack, Ask, Snapshot}
 use Rattle.rex_cluster.specs.Node.Role.{Follower, Leads}
-use Rattle.rex_cluster.specs.Calls.{Call, others, append, logged, propose, decide, best, choose, lead, turn, settle, enough, own_reports, stand, elect, heard, on_own_promise, on_promise, voted, on_own_vote, on_voted, on_nack, receive, ask, replay, checkpoint, drop_known}
+use Rattle.rex_cluster.specs.Calls.{Call, others, append, logged, propose, decide, best, choose, lead, turn, settle, enough, own_reports, stand, elect, heard, on_own_promise, on_promise, voted, on_own_vote, on_voted, on_nack, receive}
 use Rattle.rex_cluster.specs.Values.{Value, service_of}
 use Rattle.rex_cluster.specs.Lanes.{CallHere, active_only, is_faithful, cut_live, cut_lead, cut_role, cut, value_at}
 use Rattle.rex_cluster.specs.Telling.{TellsNoState, TellNoState, AsksNoState}

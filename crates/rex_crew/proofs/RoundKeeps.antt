@@ -14,8 +14,8 @@ use Rattle.rex_board.specs.declared.seat.LaneSeat.{LaneSeat}
 use Rattle.rex_board.specs.Recorded.{IsEventAt}
 use Rattle.rex_board.specs.Turns.{loads_of, IsSeatOf, IsLater, IsNext, IsBlocked, HasNoneLeft}
 use Rattle.rex_board.proofs.Reading.{there, one_value}
-use Rattle.rex_board.proofs.Later.{later_refl, later_trans}
-use Rattle.rex_crew.specs.Rounds.{lane_of, done_of, AreSeatsOf, IsStuck, IsRunning, IsTurn, IsSoFar, IsRound}
+use Rattle.rex_board.proofs.Later.{later_trans}
+use Rattle.rex_crew.specs.Rounds.{lane_of, done_of, IsStuck, IsRunning, IsTurn, IsSoFar, IsRound}
 
 pub gets : {A : Type 0} (l : List A) (i : ℕ) (a : A) → get_elem? l i ≡ some a → get_or l i a ≡ a
 gets [] i a e = refl

@@ -6,9 +6,9 @@ use Rattle.rex_disk.specs.Memory.{DiskValue}
 use Rattle.rex_disk.specs.Record.{are_within}
 use Rattle.rex_disk.specs.declared.plan.Plan.{Plan}
 use Rattle.rex_journal.specs.Keeping.{JournalValue}
-use Rattle.rex_journal.specs.Storing.{IsReopened, armed_by, fails_as_armed, is_empty, is_of_fate, plan_of}
+use Rattle.rex_journal.specs.Storing.{armed_by, fails_as_armed, is_empty, is_of_fate, plan_of}
 use Rattle.rex_journal.specs.StoringLaws.{value_of}
-use Rattle.rex_traits.specs.Stores.{armed_to, reopened}
+use Rattle.rex_traits.specs.Stores.{armed_to}
 use Rattle.rex_traits.specs.declared.mem_keeper.Fate.{Fate}
 use Rattle.rex_traits.specs.declared.mem_keeper.Fate.TheVariants.{Kept, Lost}
 

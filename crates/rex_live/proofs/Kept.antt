@@ -24,13 +24,12 @@ use Rattle.rex_state.specs.Sound.{with_flows, IsSound}
 use Rattle.rex_state.proofs.Run.{run-push}
 use Rattle.rex_state.proofs.Fits.{IsRight}
 use Rattle.rex_state.proofs.Keep.{IsNext, next_is}
-use Rattle.rex_state.proofs.Names.{lane_in}
 use Rattle.rex_state.proofs.Rooms.{can_apply, some_is}
 use Rattle.rex_record.specs.Stand.{StandsAt}
 use Rattle.rex_record.proofs.Stands.{stands_at}
 use Rattle.rex_live.specs.Floor.{FloorValue, lane_event, next_event, dice_behind, recorded}
 use Rattle.rex_live.specs.Laws.{Runs}
-use Rattle.rex_live.specs.Lent.{begun, state_of, is_out, IsLending, IsFitting}
+use Rattle.rex_live.specs.Lent.{begun, state_of, is_out, IsLending}
 use Rattle.rex_live.specs.Desk.{DeskValue, IsDesk}
 use Rattle.rex_live.specs.declared.places.Places.{Places}
 use Rattle.rex_live.specs.Places.{HasPlaces, HadPlaces}

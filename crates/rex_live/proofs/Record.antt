@@ -1,6 +1,6 @@
 -- What recording a lane's next event needs and keeps.
-use Rattle.std.proofs.Common.{◌≡◌, ℕ, zero, suc, ◌+◌, ◌<◌, ◌≤◌, ◌^◌, List, [], ◌∷◌, ◌++◌, length, refl, ap, sym, ◌∙◌, subst, arith, length-append}
-use Rattle.std.specs.Prelude.{Option, Some, IsSome, unwrap_or, replicate, slice_index_or}
+use Rattle.std.proofs.Common.{◌≡◌, ℕ, zero, suc, ◌+◌, ◌<◌, ◌≤◌, ◌^◌, List, [], ◌∷◌, ◌++◌, length, refl, sym, ◌∙◌, subst, arith, length-append}
+use Rattle.std.specs.Prelude.{Some, IsSome, replicate, slice_index_or}
 use Rattle.std.proofs.lemmas.Bool.{eqb-true}
 use Rattle.rand_pcg.specs.Lcg.{Lcg}
 use Rattle.rex_syntax.specs.declared.request.Request.{Request}
@@ -9,14 +9,13 @@ use Rattle.rex_syntax.specs.Service.{IsService}
 use Rattle.rex_syntax.specs.Check.{IsChecked}
 use Rattle.rex_event.specs.declared.event.Event.{Event}
 use Rattle.rex_event.specs.Cuts.{count_at}
-use Rattle.rex_state.specs.Value.{StateValue}
 use Rattle.rex_state.specs.Machine.{no_lane, lane_of, next, run}
 use Rattle.rex_state.specs.Start.{start_of}
 use Rattle.rex_state.specs.Counts.{counts_of}
 use Rattle.rex_state.specs.Sound.{IsSound}
 use Rattle.rex_state.proofs.Keep.{next_is}
 use Rattle.rex_state.proofs.Counts.{count_is, RiseBy, runs_rise}
-use Rattle.rex_live.specs.Floor.{FloorValue, opened, next_event, dice_behind, recorded, IsMade}
+use Rattle.rex_live.specs.Floor.{FloorValue, opened, next_event, recorded, IsMade}
 use Rattle.rex_live.specs.Laws.{Runs}
 use Rattle.rex_live.proofs.Goes.{IsNextOf, goes}
 use Rattle.rex_live.proofs.Leads.{leads_push, made_runs}

@@ -1,5 +1,5 @@
 -- A keeper whose records are all read.
-use Rattle.std.proofs.Common.{◌≡◌, ℕ, suc, ◌+◌, ◌<◌, ◌≤◌, Bool, true, false, List, [], ◌∷◌, ◌++◌, length, take, drop, Result, Ok, Err, refl, sym, ap, subst, ◌∙◌, inl, inr, arith, append_assoc, length-append, take-append-drop}
+use Rattle.std.proofs.Common.{◌≡◌, ℕ, suc, ◌+◌, ◌<◌, ◌≤◌, Bool, true, false, List, [], ◌∷◌, ◌++◌, length, take, drop, Result, Ok, Err, refl, sym, ap, subst, ◌∙◌, inl, inr, arith, length-append, take-append-drop}
 use Rattle.std.specs.Prelude.{map, nat_lt, is_ok, slice_index_or, Option, Some, None, if◌then◌else◌}
 use Rattle.std.specs.List.{cons_option, list_all}
 use Rattle.std.proofs.Math.Seq.{drop-cons}
@@ -8,7 +8,6 @@ use Rattle.std.proofs.lemmas.List.Folds.{list_all-append}
 use Rattle.std.proofs.lemmas.List.Sums.{fold-append}
 use Rattle.rex_syntax.specs.declared.service.Declarations.{Declarations}
 use Rattle.rex_state.specs.Value.{StateValue}
-use Rattle.rex_traits.specs.Chains.{Answer}
 use Rattle.rex_durable.specs.declared.records.Rec.{Rec as KeptRec}
 use Rattle.rex_durable.specs.declared.records.Rec.TheVariants as rec
 use Rattle.rex_durable.specs.declared.records.Standing.{Standing}
@@ -20,19 +19,13 @@ use Rattle.rex_event.specs.declared.delta.Delta.{Delta}
 use Rattle.rex_delta.specs.Reading.{delta_in}
 use Rattle.rex_snapshot.specs.Reading.{state_in}
 use Rattle.rex_cluster.specs.Records.{Rec, known}
-use Rattle.rex_cluster.specs.Calls.{begin}
 use Rattle.rex_cluster.specs.Values.{Value, is_piece, may_be_value, spells}
-use Rattle.rex_cluster.specs.Lanes.{CallHere}
 use Rattle.rex_node.specs.declared.contents.Place.{Place}
 use Rattle.rex_node.specs.declared.restart.RestartFault.{RestartFault}
 use Rattle.rex_node.specs.declared.restart.RestartFault.TheVariants.{BadRecord, OutOfMemory}
-use Rattle.rex_node.specs.declared.step.Step.{Step}
 use Rattle.rex_log.specs.Log.{AreRead, log_behind, log_of, log_with, rec_of, standing_in}
-use Rattle.rex_node.specs.Parts.{NodeValue, failed_records, here_of}
-use Rattle.rex_node.specs.Calls.{call_of, failed_many, Does, FailsAfter, GoesWell}
 use Rattle.rex_node.specs.Restarting.{HasFirstBad, IsRestartFault, bad_at, bad_in, first_bad, has_state, place_or}
 use Rattle.rex_node.specs.Stated.{AreStated, is_stated}
-use Rattle.rex_node.proofs.GoingLemmas.{stated_both}
 use Rattle.rex_node.proofs.Recalling.{recovered_says, stands_behind}
 
 -- ---- the only fault is want of memory
@@ -134,7 +127,3 @@ module _ (service : Declarations) where
   only_memory past kept (BadRecord number at) (inl h) all stated fit = absurd (not_refused service past kept number at all h)
   only_memory past kept (BadRecord number at) (inr h) all stated fit = absurd (good_read past kept (record { number = number; at = at }) stated fit h)
   only_memory past kept OutOfMemory h all stated fit = refl
-
--- ---- a call leaves a keeper whose records are all read, and whose states are spelled
-
-module _ {K : Type 0} (records : K → List (List ℕ)) (gives : K → List ℕ → Answer → K → Type 0) (faults : K → ℕ) (service : Declarations) (past : List Value) (call : CallHere → CallHere) (old new : NodeValue K) (step : Step) where

@@ -217,9 +217,6 @@ module _ {K : Type 0} (records : K → List (List ℕ)) (gives : K → List ℕ 
             is = appends None ∙ comes;
           })
 
-      z : NodeValue K
-      z = record (rebased version x s) { keeper = y.keeper }
-
       z_up : IsUp service (record (rebased version x s) { keeper = y.keeper }) (here_of records service past (record (rebased version x s) { keeper = y.keeper }))
       z_up =
           let l = logged_of records service past x u in

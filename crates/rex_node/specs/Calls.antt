@@ -20,7 +20,7 @@ use Rattle.rex_cluster.specs.Node.{Failure, Role, role_name, is_active, down_nod
 use Rattle.rex_cluster.specs.Node.Failure.{After}
 use Rattle.rex_cluster.specs.Node.Role.{Follower, Leads}
 use Rattle.rex_cluster.specs.Calls.{begin}
-use Rattle.rex_cluster.specs.Values.{Value, greatest_value, values_fit}
+use Rattle.rex_cluster.specs.Values.{Value, greatest_value}
 use Rattle.rex_cluster.specs.Lanes.{Here, CallHere, live_state, no_limits, with_limits, value_at}
 use Rattle.rex_node.specs.declared.refusal.Refusal.{Refusal}
 use Rattle.rex_node.specs.declared.refusal.Refusal.TheVariants as why

@@ -1,9 +1,7 @@
 -- What holds of a line that no code fits.
-use Rattle.std.proofs.Common.{◌≡◌, ℕ, ◌<◌, ◌≤◌, Bool, true, false, cond, not, ◌&&◌, leb, List, [], ◌∷◌, length, get_or, Option, Some, None, refl, arith}
-use Rattle.std.proofs.lemmas.Bool.{leb-false}
+use Rattle.std.proofs.Common.{◌≡◌, ℕ, ◌<◌, ◌≤◌, Bool, true, false, cond, not, ◌&&◌, List, [], ◌∷◌, length, get_or, Option, Some, None, refl, arith}
 use Rattle.std.specs.Borrow.{Bor}
 use Rattle.rex_text.specs.Text.{Word}
-use Rattle.rex_syntax.specs.Limits.{most_variables}
 use Rattle.rex_parse.specs.Answers.{texts}
 use Rattle.rex_parse.specs.Words.{least, fits}
 use Rattle.rex_parse.specs.Above.{is_open, innermost}
@@ -48,9 +46,6 @@ fine_line a f ws e =
     record { placed = t.0; suited = t.1; shaped = t.2; places = t.3; limits = t.4; order = t.5 }
 
 -- ---- room
-
-below : (limit n : ℕ) (c : ServiceCode) → fits (leb limit n) c ≡ None → n < limit
-below limit n c e = leb-false limit n (fits_not (leb limit n) c e)
 
 pub local_room : (a : Above) (ws : List (Bor Word)) (d : Bor Word) → 2 ≤ length ws → form_code a form.Let (texts ws) ≡ None → locals_code a ((get_or ws 0 d).now ∷ []) ≡ None
 local_room a [] d two e = absurd (omega arith)

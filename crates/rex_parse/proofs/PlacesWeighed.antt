@@ -120,14 +120,6 @@ never h = h
 
 -- ---- numbers
 
-is_none : (o : Bool) → o ≡ false → not o ≡ true
-is_none false e = refl
-is_none true e = absurd cc
-
-none_is : (o : Bool) → not o ≡ true → o ≡ false
-none_is false e = refl
-none_is true e = absurd cc
-
 pub count_by : (a : Above) (low high : ℕ) (w : Word) (b : Bool) → is_some (count_of low high w) ≡ b → Weighs (FitsPlace a (At (NumberFrom low high) w)) (fits (not b) NoNumber)
 count_by a low high w true e = fine a (At (NumberFrom low high) w) never (λ h. let t : true ≡ false = sym e ∙ h in cc) never never never never
 count_by a low high w false e = number_least a (At (NumberFrom low high) w) never e

@@ -1,8 +1,8 @@
 -- What follows an expression's first operand.
-use Rattle.std.proofs.Common.{◌≡◌, ◌-◌, ◌<◌, ◌≤◌, List, [], ◌∷◌, ◌++◌, length, get_or, drop, take, Option, Some, None, refl, sym, ap, ◌∙◌, arith, append-nil, true}
+use Rattle.std.proofs.Common.{◌≡◌, ◌-◌, ◌<◌, ◌≤◌, List, [], ◌∷◌, ◌++◌, length, get_or, drop, take, Option, Some, None, refl, sym, ap, ◌∙◌, arith, append-nil}
 use Rattle.std.specs.Prelude.{nat_lt, unwrap_or}
 use Rattle.std.specs.Borrow.{Bor}
-use Rattle.std.proofs.lemmas.Bool.{lt-leb, le-leb}
+use Rattle.std.proofs.lemmas.Bool.{lt-leb}
 use Rattle.std.proofs.lemmas.List.{take_rest, length-map, append_assoc}
 use Rattle.rex_text.specs.Text.{Word}
 use Rattle.rex_syntax.specs.declared.expr.Operand.{Operand}
@@ -17,7 +17,6 @@ use Rattle.rex_parse.specs.Words.{fits, least}
 use Rattle.rex_parse.specs.declared.language.Above.{Above}
 use Rattle.rex_parse.specs.declared.language.ServiceCode.{ServiceCode}
 use Rattle.rex_parse.specs.declared.language.ServiceCode.TheVariants.{BadExpression}
-use Rattle.rex_parse.proofs.Fine.{least_both, fits_not}
 use Rattle.rex_parse.proofs.Weighing.{least_assoc, least_none}
 
 -- where fewer than two words are left, all terms are there

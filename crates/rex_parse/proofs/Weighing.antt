@@ -5,7 +5,7 @@ use Rattle.std.proofs.lemmas.Bool.{cases_lt, le-leb, lt-leb}
 use Rattle.std.proofs.lemmas.List.{take_rest, take_more, drop_more, map-append}
 use Rattle.rex_text.specs.Text.{Word}
 use Rattle.rex_parse.specs.Words.{least, lesser, rank}
-use Rattle.rex_parse.specs.Table.{operand_code, operator_code, expr_code, new_code, parameter_code, parameters_code, slots_code, Heading}
+use Rattle.rex_parse.specs.Table.{operand_code, operator_code, expr_code, parameter_code, parameters_code}
 use Rattle.rex_parse.specs.Answers.{texts}
 use Rattle.rex_parse.specs.declared.language.Above.{Above}
 use Rattle.rex_parse.specs.declared.language.ServiceCode.{ServiceCode}

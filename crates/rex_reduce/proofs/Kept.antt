@@ -11,7 +11,7 @@ use Rattle.rex_reduce.specs.declared.uses.Uses.{Uses}
 use Rattle.rex_reduce.specs.Summaries.{joined, summary_of}
 use Rattle.rex_reduce.specs.Names.{exclusive_lock, shared_lock, wake_slot, waker_slot, is_waker_at}
 use Rattle.rex_reduce.specs.Tables.{at, with_at, with_woken, AreAddedAt}
-use Rattle.rex_reduce.specs.Uses.{met, AreAdded, AreEmpty}
+use Rattle.rex_reduce.specs.Uses.{met, AreAdded}
 use Rattle.rex_reduce.proofs.Joined.{joined_comm, summary_or, summary_agree}
 use Rattle.rex_event.specs.declared.event.TheConstants.{LANES}
 use Rattle.rex_reduce.proofs.Conflicts.{same_none, same_comm, or_false, or_assoc, waker_none, meets, meets_is}

@@ -1,2 +1,3 @@
 pub mod Elected
 pub mod Knowing
+pub mod WordSeats

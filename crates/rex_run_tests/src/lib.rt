@@ -1,5 +1,5 @@
-//! The tests of nodes, worlds and programs, over memory: calls of a node, the runs of whole scenarios, lanes as threads, and
-//! failing devices. There is nothing here for a program to use.
+//! The tests of nodes, worlds and programs, over memory: calls of a node, the runs of whole scenarios, lanes as threads, the
+//! words by which they lock, and failing devices. There is nothing here for a program to use.
 //!
 //! They stand apart from `rex_tests`, so that its tests are proved while nodes and worlds still are.
 #![tactic(auto)]
@@ -16,5 +16,9 @@ mod live;
 mod node;
 #[cfg(test)]
 mod runs;
+#[cfg(test)]
+mod services;
+#[cfg(test)]
+mod words;
 #[cfg(test)]
 mod world;

@@ -7,7 +7,7 @@ ghost use Rattle.rex_node.specs.Parts.{IsNode};
 ghost use Rattle.rex_node.specs.Restarting.{CameUp};
 ghost use Rattle.rex_traits.specs.Keeping.{armed_to, unused_keeper};
 
-use rex_tests::services::checked;
+use crate::services::checked;
 use rex_event::{Event, Kind};
 use rex_list::Arguments;
 use rex_node::{Node, Refusal, Step};

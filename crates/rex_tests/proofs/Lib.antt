@@ -1,4 +1,3 @@
 pub mod Begins
 pub mod Boards
 pub mod Fronts
-pub mod WordSeats

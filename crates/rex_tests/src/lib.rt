@@ -1,5 +1,5 @@
-//! The tests of the libraries below a node and beside it, by their public calls alone: a file for each library. The services
-//! that tests need are read from texts, for the tests of whole runs, too.
+//! The tests of the libraries below a node and beside it, by their public calls alone: a file for each library. There is nothing
+//! here for a program to use.
 //!
 //! A crate that has tests is proved once more with them, so they stand in this one and in `rex_run_tests`.
 #![tactic(auto)]
@@ -64,7 +64,8 @@ mod replay;
 mod report;
 #[cfg(test)]
 mod scenario;
-pub mod services;
+#[cfg(test)]
+mod services;
 #[cfg(test)]
 mod snapshot;
 #[cfg(test)]
@@ -83,5 +84,3 @@ mod traits;
 mod transfer;
 #[cfg(test)]
 mod wire;
-#[cfg(test)]
-mod words;

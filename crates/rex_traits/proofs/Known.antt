@@ -1,19 +1,8 @@
 -- Bytes that are moved in several calls.
-use Rattle.std.proofs.Common.{◌≡◌, ℕ, ◌+◌, ◌-◌, List, [], ◌++◌, length, take, drop, Option, Some, None, refl, sym, ap, subst, ◌∙◌, append_assoc, append-nil}
-use Rattle.std.specs.Io.KnownBytes.{Consumes}
+use Rattle.std.proofs.Common.{◌≡◌, ℕ, ◌+◌, ◌-◌, List, [], ◌++◌, length, take, drop, sym, ap, subst, ◌∙◌, append_assoc}
 use Rattle.std.proofs.Math.Seq.{take-add}
 use Rattle.std.proofs.lemmas.List.{take_rest, append_cancel_left}
 use Rattle.rex_traits.specs.Growth.{ForGrowth}
-
-pub consumes_none : (a : Option (List ℕ)) → Consumes a a []
-consumes_none None = tt
-consumes_none (Some xs) = refl
-
-pub consumes_more : (a b c : Option (List ℕ)) (x y : List ℕ) → Consumes a b x → Consumes b c y → Consumes a c (x ++ y)
-consumes_more None b c x y p q = tt
-consumes_more (Some xs) None c x y p q = absurd p
-consumes_more (Some xs) (Some ys) None x y p q = absurd q
-consumes_more (Some xs) (Some ys) (Some zs) x y p q = p ∙ ap (λ t. x ++ t) q ∙ sym (append_assoc x y zs)
 
 -- what grew twice
 pub grows_more : (a b c x y : List ℕ) → b ≡ a ++ x → c ≡ b ++ y → c ≡ a ++ (x ++ y)
@@ -26,7 +15,3 @@ grows_piece a b c bs m n p q = rw take-add (grows_more a b c (take m bs) (take n
 -- what holds of the bytes by which some grew
 pub for_growth : (before now bytes : List ℕ) (P : List ℕ → Type 0) → now ≡ before ++ bytes → P bytes → ForGrowth before now P
 for_growth before now bytes P grown holds = λ others same. subst P (append_cancel_left before bytes others (sym grown ∙ same)) holds
-
--- where they stayed
-pub for_none : (before now : List ℕ) (P : List ℕ → Type 0) → now ≡ before → P [] → ForGrowth before now P
-for_none before now P stayed holds = for_growth before now [] P (stayed ∙ sym (append-nil before)) holds

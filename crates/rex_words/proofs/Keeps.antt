@@ -28,7 +28,7 @@ use Rattle.rex_words.specs.Words.{owner_in, word_of}
 use Rattle.rex_words.specs.Stamps.{greatest_stamp}
 use Rattle.rex_words.specs.Own.{value_at}
 use Rattle.rex_words.specs.Alone.{service_of, own_event, with_event, alone, DoAlone, IsQuiet}
-use Rattle.rex_words.specs.Moment.{locks_in, variables_in, lock_word, guard, events_known, IsAssignment, first_known, IsGathered, SaysRole, Says, IsMoment}
+use Rattle.rex_words.specs.Moment.{locks_in, variables_in, lock_word, guard, IsAssignment, first_known, IsGathered, SaysRole, Says, IsMoment}
 use Rattle.rex_words.specs.Steps.{Enters, looking, looked_view, HasLowStamp, looked, tried, with_load, HasFetched, fetched, taking_stamp, failed_view, taken, with_store, HasPublished, published, released, first_view, dealt_left, dealt_right, gathered, spent}
 use Rattle.rex_words.specs.Kept.{AreFirstWords}
 use Rattle.rex_words.proofs.Bounds.{word_low}

@@ -4,23 +4,20 @@ use Rattle.std.specs.Prelude.{Option, Some, not, slice_index_or}
 use Rattle.std.specs.List.{list_all}
 use Rattle.std.proofs.lemmas.Bool.{and_parts, and_from, eq-eqb, cases_eq}
 use Rattle.std.proofs.lemmas.Option.{slice_get_within}
-use Rattle.rex_syntax.specs.declared.expr.Expr.{Expr}
 use Rattle.rex_syntax.specs.declared.line.Line.{Line}
-use Rattle.rex_syntax.specs.declared.line.Line.TheVariants.{Acquire, Share, Release, Try, Wait, Signal, Broadcast, Down, Up, Clock, Random, Reply}
+use Rattle.rex_syntax.specs.declared.line.Line.TheVariants.{Acquire, Release, Try, Wait}
 use Rattle.rex_syntax.specs.declared.service.Condition.{Condition}
-use Rattle.rex_syntax.specs.declared.service.Semaphore.{Semaphore}
-use Rattle.rex_syntax.specs.declared.service.LockKind.TheVariants.{Plain, ReadersWriter}
 use Rattle.rex_syntax.specs.declared.locks.Mode.{Mode}
 use Rattle.rex_syntax.specs.declared.locks.Mode.TheVariants.{Free, Shared, Exclusive}
 use Rattle.rex_syntax.specs.Locks.{is_free, is_exclusive, mode_of}
-use Rattle.rex_syntax.specs.Service.{IsLock, LineNames}
+use Rattle.rex_syntax.specs.Service.{LineNames}
 use Rattle.rex_frame.specs.declared.frame.Frame.{Frame}
 use Rattle.rex_frame.specs.Phases.{is_running}
 use Rattle.rex_frame.proofs.Held.{only_if_true}
 use Rattle.rex_event.specs.declared.event.Kind.{Kind}
 use Rattle.rex_event.specs.declared.event.Kind.TheVariants as kind
 use Rattle.rex_state.specs.Value.{StateValue}
-use Rattle.rex_state.specs.Lines.{line_of, locals_of, is_acquire, is_release, is_try, is_primitive}
+use Rattle.rex_state.specs.Lines.{line_of, locals_of, is_acquire, is_release, is_try}
 use Rattle.rex_state.specs.Locks.{mode_in_frame, is_free as no_holder}
 use Rattle.rex_state.specs.Semaphores.{semaphores_allow}
 use Rattle.rex_state.specs.Machine.{frame_at, can_go, own_can, locks_allow, queues_allow, client_allows, after, next}
@@ -63,9 +60,6 @@ held_not Exclusive h e = cc
 module _ (r : Assignment) (a : IsAssignment r) where
   no_condition : (condition : ℕ) → condition < length (service_of r).conditions → ⊥
   no_condition condition h = let e : length (service_of r).conditions ≡ 0 = ap (λ (l : List Condition). length l) a.no_conditions in absurd (omega arith)
-
-  no_semaphore : (semaphore : ℕ) → semaphore < length (service_of r).semaphores → ⊥
-  no_semaphore semaphore h = let e : length (service_of r).semaphores ≡ 0 = ap (λ (l : List Semaphore). length l) a.no_semaphores in absurd (omega arith)
 
   module _ (m : WordSeat) (l : IsLaneOf r m) where
     abbrev p : CheckedFlows

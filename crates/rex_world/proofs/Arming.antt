@@ -1,10 +1,9 @@
 -- A line that arms the keeper of a node.
-use Rattle.std.proofs.Common.{◌≡◌, ℕ, suc, ◌+◌, ◌-◌, ◌≤◌, ◌<◌, ◌^◌, Bool, true, false, List, [], ◌∷◌, ◌++◌, length, Some, refl, sym, ◌∙◌, ap, subst, arith, length-set}
+use Rattle.std.proofs.Common.{◌≡◌, ℕ, ◌+◌, ◌-◌, ◌≤◌, ◌<◌, ◌^◌, Bool, true, false, List, [], ◌∷◌, ◌++◌, length, Some, refl, sym, ◌∙◌, ap, subst, arith, length-set}
 use Rattle.std.specs.Prelude.{if◌then◌else◌}
 use Rattle.std.specs.Global.{Vec}
 use Rattle.std.specs.Vec.{with_items}
 use Rattle.std.proofs.lemmas.List.{with_items_is}
-use Rattle.std.proofs.Math.Seq.{drop-append_seam}
 use Rattle.std.proofs.lemmas.List.{append-nil}
 use Rattle.rex_ballot.specs.Limits.{most_nodes}
 use Rattle.rex_syntax.specs.declared.service.Declarations.{Declarations}
@@ -12,14 +11,12 @@ use Rattle.rex_syntax.specs.declared.request.Request.{Request}
 use Rattle.rex_traits.specs.declared.mem_keeper.Fate.{Fate}
 use Rattle.rex_traits.specs.declared.mem_keeper.Fate.TheVariants as fate
 use Rattle.rex_traits.specs.Keeping.{KeeperValue, armed_to}
-use Rattle.rex_report.specs.declared.effect.Effect.TheVariants.{WillFail}
 use Rattle.rex_schedule.specs.declared.scenario.ScheduleLine.TheVariants.{KeepFail}
 use Rattle.rex_schedule.specs.Fits.{IsNode}
-use Rattle.rex_cluster.specs.Node.{Message}
 use Rattle.rex_cluster.specs.Node.Failure.{After}
 use Rattle.rex_cluster.specs.Values.{Value}
 use Rattle.rex_cluster.specs.Lanes.{Here}
-use Rattle.rex_cluster.specs.World.{World as ModelWorld, node_at, put, row, sent_from}
+use Rattle.rex_cluster.specs.World.{World as ModelWorld, node_at, put, row}
 use Rattle.rex_cluster.specs.Agreed.{agreed}
 use Rattle.rex_safety.specs.Kept.{IsKept}
 use Rattle.rex_safety.proofs.Keeps.{row_kept}
@@ -29,7 +26,7 @@ use Rattle.rex_world.specs.declared.seats.Seat.TheVariants.{Running, Stopped, Em
 use Rattle.rex_world.specs.declared.world.World.{World}
 use Rattle.rex_world.specs.Seats.{AreSeats, AreWithin, HasKeeper, IsKeeping, IsSeat, armed_in, faults_of, here_in, heres, keeper_in, records_of}
 use Rattle.rex_world.specs.World.{nodes_of, world_of}
-use Rattle.rex_world.specs.Kept.{IsRunning, IsSame}
+use Rattle.rex_world.specs.Kept.{IsRunning}
 use Rattle.rex_world.specs.Places.{IsArmedAt}
 use Rattle.rex_world.proofs.Acted.{has_keeper}
 use Rattle.rex_world.proofs.Agreeing.{same_longest}

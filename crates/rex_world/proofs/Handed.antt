@@ -18,7 +18,7 @@ use Rattle.rex_schedule.specs.Fits.{IsNode}
 use Rattle.rex_schedule.specs.declared.scenario.ScheduleLine.TheVariants as line
 use Rattle.rex_cluster.specs.Node.{Message, kind_of}
 use Rattle.rex_cluster.specs.Values.{Value, service_of}
-use Rattle.rex_cluster.specs.World.{World as ModelWorld, Row, node_at, logs, at_node, only, first_told, deliver_found, sent_from, message_at, with_handed}
+use Rattle.rex_cluster.specs.World.{Row, node_at, logs, at_node, only, first_told, deliver_found, sent_from, message_at, with_handed}
 use Rattle.rex_safety.specs.Kept.{roles, IsKept}
 use Rattle.rex_cluster.specs.Calls.{begin, receive}
 use Rattle.rex_cluster.specs.Invariant.{Begins, IsIn}

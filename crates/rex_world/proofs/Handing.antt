@@ -2,7 +2,7 @@
 use Rattle.std.proofs.Common.{◌≡◌, ℕ, zero, suc, ◌+◌, ◌-◌, ◌<◌, ◌≤◌, Bool, true, false, List, [], ◌∷◌, ◌++◌, length, map, take, drop, get_or, replicate, Option, refl, sym, ◌∙◌, ap, subst, arith, append_assoc, add-zero, add-one, length-append}
 use Rattle.std.specs.Prelude.{slice_set, if◌then◌else◌}
 use Rattle.std.specs.List.{list_all}
-use Rattle.std.proofs.Math.Seq.{take-suc, drop-cons, take-length, drop-append_seam, drop-length, set-append_seam, get_or-append_seam, take-append_seam}
+use Rattle.std.proofs.Math.Seq.{take-suc, drop-cons, drop-append_seam, drop-length, set-append_seam, get_or-append_seam, take-append_seam}
 use Rattle.std.proofs.lemmas.Grind.{replicate_next}
 use Rattle.std.proofs.lemmas.List.{append-nil, map-append, length-drop, length-replicate, length-take-le, take-append-drop}
 use Rattle.std.proofs.lemmas.Option.{slice_get-get_or}
@@ -21,7 +21,7 @@ use Rattle.rex_world.specs.declared.world.World.{World}
 use Rattle.rex_world.specs.World.{nodes_of}
 use Rattle.rex_world.specs.Kept.{IsSame}
 use Rattle.rex_world.specs.Calls.{Did, DidSteps}
-use Rattle.rex_world.specs.Handing.{HandsOver, HandsAllOver, is_some_there, step_at}
+use Rattle.rex_world.specs.Handing.{HandsOver, is_some_there, step_at}
 use Rattle.rex_world.proofs.Sending.{sent_both}
 
 -- ---- what was sent

@@ -3,11 +3,8 @@ use Rattle.std.proofs.Common.{◌≡◌, ℕ, zero, suc, Bool, true, false, cond
 use Rattle.std.specs.Prelude.{map, take}
 use Rattle.rex_syntax.specs.declared.service.Declarations.{Declarations}
 use Rattle.rex_state.specs.Value.{StateValue}
-use Rattle.rex_syntax.specs.declared.version.Version.{Version}
-use Rattle.rex_syntax.specs.declared.version.Version.TheVariants.{One, Two}
-use Rattle.rex_syntax.specs.Versions.{has_old_form, has_version}
+use Rattle.rex_syntax.specs.declared.version.Version.TheVariants.{Two}
 use Rattle.rex_schedule.specs.declared.scenario.ScheduleLine.TheVariants as line
-use Rattle.rex_schedule.specs.Fits.{FormFits}
 use Rattle.rex_report.specs.declared.effect.Effect.{Effect}
 use Rattle.rex_report.specs.declared.effect.Effect.TheVariants as effect
 use Rattle.rex_traits.specs.Keeping.{KeeperValue}
@@ -23,14 +20,14 @@ use Rattle.rex_msg.specs.declared.message.Message.{Message as Sent}
 use Rattle.rex_node.specs.declared.refusal.Refusal.{Refusal}
 use Rattle.rex_node.specs.declared.refusal.Refusal.TheVariants as why
 use Rattle.rex_node.specs.declared.step.Step.{Step}
-use Rattle.rex_node.specs.Calls.{Does, EndsDown, Refuses, refusal_of_migrate}
+use Rattle.rex_node.specs.Calls.{Does, EndsDown}
 use Rattle.rex_log.specs.Messages.{message_in}
 use Rattle.rex_node.specs.Restarting.{CameUp}
 use Rattle.rex_log.specs.Log.{log_of}
-use Rattle.rex_node.specs.Parts.{NodeValue, StaysNode, count_of, here_of}
+use Rattle.rex_node.specs.Parts.{NodeValue, StaysNode, count_of}
 use Rattle.rex_world.specs.declared.seats.Seat.{Seat}
 use Rattle.rex_world.specs.declared.seats.Seat.TheVariants.{Running, Stopped, Empty}
-use Rattle.rex_world.specs.Calls.{CameBack, HasStarted, IsDone, IsWhole, StartsIf}
+use Rattle.rex_world.specs.Calls.{CameBack, HasStarted, IsDone, StartsIf}
 use Rattle.rex_world.specs.Seats.{IsRunner, StaysRunner, StaysSeat, armed_of, faults_of, here_at, here_in, is_up_in, keeper_in, records_of, reopened}
 use Rattle.rex_world.proofs.Acted.{done_if, none_grown, stays_whole}
 use Rattle.rex_world.proofs.Failing.{follows}

@@ -1,5 +1,5 @@
 -- What the status says of what was due.
-use Rattle.std.proofs.Common.{◌≡◌, ℕ, List, [], ◌++◌, Option, Some, None, inl, inr, ◌⊎◌, refl, sym, subst, ◌∙◌}
+use Rattle.std.proofs.Common.{◌≡◌, ℕ, List, [], ◌++◌, Option, Some, None, inl, inr, ◌⊎◌, sym, subst, ◌∙◌}
 use Rattle.rex_traits.specs.Causes.{Rose}
 use Rattle.rex_traits.specs.Growth.{ForGrowth}
 use Rattle.rex_syntax.specs.declared.service.Declarations.{Declarations}
@@ -34,14 +34,6 @@ caused recording input status j = record {
 pub caused_for : (before now : List ℕ) (recording : Recording) (status given : ℕ) → given ≡ status → ForGrowth before now (λ input. Judges (played_service recording input) status)
     → ForGrowth before now (λ input. IsCaused (Some recording) input given)
 caused_for before now recording status given same judges = λ input grown. subst (IsCaused (Some recording) input) (sym same) (caused recording input status (judges input grown))
-
--- words that are no command line
-pub usage_caused : (input : List ℕ) (status : ℕ) → status ≡ 2 → IsCaused None input status
-usage_caused input status two = record {
-  unread = (λ one. absurd cc, λ h. absurd h);
-  usage = (λ _. refl, λ _. two);
-  unchecked = (λ three. absurd cc, λ h. absurd h);
-}
 
 -- a checked service is answered 0, or 6, where the sink counted no fault
 ended : (o : Option Declarations) (d : Due) (status faults_before faults_now : ℕ) → Judges o d.status → Ends d faults_before faults_now status → HasChecked o → (Rose faults_before faults_now → ⊥) → (status ≡ 0) ⊎ (status ≡ 6)

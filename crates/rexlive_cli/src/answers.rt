@@ -12,6 +12,7 @@ ghost use Rattle.rex_lead.specs.Lead.{blocks_of, live_text};
 ghost use Rattle.rex_lockset.specs.Refusal.{refusal_of as refusal};
 ghost use Rattle.rex_scenario.specs.Beyond.{IsPlain, beyond_words};
 ghost use Rattle.rex_schedule.specs.Fits.{ScenarioFits};
+ghost use Rattle.rex_traits.specs.declared.reading.TheConstants.{READ_BYTES};
 ghost use Rattle.rex_answer.specs.Causes.{Judges};
 ghost use Rattle.rexlive_cli.specs.declared.recording.Recording.TheVariants.{Words};
 ghost use Rattle.rexlive_cli.specs.Due as due;
@@ -198,7 +199,7 @@ pub(crate) fn answer_input<R: Threads + Sync, W: Wait + Sync, G: Gate + Sync>(
     input: &[u8],
     gate: &G,
 ) -> Result<Answer, AllocError>
-    requires { length input.now ≤ 4194305 }
+    requires { length input.now ≤ READ_BYTES }
     ensures due { IfOk result (due.IsDue recording input.now) }
     ensures judges { IfOk result (λ a. Judges (played_service recording input.now) a.status) }
 {

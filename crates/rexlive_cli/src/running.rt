@@ -5,6 +5,7 @@ ghost use Rattle.rex_traits.specs.Causes.{Rose};
 ghost use Rattle.rex_traits.specs.Growth.{ForGrowth, Grows};
 ghost use Rattle.rex_traits.specs.Inputs.{IsWholeInput};
 ghost use Rattle.rex_traits.specs.declared.reading.ReadFault.TheVariants as fault;
+ghost use Rattle.rex_traits.specs.declared.reading.TheConstants.{READ_BYTES};
 ghost use Rattle.rex_answer.specs.Causes.{Judges};
 ghost use Rattle.rexlive_cli.specs.Due as due;
 ghost use Rattle.rexlive_cli.specs.Outcome.{GivesSome, IsCaused, IsPlayable, played_service};
@@ -30,10 +31,11 @@ fn read_and_answer<R: Threads + Sync, W: Wait + Sync, S: Source, G: Gate + Sync>
     ensures due { IfOk result (λ a. ForGrowth (S.given source.old) (S.given source.new) (λ input. due.IsDue recording input a)) }
     ensures judges { IfOk result (λ a. ForGrowth (S.given source.old) (S.given source.new) (λ input. Judges (played_service recording input) a.status)) }
     ensures grows { Grows (S.given source.old) (S.given source.new) }
-    ensures whole { IfOk result (λ _. ForGrowth (S.given source.old) (S.given source.new) (IsWholeInput (S.ended source.new) (S.left source.old) (S.left source.new))) }
+    ensures whole { IfOk result (λ _. ForGrowth (S.given source.old) (S.given source.new)
+        (IsWholeInput (S.ended source.new) (S.left source.old) (S.left source.new))) }
     ensures low { IfOk result (λ a. a.status < 4) }
     ensures later { S.faults source.old ≤ S.faults source.new }
-    ensures reads { S.calls source.new ≤ S.calls source.old + 4194305 }
+    ensures reads { S.calls source.new ≤ S.calls source.old + READ_BYTES }
     ensures failed { IsErrOf result fault.Failed → Rose (S.faults source.old) (S.faults source.new) }
 {
     match read_input(alloc, source) {
@@ -55,11 +57,13 @@ fn play_input<R: Threads + Sync, W: Wait + Sync, S: Source, K: Sink, G: Gate + S
     sink: &mut K,
     gate: &G,
 ) -> u8
-    ensures run { ForGrowth (S.given source.old) (S.given source.new) (λ input. GivesSome (due.IsDueFor (Some recording) input) (K.taken sink.old) (K.taken sink.new) result) }
+    ensures run { ForGrowth (S.given source.old) (S.given source.new) (λ input. GivesSome (due.IsDueFor (Some recording) input) (K.taken sink.old)
+        (K.taken sink.new) result) }
     ensures causes { result < 4 → ForGrowth (S.given source.old) (S.given source.new) (λ input. IsCaused (Some recording) input result) }
     ensures grows { Grows (S.given source.old) (S.given source.new) }
-    ensures whole { result < 4 → ForGrowth (S.given source.old) (S.given source.new) (IsWholeInput (S.ended source.new) (S.left source.old) (S.left source.new)) }
-    ensures reads { S.calls source.new ≤ S.calls source.old + 4194305 }
+    ensures whole { result < 4 → ForGrowth (S.given source.old) (S.given source.new)
+        (IsWholeInput (S.ended source.new) (S.left source.old) (S.left source.new)) }
+    ensures reads { S.calls source.new ≤ S.calls source.old + READ_BYTES }
     ensures read_fault { result ≡ 4 → Rose (S.faults source.old) (S.faults source.new) }
     ensures write_fault { result ≡ 5 → Rose (K.faults sink.old) (K.faults sink.new) }
     ensures known { result ≤ 6 }
@@ -95,24 +99,27 @@ pub fn live_main<R: Threads + Sync, W: Wait + Sync, S: Source, K: Sink, G: Gate 
 ) -> u8
     // Below 4 the status and the bytes that the sink took are what the words ask for of the bytes that the source gave in this call,
     // for one of the histories that lanes may record so. At 4 the sink took none, and above it none, or a front of such.
-    ensures run { ForGrowth (S.given source.old) (S.given source.new) (λ input. GivesSome (due.IsDueFor (spec.recording_of (map string_bytes words.now)) input) (K.taken sink.old) (K.taken sink.new) result) }
+    ensures run { ForGrowth (S.given source.old) (S.given source.new) (λ input. GivesSome
+        (due.IsDueFor (spec.recording_of (map string_bytes words.now)) input) (K.taken sink.old) (K.taken sink.new) result) }
 
     // Below 4 it is 1 exactly where those bytes are no scenario without schedule lines, or have a line that lock words can't record
     // and are to record, 2 exactly where the words are no command line, and 3 exactly where the service isn't checked.
-    ensures causes { result < 4 → ForGrowth (S.given source.old) (S.given source.new) (λ input. IsCaused (spec.recording_of (map string_bytes words.now)) input result) }
+    ensures causes { result < 4 → ForGrowth (S.given source.old) (S.given source.new)
+        (λ input. IsCaused (spec.recording_of (map string_bytes words.now)) input result) }
 
     // There are such bytes: those that the source gave before stay where they were.
     ensures grows { Grows (S.given source.old) (S.given source.new) }
 
     // Below 4, where the words are a command line, those bytes are a whole input: the source has ended, or gave 4,194,305 bytes; and
     // of what a source in memory had none is left then.
-    ensures whole { IsSome (spec.recording_of (map string_bytes words.now)) → result < 4 → ForGrowth (S.given source.old) (S.given source.new) (IsWholeInput (S.ended source.new) (S.left source.old) (S.left source.new)) }
+    ensures whole { IsSome (spec.recording_of (map string_bytes words.now)) → result < 4
+        → ForGrowth (S.given source.old) (S.given source.new) (IsWholeInput (S.ended source.new) (S.left source.old) (S.left source.new)) }
 
     // Where they are none, the source stays as it was, and no read fails.
     ensures unread { spec.recording_of (map string_bytes words.now) ≡ None → (source.new ≡ source.old) × (result ≡ 4 → ⊥) }
 
     // At most 4,194,305 reads are made.
-    ensures reads { S.calls source.new ≤ S.calls source.old + 4194305 }
+    ensures reads { S.calls source.new ≤ S.calls source.old + READ_BYTES }
 
     // A fault is answered only where it was counted.
     ensures read_fault { result ≡ 4 → Rose (S.faults source.old) (S.faults source.new) }

@@ -1,4 +1,4 @@
-use Rattle.std.proofs.Common.{◌≡◌, ◌⊎◌, Option, subst}
+use Rattle.std.proofs.Common.{◌≡◌, ◌⊎◌, Option, subst, ◌∙◌}
 use Rattle.rex_traits.specs.Causes.{Rose}
 use Rattle.rex_traits.specs.Growth.{ForGrowth}
 use Rattle.rex_command.specs.declared.commands.Command.{Command}
@@ -11,3 +11,6 @@ returns-in-Ok-clause-complete g c =
     → (Rose (g.S.Source.faults c.args.source.now) (g.S.Source.faults c.obey.new.source) → ⊥) → (Rose (g.K.Sink.faults c.args.sink.now) (g.K.Sink.faults c.obey.new.sink) → ⊥)
     → (c.obey.result ≡ 0) ⊎ (c.obey.result ≡ 6)))
     c.in-Ok.ensures.command c.obey.ensures.complete
+
+pub returns-in-Ok-clause-headline : goal.returns-in-Ok-clause-headline
+returns-in-Ok-clause-headline g c workers journal is zero = c.obey.ensures.headline workers journal (c.in-Ok.ensures.command ∙ is) zero

@@ -5,7 +5,6 @@ use Rattle.std.proofs.lemmas.List.{get_or-set_same, get_or-set_other}
 use Rattle.atomic_table.specs.Seated.{TableId}
 use Rattle.rex_words.specs.declared.assignment.Assignment.{Assignment}
 use Rattle.rex_words.specs.declared.seat.WordSeat.{WordSeat}
-use Rattle.rex_words.specs.Dealing.{AreDealt}
 use Rattle.rex_words.specs.Histories.{IsSeatAt, AreSeats}
 
 -- so are those of which one is a later one of its lane

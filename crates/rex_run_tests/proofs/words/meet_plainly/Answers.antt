@@ -3,7 +3,7 @@ use Rattle.rex_syntax.specs.declared.request.Request.{Request}
 use Rattle.rex_syntax.specs.declared.service.Declarations.{Declarations}
 use Rattle.rex_words.specs.Dealing.{CanRecord}
 use Rattle.rexlive_cli.proofs.Worded.{can_record}
-use Rattle.rex_tests.proofs.words.meet_plainly.Goals as goal
+use Rattle.rex_run_tests.proofs.words.meet_plainly.Goals as goal
 
 pub meet_for-requires : goal.meet_for-requires
 meet_for-requires g c =

@@ -1,7 +1,7 @@
 use Rattle.std.proofs.Common.{◌∙◌}
 use Rattle.rex_words.specs.Tables.{assignment_of, table_of}
-use Rattle.rex_tests.proofs.WordSeats.{seats_with}
-use Rattle.rex_tests.proofs.words.step.Goals as goal
+use Rattle.rex_run_tests.proofs.WordSeats.{seats_with}
+use Rattle.rex_run_tests.proofs.words.step.Goals as goal
 
 pub returns : goal.returns
 returns c =
