@@ -282,8 +282,8 @@ pub fn rex_main<R: Threads + Sync, S: Source, K: Sink, G: Gate + Sync>(
         → (result ≡ 0) ⊎ (result ≡ 6)) }
 
     // At 0 the run that the report tells of keeps its agreed trace, and what it has released.
-    ensures headline { (workers : ℕ) (journal : Bool) → spec.command_of (map string_bytes words.now) ≡ Some (commands.Run workers journal) → result ≡ 0
-        → ForGrowth (S.given source.old) (S.given source.new) Committed }
+    ensures headline { (workers : ℕ) (journal : Bool) → spec.command_of (map string_bytes words.now) ≡ Some (commands.Run workers journal)
+        → result ≡ 0 → ForGrowth (S.given source.old) (S.given source.new) Committed }
 {
     match command_of(alloc, words) {
         Ok(command) => {

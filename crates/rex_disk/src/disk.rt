@@ -73,7 +73,8 @@ pub trait Disk {
         ensures written { IsTrue (meets self.old) → OnOk result (seen self.new ≡ overwritten at bytes.now (seen self.old)) }
         ensures length { Reaches (at + length bytes.now) (length (seen self.old)) (length (seen self.new)) result }
         ensures stop { IsTrue (meets self.old) → Tears at (length bytes.now) (may_leave self.old) (may_leave self.new) }
-        ensures time { IsTrue (meets self.old) → Elapses (moment self.old) (moment self.new) (left_since self.old) (left_since self.new) (may_leave self.new) }
+        ensures time { IsTrue (meets self.old)
+            → Elapses (moment self.old) (moment self.new) (left_since self.old) (left_since self.new) (may_leave self.new) }
         ensures cause { Counts (faults self.old) (faults self.new) result }
         ensures used { UsesRoom 1 (length bytes.now) (calls_left self.old) (calls_left self.new) (bytes_left self.old) (bytes_left self.new) }
         ensures gives { gives self.old (Writes at bytes.now) (is_err result) self.new }
@@ -87,7 +88,8 @@ pub trait Disk {
         ensures length { length (seen self.new) ≡ length (seen self.old) }
         ensures seen { IsTrue (meets self.old) → seen self.new ≡ seen self.old }
         ensures stop { IsTrue (meets self.old) → NoMore (may_leave self.old) (may_leave self.new) }
-        ensures time { IsTrue (meets self.old) → Elapses (moment self.old) (moment self.new) (left_since self.old) (left_since self.new) (may_leave self.new) }
+        ensures time { IsTrue (meets self.old)
+            → Elapses (moment self.old) (moment self.new) (left_since self.old) (left_since self.new) (may_leave self.new) }
         ensures cause { Counts (faults self.old) (faults self.new) result }
         ensures used { UsesRoom 1 0 (calls_left self.old) (calls_left self.new) (bytes_left self.old) (bytes_left self.new) }
         ensures gives { gives self.old Syncs (is_err result) self.new }

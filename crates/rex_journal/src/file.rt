@@ -125,7 +125,8 @@ fn close_gate<D: Disk>(disk: &mut D, bytes: &[u8], gate: usize) -> Result<(), Fa
     requires room { HasRoom 2 1 (D.calls_left disk.old) (D.bytes_left disk.old) (length (D.seen disk.old)) }
     ensures closed { IsTrue (D.meets disk.old) → bytes.now ≡ D.seen disk.old
         → OnOk result (take (gate + 1) (D.seen disk.new) ≡ take gate (D.seen disk.old) ++ 0 ∷ []) }
-    ensures durable { IsTrue (D.meets disk.old) → Only (D.seen disk.old) (D.may_leave disk.old) → OnOk result (Only (D.seen disk.new) (D.may_leave disk.new)) }
+    ensures durable { IsTrue (D.meets disk.old) → Only (D.seen disk.old) (D.may_leave disk.old)
+        → OnOk result (Only (D.seen disk.new) (D.may_leave disk.new)) }
     ensures any_moment { IsTrue (D.meets disk.old) → bytes.now ≡ D.seen disk.old → Only (D.seen disk.old) (D.may_leave disk.old)
         → LeavesOnly D.moment D.left_since disk.old disk.new (IsClosing gate (D.seen disk.old)) }
     ensures within { OnOk result (gate < length (D.seen disk.new)) }

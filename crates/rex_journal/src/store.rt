@@ -37,7 +37,10 @@ fn cause_of(fault: OpenFault) -> ReopenFault
 // Opens the journal on a disk without bytes, of which no call is to fail.
 fn open_empty(alloc: Global, disk: MemDisk) -> Result<JournalKeeper<MemDisk>, OpenFault>
     requires empty { disk ≡ new_disk [] [] }
-    ensures fresh { IfOk result (λ k. value_by ⟦<JournalKeeper<MemDisk> as Keeper>⟧.records ⟦<JournalKeeper<MemDisk> as Keeper>⟧.faults ⟦<JournalKeeper<MemDisk> as Store>⟧.armed ⟦<JournalKeeper<MemDisk> as Store>⟧.broken ⟦<JournalKeeper<MemDisk> as Store>⟧.as_armed k ≡ fresh_store) }
+    ensures fresh { IfOk result (λ k. value_by
+        ⟦<JournalKeeper<MemDisk> as Keeper>⟧.records ⟦<JournalKeeper<MemDisk> as Keeper>⟧.faults
+        ⟦<JournalKeeper<MemDisk> as Store>⟧.armed ⟦<JournalKeeper<MemDisk> as Store>⟧.broken
+        ⟦<JournalKeeper<MemDisk> as Store>⟧.as_armed k ≡ fresh_store) }
     ensures memory { IfErr result (λ e. e ≡ open_fault.OutOfMemory) }
 {
     match JournalKeeper::open(alloc, disk) {
@@ -49,7 +52,10 @@ fn open_empty(alloc: Global, disk: MemDisk) -> Result<JournalKeeper<MemDisk>, Op
 impl JournalKeeper<MemDisk> {
     /// An empty journal on a disk in memory of its own, which fails only as it is armed.
     pub fn in_memory(alloc: Global) -> Result<JournalKeeper<MemDisk>, AllocError>
-        ensures fresh { IfOk result (λ k. value_by ⟦<JournalKeeper<MemDisk> as Keeper>⟧.records ⟦<JournalKeeper<MemDisk> as Keeper>⟧.faults ⟦<JournalKeeper<MemDisk> as Store>⟧.armed ⟦<JournalKeeper<MemDisk> as Store>⟧.broken ⟦<JournalKeeper<MemDisk> as Store>⟧.as_armed k ≡ fresh_store) }
+        ensures fresh { IfOk result (λ k. value_by
+            ⟦<JournalKeeper<MemDisk> as Keeper>⟧.records ⟦<JournalKeeper<MemDisk> as Keeper>⟧.faults
+            ⟦<JournalKeeper<MemDisk> as Store>⟧.armed ⟦<JournalKeeper<MemDisk> as Store>⟧.broken
+            ⟦<JournalKeeper<MemDisk> as Store>⟧.as_armed k ≡ fresh_store) }
     {
         match open_empty(alloc, MemDisk::new(alloc, &[], &[])?) {
             Ok(keeper) => Ok(keeper),

@@ -52,7 +52,12 @@ impl<S: Setting> Model for Desk<S> {
 
     ghost Value = { DeskValue };
 
-    ghost view = { λ d. record { floor = record { history = d.history.items; state = state_of S.service d.history.items; dice = d.dice }; out = d.out; begun = d.begun; given_up = d.is_given_up } };
+    ghost view = { λ d. record {
+      floor = record { history = d.history.items; state = state_of S.service d.history.items; dice = d.dice };
+      out = d.out;
+      begun = d.begun;
+      given_up = d.is_given_up;
+    } };
 
     ghost invariant = { λ d. IsDesk S.service S.requests d.requests S.dice d.events.total d.places d.kept
         (record { history = d.history.items; state = state_of S.service d.history.items; dice = d.dice }) d.out };

@@ -106,7 +106,8 @@ impl<K: Keeper> Node<K> {
         value: &[u8],
     ) -> Result<(), AllocError>
         requires room { length (knows P.past self.old) < INSTANCES }
-        ensures chosen { OnOk result (whole P.past self.new ≡ record (leaving (whole P.past self.old)) { known = knows P.past self.old ++ value.now ∷ [] }) }
+        ensures chosen { OnOk result (whole P.past self.new
+            ≡ record (leaving (whole P.past self.old)) { known = knows P.past self.old ++ value.now ∷ [] }) }
         ensures told { OnOk result (Tells draft.old draft.new (effect.Known self.old.id instance ∷ followed self.old.id
             (role_of self.old.acceptor self.old.proposer (is_some self.old.acting)))) }
         ensures keeper { self.new.keeper ≡ self.old.keeper }

@@ -195,7 +195,8 @@ impl<K: Keeper> Node<K> {
         requires recorder { IfSome self.old.acting (CanSettle svc.now) }
         requires room { length (knows P.past self.old) < INSTANCES }
         ensures knows { OnOk result (whole P.past self.new ≡ knowing svc.now (whole P.past self.old) instance value.now) }
-        ensures effects { OnOk result (draft.new.effects.items ≡ draft.old.effects.items ++ effect.Known self.old.id instance ∷ releases_in self.old.acting) }
+        ensures effects { OnOk result (draft.new.effects.items
+            ≡ draft.old.effects.items ++ effect.Known self.old.id instance ∷ releases_in self.old.acting) }
         ensures sends { OnOk result (map (message_in P.past) draft.new.sends.items ≡ map
             (message_in P.past) draft.old.sends.items ++ calls.others self.old.nodes self.old.id (content_in P.past (sent.Chosen instance value.now))) }
         ensures keeper { self.new.keeper ≡ self.old.keeper }
@@ -220,7 +221,10 @@ impl<K: Keeper> Node<K> {
         instance: u32,
     ) -> Result<(), AllocError>
         requires recorder { IfSome self.old.acting (CanSettle svc.now) }
-        ensures settled { OnOk result (whole P.past self.new ≡ record (whole P.past self.old) { replayed = spec.replayed_to self.old.acting instance self.old.replayed; acting = option_map (spec.settling svc.now) self.old.acting }) }
+        ensures settled { OnOk result (whole P.past self.new ≡ record (whole P.past self.old) {
+          replayed = spec.replayed_to self.old.acting instance self.old.replayed;
+          acting = option_map (spec.settling svc.now) self.old.acting;
+        }) }
         ensures effects { OnOk result (draft.new.effects.items ≡ draft.old.effects.items ++ releases_in self.old.acting) }
         ensures sends { OnOk result (draft.new.sends.items ≡ draft.old.sends.items) }
         ensures keeper { self.new.keeper ≡ self.old.keeper }

@@ -50,7 +50,13 @@ impl Model for State {
 
     ghost Value = { StateValue };
 
-    ghost view = { λ s. record { variables = s.variables.items; lanes = s.lanes.items; queues = s.queues.items; semaphores = s.semaphores.items; clients = s.clients.items } };
+    ghost view = { λ s. record {
+      variables = s.variables.items;
+      lanes = s.lanes.items;
+      queues = s.queues.items;
+      semaphores = s.semaphores.items;
+      clients = s.clients.items;
+    } };
 
     ghost invariant = { λ s. IsSmall s.lanes.items s.queues.items };
 }

@@ -5,8 +5,10 @@ use std::test::*;
 
 /// The lanes of the first round of seed 7: twelve that another program drew, by the reference steps of the generator, and
 /// eight times both.
-const LANES: &str =
-    "lane 1 1\nlane 1 1\nlane 1 1\nlane 1 2\nlane 1 2\nlane 1 2\nlane 1 2\nlane 1 2\nlane 1 2\nlane 1 1\nlane 1 2\nlane 1 2\nlane 1 1\nlane 1 2\nlane 1 1\nlane 1 2\nlane 1 1\nlane 1 2\nlane 1 1\nlane 1 2\nlane 1 1\nlane 1 2\nlane 1 1\nlane 1 2\nlane 1 1\nlane 1 2\nlane 1 1\nlane 1 2\ncut 1\n";
+const LANES: &str = "\
+    lane 1 1\nlane 1 1\nlane 1 1\nlane 1 2\nlane 1 2\nlane 1 2\nlane 1 2\nlane 1 2\nlane 1 2\nlane 1 1\n\
+    lane 1 2\nlane 1 2\nlane 1 1\nlane 1 2\nlane 1 1\nlane 1 2\nlane 1 1\nlane 1 2\nlane 1 1\nlane 1 2\n\
+    lane 1 1\nlane 1 2\nlane 1 1\nlane 1 2\nlane 1 1\nlane 1 2\nlane 1 1\nlane 1 2\ncut 1\n";
 
 #[test]
 fn one_round_is_written(rt: HostRuntime) -> Result<(), Fail> {

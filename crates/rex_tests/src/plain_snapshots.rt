@@ -12,8 +12,10 @@ use std::test::*;
 
 /// A lock with a condition and two variables, and a semaphore. The first handler has a local and stands in a loop of three turns but
 /// for its reply; the second has no locals.
-const MARKET: &str =
-    "lanes 3\nlock L\ncond C on L\nsem S = 3\nvar a on L = 0\nvar b on L = 7\nhandler take x\nrepeat 3\nacquire L\nwait C while a < x\nrelease L\nendrepeat\nreply x\nhandler put\nacquire L\nset a = a + 1\nsignal C\nrelease L\nup S\nreply 1\n";
+const MARKET: &str = "\
+    lanes 3\nlock L\ncond C on L\nsem S = 3\nvar a on L = 0\nvar b on L = 7\n\
+    handler take x\nrepeat 3\nacquire L\nwait C while a < x\nrelease L\nendrepeat\nreply x\nhandler put\nacquire L\n\
+    set a = a + 1\nsignal C\nrelease L\nup S\nreply 1\n";
 
 /// The first values of the variables.
 const FIRST: [u64; 2] = [0, 7];

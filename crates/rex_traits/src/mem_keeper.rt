@@ -102,7 +102,9 @@ impl MemKeeper {
     /// A keeper without records, not armed.
     pub fn new(alloc: Global) -> MemKeeper
         ensures value { result ≡ unused_keeper }
-        ensures fresh { value_by ⟦<MemKeeper as Keeper>⟧.records ⟦<MemKeeper as Keeper>⟧.faults ⟦<MemKeeper as Store>⟧.armed ⟦<MemKeeper as Store>⟧.broken ⟦<MemKeeper as Store>⟧.as_armed result ≡ fresh_store }
+        ensures fresh { value_by
+            ⟦<MemKeeper as Keeper>⟧.records ⟦<MemKeeper as Keeper>⟧.faults
+            ⟦<MemKeeper as Store>⟧.armed ⟦<MemKeeper as Store>⟧.broken ⟦<MemKeeper as Store>⟧.as_armed result ≡ fresh_store }
     {
         MemKeeper {
             keeper: SureKeeper::new(alloc),

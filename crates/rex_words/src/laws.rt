@@ -1,6 +1,7 @@
 //! What stamps give. Each function is the statement that its contract makes, and does nothing.
 
-ghost use Rattle.rex_words.specs.Laws.{HoldersAreLast, NewEventsAreApart, EventsFindTheirPlace, GatheredListsAreOne, RecordingsEndOver, EmptyHistoriesBeginNothing};
+ghost use Rattle.rex_words.specs.Laws.{HoldersAreLast, NewEventsAreApart, EventsFindTheirPlace};
+ghost use Rattle.rex_words.specs.Laws.{GatheredListsAreOne, RecordingsEndOver, EmptyHistoriesBeginNothing};
 ghost use Rattle.rex_words.specs.Moments.{ViewsKnowWhatIsSo, LanesHaveOneView, FreshLanesDidNothing, MomentsRun};
 ghost use Rattle.rex_words.specs.Own.{OwnEventsGoAlong, OthersStayOwn};
 ghost use Rattle.rex_words.specs.Kept.{BeginningsHold, QuietEventsEnter, LooksKeep, FailuresKeep, LoadsKeep, StoresKeep, TakesKeep, ReleasesKeep};

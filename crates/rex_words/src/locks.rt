@@ -9,7 +9,8 @@ ghost use Rattle.rex_words.specs.Alone.{service_of};
 ghost use Rattle.rex_words.specs.Moment.{IsAssignment, guard, locks_in, variables_in};
 ghost use Rattle.rex_words.specs.Words.{stamp_in, owner_in};
 ghost use Rattle.rex_words.specs.Seats.{IsSeatOf};
-ghost use Rattle.rex_words.specs.Turns.{IsSettled, StandsAt, IsPreparing, IsFetching, AreLoaded, IsPublishing, IsAhead, HasFound, HasFailed, IsCounted, loads_of, failures_of};
+ghost use Rattle.rex_words.specs.Turns.{IsSettled, StandsAt, IsPreparing, IsFetching, AreLoaded, IsPublishing};
+ghost use Rattle.rex_words.specs.Turns.{IsAhead, HasFound, HasFailed, IsCounted, loads_of, failures_of};
 
 use crate::limits::OTHER_EVENTS;
 use crate::plays::{Acquire, Fetch, Look, Publish, Release, TakeByTry, Try};
