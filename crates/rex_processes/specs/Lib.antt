@@ -1,0 +1,4 @@
+pub mod Processes
+pub mod Laws
+pub mod Tested
+pub mod Leading
