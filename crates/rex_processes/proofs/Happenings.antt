@@ -69,7 +69,7 @@ module _ (service : Declarations) (seed n : ℕ) (few : n ≤ most_nodes) where
     dead_good : (d : CallHere) → G d → G (dead d)
     dead_good d good = down_good n sv (logs w) (roles w) w.messages m min d good (dead d).node [] refl refl
 
-  happens_ok : (w : World) (m : ℕ) (x : Happening) → IsHonest service w x → IsWorld n sv w → GoesOnTo n sv w (happens service seed n w m x).world
+  pub happens_ok : (w : World) (m : ℕ) (x : Happening) → IsHonest service w x → IsWorld n sv w → GoesOnTo n sv w (happens service seed n w m x).world
   happens_ok w m (Does task) h ok = at_any_ok n sv w ok m (call_for service seed n m task) (λ min. call_good w m min task h)
   happens_ok w m (DiesDoing before kept task) h ok =
       at_any_ok n sv w ok m (λ d. dead (call_for service seed n m task (armed_after before kept d)))

@@ -2,3 +2,4 @@ pub mod Processes
 pub mod Laws
 pub mod Tested
 pub mod Leading
+pub mod Plain

@@ -6,6 +6,8 @@ ghost use Rattle.rex_processes.specs.Laws.{ProcessesAgree, ProcessesBeginAgreed,
 ghost use Rattle.rex_processes.specs.Laws.{ProcessesFitNext, ProcessesHappenOnce, ProcessesKeepReplies, ProcessesKeepAgreed, ProcessesTellAgreed};
 ghost use Rattle.rex_processes.specs.Tested.{TestedMessagesFit, TestedElectionsFit, AloneElectionsFit, NextFitsWhereItRuns};
 ghost use Rattle.rex_processes.specs.Leading.{ActiveOpensStayFit, ActivesStayActing, ActivesRunInRange, CutsOfOneAreSpelled, CountsOfOneHaveRoom};
+ghost use Rattle.rex_processes.specs.Plain.{RecordsStayPlain, PlainRecordsAreKept, PlainRecordsHoldAll, PlainRecordsTellNoState};
+ghost use Rattle.rex_processes.specs.Plain.{ProcessesAreStateless, ProcessesStayInRange, TestsRefuseNone};
 
 // ---- all processes
 
@@ -60,6 +62,21 @@ pub fn reads_are_of_the_agreed_after_happenings()
     ensures { ProcessesTellAgreed }
 {}
 
+/// Where none is ever told to write its state down, each process' records are plain, and no message tells a state.
+pub fn processes_stay_stateless()
+    ensures { ProcessesAreStateless }
+{}
+
+/// Where each asks another one that is there, and hears no message of its own, numbers stay in their ranges.
+pub fn numbers_stay_in_range_after_happenings()
+    ensures { ProcessesStayInRange }
+{}
+
+/// Where both is so, each message that was ever sent is a good one, and each process may hear it: tests of that refuse none.
+pub fn tests_refuse_no_honest_message()
+    ensures { TestsRefuseNone }
+{}
+
 // ---- one process by itself
 
 /// Where all that a process knows fits, so does all that it knows after a message, if it tested what the message could make it know.
@@ -105,4 +122,25 @@ pub fn cuts_of_one_are_spelled()
 /// The count of each of its lanes has room for one more event.
 pub fn counts_of_one_have_room()
     ensures { CountsOfOneHaveRoom }
+{}
+
+/// Plain records, of which none is of a state and none says that values were forgotten, stay plain whatever the process does but to
+/// write its state down or to hear a state, and wherever an append fails.
+pub fn records_stay_plain()
+    ensures { RecordsStayPlain }
+{}
+
+/// A process with plain records appends nothing where it comes up.
+pub fn plain_records_are_kept()
+    ensures { PlainRecordsAreKept }
+{}
+
+/// Plain records hold all values that they know, and no state stands for any.
+pub fn plain_records_hold_all()
+    ensures { PlainRecordsHoldAll }
+{}
+
+/// A process with plain records tells no state, whatever it does.
+pub fn plain_records_tell_no_state()
+    ensures { PlainRecordsTellNoState }
 {}
