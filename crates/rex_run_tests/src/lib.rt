@@ -1,5 +1,5 @@
 //! The tests of nodes, worlds and programs, over memory: calls of a node, the runs of whole scenarios, lanes as threads, the
-//! words by which they lock, and failing devices. There is nothing here for a program to use.
+//! words by which they lock, and failing devices; and of journals in files. There is nothing here for a program to use.
 //!
 //! They stand apart from `rex_tests`, so that its tests are proved while nodes and worlds still are.
 #![tactic(auto)]
@@ -8,6 +8,8 @@
 mod cli;
 #[cfg(test)]
 mod devices;
+#[cfg(test)]
+mod files;
 #[cfg(test)]
 mod gates;
 #[cfg(test)]

@@ -1,0 +1,49 @@
+-- An empty body. The borrow is opened, and closed with one more sync.
+use Rattle.std.proofs.Common.{List, [], ◌∷◌, refl}
+use base.Logic.{id⊢}
+use base.Fml.{ftrue, flft}
+use mir.Syntax.{named}
+use mir.Val.{Val, vunit, vptr}
+use types.Kit.{‵, ◌⊛◌, ◌$◌, ◌∵◌, !, qed, done, move, keep, drop, use1, split, join, fsplit3, fjoin, fjoin3, feq_i, suffices, frame}
+use types.Run.{enter, of_opd, unit_lit, returns}
+use types.ByLocal.{alloc_all, pass_all, free_all, look_at, sets}
+use denote.RattleType.{owns}
+use denote.Builtin.{bool}
+use denote.Exit.{yes}
+use denote.Plain.{bool_vals, bool_Tells}
+use denote.Ref.{MutRef, mut_vals, mut_Tells}
+use denote.Signature.{plain}
+use denote.Steps.{nothing, opens, closes}
+use denote.Triple.Walked.{Stays, walk_of, says, stay_ref, stay_none, Goes-ref, Goes-none, ends_at}
+use Rattle.std.proofs.raw_atomic.Walks.{proved}
+use Rattle.rex_disk.specs.Record.Done.{Synced}
+use Rattle.rex_file.specs.declared.call_trail.CallTrail.{CallTrail}
+use Rattle.rex_file.specs.contracts.call_trail.CallTrail.{the_row as R}
+use Rattle.rex_file.specs.contracts.call_trail.CallTrail.synced as f
+use Rattle.rex_file.proofs.call_trail.CallTrail.synced.Statement.{statement}
+use Rattle.rex_file.proofs.call_trail.CallTrail.synced.Code as code
+
+abbrev stayed : Stays f.ended.signature.params f.ended.kept
+stayed = (stay_ref (0 ∷ []) tt (plain (λ _. R)), (stay_none (λ _. bool) yes, tt))
+
+pub synced_spec : {M : Type 1} → statement M
+synced_spec 𝓤 𝓛 𝓜 𝓡 wired =
+    let c = f.clauses 𝓛 𝓜.mem 𝓡.returns in let W = walk_of 𝓛 f.ended stayed c in
+    proved 𝓛 f.ended stayed c 𝓜 𝓡 (Goes-ref 𝓛 1 0 tt (plain (λ _. R)), (Goes-none 𝓛 1 (λ _. bool) yes (λ κs x w. refl), tt))
+    f.Key.name code.function (code.unfolded 𝓤 𝓛.H 𝓜 𝓡 wired)
+    (λ κs. (mut_vals, (bool_vals, tt))) (λ κs. (mut_Tells (named 0) κs.0 R, (bool_Tells, tt))) (λ κs qs bounds a _ are.
+    let b = a.0.ref_ptr.0 in let o = a.0.ref_ptr.1 in let h = a.0.now in let vs = mut_vals a.0 in let us = bool_vals a.1.0 in
+    let y : W.Ghost = ((κs, qs, bounds, a, (vs, (us, tt))), tt) in
+    let more : CallTrail = record { marker = h.marker; done = Synced a.1.0 ∷ h.done } in
+    qed 𝓛 (((‵ (flft κs.0 qs.0) ⊛ ‵ ftrue) ⊛ ‵ ((MutRef (named 0) κs.0 R).own_val a.0 vs) ⊛ ‵ (owns (bool ∷ []) a.1 (us, tt))) ∷ ‵ ftrue ∷ []) ∵
+    split ! $ split ! $ move ! (2 ∷ []) $ split ! $ fsplit3 ! $ drop ! $ keep ! (0 ∷ 1 ∷ 3 ∷ 2 ∷ []) $
+    -- [two parts of self; the token; the others]
+    enter ! _ _ _ _ _ $ alloc_all ! (λ l. pass_all ! refl ((tt, tt), ((tt, tt), tt)) $
+    opens ! tt R {h = h} b o (λ ws.
+    sets ! (of_opd ! (unit_lit !)) refl (tt, tt) $
+    move ! (1 ∷ []) $ use1 𝓛 (‵ (R.own_val more ws)) (id⊢ 𝓤 _) $ move ! (1 ∷ 0 ∷ []) $ closes ! tt R more ws b o $
+    returns ! (look_at ! 0 refl) $ free_all ! refl $
+    suffices ! _ (ends_at 𝓛 f.ended stayed c y vunit tt (more, (tt, tt)) (tt, (tt, tt))) $ says ! refl $
+    nothing ! $ move ! (3 ∷ 0 ∷ []) $ join ! $ frame ! $
+    feq_i ! (List Val) (vptr b o ∷ []) (vptr b o ∷ []) refl $ fjoin3 ! $ fjoin ! $
+    feq_i ! (List Val) (vunit ∷ []) (vunit ∷ []) refl $ move ! (1 ∷ 0 ∷ []) $ done !)))
