@@ -27,6 +27,8 @@ mod gate;
 #[cfg(test)]
 mod generator;
 #[cfg(test)]
+mod identity;
+#[cfg(test)]
 mod journal;
 #[cfg(test)]
 mod list;
@@ -36,6 +38,8 @@ mod lockset;
 mod msg;
 #[cfg(test)]
 mod net;
+#[cfg(test)]
+mod node_command;
 #[cfg(test)]
 mod parse;
 #[cfg(test)]

@@ -1,0 +1,13 @@
+//! The digest of a service's text.
+
+ghost use Rattle.std.specs.Prelude.{◌≡◌};
+ghost use Rattle.sha2.specs.Sha256.{sha256};
+
+use sha2::{Digest, Sha256};
+
+/// The digest of a text: SHA-256 (FIPS 180-4) of its bytes, as they are.
+pub fn digest_of(text: &[u8]) -> [u8; 32]
+    ensures { result ≡ sha256 text.now }
+{
+    Sha256::digest(text)
+}

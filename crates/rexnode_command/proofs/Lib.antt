@@ -1,0 +1,6 @@
+pub mod Simple
+pub mod Fits
+pub mod Walking
+pub mod Taken
+pub mod Refused
+pub mod Examples

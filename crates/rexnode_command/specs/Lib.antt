@@ -1,0 +1,4 @@
+pub mod Application
+pub mod Command
+pub mod Reading
+pub mod Laws
