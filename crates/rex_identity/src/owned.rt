@@ -76,9 +76,11 @@ fn settle_owner<K: Keeper>(
 }
 
 impl<K: Keeper> Owned<K> {
-    /// Claims a keeper for an identity. One without records gets the identity's as its first; in any other that has to be the first already.
+    /// Claims a keeper for an identity. One without records gets the identity's as its first; in any other that has to be the first
+    /// already.
     ///
-    /// A refusal hands the keeper back.
+    /// # Errors
+    /// The keeper is handed back: its first record is another one, it failed in this call, or memory was short.
     pub fn claim(alloc: Global, mut keeper: K, identity: Identity) -> Result<Owned<K>, NotOwned<K>>
         requires count { K.faults keeper < 2 ^ 64 - 1 }
         ensures records { IfOk result (λ o. K.records o.keeper ≡ identity_bytes identity ∷ drop 1 (K.records keeper)) }
@@ -124,6 +126,7 @@ impl<K: Keeper> Keeper for Owned<K> {
     }
 
     fn get(&self, index: usize) -> &[u8] {
+        // The count is a `usize`, so the index of the record is one, too.
         let count = self.keeper.len();
         prove!(index < count - 1);
         self.keeper.get(index + 1)
