@@ -17,7 +17,6 @@ use std::alloc::{AllocError, Global};
 use std::fs::File;
 use std::io;
 use std::marker::Model;
-use std::os::fd::AsRawFd;
 use std::os::unix::fs::FileExt;
 use std::snapshot::Snapshot;
 
@@ -51,24 +50,20 @@ impl Model for FileDisk {
     ghost invariant = { IsKept };
 }
 
-// Sees to it that what is read of a file is on its disk, and its name in this folder, too. The system's copies of the file's
-// pages are dropped, since a sync that failed earlier may have left them other than the disk has them.
-fn make_durable(file: &File, folder: &File) -> io::Result<()> {
-    file.sync_all()?;
-    folder.sync_all()?;
-    let advised = libc::posix_fadvise(file.as_raw_fd(), 0, 0, libc::POSIX_FADV_DONTNEED);
-    if advised != 0 {
-        return Err(io::Error::from_raw_os_error(advised));
-    }
-    Ok(())
-}
-
 // All bytes of a file.
 fn read_file(alloc: Global, file: &File) -> Result<Vec<u8>, FileFault> {
     let len = file.metadata()?.len() as usize;
     let mut bytes = vec![in alloc; 0; len]?;
     file.read_exact_at(&mut bytes, 0)?;
     Ok(bytes)
+}
+
+// Sees to it that what was read of a file is on its disk, and its name in this folder, too. The bytes are written once more, since a
+// sync that failed earlier may have left the disk without some of what the system goes on to give.
+fn make_durable(file: &File, folder: &File, bytes: &[u8]) -> io::Result<()> {
+    file.write_all_at(bytes, 0)?;
+    file.sync_all()?;
+    folder.sync_all()
 }
 
 // Copies the bytes from `at` on of those that are held, and answers whether none are.
@@ -119,7 +114,8 @@ fn count(faults: &mut u64, failed: bool)
 }
 
 impl FileDisk {
-    /// Takes a file, which lies in this folder, as a disk: locks it without waiting, syncs it and the folder, and reads all of it.
+    /// Takes a file, which lies in this folder, as a disk: locks it without waiting, reads all of it, writes that once more, and syncs
+    /// it and the folder.
     /// A refusal closes the file.
     pub fn open(alloc: Global, file: File, folder: &File) -> Result<FileDisk, FileFault>
         ensures opened { IfOk result (λ d. d ≡ opened_file d.first) }
@@ -128,8 +124,8 @@ impl FileDisk {
             return Err(FileFault::Failed(io::ErrorKind::Unsupported.into()));
         }
         file.try_lock()?;
-        make_durable(&file, folder)?;
         let bytes = read_file(alloc, &file)?;
+        make_durable(&file, folder, &bytes)?;
         Ok(FileDisk {
             file,
             first: Snapshot::of(&bytes),
