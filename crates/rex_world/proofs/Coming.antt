@@ -39,7 +39,8 @@ use Rattle.rex_world.specs.declared.world.World.{World}
 use Rattle.rex_world.specs.Seats.{AreKept, AreSeats, AreWithin, heres}
 use Rattle.rex_world.specs.World.{read_message, message_of, messages_of, IsSpelled, TellsIn, TellsRightly, world_of, nodes_of}
 use Rattle.rex_world.specs.Kept.{IsRunning, IsSame}
-use Rattle.rex_world.specs.Calls.{IsDone, IsRefused, WasDown, Acts, IsWhole, Did, TellsStep, TellsRefusal, Tells, HasTold, effect_of, seen_by, StartsIf, IsStarted}
+use Rattle.rex_world.specs.Calls.{IsWhole, Did, TellsStep, TellsRefusal, Tells, HasTold, seen_by, StartsIf, IsStarted}
+use Rattle.rex_steps.specs.Steps.{IsDone, IsRefused, WasDown, Acts, effect_of}
 use Rattle.rex_world.proofs.Sending.{sent_alike}
 use Rattle.rex_world.proofs.Silent.{none_told}
 use Rattle.rex_world.proofs.Shown.{releases_long}

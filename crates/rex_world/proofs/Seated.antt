@@ -15,7 +15,8 @@ use Rattle.rex_node.specs.Telling.{AreTold}
 use Rattle.rex_world.specs.declared.seats.Seat.{Seat}
 use Rattle.rex_world.specs.declared.seats.Seat.TheVariants.{Empty}
 use Rattle.rex_world.specs.Seats.{IsSeat, AreSeats, AreWithin, StaysSeat, faults_of, here_in, heres, keeper_in, records_at, records_of}
-use Rattle.rex_world.specs.Calls.{Acts, IsWhole, IsStarted}
+use Rattle.rex_world.specs.Calls.{IsWhole, IsStarted}
+use Rattle.rex_steps.specs.Steps.{Acts}
 use Rattle.rex_world.specs.Places.{IsChangedAt, ActsAt, StartsAt}
 
 past_one : (i : ℕ) → suc (suc i) ≢ 1

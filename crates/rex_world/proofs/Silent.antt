@@ -17,7 +17,7 @@ use Rattle.rex_cluster.specs.Lanes.{Here, CallHere, active_only, lane_turn, subm
 use Rattle.rex_node.specs.declared.refusal.Refusal.{Refusal}
 use Rattle.rex_node.specs.declared.step.Step.{Step}
 use Rattle.rex_node.specs.Telling.{AreTold, IsTold}
-use Rattle.rex_world.specs.Calls.{Acts}
+use Rattle.rex_steps.specs.Steps.{Acts}
 use Rattle.rex_world.proofs.Starting.{nothing_sent}
 
 -- ---- the model's calls

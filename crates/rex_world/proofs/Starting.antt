@@ -27,7 +27,8 @@ use Rattle.rex_log.specs.Log.{log_of}
 use Rattle.rex_node.specs.Parts.{NodeValue, StaysNode, count_of}
 use Rattle.rex_world.specs.declared.seats.Seat.{Seat}
 use Rattle.rex_world.specs.declared.seats.Seat.TheVariants.{Running, Stopped, Empty}
-use Rattle.rex_world.specs.Calls.{CameBack, HasStarted, IsDone, StartsIf}
+use Rattle.rex_world.specs.Calls.{CameBack, HasStarted, StartsIf}
+use Rattle.rex_steps.specs.Steps.{IsDone}
 use Rattle.rex_world.specs.Seats.{IsRunner, StaysRunner, StaysSeat, armed_of, faults_of, here_at, here_in, is_up_in, keeper_in, records_of, reopened}
 use Rattle.rex_world.proofs.Acted.{done_if, none_grown, stays_whole}
 use Rattle.rex_world.proofs.Failing.{follows}

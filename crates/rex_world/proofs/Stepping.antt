@@ -48,7 +48,8 @@ use Rattle.rex_world.specs.declared.world.World.{World}
 use Rattle.rex_world.specs.Seats.{AreKept, AreSeats, disarmed, heres, records_at}
 use Rattle.rex_world.specs.World.{world_of, nodes_of}
 use Rattle.rex_world.specs.Kept.{IsRunning}
-use Rattle.rex_world.specs.Calls.{Acts, AreReleased, CanBeTold, IsSettled, ComesTo, StartsIf, step_in, Starts, cut_line}
+use Rattle.rex_world.specs.Calls.{AreReleased, CanBeTold, IsSettled, ComesTo, StartsIf, step_in, Starts, cut_line}
+use Rattle.rex_steps.specs.Steps.{Acts}
 use Rattle.rex_world.specs.Places.{ActsAt, IsChangedAt, StartsAt}
 use Rattle.rex_world.proofs.Seated.{many_here}
 use Rattle.rex_world.proofs.Ranges.{all_fit, is_behind}

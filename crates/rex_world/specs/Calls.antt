@@ -10,7 +10,7 @@ use Rattle.rex_cluster.specs.Records.{known, promise}
 use Rattle.rex_cluster.specs.Node.{Service, is_active}
 use Rattle.rex_cluster.specs.Calls.{begin, migrate, say, start}
 use Rattle.rex_cluster.specs.Values.{Value, values_fit}
-use Rattle.rex_cluster.specs.Lanes.{Here, CallHere}
+use Rattle.rex_cluster.specs.Lanes.{Here}
 use Rattle.rex_syntax.specs.declared.request.Request.{Request}
 use Rattle.rex_schedule.specs.declared.scenario.ScheduleLine.{ScheduleLine}
 use Rattle.rex_schedule.specs.declared.scenario.ScheduleLine.TheVariants.{Cut, CutBelow, Deliver, Flush, KeepFail}
@@ -26,59 +26,12 @@ use Rattle.rex_log.specs.Messages.{message_in}
 use Rattle.rex_node.specs.Restarting.{HasForgotten, HasRightBase}
 use Rattle.rex_world.specs.declared.told.Told.{Told}
 use Rattle.rex_world.specs.declared.world.World.{World}
+use Rattle.rex_steps.specs.Steps.{effect_of}
 use Rattle.rex_world.specs.Agreed.{learned}
 use Rattle.rex_world.specs.Seats.{AreSeats, heres, records_at}
 use Rattle.rex_world.specs.World.{nodes_of, world_of}
 use Rattle.rex_world.specs.Kept.{IsRunning, IsSame}
 use Rattle.rex_event.specs.declared.event.TheConstants.{CLIENT_ENTRIES}
-
--- what is reported of a refusal; a state that is told is never a bad one, and want of memory ends the run
-abbrev pub effect_of : ℕ → Refusal → Effect
-effect_of node why.Down = effect.IsDown node
-effect_of node (why.NotActive role) = effect.NotActive role
-effect_of node (why.Open instance) = effect.Open instance
-effect_of node why.Ended = effect.Ended
-effect_of node why.Nothing = effect.Nothing
-effect_of node (why.Live events) = effect.Live events
-effect_of node why.UpToDate = effect.UpToDate node
-effect_of node why.Spent = effect.Spent node
-effect_of node (why.BadSnapshot at) = effect.Nothing
-effect_of node why.OutOfMemory = effect.Nothing
-
--- a node that is up did this call of the model, with its messages and its effects
-pub record IsDone (past : List Value) (call : CallHere → CallHere) (before after : Here) (step : Step) : Type 0 where
-  pub up : before.up ≡ true
-  pub node : after ≡ (call (begin before)).node
-  pub sends : map (message_in past) step.sends ≡ (call (begin before)).sends
-  pub effects : step.effects ≡ (call (begin before)).effects
-
--- it refused: it is as it was, and the model's call says so too
-pub record IsRefused (call : CallHere → CallHere) (number : ℕ) (before after : Here) (refusal : Refusal) : Type 0 where
-  pub up : before.up ≡ true
-  pub same : after ≡ before
-  pub says : call (begin before) ≡ say (effect_of number refusal) (begin before)
-
--- it is down, and as it was
-pub record WasDown (before after : Here) : Type 0 where
-  pub down : before.up ≡ false
-  pub same : after ≡ before
-
--- what a call of a node came to
-abbrev pub Acts : List Value → (CallHere → CallHere) → ℕ → Here → Here → Result Step Refusal → Type 0
-Acts past call number before after (Ok step) = IsDone past call before after step
-Acts past call number before after (Err why.OutOfMemory) = Unit {0}
-Acts past call number before after (Err why.Down) = WasDown before after
-Acts past call number before after (Err refusal) = IsRefused call number before after refusal
-
--- the step of a call that reports one effect of what it gave, and sends nothing
-pub record IsTelling (e : Effect) (step : Step) : Type 0 where
-  pub effects : step.effects ≡ e ∷ []
-  pub sends : step.sends ≡ []
-
-abbrev pub TellsOf : {A : Type 0} → (A → Effect) → Result A Refusal → Result Step Refusal → Type 0
-TellsOf f (Ok x) (Ok step) = IsTelling (f x) step
-TellsOf f (Ok x) (Err refusal) = refusal ≡ why.OutOfMemory
-TellsOf f (Err refusal) result = result ≡ Err refusal
 
 -- what the node knows are deltas that run from the start, of which it doesn't hold the first values of the past, and its last checkpoint is of the state to which they run up to it
 pub record Starts (service : Declarations) (past : List Value) (x : Here) : Type 0 where

@@ -15,7 +15,8 @@ use Rattle.rex_node.specs.Telling.{AreTold}
 use Rattle.rex_node.specs.Calls.{LeadsTo, Refuses, refusal_active}
 use Rattle.rex_world.specs.declared.seats.Seat.{Seat}
 use Rattle.rex_world.specs.Seats.{AreKept, armed_in, heres, records_at}
-use Rattle.rex_world.specs.Calls.{Acts, IsWhole, IsStarted}
+use Rattle.rex_world.specs.Calls.{IsWhole, IsStarted}
+use Rattle.rex_steps.specs.Steps.{Acts}
 
 -- only the node of this number is another one, and where memory wasn't short its records have only grown, each node is kept, and no keeper fails more often
 pub record IsChangedAt {S : Type 0} (service : Declarations) (past : List Value) (seed number : ℕ) (before after : List (Seat S)) (outcome : Result Step Refusal) : Type 0 where

@@ -14,7 +14,6 @@ mod report;
 mod run;
 mod seats;
 mod seeing;
-mod steps;
 mod summary;
 mod told;
 mod tracing;

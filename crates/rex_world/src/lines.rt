@@ -13,7 +13,7 @@ ghost use Rattle.rex_world.specs.World.{nodes_of, world_of};
 ghost use Rattle.rex_world.specs.Kept.{IsRunning, IsSame};
 ghost use Rattle.rex_world.specs.Calls.{Did, Comes, IsCall, HasTold, cut_line};
 
-use crate::calls::{effect_of, read_effect, send_all, tell_all};
+use crate::calls::{send_all, tell_all};
 use crate::places::{
     ask_at, checkpoint_at, cut_at, drop_at, elect_at, lane_at, read_at, replay_at, start_at,
     stop_at, submit_at,
@@ -24,6 +24,7 @@ use rex_event::{CLIENTS, Event, Kind};
 use rex_node::{Refusal, Step};
 use rex_replay::Replayer;
 use rex_schedule::ScheduleLine;
+use rex_steps::{effect_of, read_effect};
 use rex_syntax::checked::Checked;
 use rex_syntax::version::Version;
 use rex_traits::Store;

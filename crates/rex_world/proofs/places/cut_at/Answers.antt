@@ -4,7 +4,7 @@ use Rattle.rex_cluster.specs.Calls.{begin}
 use Rattle.rex_node.specs.Going.{RunsOn}
 use Rattle.std.proofs.Common.{◌≡◌, ◌-◌, true, slice_index_or}
 use Rattle.rex_world.specs.Seats.{disarmed, here_in}
-use Rattle.rex_world.specs.Calls.{Acts}
+use Rattle.rex_steps.specs.Steps.{Acts}
 use Rattle.std.specs.Option.{option_copied}
 use Rattle.rex_cluster.specs.Lanes.{cut}
 use Rattle.rex_node.specs.Calls.{CanBeCut, counts_for}

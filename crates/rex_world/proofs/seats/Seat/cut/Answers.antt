@@ -4,8 +4,9 @@ use Rattle.rex_cluster.specs.Lanes.{cut}
 use Rattle.rex_node.specs.Calls.{counts_for}
 use Rattle.rex_world.specs.declared.seats.Seat.{Seat}
 use Rattle.rex_world.specs.Seats.{IsSeat, here_at, here_in, is_up_in}
-use Rattle.rex_world.specs.Calls.{Acts}
-use Rattle.rex_world.proofs.Acted.{cuts, in_seat, nothing_below, stays_whole, was_up_then}
+use Rattle.rex_steps.specs.Steps.{Acts}
+use Rattle.rex_world.proofs.Acted.{cuts, in_seat, stays_whole}
+use Rattle.rex_steps.proofs.Refusing.{nothing_below, was_up_then}
 use Rattle.rex_world.proofs.Unseen.{cut_either}
 use Rattle.rex_world.proofs.seats.Seat.cut.Goals as goal
 

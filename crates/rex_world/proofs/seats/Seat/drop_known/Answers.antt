@@ -2,8 +2,9 @@ use Rattle.std.proofs.Common.{subst, sym}
 use Rattle.rex_cluster.specs.Calls.{drop_known}
 use Rattle.rex_world.specs.declared.seats.Seat.{Seat}
 use Rattle.rex_world.specs.Seats.{IsSeat, here_at, here_in}
-use Rattle.rex_world.specs.Calls.{Acts}
-use Rattle.rex_world.proofs.Acted.{drops, in_seat, stays_whole, was_up}
+use Rattle.rex_steps.specs.Steps.{Acts}
+use Rattle.rex_world.proofs.Acted.{drops, in_seat, stays_whole}
+use Rattle.rex_steps.proofs.Refusing.{was_up}
 use Rattle.rex_world.proofs.Unseen.{drop_either}
 use Rattle.rex_world.proofs.seats.Seat.drop_known.Goals as goal
 

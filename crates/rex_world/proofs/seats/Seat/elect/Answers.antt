@@ -3,8 +3,9 @@ use Rattle.rex_cluster.specs.Calls.{elect}
 use Rattle.rex_cluster.specs.Values.{service_of}
 use Rattle.rex_world.specs.declared.seats.Seat.{Seat}
 use Rattle.rex_world.specs.Seats.{IsSeat, here_at, here_in}
-use Rattle.rex_world.specs.Calls.{Acts}
-use Rattle.rex_world.proofs.Acted.{elects, in_seat, stays_whole, was_up}
+use Rattle.rex_steps.specs.Steps.{Acts}
+use Rattle.rex_world.proofs.Acted.{elects, in_seat, stays_whole}
+use Rattle.rex_steps.proofs.Refusing.{was_up}
 use Rattle.rex_world.proofs.Unseen.{elect_either}
 use Rattle.rex_world.proofs.seats.Seat.elect.Goals as goal
 

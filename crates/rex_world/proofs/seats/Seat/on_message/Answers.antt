@@ -4,8 +4,9 @@ use Rattle.rex_cluster.specs.Values.{service_of}
 use Rattle.rex_log.specs.Messages.{content_in}
 use Rattle.rex_world.specs.declared.seats.Seat.{Seat}
 use Rattle.rex_world.specs.Seats.{IsSeat, here_at, here_in}
-use Rattle.rex_world.specs.Calls.{Acts}
-use Rattle.rex_world.proofs.Acted.{in_seat, is_right, receives, stays_whole, was_up_then}
+use Rattle.rex_steps.specs.Steps.{Acts}
+use Rattle.rex_world.proofs.Acted.{in_seat, receives, stays_whole}
+use Rattle.rex_steps.proofs.Refusing.{is_right, was_up_then}
 use Rattle.rex_world.proofs.Unseen.{receive_either}
 use Rattle.rex_world.proofs.seats.Seat.on_message.Goals as goal
 

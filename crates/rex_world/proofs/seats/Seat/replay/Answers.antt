@@ -2,8 +2,9 @@ use Rattle.std.proofs.Common.{subst, sym}
 use Rattle.rex_cluster.specs.Calls.{replay}
 use Rattle.rex_world.specs.declared.seats.Seat.{Seat}
 use Rattle.rex_world.specs.Seats.{IsSeat, here_at, here_in}
-use Rattle.rex_world.specs.Calls.{Acts}
-use Rattle.rex_world.proofs.Acted.{in_seat, replays, spared_if, stays_same}
+use Rattle.rex_steps.specs.Steps.{Acts}
+use Rattle.rex_world.proofs.Acted.{in_seat, replays, stays_same}
+use Rattle.rex_steps.proofs.Refusing.{spared_if}
 use Rattle.rex_world.proofs.seats.Seat.replay.Goals as goal
 
 pub returns-in-Running-clause-acts : goal.returns-in-Running-clause-acts

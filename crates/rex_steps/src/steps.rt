@@ -1,9 +1,9 @@
-//! The steps that a seat makes of what its node answered.
+//! The steps that are made of what a node answered.
 
 ghost use Rattle.std.specs.Prelude.{◌≡◌, ◌∷◌, ◌++◌, [], IfOk, IfErr};
 ghost use Rattle.rex_cluster.specs.Lanes as lanes;
 ghost use Rattle.rex_cluster.specs.Lanes.{effect_of};
-ghost use Rattle.rex_world.specs.Calls.{TellsOf};
+ghost use Rattle.rex_steps.specs.Steps.{TellsOf};
 
 use rex_event::{Event, Kind};
 use rex_gate::Answer;
@@ -15,7 +15,7 @@ use rex_syntax::request::Request;
 use std::alloc::Global;
 
 /// A step that reports this, and sends nothing.
-pub(crate) fn step_of(alloc: Global, effect: Effect) -> Result<Step, Refusal>
+pub fn step_of(alloc: Global, effect: Effect) -> Result<Step, Refusal>
     ensures effects { IfOk result (λ step. step.effects ≡ effect ∷ []) }
     ensures sends { IfOk result (λ step. step.sends ≡ []) }
     ensures memory { IfErr result (λ e. e ≡ Refusal.OutOfMemory) }
@@ -63,7 +63,7 @@ fn turn_effect(lane: u8, turn: Turn) -> Effect
 }
 
 /// The step of an answer.
-pub(crate) fn answered(
+pub fn answered(
     alloc: Global,
     request: &Request,
     outcome: Result<Answer, Refusal>,
@@ -77,11 +77,7 @@ pub(crate) fn answered(
 }
 
 /// The step of a turn.
-pub(crate) fn turned(
-    alloc: Global,
-    lane: u8,
-    outcome: Result<Turn, Refusal>,
-) -> Result<Step, Refusal>
+pub fn turned(alloc: Global, lane: u8, outcome: Result<Turn, Refusal>) -> Result<Step, Refusal>
     ensures { TellsOf (lanes.turn_effect lane) outcome result }
 {
     match outcome {
@@ -90,18 +86,21 @@ pub(crate) fn turned(
     }
 }
 
-/// What two steps did, one after the other, of which the first sent nothing.
-pub(crate) fn joined(alloc: Global, first: Step, second: Step) -> Result<Step, Refusal>
+/// What two steps did, one after the other.
+pub fn joined(alloc: Global, first: Step, second: Step) -> Result<Step, Refusal>
     ensures effects { IfOk result (λ step. step.effects ≡ first.effects ++ second.effects) }
-    ensures sends { IfOk result (λ step. step.sends ≡ second.sends) }
+    ensures sends { IfOk result (λ step. step.sends ≡ first.sends ++ second.sends) }
     ensures memory { IfErr result (λ e. e ≡ Refusal.OutOfMemory) }
 {
     let _event: Option<(Event, Kind)> = None;
     let mut effects = first.effects.into_vec();
     let mut more = second.effects.into_vec();
     effects.append(&mut more)?;
+    let mut sends = first.sends.into_vec();
+    let mut more = second.sends.into_vec();
+    sends.append(&mut more)?;
     Ok(Step {
         effects: List::from_vec(effects),
-        sends: second.sends,
+        sends: List::from_vec(sends),
     })
 }

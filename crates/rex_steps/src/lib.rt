@@ -1,0 +1,8 @@
+//! What is reported of what a node answers, as effects and as steps.
+#![tactic(auto)]
+
+mod effects;
+mod steps;
+
+pub use effects::{effect_of, read_effect};
+pub use steps::{answered, joined, step_of, turned};
