@@ -1,7 +1,7 @@
 -- Events that are done one after another, as far as each is next.
 use Rattle.std.proofs.Common.{◌≡◌, ℕ, suc, ◌+◌, ◌<◌, ◌≤◌, false, List, [], ◌∷◌, ◌++◌, length, get_or, take, drop, drop-cons, refl, sym, ap, ◌∙◌}
 use Rattle.std.specs.Prelude.{Option, Some, None, is_some}
-use Rattle.std.proofs.lemmas.List.{take_all, take_more, take-append-drop}
+use Rattle.std.proofs.lemmas.List.{take_more, take-append-drop}
 use Rattle.rex_syntax.specs.declared.service.Declarations.{Declarations}
 use Rattle.rex_event.specs.declared.event.Event.{Event}
 use Rattle.rex_state.specs.Value.{StateValue}
@@ -23,10 +23,6 @@ module _ (service : Declarations) (first : StateValue) (es : List Event) (s : St
   -- no more than some of them did
   pub in_part : RunsInPart service first es s
   in_part = record { count = i; runs = h.runs }
-
-  -- all ran
-  pub all_ran : length es ≤ i → run service first es ≡ Some s
-  all_ran past = ap (run service first) (sym (take_all i es past)) ∙ h.runs
 
   module _ (e : Event) (there : i < length es) (is : e ≡ get_or es i e) where
     -- with the event that is next

@@ -38,6 +38,13 @@ impl Applied {
         Ok(Applied { state, clock: 0 })
     }
 
+    /// What there is after values that lead to a state, and show no greater clock than this.
+    pub fn after(state: State, clock: i64) -> Applied
+        ensures { result ≡ record { state = state; clock = clock } }
+    {
+        Applied { state, clock }
+    }
+
     /// An equal one.
     pub fn copy(&self, alloc: Global) -> Result<Applied, AllocError>
         ensures { IfOk result (λ a. a ≡ self.now) }

@@ -86,6 +86,15 @@ abbrev pub work_of : Option ActingValue → Work
 work_of None = no_work
 work_of (Some a) = record { queue = a.recorder.queue; live = a.recorder.live; dice = a.dice }
 
+-- the value of an open proposal, if there is one
+abbrev pub proposed_value : Option (Proposal Value) → Option Value
+proposed_value o = option_map (λ (p : Proposal Value). p.value) o
+
+-- the value that a node has open in its role, if there is one
+abbrev pub open_value : Role Value → Option Value
+open_value Follower = None
+open_value (Leads l) = proposed_value l.proposal
+
 -- ---- the node
 
 -- all values that a node knows: before those that it holds stand the first ones of the past

@@ -12,13 +12,12 @@ ghost use Rattle.rex_cluster.specs.Calls as calls;
 ghost use Rattle.rex_cluster.specs.Values.{service_of};
 ghost use Rattle.rex_node.specs.declared.refusal.Refusal.TheVariants as why;
 ghost use Rattle.rex_node.specs.Calls.{Does, EndsDown, IsSpared, LeavesAll, Refuses, refusal_of_checkpoint};
-ghost use Rattle.rex_node.specs.Checkpointing.{IsCheckpoint, SavesOr, rebased, replayed_state};
+ghost use Rattle.rex_node.specs.Checkpointing.{IsCheckpoint, SavesOr, rebased};
 ghost use Rattle.rex_cluster.specs.Records.{is_old};
 ghost use Rattle.rex_node.specs.Parts.{IsNode, StaysNode, here_of, whole};
 
 use crate::node::Node;
 use crate::refusal::Refusal;
-use crate::replaying::ahead_of;
 use crate::step::Step;
 use rex_durable::Rec;
 use rex_event::{Event, Kind};
@@ -115,16 +114,6 @@ impl<K: Keeper> Node<K> {
         due(self.replayed, self.base, self.live())
     }
 
-    // The state that the node has replayed.
-    fn state_to_save(&self) -> &State
-        ensures { result.now ≡ replayed_state self.now }
-    {
-        match &self.acting {
-            None => ahead_of(&self.ahead, &self.start),
-            Some(acting) => acting.recorder.start(),
-        }
-    }
-
     // The last checkpoint is of what the node has replayed, which is this state, in a version.
     fn rebase<P: Past>(&mut self, version: Version, state: State)
         ensures { whole P.past self.new ≡ rebased version (whole P.past self.old) state }
@@ -212,7 +201,7 @@ impl<K: Keeper> Node<K> {
         }
         let node = self.id;
         let deltas = self.replayed;
-        let state = self.state_to_save().copy(self.alloc)?;
+        let state = self.state().copy(self.alloc)?;
         let rec = record_of(self.alloc, svc, version, deltas, &state)?;
         let saved = only(self.alloc, Effect::Checkpointed { node, deltas })?;
         let down = only(self.alloc, Effect::Down { node })?;

@@ -1,6 +1,6 @@
 //! How a node replays what it knows.
 
-ghost use Rattle.std.specs.Prelude.{◌≡◌, ◌<◌, ◌-◌, ◌^◌, true, length, Some, None, is_some, option_map, IfOk, OnErr};
+ghost use Rattle.std.specs.Prelude.{◌≡◌, ◌≢◌, ◌<◌, ◌-◌, ◌^◌, true, length, Some, None, is_some, option_map, IfOk, OnErr};
 ghost use Rattle.std.specs.Option.{option_copied};
 ghost use Rattle.rex_event.specs.Cuts.{below};
 ghost use Rattle.rex_cut.specs.Greatest.{greatest_cut};
@@ -15,6 +15,7 @@ ghost use Rattle.rex_node.specs.Parts.{here_of, open_of, role_of, IsKept, IsNode
 ghost use Rattle.rex_node.specs.Calls.{AreLimits, CanBeCut, Does, EndsDown, Leaves, Refuses, RefusesThen, counts_for, if_active, if_up};
 ghost use Rattle.rex_node.specs.Calls.{refusal_of_lead, refusal_of_none, refusal_of_open, refusal_of_cut, refusal_of_checkpoint, refusal_of_replay};
 
+use crate::checkpointing::only;
 use crate::node::Node;
 use crate::refusal::Refusal;
 use crate::step::Step;
@@ -42,26 +43,53 @@ impl<K: Keeper> Node<K> {
         ensures keeper { self.new.keeper ≡ self.old.keeper }
         ensures kept { StaysNode K.records svc.now P.past self.old self.new }
     {
-        if !self.up {
-            return Err(Refusal::Down);
+        if let Some(refusal) = self.replay_refusal::<P>(svc) {
+            return Err(refusal);
         }
-        let known = self.count::<P>();
-        if self.acting.is_some() || self.replayed == known {
-            return Err(Refusal::UpToDate);
+        let state = self.replayed_state::<P, R>(svc, replayer)?;
+        self.take_replayed::<P>(svc, state)
+    }
+
+    /// The same, where the caller has the state after all that the node knows. It runs no event.
+    pub fn take_replayed<P: Past>(&mut self, svc: &Checked, state: State) -> Result<Step, Refusal>
+        requires node { IsNode K.records svc.now P.past self.old }
+        requires runs { run svc.now (start_of svc.now) (trace_of (knows P.past self.old)) ≡ Some state }
+        ensures refused { Refuses (refusal_of_replay (here_of K.records svc.now P.past self.old)) result }
+        ensures told { IfOk result (Does K.records K.append_gives K.faults svc.now P.past (calls.replay self.old.id) self.old self.new) }
+        ensures same { OnErr result (self.new ≡ self.old) }
+        ensures keeper { self.new.keeper ≡ self.old.keeper }
+        ensures kept { StaysNode K.records svc.now P.past self.old self.new }
+    {
+        if let Some(refusal) = self.replay_refusal::<P>(svc) {
+            return Err(refusal);
         }
         let node = self.id;
-        let mut effects = List::new(self.alloc);
-        effects.push(Effect::Replayed {
-            node,
-            deltas: known,
-        })?;
-        let state = self.replayed_state::<P, R>(svc, replayer)?;
+        let deltas = self.count::<P>();
+        let effects = only(self.alloc, Effect::Replayed { node, deltas })?;
         self.ahead = Some(state);
-        self.replayed = known;
+        self.replayed = deltas;
         Ok(Step {
             effects,
             sends: List::new(self.alloc),
         })
+    }
+
+    // Why the node has nothing to replay.
+    fn replay_refusal<P: Past>(&self, svc: &Checked) -> Option<Refusal>
+        requires { IsNode K.records svc.now P.past self.now }
+        ensures why { result ≡ refusal_of_replay (here_of K.records svc.now P.past self.now) }
+        ensures up { result ≡ None → self.now.up ≡ true }
+        ensures idle { result ≡ None → self.now.acting ≡ None }
+        ensures behind { result ≡ None → self.now.replayed ≢ length (knows P.past self.now) }
+    {
+        if !self.up {
+            return Some(Refusal::Down);
+        }
+        let known = self.count::<P>();
+        if self.acting.is_some() || self.replayed == known {
+            return Some(Refusal::UpToDate);
+        }
+        None
     }
 
     // The state after all that the node knows, from the one that it has replayed.

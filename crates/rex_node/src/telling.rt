@@ -1,11 +1,16 @@
 //! What a node tells of itself.
 
-ghost use Rattle.std.specs.Prelude.{◌≡◌, ◌≤◌, None, true, is_some, length};
+ghost use Rattle.std.specs.Prelude.{◌≡◌, ◌≤◌, None, true, is_some, length, option_map};
+ghost use Rattle.std.specs.Option.{option_copied};
+ghost use Rattle.rex_ballot.specs.Proposals.{proposal_for};
+ghost use Rattle.rex_ballot.specs.declared.proposal.Proposal.{Proposal as Kept};
 ghost use Rattle.rex_reads.specs.Reads.{seen_after};
 ghost use Rattle.rex_cluster.specs.Node.{is_active};
 ghost use Rattle.rex_cluster.specs.Reading as reading;
 ghost use Rattle.rex_cluster.specs.Reading.{read_at, stamp_at};
-ghost use Rattle.rex_node.specs.Parts.{IsNode, here_of, role_of, state_of, shown_of, work_of};
+ghost use Rattle.rex_node.specs.Checkpointing.{replayed_state};
+ghost use Rattle.rex_node.specs.Parts as parts;
+ghost use Rattle.rex_node.specs.Parts.{IsNode, here_of, open_of, proposed_value, role_of, state_of, shown_of, work_of};
 ghost use Rattle.rex_node.specs.Telling as spec;
 
 use crate::acting::Acting;
@@ -13,13 +18,32 @@ use crate::node::Node;
 use crate::replaying::ahead_of;
 use rex_event::CLIENTS;
 use rex_log::Past;
+use rex_paxos::Acceptor;
 use rex_reads::{Read, Seen, admitted};
 use rex_record::LIVE_EVENTS;
 use rex_state::state::State;
 use rex_syntax::checked::Checked;
 use rex_traits::Keeper;
+use rex_transfer::Window;
 
 impl<K: Keeper> Node<K> {
+    /// How many nodes there are.
+    pub fn nodes(&self) -> u8
+        ensures { result ≡ self.now.nodes }
+    {
+        self.nodes
+    }
+
+    /// The value that the node accepted last for an instance, as long as it holds that.
+    pub fn accepted_for(&self, instance: u32) -> Option<&[u8]>
+        ensures { option_copied result ≡ option_map (λ (p : Kept). p.value) (proposal_for instance self.now.acceptor.accepted) }
+    {
+        match self.acceptor.accepted_for(instance) {
+            None => None,
+            Some(proposal) => Some(proposal.value.as_slice()),
+        }
+    }
+
     /// The greatest ballot that the node promised, or 0.
     pub fn promised(&self) -> u64
         ensures { result ≡ self.now.acceptor.promised }
@@ -32,6 +56,34 @@ impl<K: Keeper> Node<K> {
         ensures { result ≡ self.now.replayed }
     {
         self.replayed
+    }
+
+    /// The state after the values that the node has replayed; of an active one it is that in which its live events begin.
+    pub fn state(&self) -> &State
+        ensures replayed { result.now ≡ replayed_state self.now }
+        ensures idle { self.now.acting ≡ None → result.now ≡ state_of self.now }
+    {
+        match &self.acting {
+            None => ahead_of(&self.ahead, &self.start),
+            Some(acting) => acting.recorder.start(),
+        }
+    }
+
+    /// The known values that it holds, those past its offset.
+    pub fn window(&self) -> &Window
+        ensures { result.now ≡ record { offset = self.now.offset; values = self.now.known } }
+    {
+        &self.known
+    }
+
+    /// The value of its open proposal, where it leads, or asks to, and has one.
+    pub fn open_value(&self) -> Option<&[u8]>
+        ensures { option_copied result ≡ parts.open_value (role_of self.now.acceptor self.now.proposer (is_some self.now.acting)) }
+    {
+        match &self.proposer {
+            None => None,
+            Some(proposer) => accepted_value(&self.acceptor, proposer.open_instance()),
+        }
     }
 
     /// How many events are live.
@@ -104,6 +156,14 @@ impl<K: Keeper> Node<K> {
             Some(acting) => acting.semaphores(),
         }
     }
+}
+
+// The value that a node accepted last for an instance, if one is open.
+fn accepted_value(acceptor: &Acceptor, open_instance: Option<u32>) -> Option<&[u8]>
+    ensures { option_copied result ≡ proposed_value (open_of acceptor.now open_instance) }
+{
+    let proposal = acceptor.accepted_for(open_instance?)?;
+    Some(proposal.value.as_slice())
 }
 
 // The value of a variable in a state; 0 where it isn't there.

@@ -1,0 +1,24 @@
+use Rattle.std.proofs.Common.{[], ◌∷◌, Some, ap, sym, subst, ◌∙◌}
+use Rattle.std.proofs.lemmas.Bool.{ne_eqb}
+use Rattle.rex_report.specs.declared.effect.Effect.TheVariants.{Replayed}
+use Rattle.rex_node.specs.Calls.{Does}
+use Rattle.rex_node.specs.Parts.{NodeValue, StaysNode, whole}
+use Rattle.rex_cluster.specs.Calls.{replay}
+use Rattle.rex_node.proofs.ReplayLemmas.{replay_does, replay_stays}
+use Rattle.rex_node.proofs.node.Node.take_replayed.Goals as goal
+
+pub returns-clause-told : goal.returns-clause-told
+returns-clause-told g c =
+    subst (λ (z : NodeValue _). Does g.K.Keeper.records g.K.Keeper.append_gives g.K.Keeper.faults c.args.svc.now g.P.Past.past (replay c.args.self.now.id) (whole g.P.Past.past c.args.self.now) (whole g.P.Past.past (record z { replayed = c.count-deltas.result; ahead = Some c.args.state })) (record { effects = c.in_ok-effects.effects; sends = c.new.result }))
+    (sym c.self.view_is)
+    (replay_does g.K.Keeper.records g.K.Keeper.append_gives g.K.Keeper.faults c.args.svc.now g.P.Past.past (whole g.P.Past.past c.args.self.now) c.requires.node (c.replay_refusal.ensures.up c.in_default.is) (c.replay_refusal.ensures.idle c.in_default.is) c.count-deltas.result c.count-deltas.ensures.known c.args.state
+    (ne_eqb c.args.self.now.replayed c.count-deltas.result (λ e. c.replay_refusal.ensures.behind c.in_default.is (e ∙ c.count-deltas.ensures.known)))
+    (record { effects = c.in_ok-effects.effects; sends = c.new.result })
+    (c.in_ok-effects.ensures ∙ ap (λ (x : NodeValue _). Replayed x.id c.count-deltas.result ∷ []) c.self.view_is)
+    c.new.ensures)
+
+pub returns-clause-kept : goal.returns-clause-kept
+returns-clause-kept g c =
+    subst (λ (z : NodeValue _). StaysNode g.K.Keeper.records c.args.svc.now g.P.Past.past c.args.self.now (record z { replayed = c.count-deltas.result; ahead = Some c.args.state }))
+    (sym c.self.view_is)
+    (replay_stays g.K.Keeper.records g.K.Keeper.append_gives g.K.Keeper.faults c.args.svc.now g.P.Past.past (whole g.P.Past.past c.args.self.now) c.requires.node (c.replay_refusal.ensures.up c.in_default.is) (c.replay_refusal.ensures.idle c.in_default.is) c.count-deltas.result c.count-deltas.ensures.known c.args.state c.requires.runs)
