@@ -23,6 +23,8 @@ mod durable;
 #[cfg(test)]
 mod event;
 #[cfg(test)]
+mod frames;
+#[cfg(test)]
 mod gate;
 #[cfg(test)]
 mod generator;
