@@ -52,7 +52,7 @@ pub record RunsInPart (service : Declarations) (s : StateValue) (es : List Event
   pub count : ℕ
   pub runs : run service s (take count es) ≡ Some t
 
--- a value was tried that does not fit: not all its events ran, and the clock stays
+-- a value was tried: some of its events ran, or none, and the clock stays
 pub record HasTried (service : Declarations) (before : AppliedValue) (value : Value) (after : AppliedValue) : Type 0 where
   pub part : RunsInPart service before.state (events_of value) after.state
   pub clock : after.clock ≡ before.clock
