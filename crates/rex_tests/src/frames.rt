@@ -61,7 +61,7 @@ fn letters_in(alloc: Global, svc: &Checked, calls: &[u8]) -> Result<Vec<u8>, All
 fn frames_ask(rt: HostRuntime) {
     let svc = checked(&rt, rt.alloc(), COUNTER);
     let letters = letters_in(rt.alloc(), &svc, CALLS).expect(&rt, "memory");
-    assert_eq!(rt; letters.as_slice(), b"ESRLCMAQT-");
+    assert_eq!(rt; letters.as_slice(), b"ESRLCMAQT-".as_slice());
 }
 
 /// The frame of the prepare.
