@@ -3,13 +3,11 @@
 
 ghost use Rattle.std.specs.Prelude.{◌≡◌, ◌+◌, false, IfOk};
 
-use rex_disk::Disk;
 use rex_file::{FileDisk, FileFault, open_path};
 use rex_journal::{JournalKeeper, OpenFault};
 use rex_traits::Keeper;
-use std::fs::{self, File};
-use std::io;
 use std::test::*;
+use std::{fs, io};
 
 /// The journal of the records 7 and 8 9, whose gates have the offsets 0, 6 and 13.
 const WHOLE: [u8; 14] = [1, 0, 0, 0, 1, 7, 1, 0, 0, 0, 2, 8, 9, 0];
@@ -122,20 +120,5 @@ fn what_is_no_file_is_refused(rt: HostRuntime) -> Result<(), Fail> {
         assert_eq!(rt; refusal(&rt, path)?, kind);
     }
     fs::remove_dir_all(&rt, "files_none")?;
-    Ok(())
-}
-
-#[test]
-fn a_file_whose_write_failed_is_synced_no_more(rt: HostRuntime) -> Result<(), Fail> {
-    make_folder(&rt, "files_broken")?;
-    fs::write(&rt, "files_broken/journal", [0].as_slice())?;
-    let file = File::open(&rt, "files_broken/journal")?;
-    let folder = File::open(&rt, "files_broken")?;
-    let mut disk = FileDisk::open(rt.alloc(), file, &folder)?;
-    disk.reserve(3, 1)?;
-    assert!(rt; disk.sync().is_ok());
-    assert!(rt; disk.write(0, &[1]).is_err());
-    assert!(rt; disk.sync().is_err());
-    fs::remove_dir_all(&rt, "files_broken")?;
     Ok(())
 }
