@@ -12,10 +12,10 @@ use Rattle.rex_command.specs.Laws.{AreWorkers, Fits, CommandsFit}
 use Rattle.rex_command.specs.declared.commands.Command.{Command}
 use Rattle.rex_command.specs.declared.commands.Command.TheVariants.{Trace, Check}
 
-abbrev Between : ℕ → ℕ → ℕ → Type 0
+abbrev pub Between : ℕ → ℕ → ℕ → Type 0
 Between low high n = (low ≤ n) × (n ≤ high)
 
-where_tested : {A : Type 0} (P : A → Type 0) (b : Bool) (x : A) → (b ≡ true → P x) → IfSome (cond b (Some x) None) P
+pub where_tested : {A : Type 0} (P : A → Type 0) (b : Bool) (x : A) → (b ≡ true → P x) → IfSome (cond b (Some x) None) P
 where_tested P true x h = h refl
 where_tested P false x h = tt
 
@@ -30,7 +30,7 @@ found_between : (low high : ℕ) (o : Option Text) → IfSome (option_and_then (
 found_between low high None = tt
 found_between low high (Some t) = read_between low high t
 
-between : (low high : ℕ) (id : Text) (rows : List Row) → IfSome (number_in low high id rows) (Between low high)
+pub between : (low high : ℕ) (id : Text) (rows : List Row) → IfSome (number_in low high id rows) (Between low high)
 between low high id rows = found_between low high (one_of id rows)
 
 run_fits : (workers : Option ℕ) (journal : Bool) → IfSome workers AreWorkers → IfSome (run_of workers journal) Fits

@@ -7,4 +7,4 @@ pub mod laws;
 mod reading;
 
 pub use commands::Command;
-pub use reading::command_of;
+pub use reading::{command_of, number_in};

@@ -1,6 +1,6 @@
 //! What the words of a command line ask for.
 
-ghost use Rattle.std.specs.Prelude.{◌≡◌, IfOk, IfSome, map, string_bytes, option_and_then, codes};
+ghost use Rattle.std.specs.Prelude.{◌≡◌, ◌≤◌, IfOk, IfSome, map, string_bytes, option_and_then, codes};
 ghost use Rattle.clap.specs.Words.{found_of, rows_of, subcommand_rows_of};
 ghost use Rattle.rex_command.specs.Laws.{Fits};
 ghost use Rattle.rex_command.specs.Reading as spec;
@@ -14,7 +14,8 @@ use std::alloc::{AllocError, Global};
 
 // The number, if it is from `low` to `high`.
 fn within(number: Option<u32>, low: u32, high: u32) -> Option<u32>
-    ensures { result ≡ spec.within low high number }
+    ensures number { result ≡ spec.within low high number }
+    ensures most { IfSome result (λ n. n ≤ high) }
 {
     let number = number?;
     if low <= number && number <= high {
@@ -36,10 +37,11 @@ fn few_workers(workers: Option<u8>) -> Option<u8>
     }
 }
 
-// The number of an argument. That `clap`'s reader has let no other number through is not in its contract, so it is looked
-// at here.
-fn number_in(matches: &ArgMatches<'_>, id: &str, low: u32, high: u32) -> Option<u32>
-    ensures { result ≡ spec.number_in low high id.now (rows_of (found_of matches.now)) }
+/// The number of an argument, if it is from `low` to `high`.
+// That `clap`'s reader has let no other number through is not in its contract, so it is looked at here.
+pub fn number_in(matches: &ArgMatches<'_>, id: &str, low: u32, high: u32) -> Option<u32>
+    ensures number { result ≡ spec.number_in low high id.now (rows_of (found_of matches.now)) }
+    ensures most { IfSome result (λ n. n ≤ high) }
 {
     within(matches.get_one::<u32>(id), low, high)
 }

@@ -47,18 +47,18 @@ asked : List ℕ → Asked
 asked frame = asked_in service 1 3 frame
 
 letters : map asked (codes "E" ∷ codes "C" ∷ codes "T" ∷ [] ∷ codes "X" ∷ codes "EE" ∷ codes "e" ∷ []) ≡ Elect ∷ Cut ∷ Look ∷ Nothing ∷ Nothing ∷ Nothing ∷ Nothing ∷ []
-unfolding asked service digits
+unfolding asked asked_in service digits
 letters = refl
 
 requests : map asked (codes "S1 2 add -5" ∷ codes "S256 1000000  get" ∷ []) ≡
     Submit (record { client = 1; sequence = 2; handler = 1; arguments = negsuc 4 ∷ [] })
     ∷ Submit (record { client = 256; sequence = 1000000; handler = 0; arguments = [] }) ∷ []
-unfolding asked service digits
+unfolding asked asked_in service digits
 requests = refl
 
 no_requests : map asked (codes "S" ∷ codes "S0 2 add 5" ∷ codes "S257 2 add 5" ∷ codes "S1 0 add 5" ∷ codes "S1 1000001 add 5" ∷ codes "S1 2 sub 5" ∷ codes "S1 2 add" ∷ codes "S1 2 add 5 5" ∷ codes "S1 2 add x" ∷ []) ≡
     Nothing ∷ Nothing ∷ Nothing ∷ Nothing ∷ Nothing ∷ Nothing ∷ Nothing ∷ Nothing ∷ Nothing ∷ []
-unfolding asked service digits
+unfolding asked asked_in service digits
 no_requests = refl
 
 -- seven bytes of a clock before its last
@@ -67,16 +67,16 @@ high b = b ∷ b ∷ b ∷ b ∷ b ∷ b ∷ b ∷ []
 
 turns : map asked ((82 ∷ high 255 ++ 255 ∷ []) ∷ (82 ∷ high 0) ∷ (82 ∷ high 0 ++ 5 ∷ 5 ∷ []) ∷ (76 ∷ 2 ∷ high 0 ++ 5 ∷ []) ∷ (76 ∷ 0 ∷ high 0 ++ 5 ∷ []) ∷ (76 ∷ 3 ∷ high 0 ++ 5 ∷ []) ∷ []) ≡
     Run (negsuc 0) ∷ Nothing ∷ Nothing ∷ Turn 1 (pos 5) ∷ Nothing ∷ Nothing ∷ []
-unfolding asked service
+unfolding asked asked_in service
 turns = refl
 
 nodes : map asked ((65 ∷ 2 ∷ []) ∷ (65 ∷ 1 ∷ []) ∷ (65 ∷ 0 ∷ []) ∷ (65 ∷ 4 ∷ []) ∷ (65 ∷ 2 ∷ 2 ∷ []) ∷ []) ≡ Ask 2 ∷ Nothing ∷ Nothing ∷ Nothing ∷ Nothing ∷ []
-unfolding asked service
+unfolding asked asked_in service
 nodes = refl
 
 reads : map asked ((81 ∷ 1 ∷ 0 ∷ 0 ∷ 0 ∷ 0 ∷ 7 ∷ 97 ∷ []) ∷ (81 ∷ 0 ∷ 0 ∷ 0 ∷ 0 ∷ 0 ∷ 7 ∷ 97 ∷ []) ∷ (81 ∷ 1 ∷ 1 ∷ 0 ∷ 0 ∷ 0 ∷ 7 ∷ 97 ∷ []) ∷ (81 ∷ 0 ∷ 1 ∷ 0 ∷ 0 ∷ 0 ∷ 7 ∷ 98 ∷ []) ∷ (81 ∷ 0 ∷ 1 ∷ 0 ∷ 0 ∷ 0 ∷ []) ∷ []) ≡
     Read 256 0 7 ∷ Nothing ∷ Nothing ∷ Nothing ∷ Nothing ∷ []
-unfolding asked service
+unfolding asked asked_in service
 reads = refl
 
 -- a prepare in a ballot below 256, from instance 1 on
@@ -91,7 +91,7 @@ promise from to ballot = 77 ∷ 1 ∷ 2 ∷ from ∷ to ∷ high 0 ++ ballot ∷
 messages : map asked (prepare 2 1 18 ∷ promise 2 1 17 ∷ prepare 2 3 18 ∷ prepare 4 1 20 ∷ prepare 2 1 17 ∷ promise 2 1 18 ∷ (77 ∷ 1 ∷ 8 ∷ 2 ∷ 1 ∷ 0 ∷ 0 ∷ 0 ∷ 2 ∷ 0 ∷ 0 ∷ 0 ∷ 1 ∷ 42 ∷ []) ∷ codes "M" ∷ []) ≡
     Hear (record { from = 2; to = 1; content = content.Prepare 18 1 }) ∷ Hear (record { from = 2; to = 1; content = content.Promise 17 [] })
     ∷ Nothing ∷ Nothing ∷ Nothing ∷ Nothing ∷ Nothing ∷ Nothing ∷ []
-unfolding asked service message_in message_at prepare_at promise_at snapshot_at value_at list_at
+unfolding asked asked_in service message_in message_at prepare_at promise_at snapshot_at value_at list_at
 messages = refl
 
 -- ---- answers

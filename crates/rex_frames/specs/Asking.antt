@@ -52,7 +52,7 @@ to_read service content =
     let rest : List ℕ = drop 2 content in
     if nat_le 6 (length content) then read_by service (from_be_bytes w16 (take 2 content)) (from_be_bytes w32 (take 4 rest)) (drop 4 rest) else Nothing
 
--- a message that the node may hear
+-- a message that is for the node
 abbrev pub to_hear : ℕ → ℕ → List ℕ → Asked
 to_hear id nodes content = option_map_or Hear (heard_in id nodes content) Nothing
 
@@ -69,13 +69,13 @@ asked_by service id nodes letter content =
     else asked_alone letter content
 
 -- what a frame asks the node of a number for, of so many
-abbrev pub asked_in : Declarations → ℕ → ℕ → List ℕ → Asked
+unfoldable pub asked_in : Declarations → ℕ → ℕ → List ℕ → Asked
 asked_in service id nodes [] = Nothing
 asked_in service id nodes (letter ∷ content) = if letter == HEAR then to_hear id nodes content else asked_by service id nodes letter content
 
 -- ---- what is there
 
--- a request fits the service, a lane and a variable are the service's, a client is one, a node is another one, a message may be heard, and numbers are of 64 bits
+-- a request fits the service, a lane and a variable are the service's, a client is one, a node is another one, a message is for this node, and numbers are of 64 bits
 abbrev pub AskedFits : Declarations → ℕ → ℕ → Asked → Type 0
 AskedFits service id nodes (Submit request) = RequestFits service request × RequestIsTyped request
 AskedFits service id nodes (Run clock) = FitsSigned w64 clock

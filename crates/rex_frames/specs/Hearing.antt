@@ -1,4 +1,4 @@
--- Which messages a node may hear, and what holds of those.
+-- Which messages are for a node, and what holds of those.
 use Rattle.std.specs.Prelude.{◌≡◌, ◌==◌, ◌&&◌, ℕ, Bool, true, false, not, List, Option, Some, None, Result, Ok, Err, if◌then◌else◌}
 use Rattle.rex_wire.specs.Ranges.{is_between}
 use Rattle.rex_ballot.specs.Ballot.{node_of}
@@ -29,16 +29,16 @@ has_askers_ballot from to (Accepted ballot instance) = node_of ballot == to
 has_askers_ballot from to (Nack ballot promised) = node_of ballot == to
 has_askers_ballot from to _ = true
 
--- a message goes to a node from another one of so many, tells no state, and has the ballot of the node that asked
+-- a message is for a node: it goes there from another one of so many, tells no state, and has the ballot of the node that asked
 abbrev pub is_for : ℕ → ℕ → Message → Bool
 is_for id nodes m = m.to == id && is_another id nodes m.from && not (tells_state m.content) && has_askers_ballot m.from m.to m.content
 
--- a message that was read, where the node may hear it
+-- a message that was read, where it is for the node
 abbrev pub heard_of : ℕ → ℕ → Result Message ℕ → Option Message
 heard_of id nodes (Ok m) = if is_for id nodes m then Some m else None
 heard_of id nodes (Err at) = None
 
--- the message that bytes spell, where the node may hear it
+-- the message that bytes spell, where it is for the node
 abbrev pub heard_in : ℕ → ℕ → List ℕ → Option Message
 heard_in id nodes b = heard_of id nodes (bytes.message_in b)
 

@@ -59,6 +59,7 @@ pub enum Asked {
 }
 
 /// What a frame asks the node of a number for, of so many nodes. No frame but one with a message takes memory.
+#[tactic(auto, unfolding(crate::specs::Asking::asked_in))]
 pub fn asked_in(
     alloc: Global,
     svc: &Checked,

@@ -1,4 +1,4 @@
-//! The messages that a node may hear.
+//! The messages that are for a node.
 
 ghost use Rattle.std.specs.Prelude.{◌≡◌, IfOk, IfSome};
 ghost use Rattle.rex_schedule.specs.Fits.{IsNode};
@@ -9,7 +9,7 @@ use rex_ballot::node_of;
 use rex_msg::{Content, DecodeError, Message, decode};
 use std::alloc::{AllocError, Global};
 
-/// The message that bytes spell, where the node of a number may hear it.
+/// The message that bytes spell, where it is for the node of a number.
 pub(crate) fn heard_in(
     alloc: Global,
     id: u8,
@@ -32,7 +32,7 @@ pub(crate) fn heard_in(
     }
 }
 
-// Whether a message goes to a node from another one of so many, tells no state, and names ballots of who may speak of them.
+// Whether a message goes to a node from another one of so many, tells no state, and has the ballot of the node that asked.
 fn is_for(id: u8, nodes: u8, message: &Message) -> bool
     ensures { result ≡ spec.is_for id nodes message.now }
 {

@@ -1,4 +1,4 @@
-//! The requests and the variables that a service's clients name.
+//! The requests that lines spell, and the variables that clients name.
 
 ghost use Rattle.std.specs.Prelude.{◌≡◌, ◌<◌, ◌≤◌, true, length, position, slice_get, IfSome};
 ghost use Rattle.rex_syntax.specs.Service.{IsService};

@@ -26,11 +26,11 @@ use Rattle.rex_safety.proofs.Nodes.{put_none}
 use Rattle.rex_safety.proofs.Numbers.{active_fits, any_fits, step_fits, numbers_fit}
 use Rattle.rex_safety.proofs.Steps.{beginning_ok}
 use Rattle.rex_safety.proofs.Worlds.{IsWorld, node_or_not}
-use Rattle.rex_processes.specs.Processes.{Task, Happening, call_for, armed_after, dead, happens, after_happenings, TaskIsHonest, IsHonest, AreHonest, processes_after}
+use Rattle.rex_processes.specs.Processes.{Task, Happening, OfTask, call_for, armed_after, dead, happens, after_happenings, TaskIsHonest, IsHonest, AreHonest, processes_after}
 use Rattle.rex_processes.specs.Processes.Task.{Elect, Submit, Turn, Cut, Hear, Ask as AskOther, Replay, Save, Forget}
 use Rattle.rex_processes.specs.Processes.Happening.{Does, DiesDoing, Dies, ComesUp}
 use Rattle.rex_processes.specs.Tested.{OpenFits, MayBeHeard}
-use Rattle.rex_processes.specs.Plain.{OfTask, EachTask, ArePlain, NamesAnother, MessagesAreGood}
+use Rattle.rex_processes.specs.Plain.{EachTask, ArePlain, NamesAnother, MessagesAreGood}
 use Rattle.rex_processes.proofs.Calling.{cut_by}
 use Rattle.rex_processes.proofs.Happenings.{happens_ok, processes_ok}
 use Rattle.rex_processes.proofs.Stateless.{IsSaid, processes_plainly}
@@ -131,7 +131,7 @@ module _ (service : Declarations) (seed n : ℕ) (few : n ≤ most_nodes) where
 
     pub messages_good : ArePlain xs → MessagesAreGood service n (processes_after service seed n xs)
     messages_good p = record {
-      good = λ x i. let k = said x i in record { fits = processes_fit.messages x i; owner = k.0; stateless = k.2 };
+      good = λ x i. let k = said x i in record { fits = processes_fit.messages x i; asker = k.0; stateless = k.2 };
       heard = λ m x min i. may m x min i x.content refl (said x i).2;
     }
       where

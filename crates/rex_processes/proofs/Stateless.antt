@@ -26,10 +26,10 @@ use Rattle.rex_cluster.proofs.TellNone.{if_tells_none, append_tells_none, receiv
 use Rattle.rex_safety.proofs.Nodes.{node_put, put_none, none_down, IsFresh, fresh_at}
 use Rattle.rex_safety.proofs.Worlds.{IsWorld, roles, node_or_not}
 use Rattle.rex_safety.proofs.Steps.{beginning_ok}
-use Rattle.rex_processes.specs.Processes.{Task, Happening, call_for, armed_after, dead, happens, after_happenings, TaskIsHonest, IsHonest, AreHonest, processes_after}
+use Rattle.rex_processes.specs.Processes.{Task, Happening, OfTask, call_for, armed_after, dead, happens, after_happenings, TaskIsHonest, IsHonest, AreHonest, processes_after}
 use Rattle.rex_processes.specs.Processes.Task.{Elect, Submit, Turn, Cut, Hear, Ask as AskOther, Replay, Save, Forget}
 use Rattle.rex_processes.specs.Processes.Happening.{Does, DiesDoing, Dies, ComesUp}
-use Rattle.rex_processes.specs.Plain.{IsPlain, IsPlainTask, HearsNoState, HeardFits, OfTask, ArePlain, IsStateless, NamesOwner}
+use Rattle.rex_processes.specs.Plain.{IsPlain, IsPlainTask, HearsNoState, HeardFits, ArePlain, IsStateless, HasAskersBallot}
 use Rattle.rex_processes.proofs.Calling.{MaySend, OwnBallot, CanAnswer, CanDo, Keeps, call_keeps, plain_new, plain_holds}
 use Rattle.rex_processes.proofs.Happenings.{happens_ok, processes_ok}
 
@@ -139,7 +139,7 @@ AsksFromOne _ = Unit {0}
 
 -- what is kept of each message: it names its ballot's process, asks of instances from 1 on, and tells no state
 abbrev pub IsSaid : Message Value → Type 0
-IsSaid x = NamesOwner x.from x.to x.content × AsksFromOne x.content × TellsNoState x.content
+IsSaid x = HasAskersBallot x.from x.to x.content × AsksFromOne x.content × TellsNoState x.content
 
 may_say : (m : ℕ) → MaySend m (λ b. node_of b ≡ m) IsSaid
 may_say m = record {
@@ -150,7 +150,7 @@ may_say m = record {
 }
 
 -- who hears such a message may answer it
-may_answer : (m from to : ℕ) (c : Content Value) → NamesOwner from to c → AsksFromOne c → TellsNoState c → CanAnswer m IsSaid from c
+may_answer : (m from to : ℕ) (c : Content Value) → HasAskersBallot from to c → AsksFromOne c → TellsNoState c → CanAnswer m IsSaid from c
 may_answer m from to (Prepare b first) o l h = (λ ps. (o, tt, tt), λ p. (o, tt, tt), λ values e. absurd (none_below first l e))
 may_answer m from to (Accept b i v) o l h = ((o, tt, tt), λ p. (o, tt, tt), λ values e. absurd (none_below i l e))
 may_answer m from to (Ask first) o l h = λ values e. absurd (none_below first l e)

@@ -17,9 +17,8 @@ use Rattle.rex_cluster.specs.Invariant.{IsIn}
 use Rattle.rex_cluster.specs.Ranges.{ContentFits, MessageFits}
 use Rattle.rex_cluster.specs.Telling.{TellsNoState, TellNoState}
 use Rattle.rex_safety.specs.Laws.{NumbersFit}
-use Rattle.rex_processes.specs.Processes.{Task, Happening, AreHonest, call_for, processes_after}
+use Rattle.rex_processes.specs.Processes.{Task, Happening, OfTask, AreHonest, call_for, processes_after}
 use Rattle.rex_processes.specs.Processes.Task.{Hear, Ask, Save}
-use Rattle.rex_processes.specs.Processes.Happening.{Does, DiesDoing}
 use Rattle.rex_processes.specs.Tested.{MayBeHeard}
 
 -- ---- records
@@ -81,12 +80,6 @@ PlainRecordsTellNoState =
 
 -- ---- all processes
 
--- the task that a process does, or dies doing, is of this kind
-abbrev pub OfTask : (Task → Type 0) → Happening → Type 0
-OfTask P (Does task) = P task
-OfTask P (DiesDoing before kept task) = P task
-OfTask P _ = Unit {0}
-
 -- so is each task, at the process of this number
 abbrev pub EachTask : (ℕ → Task → Type 0) → List (ℕ × Happening) → Type 0
 EachTask P [] = Unit {0}
@@ -121,19 +114,19 @@ ProcessesStayInRange =
     (service : Declarations) (seed n : ℕ) (xs : List (ℕ × Happening)) → n ≤ most_nodes → AreHonest service seed n (beginning n) xs
     → EachTask (NamesAnother n) xs → NumbersFit n (processes_after service seed n xs)
 
--- it is the ballot's own process that prepares it and asks to accept at it, and that is answered
-abbrev pub NamesOwner : {V : Type 0} → ℕ → ℕ → Content V → Type 0
-NamesOwner from to (Prepare b first) = node_of b ≡ from
-NamesOwner from to (Promise b ps) = node_of b ≡ to
-NamesOwner from to (Accept b i v) = node_of b ≡ from
-NamesOwner from to (Voted b i) = node_of b ≡ to
-NamesOwner from to (Nack b p) = node_of b ≡ to
-NamesOwner from to _ = Unit {0}
+-- from one process to another: who asks in a ballot does so in one of its own, and who answers does so in one of the process that asked
+abbrev pub HasAskersBallot : {V : Type 0} → ℕ → ℕ → Content V → Type 0
+HasAskersBallot from to (Prepare b first) = node_of b ≡ from
+HasAskersBallot from to (Promise b ps) = node_of b ≡ to
+HasAskersBallot from to (Accept b i v) = node_of b ≡ from
+HasAskersBallot from to (Voted b i) = node_of b ≡ to
+HasAskersBallot from to (Nack b p) = node_of b ≡ to
+HasAskersBallot from to _ = Unit {0}
 
--- a message goes from one process to another one, has its numbers in their ranges, names its ballot's process, and tells no state
+-- a message goes from one process to another one, has its numbers in their ranges, tells no state, and has the ballot of the process that asked
 pub record IsGoodMessage (n : ℕ) (x : Message Value) : Type 0 where
   pub fits : MessageFits n x
-  pub owner : NamesOwner x.from x.to x.content
+  pub asker : HasAskersBallot x.from x.to x.content
   pub stateless : TellsNoState x.content
 
 -- each message that was ever sent is so, and may be heard by each process, whomever it was sent to

@@ -56,6 +56,12 @@ dead d = record { node = down_node d.node.log None; sends = d.sends; effects = [
 
 -- ---- all processes
 
+-- the task that a process does, or dies doing, is of this kind
+abbrev pub OfTask : (Task → Type 0) → Happening → Type 0
+OfTask P (Does task) = P task
+OfTask P (DiesDoing before kept task) = P task
+OfTask P _ = Unit {0}
+
 -- what all processes come to where this happens to one of them, and what that one reports
 abbrev pub happens : Declarations → ℕ → ℕ → World → ℕ → Happening → Row
 happens service seed n w m (Does task) = at_node w m (call_for service seed n m task)
@@ -87,11 +93,9 @@ TaskIsHonest service w (Hear x) = IsIn x w.messages
 TaskIsHonest service w (Submit r) = RequestFits service r
 TaskIsHonest service w _ = Unit {0}
 
--- so it is where a process does a task, and where it dies doing one
+-- so it is of what a process does, or dies doing
 abbrev pub IsHonest : Declarations → World → Happening → Type 0
-IsHonest service w (Does task) = TaskIsHonest service w task
-IsHonest service w (DiesDoing before kept task) = TaskIsHonest service w task
-IsHonest service w _ = Unit {0}
+IsHonest service w x = OfTask (TaskIsHonest service w) x
 
 -- so it is each time that something happens
 abbrev pub AreHonest : Declarations → ℕ → ℕ → World → List (ℕ × Happening) → Type 0

@@ -1,13 +1,11 @@
 -- The parts of a command are in their ranges.
 use Rattle.std.proofs.Common.{◌≡◌, ℕ, ◌≤◌, ◌&&◌, Bool, true, false, cond, List, length, Option, Some, None, refl, true≢false, sym, inl, inr, ◌∙◌, nat_le}
-use Rattle.std.specs.Prelude.{IfSome, option_and_then, codes}
+use Rattle.std.specs.Prelude.{IfSome, codes}
 use Rattle.std.proofs.lemmas.Bool.Decides.{leb_tells}
-use Rattle.clap.specs.ValueTests.{accepts}
-use Rattle.clap.specs.Words.{Row, Text, first_of, one_of}
+use Rattle.clap.specs.Words.{Row, Text, first_of}
 use Rattle.clap.specs.Simple.{matches_of}
-use Rattle.clap.specs.declared.builder.ValueParser.TheVariants.{Unsigned}
-use Rattle.clap.proofs.ValueTestLemmas.{accepts-Accepts}
-use Rattle.rex_command.specs.Reading.{number_of, number_in}
+use Rattle.rex_command.specs.Reading.{number_in}
+use Rattle.rex_command.proofs.Fits.{Between, between, where_tested}
 use Rattle.rex_schedule.specs.Counts.{is_node_count}
 use Rattle.rex_identity.specs.declared.identity.TheConstants.{CLUSTER_BYTES}
 use Rattle.rexnode_command.specs.Application.{node_app}
@@ -15,27 +13,9 @@ use Rattle.rexnode_command.specs.Command.{CommandValue, fitting, is_fitting}
 use Rattle.rexnode_command.specs.Reading.{command_in, command_with, is_command_line}
 use Rattle.rexnode_command.specs.Laws.{CommandsFit, Fits}
 
-abbrev Between : ℕ → ℕ → ℕ → Type 0
-Between low high n = (low ≤ n) × (n ≤ high)
-
-where_tested : {A : Type 0} (P : A → Type 0) (b : Bool) (x : A) → (b ≡ true → P x) → IfSome (cond b (Some x) None) P
-where_tested P true x h = h refl
-where_tested P false x h = tt
-
 either : {A : Type 0} (P : A → Type 0) (b : Bool) (x : Option A) → IfSome x P → IfSome (cond b x None) P
 either P true x h = h
 either P false x h = tt
-
-read_between : (low high : ℕ) (t : Text) → IfSome (number_of low high t) (Between low high)
-read_between low high t = where_tested (Between low high) (accepts false (Unsigned low high) t) _
-    (λ e. let p = accepts-Accepts false (Unsigned low high) t e in (p.2, p.3))
-
-found_between : (low high : ℕ) (o : Option Text) → IfSome (option_and_then (number_of low high) o) (Between low high)
-found_between low high None = tt
-found_between low high (Some t) = read_between low high t
-
-between : (low high : ℕ) (id : Text) (rows : List Row) → IfSome (number_in low high id rows) (Between low high)
-between low high id rows = found_between low high (one_of id rows)
 
 pub both_pass : (a b : Bool) → (a && b) ≡ true → (a ≡ true) × (b ≡ true)
 both_pass true b e = (refl, e)

@@ -1,6 +1,6 @@
 //! What the words of a command line ask for.
 
-ghost use Rattle.std.specs.Prelude.{◌≡◌, ◌≤◌, IfOk, IfSome, map, string_bytes, option_map};
+ghost use Rattle.std.specs.Prelude.{◌≡◌, IfOk, IfSome, map, string_bytes, option_map};
 ghost use Rattle.clap.specs.Words.{first_of, found_of, rows_of};
 ghost use Rattle.rex_command.specs.Reading as numbers;
 ghost use Rattle.rex_schedule.specs.Counts as counts;
@@ -14,30 +14,9 @@ use crate::command::Command;
 use clap::ArgMatches;
 use clap::error::ErrorKind;
 use rex_ballot::NODES;
+use rex_command::number_in;
 use rex_identity::CLUSTER_BYTES;
 use std::alloc::{AllocError, Global};
-
-// The number, if it is from `low` to `high`.
-fn within(number: Option<u32>, low: u32, high: u32) -> Option<u32>
-    ensures number { result ≡ numbers.within low high number }
-    ensures most { IfSome result (λ n. n ≤ high) }
-{
-    let number = number?;
-    if low <= number && number <= high {
-        Some(number)
-    } else {
-        None
-    }
-}
-
-// The number of an argument. That `clap`'s reader has let no other number through is not in its contract, so it is looked
-// at here.
-fn number_in(matches: &ArgMatches<'_>, id: &str, low: u32, high: u32) -> Option<u32>
-    ensures number { result ≡ numbers.number_in low high id.now (rows_of (found_of matches.now)) }
-    ensures most { IfSome result (λ n. n ≤ high) }
-{
-    within(matches.get_one::<u32>(id), low, high)
-}
 
 // The number of a node, or how many there are.
 fn node_in(matches: &ArgMatches<'_>, id: &str) -> Option<u8>

@@ -1,24 +1,15 @@
 use Rattle.std.proofs.Common.{◌≡◌, List, [], ◌∷◌, subst, cond, Option, ◌∙◌, ap, map, None, refl, sym, inl, inr}
 use Rattle.std.specs.Prelude.{string_bytes, IfSome}
-use Rattle.clap.specs.Words.{App, Kinds, IsAmong, Text, fault_of, found_of, is_simple, is_simple_and_free, kind_of, rows_of}
+use Rattle.clap.specs.Words.{App, IsAmong, Text, fault_of, found_of, is_simple, is_simple_and_free, kind_of, rows_of}
 use Rattle.clap.specs.Simple.{matches_of}
-use Rattle.clap.specs.declared.error.ErrorKind.{ErrorKind}
-use Rattle.rex_command.specs.Reading.{is_none}
 use Rattle.rexnode_command.specs.Application.{node_app}
 use Rattle.rexnode_command.specs.Command.{CommandValue}
 use Rattle.rexnode_command.specs.Reading.{command_in}
 use Rattle.rexnode_command.specs.Laws.{Fits}
 use Rattle.rexnode_command.proofs.Fits.{commands_fit}
 use Rattle.rexnode_command.proofs.Simple.{simple, simple_and_free}
+use Rattle.rex_command.proofs.Faults.{kept, dropped}
 use Rattle.rexnode_command.proofs.reading.command_of.Goals as goal
-
-kept : {A : Type 0} (ks : Kinds) (x : Option A) → ks ≡ [] → x ≡ cond (is_none ks) x None
-kept [] x e = refl
-kept (k ∷ ks) x e = absurd cc
-
-dropped : {A : Type 0} (k : ErrorKind) (ks : Kinds) (x : Option A) → IsAmong k ks → None ≡ cond (is_none ks) x None
-dropped k [] x h = absurd h
-dropped k (y ∷ ys) x h = refl
 
 pub returns-clause-command : goal.returns-clause-command
 returns-clause-command c =
