@@ -1,6 +1,7 @@
 -- What values come to that are taken one after another.
-use Rattle.std.specs.Prelude.{◌≡◌, ℕ, ◌&&◌, Bool, ℤ, pos, List, fold, take, is_some, Option, Some, None, if◌then◌else◌}
+use Rattle.std.specs.Prelude.{◌≡◌, ℕ, ◌≤ℤ◌, ◌&&◌, Bool, ℤ, pos, List, fold, take, is_some, Option, Some, None, if◌then◌else◌}
 use Rattle.std.specs.Int.{int_max}
+use Rattle.std.specs.List.{All}
 use Rattle.rex_syntax.specs.declared.service.Declarations.{Declarations}
 use Rattle.rex_event.specs.declared.event.Event.{Event}
 use Rattle.rex_event.specs.declared.event.Kind.{Kind}
@@ -12,14 +13,35 @@ use Rattle.rex_cluster.specs.Values.{Value, events_of, spells}
 
 -- ---- clocks
 
--- the greater of a clock and the one that an event of this kind shows
+-- the clock that an event of this kind shows, if it shows one
+abbrev pub shown_by : Kind → Option ℤ
+shown_by (Clock value) = Some value
+shown_by _ = None
+
+-- the greater of a clock and one that is shown, if one is
+abbrev pub later_of : ℤ → Option ℤ → ℤ
+later_of clock None = clock
+later_of clock (Some value) = int_max clock value
+
 abbrev pub later_clock : ℤ → Kind → ℤ
-later_clock clock (Clock value) = int_max clock value
-later_clock clock _ = clock
+later_clock clock kind = later_of clock (shown_by kind)
 
 -- the greatest of a clock and those that events show
 abbrev pub greatest_clock : ℤ → List Event → ℤ
 greatest_clock clock es = fold (λ (c : ℤ) (e : Event). later_clock c e.kind) clock es
+
+-- the greatest of a clock and those that the events of values show
+abbrev pub clock_after : ℤ → List Value → ℤ
+clock_after clock values = fold (λ (c : ℤ) (value : Value). greatest_clock c (events_of value)) clock values
+
+-- what is shown is no greater clock
+abbrev pub IsNoLater : ℤ → Option ℤ → Type 0
+IsNoLater clock None = Unit {0}
+IsNoLater clock (Some value) = value ≤ℤ clock
+
+-- no event shows a greater one
+abbrev pub ShowNoLater : ℤ → List Event → Type 0
+ShowNoLater clock es = All (λ (e : Event). IsNoLater clock (shown_by e.kind)) es
 
 -- ---- values that were applied
 

@@ -9,3 +9,4 @@ mod pieces;
 mod running;
 
 pub use applied::Applied;
+pub use clocks::clock_after;

@@ -1,0 +1,9 @@
+pub mod Coming
+pub mod Going
+pub mod Hearing
+pub mod Process
+pub mod Running
+pub mod Sending
+pub mod Settling
+pub mod Starting
+pub mod Status

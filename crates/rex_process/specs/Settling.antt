@@ -1,0 +1,53 @@
+-- What comes behind a call of a node.
+use Rattle.std.specs.Prelude.{◌≡◌, ◌≤◌, ◌++◌, ℕ, pos, true, List, [], length, take, Option, Some, IfSome, Result, Ok, Err}
+use Rattle.rex_state.specs.Start.{start_of}
+use Rattle.rex_state.specs.Machine.{run}
+use Rattle.rex_cluster.specs.Records.{known}
+use Rattle.rex_cluster.specs.Values.{trace_of}
+use Rattle.rex_cluster.specs.Lanes.{node_trace}
+use Rattle.rex_node.specs.declared.refusal.Refusal.{Refusal}
+use Rattle.rex_node.specs.declared.step.Step.{Step}
+use Rattle.rex_node.specs.Parts.{IsNode}
+use Rattle.rex_processes.specs.Plain.{IsPlain}
+use Rattle.rex_fits.specs.Applied.{AppliedValue, ShowNoLater}
+use Rattle.rex_process.specs.Coming.{CatchesUp}
+use Rattle.rex_process.specs.Process.{ProcessValue, caught_up, here}
+
+-- its clock is at least 0, and no event shows a greater one
+pub record Reads {K : Type 0} (records : K → List (List ℕ)) (p : ProcessValue K) : Type 0 where
+  pub reads : ℕ
+  pub clock : p.clock ≡ pos reads
+  pub latest : ShowNoLater p.clock (node_trace (here records p))
+
+-- a test has come to all that the node knows, and no event shows a greater clock than it
+pub record IsReady {K : Type 0} (records : K → List (List ℕ)) (p : ProcessValue K) (a : AppliedValue) : Type 0 where
+  pub runs : run p.service (start_of p.service) (trace_of (known (here records p).log)) ≡ Some a.state
+  pub dated : Reads records (record p { clock = a.clock })
+
+-- while the node is up, no event of so many first values, and no live event, shows a greater clock than the process has; what was tested, if something was, is all that the node knows
+pub record IsUpSettling {K : Type 0} (records : K → List (List ℕ)) (p : ProcessValue K) (many : ℕ) (test : Option AppliedValue) : Type 0 where
+  pub within : many ≤ length (known (here records p).log)
+  pub reads : ℕ
+  pub clock : p.clock ≡ pos reads
+  pub noted : ShowNoLater p.clock (trace_of (take many (known (here records p).log)))
+  pub live : ShowNoLater p.clock (here records p).work.live
+  pub tested : IfSome test (IsReady records p)
+
+pub record IsSettling {K : Type 0} (records : K → List (List ℕ)) (p : ProcessValue K) (many : ℕ) (test : Option AppliedValue) : Type 0 where
+  pub node : IsNode records p.service [] p.node
+  pub plain : IsPlain (here records p).log
+  pub up : p.node.up ≡ true → IsUpSettling records p many test
+
+-- then the node has caught up behind a step, and the clock is right again
+pub record IsCaught {K : Type 0} (records : K → List (List ℕ)) (p q : ProcessValue K) (before after : Step) : Type 0 where
+  pub catches : CatchesUp records p.service (caught_up p.node.id) p.node q.node before after
+  pub reads : q.node.up ≡ true → Reads records (record q { service = p.service })
+
+-- a step, and then another one
+pub record FollowsStep (first second step : Step) : Type 0 where
+  pub effects : step.effects ≡ first.effects ++ second.effects
+  pub sends : step.sends ≡ first.sends ++ second.sends
+
+abbrev pub IsJoined : Step → Result Step Refusal → Step → Type 0
+IsJoined first (Ok second) step = FollowsStep first second step
+IsJoined first (Err refusal) step = ⊥

@@ -1,0 +1,18 @@
+//! A node as a process of its own has it. Nobody tells a process that a value runs which it is handed, so it replays each value
+//! before it takes it as known; and it sees to it that no lane reads an earlier clock than one that was read before.
+#![tactic(auto)]
+
+mod answers;
+mod hearing;
+mod leading;
+mod process;
+mod running;
+mod settling;
+mod starting;
+mod telling;
+mod testing;
+
+pub use answers::Answer;
+pub use process::Process;
+pub use running::Ran;
+pub use starting::{NotStarted, StartFault};
