@@ -1,0 +1,9 @@
+//! The loop that answers the frames of a process.
+#![tactic(auto)]
+
+mod acting;
+mod answering;
+mod asking;
+mod serving;
+
+pub use serving::{Ended, serve};
