@@ -1,5 +1,5 @@
 -- A node as a process has it, and what comes of its tasks.
-use Rattle.std.specs.Prelude.{◌≡◌, ◌⊎◌, ℕ, ℤ, ◌<◌, ◌^◌, ◌-◌, ◌&&◌, ◌++◌, not, nat_lt, Bool, true, false, pos, List, [], ◌∷◌, length, Option, Some, None, if◌then◌else◌}
+use Rattle.std.specs.Prelude.{◌≡◌, ◌⊎◌, ℕ, ℤ, ◌<◌, ◌^◌, ◌-◌, ◌&&◌, ◌++◌, not, nat_lt, Bool, true, false, pos, List, [], ◌∷◌, length, drop, Option, Some, None, if◌then◌else◌}
 use Rattle.std.specs.Int.{int_max}
 use Rattle.rex_syntax.specs.declared.service.Declarations.{Declarations}
 use Rattle.rex_state.specs.Start.{start_of}
@@ -7,7 +7,6 @@ use Rattle.rex_state.specs.Machine.{run}
 use Rattle.rex_report.specs.declared.effect.Role.{Role as RoleName}
 use Rattle.rex_report.specs.declared.effect.Role.TheVariants as named
 use Rattle.rex_cluster.specs.Records.{known}
-use Rattle.rex_cluster.specs.Quorum.{is_majority}
 use Rattle.rex_cluster.specs.Node.{is_active}
 use Rattle.rex_cluster.specs.Calls.{begin, replay}
 use Rattle.rex_cluster.specs.Values.{Value, events_of, trace_of}
@@ -19,7 +18,7 @@ use Rattle.rex_processes.specs.Processes.Task.{Elect, Hear, Turn}
 use Rattle.rex_processes.specs.Plain.{IsPlain}
 use Rattle.rex_processes.specs.Tested.{FitsNext, MayBeHeard, OwnReportsFit}
 use Rattle.rex_processes.specs.Leading.{ActiveOpenFits, ActiveIsActing}
-use Rattle.rex_fits.specs.Applied.{AppliedValue, ShowNoLater, greatest_clock}
+use Rattle.rex_fits.specs.Applied.{AppliedValue, ShowNoLater, clock_after, greatest_clock}
 use Rattle.rex_process.specs.Coming.{Comes}
 use Rattle.rex_process.specs.declared.answers.Answer.{Answer}
 use Rattle.rex_process.specs.declared.answers.Answer.TheVariants.{Did, Unfit}
@@ -59,9 +58,8 @@ task_in p task d = caught_up p.node.id (call_in p task d)
 
 -- ---- what is kept of it
 
--- while it is up it holds all that it knows and has replayed it; where it is active it works with a recorder, and the value fits that it has open; no event shows a greater clock than its own, which isn't below 0; and its keeper may fail once more
+-- while it is up it has replayed all that it knows; where it is active it works with a recorder, and the value fits that it has open; no event shows a greater clock than its own, which isn't below 0; and its keeper may fail once more
 pub record IsUpProcess {K : Type 0} (records : K → List (List ℕ)) (faults : K → ℕ) (p : ProcessValue K) : Type 0 where
-  pub holds : p.node.offset ≡ 0
   pub caught_up : is_behind (here records p) ≡ false
   pub acts : ActiveIsActing p.service (here records p)
   pub open_fits : ActiveOpenFits p.service (here records p)
@@ -70,11 +68,10 @@ pub record IsUpProcess {K : Type 0} (records : K → List (List ℕ)) (faults : 
   pub latest : ShowNoLater p.clock (node_trace (here records p))
   pub count : faults p.node.keeper < 2 ^ 64 - 1
 
--- it is a node whose records have no states, alone or no majority by itself
+-- it is a node whose records have no states
 pub record IsProcess {K : Type 0} (records : K → List (List ℕ)) (faults : K → ℕ) (p : ProcessValue K) : Type 0 where
   pub node : IsNode records p.service [] p.node
   pub plain : IsPlain (here records p).log
-  pub many : (p.node.nodes ≡ 1) ⊎ (is_majority p.node.nodes (p.node.id ∷ []) ≡ false)
   pub up : p.node.up ≡ true → IsUpProcess records faults p
 
 -- it is the same node of the same cluster, with the same service
@@ -110,9 +107,19 @@ HasToFit records p _ = Unit {0}
 
 -- ---- what comes of a task
 
--- it did the task, or its keeper failed meanwhile
-abbrev pub ComesTo : {K : Type 0} → (K → List (List ℕ)) → (K → ℕ) → ProcessValue K → ProcessValue K → Task → Step → Type 0
-ComesTo records faults p q task step = Comes records faults p.service (task_in p task) p.node q.node step
+-- the values that it knows beyond those that it knew before
+abbrev pub learned : {K : Type 0} → (K → List (List ℕ)) → ProcessValue K → ProcessValue K → List Value
+learned records p q = drop (length (known (here records p).log)) (known (here records q).log)
+
+-- the clock that it has then: the one that the lane read whose turn it was; and else the greatest of its clock before and those that the values show that it learned
+abbrev pub clock_then : {K : Type 0} → (K → List (List ℕ)) → ProcessValue K → ProcessValue K → Task → ℤ
+clock_then records p q (Turn lane reads) = pos reads
+clock_then records p q _ = clock_after p.clock (learned records p q)
+
+-- it did the task, or its keeper failed meanwhile; if the node is still up, this is what its clock is
+pub record ComesTo {K : Type 0} (records : K → List (List ℕ)) (faults : K → ℕ) (p q : ProcessValue K) (task : Task) (step : Step) : Type 0 where
+  pub came : Comes records faults p.service (task_in p task) p.node q.node step
+  pub clock : q.node.up ≡ true → q.clock ≡ clock_then records p q task
 
 -- it came to that, or it did nothing, since a value doesn't fit
 abbrev pub Answers : {K : Type 0} → (K → List (List ℕ)) → (K → ℕ) → ProcessValue K → ProcessValue K → Task → Answer → Type 0
