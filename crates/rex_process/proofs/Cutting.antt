@@ -27,7 +27,7 @@ use Rattle.rex_processes.specs.Leading.{RunsInRange}
 use Rattle.rex_processes.proofs.Ranging.{actives_in_range, one_can_cut}
 use Rattle.rex_processes.proofs.Testing.{alone_fits, elect_fits}
 use Rattle.rex_process.specs.Process.{ProcessValue, IsProcess, here}
-use Rattle.rex_process.proofs.Standing.{none_live, up_is}
+use Rattle.rex_process.proofs.Standing.{alone_or_not, none_live, up_is}
 
 abbrev err_of : Refusal → Result Step Refusal
 err_of refusal = Err refusal
@@ -51,7 +51,7 @@ module _ {K : Type 0} (records : K → List (List ℕ)) (faults : K → ℕ) (p 
   -- ---- elections
 
   pub election_runs : (p.node.nodes ≡ 1 → OwnReportsFit p.service x) → RunsOn p.service (elect p.node.nodes (service_of p.service p.node.seed) p.node.id) (begin x)
-  election_runs own = by process.many
+  election_runs own = by (alone_or_not p.node.nodes p.node.id process.node.id)
     where
       by : (p.node.nodes ≡ 1) ⊎ (is_majority p.node.nodes (p.node.id ∷ []) ≡ false) → RunsOn p.service (elect p.node.nodes (service_of p.service p.node.seed) p.node.id) (begin x)
       by (inl e) = alone_fits p.service p.node.seed p.node.nodes p.node.id (begin x) fit (own e)

@@ -1,5 +1,5 @@
 -- What comes behind a call of a node: lemmas.
-use Rattle.std.proofs.Common.{arith, ℤ, ◌≡◌, ℕ, ◌<◌, ◌-◌, Bool, true, false, not, ◌&&◌, ◌||◌, ◌==◌, ◌++◌, List, [], ◌∷◌, length, map, take, drop, Result, Ok, Err, Option, None, inl, inr, IfOk, refl, sym, ◌∙◌, ap, ap₂, subst, append-nil, append_assoc, pos}
+use Rattle.std.proofs.Common.{arith, ℤ, ◌≡◌, ℕ, ◌<◌, ◌-◌, Bool, true, false, not, ◌&&◌, ◌||◌, ◌==◌, ◌++◌, List, [], ◌∷◌, length, map, take, drop, Result, Ok, Err, Option, Some, None, inl, inr, IfOk, IfSome, refl, sym, ◌∙◌, ap, ap₂, subst, append-nil, append_assoc, pos}
 use Rattle.std.specs.Prelude.{nat_lt, if◌then◌else◌}
 use Rattle.std.specs.declared.alloc.AllocError.{AllocError}
 use Rattle.std.proofs.lemmas.Bool.{false≢true}
@@ -25,7 +25,7 @@ use Rattle.rex_fits.specs.Applied.{AppliedValue, ShowNoLater, clock_after}
 use Rattle.rex_transfer.specs.Window.{WindowValue}
 use Rattle.rex_process.specs.Coming.{CatchesUp}
 use Rattle.rex_process.specs.Process.{ProcessValue, caught_up, here, is_behind}
-use Rattle.rex_process.specs.Settling.{FollowsStep, IsCaught, IsJoined, IsSettling, IsUpSettling, Reads}
+use Rattle.rex_process.specs.Settling.{FollowsStep, IsCaught, IsJoined, IsSettling, IsUpSettling, Reads, noted_clock}
 use Rattle.rex_process.proofs.Dating.{after_raises, after_reads, after_shows, both_show}
 use Rattle.rex_process.proofs.Standing.{holds, known_is}
 
@@ -117,21 +117,21 @@ caught_reads records p q before after h r = record {
 
 -- ---- what comes behind
 
-module _ {K : Type 0} (records : K → List (List ℕ)) (gives : K → List ℕ → Answer → K → Type 0) (faults : K → ℕ) (p q : ProcessValue K) (keeper : q.node.keeper ≡ p.node.keeper) (dated : Reads records (record p { clock = q.clock })) (step : Step) where
+module _ {K : Type 0} (records : K → List (List ℕ)) (gives : K → List ℕ → Answer → K → Type 0) (faults : K → ℕ) (p q : ProcessValue K) (keeper : q.node.keeper ≡ p.node.keeper) (dated : Reads records (record p { clock = q.clock })) (clock : ℤ) (clock_is : q.clock ≡ clock) (step : Step) where
   -- it was behind, and what it replayed is told behind the step
   pub caught_behind : (result : Result Step AllocError) (outcome : Result Step Refusal) → is_behind (here records p) ≡ true → IfOk result (IsJoined step outcome)
-      → IfOk outcome (Does records gives faults p.service [] (replay p.node.id) p.node q.node) → IfOk result (λ (after : Step). IsCaught records p q step after)
+      → IfOk outcome (Does records gives faults p.service [] (replay p.node.id) p.node q.node) → IfOk result (λ (after : Step). IsCaught records p q clock step after)
   caught_behind (Err e) outcome behind joined done = tt
   caught_behind (Ok after) (Err refusal) behind joined done = absurd joined
   caught_behind (Ok after) (Ok more) behind joined done =
       let c = catches_behind records gives faults p.service p.node.id p.node q.node keeper step more after behind joined done in
-      record { catches = c; reads = λ u. caught_reads records p q step after c dated }
+      record { catches = c; reads = λ u. caught_reads records p q step after c dated; clock_is = λ u. clock_is }
 
   -- it wasn't
-  pub caught_none : q.node ≡ p.node → is_behind (here records p) ≡ false → IsCaught records p q step step
+  pub caught_none : q.node ≡ p.node → is_behind (here records p) ≡ false → IsCaught records p q clock step step
   caught_none same behind =
       let c = catches_none records gives faults p.service p.node.id p.node q.node keeper step same behind in
-      record { catches = c; reads = λ u. caught_reads records p q step step c dated }
+      record { catches = c; reads = λ u. caught_reads records p q step step c dated; clock_is = λ u. clock_is }
 
 -- ---- the clock of what is known more
 
@@ -140,7 +140,7 @@ trace_append [] more = refl
 trace_append (v ∷ some) more = ap (λ (es : List Event). events_of v ++ es) (trace_append some more) ∙ sym (append_assoc (events_of v) (trace_of some) (trace_of more))
 
 -- once it is noted the clock is right
-pub noted_reads : {K : Type 0} → (records : K → List (List ℕ)) (p : ProcessValue K) (many : ℕ) (clock : ℤ) (test : Option AppliedValue) → IsUpSettling records p many test → clock ≡ clock_after p.clock (drop many (known (here records p).log))
+pub noted_reads : {K : Type 0} → (records : K → List (List ℕ)) (p : ProcessValue K) (many : ℕ) (clock : ℤ) (test : Option AppliedValue) → IsUpSettling records p many test → clock ≡ noted_clock records p many
     → Reads records (record p { clock = clock })
 noted_reads {K} records p many clock test h e = subst (λ (c : ℤ). Reads records (record p { clock = c })) (sym e) right
   where
@@ -171,11 +171,10 @@ noted_reads {K} records p many clock test h e = subst (λ (c : ℤ). Reads recor
           (after_raises p.clock more (here records p).work.live h.live);
     }
 
--- the values past so many, as the node's window has them, are noted
-pub after_reads_are : {K : Type 0} → (records : K → List (List ℕ)) (p : ProcessValue K) (many : ℕ) (w : WindowValue) (more : List Value) (clock : ℤ) → IsSettling records p many None → p.node.up ≡ true
-    → w ≡ record { offset = p.node.offset; values = p.node.known } → more ≡ drop (many - w.offset) w.values → clock ≡ clock_after p.clock more → Reads records (record p { clock = clock })
-after_reads_are {K} records p many w more clock settling up window behind noted =
-    noted_reads records p many clock None (settling.up up) (noted ∙ ap (clock_after p.clock) all)
+-- the values past so many, as the node's window has them, are those that it knows beyond as many
+pub noted_is : {K : Type 0} → (records : K → List (List ℕ)) (p : ProcessValue K) (many : ℕ) (w : WindowValue) (more : List Value) (clock : ℤ) → IsSettling records p many None → p.node.up ≡ true
+    → w ≡ record { offset = p.node.offset; values = p.node.known } → more ≡ drop (many - w.offset) w.values → clock ≡ clock_after p.clock more → clock ≡ noted_clock records p many
+noted_is {K} records p many w more clock settling up window behind noted = noted ∙ ap (clock_after p.clock) all
   where
     nothing : p.node.offset ≡ 0
     nothing = holds records p.service p.node settling.node settling.plain up
@@ -188,3 +187,7 @@ after_reads_are {K} records p many w more clock settling up window behind noted 
         behind
         ∙ (ap (λ (v : WindowValue). drop (many - v.offset) v.values) window
         ∙ (ap (λ (k : ℕ). drop k p.node.known) same ∙ ap (drop many) (known_is records p.service p.node settling.node settling.plain up)))
+
+-- what a test came to has the clock that is noted
+pub test_noted : {K : Type 0} → (records : K → List (List ℕ)) (p : ProcessValue K) (many : ℕ) (test : Option AppliedValue) (a : AppliedValue) → test ≡ Some a → IsUpSettling records p many test → a.clock ≡ noted_clock records p many
+test_noted records p many test a is h = subst (λ (o : Option AppliedValue). IfSome o (λ (b : AppliedValue). b.clock ≡ noted_clock records p many)) is h.test_clock

@@ -41,12 +41,10 @@ pub raised_process : {K : Type 0} → (records : K → List (List ℕ)) (faults 
 raised_process records faults p clock process = record {
   node = process.node;
   plain = process.plain;
-  many = process.many;
   up = λ u.
       let h = process.up u in
       let raised = raised_reads h.reads clock in
       record {
-        holds = h.holds;
         caught_up = h.caught_up;
         acts = h.acts;
         open_fits = h.open_fits;
@@ -200,10 +198,13 @@ module _ {K : Type 0} (records : K → List (List ℕ)) (faults : K → ℕ) (p 
 
       -- so the step is what the whole task comes to
       comes : (step : Step) → HasDone records faults p.service (call_in p (TurnOf lane is_up.reads)) p.node q.node step → ComesTo records faults p q (TurnOf lane is_up.reads) step
-      comes step h = (
-        record { written = []; grown = ap records keeper ∙ sym (append-nil (records p.node.keeper)) },
-        inl (record { is = h.is ∙ sym (still_caught p.node.id called same_behind); counted = h.counted }),
-      )
+      comes step h = record {
+        came = (
+          record { written = []; grown = ap records keeper ∙ sym (append-nil (records p.node.keeper)) },
+          inl (record { is = h.is ∙ sym (still_caught p.node.id called same_behind); counted = h.counted }),
+        );
+        clock = λ u. clock_is ∙ is_up.clock;
+      }
 
       -- the step that is told of it is the turn's, whatever the clock was before it was raised
       pub has_turn : (first : ProcessValue K) (clock : ℤ) → p ≡ record first { clock = int_max first.clock clock } → (id : ℕ) (result : Result Turn Refusal) (outcome : Result Step Refusal)
@@ -212,19 +213,21 @@ module _ {K : Type 0} (records : K → List (List ℕ)) (faults : K → ℕ) (p 
       has_turn first clock raised id result outcome refused went spared told (Err e) tell = tt
       has_turn first clock raised id result outcome refused went spared told (Ok step) tell =
           let clocks : p.clock ≡ int_max first.clock clock = ap (λ (x : ProcessValue K). x.clock) raised in
+          let h = comes step (done id result outcome step refused went spared told tell) in
           record {
             reads = is_up.reads;
             greatest = sym is_up.clock ∙ clocks;
             raised = clock_is ∙ clocks;
-            comes =
-                subst (λ (x : ProcessValue K). Comes records faults x.service (task_in x (TurnOf lane is_up.reads)) x.node q.node step) raised
-                (comes step (done id result outcome step refused went spared told tell));
+            comes = record {
+              came = subst (λ (x : ProcessValue K). Comes records faults x.service (task_in x (TurnOf lane is_up.reads)) x.node q.node step) raised h.came;
+              clock = h.clock;
+            };
           }
 
       -- and the process stays one
       keeps : StaysNode records p.service [] p.node q.node → (step : Step) → HasDone records faults p.service (call_in p (TurnOf lane is_up.reads)) p.node q.node step → IsProcess records faults q
       keeps stays step h =
-          stays_process records faults p q good checked process up (TurnOf lane is_up.reads) step (comes step h) same.service stays tt tt there
+          stays_process records faults p q good checked process up (TurnOf lane is_up.reads) step (comes step h).came same.service stays tt tt there
           (λ u. record {
             reads = is_up.reads;
             clock = clock_is ∙ is_up.clock;

@@ -1,5 +1,5 @@
 -- What is left of a process where memory was short.
-use Rattle.std.proofs.Common.{◌≡◌, ℕ, true, false, List, [], length, Result, Ok, Err, OnErr, inl, inr, refl, sym, ◌∙◌, ap, subst}
+use Rattle.std.proofs.Common.{◌≡◌, ℕ, true, false, List, [], length, Result, Ok, Err, IfOk, OnOk, OnErr, inl, inr, refl, sym, ◌∙◌, ap, subst}
 use Rattle.std.specs.declared.alloc.AllocError.{AllocError}
 use Rattle.rex_msg.specs.declared.message.Message.{Message}
 use Rattle.rex_syntax.specs.declared.service.Declarations.{Declarations}
@@ -23,9 +23,15 @@ use Rattle.rex_processes.specs.Tested.{MayBeHeard}
 use Rattle.rex_processes.proofs.Stateless.{plain_stays}
 use Rattle.rex_process.specs.Coming.{Comes, IsTold}
 use Rattle.rex_process.specs.Hearing.{IsHeard}
-use Rattle.rex_process.specs.Process.{ProcessValue, IsLeft, IsProcess, call_in, here}
+use Rattle.rex_process.specs.Process.{ProcessValue, ComesTo, IsLeft, IsProcess, call_in, here}
 use Rattle.rex_process.proofs.Pasts.{same_log}
 use Rattle.rex_process.proofs.Receiving.{same_call, same_past}
+
+-- what is said of a process once a task has settled, and where memory was short for that
+pub record HasSettled {K : Type 0} (records : K → List (List ℕ)) (faults : K → ℕ) (p q : ProcessValue K) (task : Task) (result : Result Step AllocError) : Type 0 where
+  pub comes : IfOk result (ComesTo records faults p q task)
+  pub process : OnOk result (IsProcess records faults q)
+  pub left : OnErr result (IsLeft records p q task)
 
 abbrev Log : Type 0
 Log = List (Rec Value StateValue)
@@ -44,12 +50,6 @@ module _ {K : Type 0} (records : K → List (List ℕ)) (gives : K → List ℕ 
   pub left_after : (mid : NodeValue K) (step : Step) (q : ProcessValue K) → Comes records faults p.service (call_in p task) p.node mid step → q.service ≡ p.service → q.node.keeper ≡ mid.keeper → IsLeft records p q task
   left_after mid step q (goes, inl h) service keeper = inr (inl (log_is q mid service keeper ∙ ap (λ (d : CallHere). d.node.log) h.is))
   left_after mid step q (goes, inr h) service keeper = inr (inr (h.before, h.kept, log_is q mid service keeper ∙ ap (λ (d : CallHere). d.node.log) h.is))
-
-  -- so it is where what comes behind fails
-  pub left_behind : (mid : NodeValue K) (step : Step) (q : ProcessValue K) (settled : Result Step AllocError) → Comes records faults p.service (call_in p task) p.node mid step → q.service ≡ p.service → q.node.keeper ≡ mid.keeper
-      → OnErr settled (IsLeft records p q task)
-  left_behind mid step q (Ok after) comes service keeper = tt
-  left_behind mid step q (Err e) comes service keeper = left_after mid step q comes service keeper
 
   -- nothing has changed
   left_same : (q : ProcessValue K) → q.service ≡ p.service → records q.node.keeper ≡ records p.node.keeper → IsLeft records p q task

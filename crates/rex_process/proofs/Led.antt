@@ -1,5 +1,5 @@
 -- What comes of a call beside no past, and of what comes behind it.
-use Rattle.std.proofs.Common.{◌≡◌, ℕ, ℤ, true, List, [], Result, Ok, Err, Option, None, IfOk, OnOk, OnErr}
+use Rattle.std.proofs.Common.{◌≡◌, ℕ, ℤ, true, List, [], Result, Ok, Err, Option, None, IfOk}
 use Rattle.std.specs.declared.alloc.AllocError.{AllocError}
 use Rattle.rex_syntax.specs.Service.{IsService}
 use Rattle.rex_syntax.specs.Check.{IsChecked}
@@ -14,11 +14,12 @@ use Rattle.rex_steps.proofs.Refusing.{Excused}
 use Rattle.rex_processes.specs.Processes.{Task}
 use Rattle.rex_processes.specs.Plain.{IsPlainTask, HearsNoState}
 use Rattle.rex_processes.specs.Leading.{TaskFits}
+use Rattle.rex_fits.specs.Applied.{clock_after}
 use Rattle.rex_process.specs.Coming.{Comes, IsTold}
-use Rattle.rex_process.specs.Process.{ProcessValue, ComesTo, IsLeft, IsProcess, call_in, here}
-use Rattle.rex_process.specs.Settling.{IsCaught, IsSettling}
+use Rattle.rex_process.specs.Process.{ProcessValue, IsProcess, call_in, clock_then, here, learned}
+use Rattle.rex_process.specs.Settling.{IsCaught, IsSettling, noted_clock}
 use Rattle.rex_process.proofs.Coming.{comes_then}
-use Rattle.rex_process.proofs.Leaving.{left_behind}
+use Rattle.rex_process.proofs.Leaving.{HasSettled, left_after}
 use Rattle.rex_process.proofs.Living.{LiveIsDated}
 use Rattle.rex_process.proofs.Middle.{comes_to, process_after, settles}
 
@@ -31,23 +32,20 @@ module _ {K : Type 0} (records : K → List (List ℕ)) (gives : K → List ℕ 
   comes : Comes records faults p.service (call_in p task) p.node mid step
   comes = comes_then records gives faults p.service (call_in p task) p.node mid p.node.id p.node.id up due late says later step result refused spared did ends told
 
-  pub led_settles : (many : ℕ) → many ≡ count_of p.node → IsSettling records (record p { node = mid }) many None
-  led_settles many counted = settles records faults p good checked process up task mid step comes kept plain stateless live many counted None (λ u. tt)
+  module _ (many : ℕ) (counted : many ≡ count_of p.node) where
+    -- what is asked of what comes behind the call
+    pub led_settles : IsSettling records (record p { node = mid }) many None
+    led_settles = settles records faults p good checked process up task mid step comes kept plain stateless many counted live None (λ u. tt) (λ u. tt)
 
-  module _ (q : ProcessValue K) (settled : Result Step AllocError) (caught : IfOk settled (λ (after : Step). IsCaught records (record p { node = mid }) q step after)) (service_is : q.service ≡ p.service) (after : StaysNode records p.service [] mid q.node) where
-    pub led_comes : IfOk settled (ComesTo records faults p q task)
-    led_comes = by settled caught
-      where
-        by : (settled : Result Step AllocError) → IfOk settled (λ (after : Step). IsCaught records (record p { node = mid }) q step after) → IfOk settled (ComesTo records faults p q task)
-        by (Ok last) h = comes_to records faults p good checked process up task mid step comes kept plain stateless fits q last h service_is after
-        by (Err e) h = tt
+    abbrev Caught : ProcessValue K → Step → Type 0
+    Caught q = λ (last : Step). IsCaught records (record p { node = mid }) q (noted_clock records (record p { node = mid }) many) step last
 
-    pub led_process : OnOk settled (IsProcess records faults q)
-    led_process = by settled caught
-      where
-        by : (settled : Result Step AllocError) → IfOk settled (λ (after : Step). IsCaught records (record p { node = mid }) q step after) → OnOk settled (IsProcess records faults q)
-        by (Ok last) h = process_after records faults p good checked process up task mid step comes kept plain stateless fits q last h service_is after
-        by (Err e) h = tt
-
-  pub led_left : (q : ProcessValue K) (settled : Result Step AllocError) → q.service ≡ p.service → q.node.keeper ≡ mid.keeper → OnErr settled (IsLeft records p q task)
-  led_left q settled service keeper = left_behind records gives faults p task mid step q settled comes service keeper
+    -- and what comes of both
+    pub led_comes : (q : ProcessValue K) (settled : Result Step AllocError) → IfOk settled (Caught q) → q.service ≡ p.service → q.node.keeper ≡ mid.keeper → StaysNode records p.service [] mid q.node
+        → clock_then records p q task ≡ clock_after p.clock (learned records p q) → HasSettled records faults p q task settled
+    led_comes q (Ok last) caught service keeper after learns = record {
+      comes = comes_to records faults p good checked process up task mid step comes kept plain stateless many counted fits q last caught service after learns;
+      process = process_after records faults p good checked process up task mid step comes kept plain stateless many counted fits q last caught service after;
+      left = tt;
+    }
+    led_comes q (Err e) caught service keeper after learns = record { comes = tt; process = tt; left = left_after records gives faults p task mid step q comes service keeper }

@@ -1,5 +1,6 @@
 pub mod Adopting
 pub mod Applying
+pub mod Asking
 pub mod Beginning
 pub mod Catching
 pub mod Coming

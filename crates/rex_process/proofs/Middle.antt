@@ -1,5 +1,5 @@
 -- A process between a call of its node and what comes behind that.
-use Rattle.std.proofs.Common.{arith, ℤ, ◌≡◌, ℕ, ◌≤◌, Bool, true, false, List, [], ◌∷◌, ◌++◌, length, take, Option, inl, inr, IfSome, refl, sym, ◌∙◌, ap, subst}
+use Rattle.std.proofs.Common.{arith, ℤ, ◌≡◌, ℕ, ◌≤◌, Bool, true, false, List, [], ◌∷◌, ◌++◌, length, take, drop, Option, inl, inr, IfSome, refl, sym, ◌∙◌, ap, subst}
 use Rattle.std.proofs.lemmas.List.Elements.{All-nil, All-cons, All-head, All-tail}
 use Rattle.rex_syntax.specs.Service.{IsService}
 use Rattle.rex_syntax.specs.Check.{IsChecked}
@@ -17,12 +17,12 @@ use Rattle.rex_processes.specs.Plain.{IsPlain, IsPlainTask, HearsNoState}
 use Rattle.rex_processes.specs.Leading.{TaskFits}
 use Rattle.rex_processes.specs.Tested.{KnownFits}
 use Rattle.rex_processes.proofs.Stateless.{plain_stays}
-use Rattle.rex_fits.specs.Applied.{AppliedValue, IsNoLater, ShowNoLater, shown_by}
+use Rattle.rex_fits.specs.Applied.{AppliedValue, IsNoLater, ShowNoLater, clock_after, shown_by}
 use Rattle.rex_process.specs.Coming.{CatchesUp, Comes}
-use Rattle.rex_process.specs.Process.{ProcessValue, IsProcess, IsUpProcess, ComesTo, call_in, caught_up, here}
-use Rattle.rex_process.specs.Settling.{IsCaught, IsReady, IsSettling, IsUpSettling}
+use Rattle.rex_process.specs.Process.{ProcessValue, IsProcess, IsUpProcess, ComesTo, call_in, task_in, caught_up, clock_then, here, learned}
+use Rattle.rex_process.specs.Settling.{IsCaught, IsReady, IsSettling, IsUpSettling, noted_clock}
 use Rattle.rex_process.proofs.Catching.{then_caught}
-use Rattle.rex_process.proofs.Growing.{first_known, knows_on, longer_known}
+use Rattle.rex_process.proofs.Growing.{first_known, knows_on, longer_known, same_known}
 use Rattle.rex_process.proofs.Living.{LiveIsDated}
 use Rattle.rex_process.proofs.Standing.{holds, known_is, none_live, up_is}
 use Rattle.rex_process.proofs.Staying.{stays_process}
@@ -92,38 +92,53 @@ module _ {K : Type 0} (records : K → List (List ℕ)) (faults : K → ℕ) (p 
       by Follower r = none (ap is_active r)
       by (Leads l) r = leads l l.active r refl
 
-  -- what is asked of what comes behind the call
-  pub settles : ((c : ℤ) (d : CallHere) → LiveIsDated c p.service d.node → LiveIsDated c p.service (call_in p task d).node) → (many : ℕ) → many ≡ count_of p.node → (test : Option AppliedValue) → (mid.up ≡ true → IfSome test (IsReady records middle)) → IsSettling records middle many test
-  settles call many counted test ready = record { node = stays.kept; plain = plain_between; up = at }
-    where
-      many_is : many ≡ length (known before.log)
-      many_is =
-          let holds_all : p.node.offset ≡ 0 = holds records p.service p.node process.node process.plain up in
-          let e : count_of p.node ≡ length p.node.known = omega (arith, holds_all) in
-          counted ∙ (e ∙ ap length known_before)
+  module _ (many : ℕ) (counted : many ≡ count_of p.node) where
+    -- so many are those that were known before
+    many_is : many ≡ length (known before.log)
+    many_is =
+        let holds_all : p.node.offset ≡ 0 = holds records p.service p.node process.node process.plain up in
+        let e : count_of p.node ≡ length p.node.known = omega (arith, holds_all) in
+        counted ∙ (e ∙ ap length known_before)
 
-      at : mid.up ≡ true → IsUpSettling records middle many test
-      at u = record {
-        within = subst (λ (k : ℕ). k ≤ length (known between.log)) (sym many_is) (longer_known before.log between.log goes_on.0 goes_on.1);
-        reads = is_up.reads;
-        clock = is_up.clock;
-        noted =
-            subst (λ (vs : List Value). ShowNoLater p.clock (trace_of vs)) (sym (ap (λ (k : ℕ). take k (known between.log)) many_is ∙ first_known before.log between.log goes_on.0 goes_on.1))
-            (front_shows p.clock (trace_of (known before.log)) before.work.live is_up.latest);
-        live = live_between call u;
-        tested = ready u;
+    -- what is asked of what comes behind the call
+    pub settles : ((c : ℤ) (d : CallHere) → LiveIsDated c p.service d.node → LiveIsDated c p.service (call_in p task d).node) → (test : Option AppliedValue) → (mid.up ≡ true → IfSome test (IsReady records middle))
+        → (mid.up ≡ true → IfSome test (λ (a : AppliedValue). a.clock ≡ noted_clock records middle (length (known before.log)))) → IsSettling records middle many test
+    settles call test ready noted = record { node = stays.kept; plain = plain_between; up = at }
+      where
+        at : mid.up ≡ true → IsUpSettling records middle many test
+        at u = record {
+          within = subst (λ (k : ℕ). k ≤ length (known between.log)) (sym many_is) (longer_known before.log between.log goes_on.0 goes_on.1);
+          reads = is_up.reads;
+          clock = is_up.clock;
+          noted =
+              subst (λ (vs : List Value). ShowNoLater p.clock (trace_of vs)) (sym (ap (λ (k : ℕ). take k (known between.log)) many_is ∙ first_known before.log between.log goes_on.0 goes_on.1))
+              (front_shows p.clock (trace_of (known before.log)) before.work.live is_up.latest);
+          live = live_between call u;
+          tested = ready u;
+          test_clock = subst (λ (k : ℕ). IfSome test (λ (a : AppliedValue). a.clock ≡ noted_clock records middle k)) (sym many_is) (noted u);
+        }
+
+    -- and what comes of both
+    module _ (fits : TaskFits p.service task) (q : ProcessValue K) (step : Step) (caught : IsCaught records middle q (noted_clock records middle many) first step) (service_is : q.service ≡ p.service) (after : StaysNode records p.service [] mid q.node) where
+      -- the task, with what was caught up behind it, came to the step
+      came : Comes records faults p.service (task_in p task) p.node q.node step
+      came = then_caught records faults p.service (call_in p task) p.node.id p.node mid q.node first step comes (subst (λ (m : ℕ). CatchesUp records p.service (caught_up m) mid q.node first step) stays.same.id caught.catches)
+
+      -- the clock that is noted is the one after what was learned
+      clock_is : q.node.up ≡ true → q.clock ≡ clock_after p.clock (learned records p q)
+      clock_is u =
+          caught.clock_is u
+          ∙ ap (λ (k : ℕ). clock_after p.clock (drop k (known between.log))) many_is
+          ∙ ap (λ (vs : List Value). clock_after p.clock (drop (length (known before.log)) vs)) (sym (same_known records middle q service_is caught.catches.keeper))
+
+      pub comes_to : clock_then records p q task ≡ clock_after p.clock (learned records p q) → ComesTo records faults p q task step
+      comes_to learns = record { came = came; clock = λ u. clock_is u ∙ sym learns }
+
+      pub stays_so : StaysNode records p.service [] p.node q.node
+      stays_so = record {
+        same = record { id = after.same.id ∙ stays.same.id; nodes = after.same.nodes ∙ stays.same.nodes; seed = after.same.seed ∙ stays.same.seed };
+        kept = after.kept;
       }
 
-  -- and what comes of both
-  module _ (fits : TaskFits p.service task) (q : ProcessValue K) (step : Step) (caught : IsCaught records middle q first step) (service_is : q.service ≡ p.service) (after : StaysNode records p.service [] mid q.node) where
-    pub comes_to : ComesTo records faults p q task step
-    comes_to = then_caught records faults p.service (call_in p task) p.node.id p.node mid q.node first step comes (subst (λ (m : ℕ). CatchesUp records p.service (caught_up m) mid q.node first step) stays.same.id caught.catches)
-
-    pub stays_so : StaysNode records p.service [] p.node q.node
-    stays_so = record {
-      same = record { id = after.same.id ∙ stays.same.id; nodes = after.same.nodes ∙ stays.same.nodes; seed = after.same.seed ∙ stays.same.seed };
-      kept = after.kept;
-    }
-
-    pub process_after : IsProcess records faults q
-    process_after = stays_process records faults p q good checked process up task step comes_to service_is stays_so plain stateless fits caught.reads
+      pub process_after : IsProcess records faults q
+      process_after = stays_process records faults p q good checked process up task step came service_is stays_so plain stateless fits caught.reads

@@ -40,8 +40,9 @@ use Rattle.rex_processes.specs.Processes.Task.{Elect, Submit, Turn, Cut, Hear, A
 use Rattle.rex_processes.specs.Plain.{HeardFits, IsPlain}
 use Rattle.rex_processes.proofs.Calling.{cut_by}
 use Rattle.rex_processes.proofs.Stateless.{plain_tells_none}
+use Rattle.rex_process.specs.Coming.{Comes}
 use Rattle.rex_process.specs.Hearing.{IsHeard}
-use Rattle.rex_process.specs.Process.{ComesTo, HasTurn, IsProcess, ProcessValue, call_in, caught_up, here, is_behind}
+use Rattle.rex_process.specs.Process.{ComesTo, HasTurn, IsProcess, ProcessValue, call_in, task_in, caught_up, here, is_behind}
 use Rattle.rex_process.specs.Sending.{AreShort, IsGood, MayBeTold, TellsShort}
 use Rattle.rex_process.proofs.Ranging.{hear_fits}
 use Rattle.rex_process.proofs.Shortness.{HasShort, RoleShort, ValuesShort, call_short, fitting_short}
@@ -182,8 +183,11 @@ module _ {K : Type 0} (records : K → List (List ℕ)) (faults : K → ℕ) (p 
 
   -- and so are those of a step that comes of it
   pub sends_are : (step : Step) → ComesTo records faults p q task step → All IsMessage step.sends
-  sends_are step (goes, inl h) = done_fit step.sends (ap (λ (d : CallHere). d.sends) h.is ∙ caught_sends p.node.id (call_in p task before))
-  sends_are step (goes, inr h) = subst (All IsMessage) (sym h.quiet) (All-nil IsMessage)
+  sends_are step comes = by comes.came
+    where
+      by : Comes records faults p.service (task_in p task) p.node q.node step → All IsMessage step.sends
+      by (goes, inl h) = done_fit step.sends (ap (λ (d : CallHere). d.sends) h.is ∙ caught_sends p.node.id (call_in p task before))
+      by (goes, inr h) = subst (All IsMessage) (sym h.quiet) (All-nil IsMessage)
 
   -- if there is one
   pub sends_in : (result : Result Step AllocError) → IfOk result (ComesTo records faults p q task) → IfOk result (λ (step : Step). All IsMessage step.sends)

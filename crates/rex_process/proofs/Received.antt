@@ -1,9 +1,10 @@
 -- A message that was heard, and what comes behind it.
-use Rattle.std.proofs.Common.{arith, ◌≡◌, ℕ, ℤ, suc, Bool, true, List, [], ◌∷◌, ◌++◌, length, Result, Ok, Err, Option, Some, None, IfOk, IfSome, OnOk, inl, inr, refl, sym, ◌∙◌, ap, subst}
+use Rattle.std.proofs.Common.{arith, ◌≡◌, ℕ, ℤ, suc, Bool, true, List, [], ◌∷◌, ◌++◌, length, drop, Result, Ok, Err, Option, Some, None, IfOk, IfSome, inl, inr, refl, sym, ◌∙◌, ap, subst}
 use Rattle.std.specs.Prelude.{◌==◌, if◌then◌else◌}
 use Rattle.std.specs.declared.alloc.AllocError.{AllocError}
 use Rattle.std.proofs.lemmas.Bool.{false≢true}
 use Rattle.std.proofs.lemmas.Bool.Decides.{nat_tests}
+use Rattle.std.proofs.lemmas.List.{drop_at}
 use Rattle.rex_msg.specs.declared.message.Message.{Message}
 use Rattle.rex_msg.specs.declared.message.Content.{Content}
 use Rattle.rex_msg.specs.declared.message.Content.TheVariants as sent
@@ -29,12 +30,13 @@ use Rattle.rex_processes.specs.Processes.{Task}
 use Rattle.rex_processes.specs.Processes.Task.{Hear}
 use Rattle.rex_processes.specs.Plain.{IsPlain}
 use Rattle.rex_processes.specs.Tested.{MayBeHeard}
-use Rattle.rex_fits.specs.Applied.{AppliedValue, ShowNoLater, greatest_clock}
+use Rattle.rex_fits.specs.Applied.{AppliedValue, ShowNoLater, clock_after, greatest_clock}
 use Rattle.rex_process.specs.Coming.{Comes, HasDone, IsTold}
 use Rattle.rex_process.specs.Hearing.{IsHeard, IsTestOfChosen}
-use Rattle.rex_process.specs.Process.{ProcessValue, ComesTo, HasTest, IsProcess, call_in, here}
-use Rattle.rex_process.specs.Settling.{IsCaught, IsReady, IsSettling}
+use Rattle.rex_process.specs.Process.{ProcessValue, HasTest, IsProcess, call_in, here}
+use Rattle.rex_process.specs.Settling.{IsCaught, IsReady, IsSettling, noted_clock}
 use Rattle.rex_process.proofs.Dating.{both_show, greatest_raises, greatest_reads, greatest_shows}
+use Rattle.rex_process.proofs.Leaving.{HasSettled, left_after}
 use Rattle.rex_process.proofs.Living.{hear_live}
 use Rattle.rex_process.proofs.Middle.{comes_to, front_shows, live_between, process_after, settles}
 use Rattle.rex_process.proofs.Receiving.{comes_beside, only_done, stateless_due, stays_beside}
@@ -66,9 +68,6 @@ module _ {K : Type 0} (records : K → List (List ℕ)) (gives : K → List ℕ 
       (subst (λ (r : Result Step Refusal). IfOk r (Does records gives faults p.service p.node.known (λ d. receive p.node.nodes (service_of p.service p.node.seed) p.node.id m.from (content_in p.node.known m.content) d) p.node mid)) is_done did)
       (subst (λ (r : Result Step Refusal). IfOk r (EndsDown p.node.id (faults p.node.keeper) (faults mid.keeper) mid.up)) is_done ends)
 
-  pub heard_between : Comes records faults p.service (call_in p heard_task) p.node mid step
-  heard_between = both.0
-
   stays : StaysNode records p.service [] p.node mid
   stays = stays_beside records gives faults p process up m heard may mid step both.1 kept
 
@@ -98,6 +97,13 @@ module _ {K : Type 0} (records : K → List (List ℕ)) (gives : K → List ℕ 
         same : (i == suc (length (known before.log))) ≡ true
         same = itself i (suc (length (known before.log))) next
 
+    -- so the test came to the clock that is noted
+    noted_then : a.clock ≡ noted_clock records (record p { node = mid }) (length (known before.log))
+    noted_then =
+        test.clock_is
+        ∙ sym (ap (λ (vs : List Value). clock_after p.clock (drop (length (known before.log)) vs)) known_then
+        ∙ ap (clock_after p.clock) (drop_at (known before.log) (v ∷ []) (length (known before.log)) refl))
+
     dated : ShowNoLater a.clock (trace_of (known before.log ++ v ∷ []) ++ between.work.live)
     dated = subst (λ (c : ℤ). ShowNoLater c (trace_of (known before.log ++ v ∷ []) ++ between.work.live)) (sym test.clock_is)
         (both_show raised (trace_of (known before.log ++ v ∷ [])) between.work.live
@@ -125,12 +131,14 @@ module _ {K : Type 0} (records : K → List (List ℕ)) (gives : K → List ℕ 
           };
         }
 
-  readied : (test : Option AppliedValue) → IfSome test (IsTestOfChosen records p m.content) → mid.up ≡ true → IfSome test (IsReady records (record p { node = mid }))
-  readied None h u = tt
-  readied (Some a) h u = by m.content refl h
+  -- what is so of the test of a value that a message tells for the next instance is so of any test
+  of_test : (P : AppliedValue → Type 0) → ((i : ℕ) (v : Value) (a : AppliedValue) → m.content ≡ sent.Chosen i v → i ≡ suc (length (known before.log)) → HasTest p.service p.clock before v a → P a)
+      → (test : Option AppliedValue) → IfSome test (IsTestOfChosen records p m.content) → IfSome test P
+  of_test P so None h = tt
+  of_test P so (Some a) h = by m.content refl h
     where
-      by : (c : Content) → m.content ≡ c → IsTestOfChosen records p c a → IsReady records (record p { node = mid }) a
-      by (sent.Chosen i v) e t = ready i v a e t.0 t.1 u
+      by : (c : Content) → m.content ≡ c → IsTestOfChosen records p c a → P a
+      by (sent.Chosen i v) e t = so i v a e t.0 t.1
       by (sent.Prepare b i) e t = absurd t
       by (sent.Promise b ps) e t = absurd t
       by (sent.Accept b i v) e t = absurd t
@@ -139,24 +147,24 @@ module _ {K : Type 0} (records : K → List (List ℕ)) (gives : K → List ℕ 
       by (sent.Ask i) e t = absurd t
       by (sent.Snapshot k bytes) e t = absurd t
 
-  -- what is asked of what comes behind
-  pub heard_settles : (many : ℕ) → many ≡ count_of p.node → (test : Option AppliedValue) → IfSome test (IsTestOfChosen records p m.content) → IsSettling records (record p { node = mid }) many test
-  heard_settles many counted test h =
-      settles records faults p good checked process up heard_task mid step both.0 stays tt heard.stateless
-      (λ c d. hear_live c p.service good checked p.node.seed p.node.nodes p.node.id (message_in [] m) d) many counted test (λ u. readied test h u)
+  module _ (many : ℕ) (counted : many ≡ count_of p.node) where
+    -- what is asked of what comes behind
+    pub heard_settles : (test : Option AppliedValue) → IfSome test (IsTestOfChosen records p m.content) → IsSettling records (record p { node = mid }) many test
+    heard_settles test h =
+        settles records faults p good checked process up heard_task mid step both.0 stays tt heard.stateless many counted
+        (λ c d. hear_live c p.service good checked p.node.seed p.node.nodes p.node.id (message_in [] m) d) test
+        (λ u. of_test (IsReady records (record p { node = mid })) (λ i v a e next t. ready i v a e next t u) test h)
+        (λ u. of_test (λ (a : AppliedValue). a.clock ≡ noted_clock records (record p { node = mid }) (length (known before.log))) (λ i v a e next t. noted_then i v a e next t u) test h)
 
-  -- and what comes of it all
-  module _ (q : ProcessValue K) (settled : Result Step AllocError) (caught : IfOk settled (λ (after : Step). IsCaught records (record p { node = mid }) q step after)) (service_is : q.service ≡ p.service) (after : StaysNode records p.service [] mid q.node) where
-    pub heard_comes : IfOk settled (ComesTo records faults p q heard_task)
-    heard_comes = by settled caught
-      where
-        by : (settled : Result Step AllocError) → IfOk settled (λ (after : Step). IsCaught records (record p { node = mid }) q step after) → IfOk settled (ComesTo records faults p q heard_task)
-        by (Ok last) h = comes_to records faults p good checked process up heard_task mid step both.0 stays tt heard.stateless tt q last h service_is after
-        by (Err e) h = tt
+    abbrev Caught : ProcessValue K → Step → Type 0
+    Caught q = λ (last : Step). IsCaught records (record p { node = mid }) q (noted_clock records (record p { node = mid }) many) step last
 
-    pub heard_process : OnOk settled (IsProcess records faults q)
-    heard_process = by settled caught
-      where
-        by : (settled : Result Step AllocError) → IfOk settled (λ (after : Step). IsCaught records (record p { node = mid }) q step after) → OnOk settled (IsProcess records faults q)
-        by (Ok last) h = process_after records faults p good checked process up heard_task mid step both.0 stays tt heard.stateless tt q last h service_is after
-        by (Err e) h = tt
+    -- and what comes of it all
+    pub heard_comes : (q : ProcessValue K) (settled : Result Step AllocError) → IfOk settled (Caught q) → q.service ≡ p.service → q.node.keeper ≡ mid.keeper → StaysNode records p.service [] mid q.node
+        → HasSettled records faults p q heard_task settled
+    heard_comes q (Ok last) caught service keeper after = record {
+      comes = comes_to records faults p good checked process up heard_task mid step both.0 stays tt heard.stateless many counted tt q last caught service after refl;
+      process = process_after records faults p good checked process up heard_task mid step both.0 stays tt heard.stateless many counted tt q last caught service after;
+      left = tt;
+    }
+    heard_comes q (Err e) caught service keeper after = record { comes = tt; process = tt; left = left_after records gives faults p heard_task mid step q both.0 service keeper }

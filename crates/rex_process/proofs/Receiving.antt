@@ -34,7 +34,7 @@ use Rattle.rex_process.specs.Hearing.{IsHeard}
 use Rattle.rex_process.specs.Process.{ProcessValue, IsProcess, call_in, here}
 use Rattle.rex_process.proofs.Coming.{failed_goes}
 use Rattle.rex_process.proofs.Pasts.{AreStateless, same_content, same_here, same_node, same_sends}
-use Rattle.rex_process.proofs.Standing.{holds, known_is, up_is}
+use Rattle.rex_process.proofs.Standing.{alone_or_not, holds, known_is, up_is}
 
 -- a content that tells no state is no reason to refuse it
 pub stateless_due : (service : Declarations) (h : Here) (c : Content) → TellsNoState (content_in [] c) → refusal_of_content service h c ≡ None
@@ -99,7 +99,7 @@ module _ {K : Type 0} (records : K → List (List ℕ)) (gives : K → List ℕ 
 
   -- it comes from another node, so the node is no majority by itself
   others : is_majority p.node.nodes (p.node.id ∷ []) ≡ false
-  others = by process.many
+  others = by (alone_or_not p.node.nodes p.node.id process.node.id)
     where
       by : (p.node.nodes ≡ 1) ⊎ (is_majority p.node.nodes (p.node.id ∷ []) ≡ false) → is_majority p.node.nodes (p.node.id ∷ []) ≡ false
       by (inr e) = e

@@ -1,15 +1,11 @@
 -- A process whose node came up and replayed all that it knows.
-use Rattle.std.proofs.Common.{arith, ℤ, ◌≡◌, ◌⊎◌, ℕ, zero, suc, ◌*◌, ◌<◌, ◌≤◌, ◌-◌, ◌^◌, Bool, true, false, pos, List, [], ◌∷◌, ◌++◌, length, None, Result, Ok, IfOk, inl, inr, refl, sym, ◌∙◌, ap, subst, append-nil, lt-ltb}
+use Rattle.std.proofs.Common.{arith, ℤ, ◌≡◌, ℕ, zero, suc, ◌<◌, ◌-◌, ◌^◌, Bool, true, false, pos, List, [], ◌∷◌, ◌++◌, length, None, Result, Ok, IfOk, inl, inr, refl, sym, ◌∙◌, ap, subst, append-nil, lt-ltb}
 use Rattle.std.specs.Prelude.{◌&&◌, ◌||◌, ◌==◌, not, nat_lt, if◌then◌else◌}
-use Rattle.std.proofs.lemmas.Bool.Decides.{nat_tests}
 use Rattle.rex_syntax.specs.declared.service.Declarations.{Declarations}
 use Rattle.rex_event.specs.declared.event.Event.{Event}
 use Rattle.rex_state.specs.Value.{StateValue}
-use Rattle.rex_paxos.specs.Counting as counting
-use Rattle.rex_paxos.proofs.Counted.{counted_none, counted_push}
 use Rattle.rex_report.specs.declared.effect.Effect.TheVariants.{Replayed, UpToDate}
 use Rattle.rex_cluster.specs.Records.{Rec, known}
-use Rattle.rex_cluster.specs.Quorum.{is_majority}
 use Rattle.rex_cluster.specs.Node.{Lead, Role, Work, down_node, is_active, no_work}
 use Rattle.rex_cluster.specs.Node.Role.{Follower, Leads}
 use Rattle.rex_cluster.specs.Calls.{begin, replay, restart, say}
@@ -21,9 +17,7 @@ use Rattle.rex_node.specs.declared.step.Step.{Step}
 use Rattle.rex_node.specs.Calls.{Does}
 use Rattle.rex_node.specs.declared.refusal.Refusal.{Refusal}
 use Rattle.rex_node.specs.Parts.{NodeValue, IsNode, StaysNode, count_of, here_of}
-use Rattle.rex_node.proofs.Bridges.{majority_is}
 use Rattle.rex_processes.specs.Plain.{IsPlain}
-use Rattle.rex_processes.proofs.Calling.{plain_offset}
 use Rattle.rex_processes.proofs.Stateless.{plain_starts}
 use Rattle.rex_fits.specs.Applied.{AppliedValue, ShowNoLater, clock_after}
 use Rattle.rex_process.specs.Process.{ProcessValue, IsProcess, IsUpProcess, caught_up, is_behind}
@@ -65,20 +59,6 @@ catching_keeps f same m x = by (is_behind x)
     by : (t : Bool) → f (if t then replay m (begin x) else begin x).node ≡ f x
     by true = replays (is_active x.role || x.replayed == length (known x.log))
     by false = refl
-
--- ---- majorities
-
--- a node that is not alone is no majority by itself
-pub alone_or_not : (nodes id : ℕ) → (0 < id) × (id ≤ nodes) → (nodes ≡ 1) ⊎ (is_majority nodes (id ∷ []) ≡ false)
-alone_or_not zero id there = absurd (omega (arith, there.0, there.1))
-alone_or_not (suc zero) id there = inl refl
-alone_or_not (suc (suc n)) id there = inr (own ∙ few)
-  where
-    own : is_majority (suc (suc n)) (id ∷ []) ≡ counting.is_majority (suc (suc n)) 1
-    own = majority_is (suc (suc n)) (id ∷ []) (counted_push (suc (suc n)) [] id (counted_none (suc (suc n))) (record { first = there.0; last = there.1 }) refl)
-
-    few : nat_lt (suc (suc n)) (2 * 1) ≡ false
-    few = grind (arith, nat_tests)
 
 -- ---- the process
 
@@ -199,7 +179,6 @@ module _ {K : Type 0} (records : K → List (List ℕ)) (faults : K → ℕ) (se
     up_process u =
         let reads = after_reads 0 x.known in
         record {
-          holds = (stays.kept.up u).offset ∙ plain_offset after.log plain;
           caught_up = subst (λ (h : Here). is_behind h ≡ false) (sym caught) (never_behind x.id (begin before));
           acts = λ l r active fit. absurd (leads_none l r);
           open_fits = λ l p r active fit o. absurd (leads_none l r);
@@ -211,7 +190,7 @@ module _ {K : Type 0} (records : K → List (List ℕ)) (faults : K → ℕ) (se
 
     -- and what is kept of any
     is_process : IsProcess records faults process
-    is_process = record { node = stays.kept; plain = plain; many = alone_or_not y.nodes y.id stays.kept.id; up = up_process }
+    is_process = record { node = stays.kept; plain = plain; up = up_process }
 
     -- the node before it came up
     abbrev down : Here
@@ -229,6 +208,9 @@ module _ {K : Type 0} (records : K → List (List ℕ)) (faults : K → ℕ) (se
       is =
           caught ∙ ap (λ (h : Here). (caught_up x.id (begin h)).node) come.is
           ∙ sym (ap (λ (d : CallHere). (caught_up x.id d).node) (plain_starts service x.seed x.id (begin down) come.plain) ∙ catches_node x.id (restart x.id (begin down)));
+      clock_is =
+          clock_is ∙ applied.clock_is ∙ ap (clock_after (pos 0)) come.known_is
+          ∙ sym (ap (λ (l : List (Rec Value StateValue)). clock_after (pos 0) (known l)) log_is);
     }
 
   -- such a process is one, and it started

@@ -1,5 +1,5 @@
 -- What a node is that is up and whose records are plain.
-use Rattle.std.proofs.Common.{arith, ◌≡◌, ℕ, ◌≤◌, Bool, true, false, not, ◌&&◌, List, [], ◌∷◌, length, take, is_some, Option, Some, None, refl, sym, ◌∙◌, ap, subst}
+use Rattle.std.proofs.Common.{arith, ◌≡◌, ◌⊎◌, ℕ, zero, suc, ◌*◌, ◌<◌, ◌≤◌, Bool, true, false, not, ◌&&◌, List, [], ◌∷◌, length, take, is_some, Option, Some, None, inl, inr, refl, sym, ◌∙◌, ap, subst}
 use Rattle.std.specs.Prelude.{nat_lt}
 use Rattle.std.proofs.lemmas.Bool.{false≢true}
 use Rattle.std.proofs.lemmas.Bool.Decides.{nat_tests}
@@ -7,17 +7,37 @@ use Rattle.rex_syntax.specs.declared.service.Declarations.{Declarations}
 use Rattle.rex_state.specs.Start.{start_of}
 use Rattle.rex_state.specs.Machine.{run}
 use Rattle.rex_paxos.specs.Acceptor.{AcceptorValue}
+use Rattle.rex_paxos.specs.Counting as counting
 use Rattle.rex_paxos.specs.Proposer.{ProposerValue}
+use Rattle.rex_paxos.proofs.Counted.{counted_none, counted_push}
 use Rattle.rex_cluster.specs.Records.{known}
+use Rattle.rex_cluster.specs.Quorum.{is_majority}
 use Rattle.rex_cluster.specs.Node.{is_active}
 use Rattle.rex_cluster.specs.Values.{Value, trace_of}
 use Rattle.rex_cluster.specs.Lanes.{Here}
 use Rattle.rex_node.specs.Checkpointing.{replayed_state, replayed_with}
 use Rattle.rex_node.specs.Parts.{ActingValue, IsActing, IsNode, IsUp, NodeValue, here_of, role_of, state_of, work_of}
+use Rattle.rex_node.proofs.Bridges.{majority_is}
 use Rattle.rex_processes.specs.Plain.{IsPlain}
 use Rattle.rex_processes.proofs.Calling.{plain_offset}
 use Rattle.rex_process.specs.Process.{is_behind}
 use Rattle.rex_process.proofs.Pasts.{whole_is}
+
+-- ---- majorities
+
+-- a node that is not alone is no majority by itself
+pub alone_or_not : (nodes id : ℕ) → (0 < id) × (id ≤ nodes) → (nodes ≡ 1) ⊎ (is_majority nodes (id ∷ []) ≡ false)
+alone_or_not zero id there = absurd (omega (arith, there.0, there.1))
+alone_or_not (suc zero) id there = inl refl
+alone_or_not (suc (suc n)) id there = inr (own ∙ few)
+  where
+    own : is_majority (suc (suc n)) (id ∷ []) ≡ counting.is_majority (suc (suc n)) 1
+    own = majority_is (suc (suc n)) (id ∷ []) (counted_push (suc (suc n)) [] id (counted_none (suc (suc n))) (record { first = there.0; last = there.1 }) refl)
+
+    few : nat_lt (suc (suc n)) (2 * 1) ≡ false
+    few = grind (arith, nat_tests)
+
+-- ---- its parts
 
 -- a node that isn't active has no live event
 pub no_live : (service : Declarations) (vs : List Value) (acceptor : AcceptorValue) (proposer : Option ProposerValue) (acting : Option ActingValue)

@@ -1,5 +1,5 @@
 -- What is kept of a process through a task.
-use Rattle.std.proofs.Common.{arith, ℤ, ◌++◌, ◌≡◌, ◌⊎◌, ℕ, ◌<◌, ◌-◌, ◌^◌, Bool, true, false, List, [], ◌∷◌, length, inl, inr, refl, sym, ◌∙◌, ap, subst, eqb-true}
+use Rattle.std.proofs.Common.{arith, ℤ, ◌++◌, ◌≡◌, ℕ, ◌<◌, ◌-◌, ◌^◌, Bool, true, false, List, [], ◌∷◌, length, inl, inr, refl, sym, ◌∙◌, ap, subst, eqb-true}
 use Rattle.std.specs.Prelude.{◌&&◌, ◌||◌, ◌==◌, not, nat_lt, if◌then◌else◌}
 use Rattle.std.proofs.lemmas.Bool.{false≢true}
 use Rattle.std.proofs.lemmas.Bool.Decides.{nat_tests}
@@ -7,7 +7,6 @@ use Rattle.rex_syntax.specs.declared.service.Declarations.{Declarations}
 use Rattle.rex_syntax.specs.Service.{IsService}
 use Rattle.rex_syntax.specs.Check.{IsChecked}
 use Rattle.rex_cluster.specs.Records.{known}
-use Rattle.rex_cluster.specs.Quorum.{is_majority}
 use Rattle.rex_cluster.specs.Node.{is_active}
 use Rattle.rex_cluster.specs.Calls.{begin, replay, say}
 use Rattle.rex_report.specs.declared.effect.Effect.TheVariants.{Replayed, UpToDate}
@@ -18,7 +17,6 @@ use Rattle.rex_processes.specs.Processes.{Task, armed_after}
 use Rattle.rex_processes.specs.Processes.Task.{Replay}
 use Rattle.rex_processes.specs.Plain.{IsPlain, IsPlainTask, HearsNoState}
 use Rattle.rex_processes.specs.Leading.{ActiveOpenFits, ActiveIsActing, TaskFits}
-use Rattle.rex_processes.proofs.Calling.{plain_offset}
 use Rattle.rex_processes.proofs.Keeping.{opens_stay, acts_on}
 use Rattle.rex_processes.proofs.Stateless.{plain_stays}
 use Rattle.rex_fits.specs.Applied.{ShowNoLater}
@@ -135,9 +133,7 @@ module _ {K : Type 0} (records : K → List (List ℕ)) (faults : K → ℕ) (p 
     stays_process reads = subst (λ (s : Declarations). IsProcess records faults (record q { service = s })) (sym service_is) (record {
       node = stays.kept;
       plain = plain_after;
-      many = many process.many;
       up = λ u. record {
-        holds = (stays.kept.up u).offset ∙ plain_offset after.log plain_after;
         caught_up = behind_after u;
         acts = acts_after;
         open_fits = opens_after;
@@ -147,10 +143,6 @@ module _ {K : Type 0} (records : K → List (List ℕ)) (faults : K → ℕ) (p 
         count = counted u;
       };
     })
-      where
-        many : (p.node.nodes ≡ 1) ⊎ (is_majority p.node.nodes (p.node.id ∷ []) ≡ false) → (q.node.nodes ≡ 1) ⊎ (is_majority q.node.nodes (q.node.id ∷ []) ≡ false)
-        many (inl e) = inl (stays.same.nodes ∙ e)
-        many (inr e) = inr (subst (λ (n : ℕ). is_majority n (q.node.id ∷ []) ≡ false) (sym stays.same.nodes) (subst (λ (m : ℕ). is_majority p.node.nodes (m ∷ []) ≡ false) (sym stays.same.id) e))
 
 -- ---- calls that leave a node as far along as it was
 

@@ -17,6 +17,7 @@ use Rattle.rex_steps.specs.Steps.{TellsOf}
 use Rattle.rex_processes.specs.Processes.Task.{Submit}
 use Rattle.rex_process.specs.Coming.{HasDone, IsTold}
 use Rattle.rex_process.specs.Process.{ProcessValue, IsProcess, ComesTo, call_in, here, is_behind}
+use Rattle.rex_process.proofs.Growing.{same_clock}
 use Rattle.rex_process.proofs.Staying.{reads_of, stays_process, still_caught, still_reads}
 use Rattle.rex_process.proofs.Working.{works}
 
@@ -52,18 +53,26 @@ module _ {K : Type 0} (records : K → List (List ℕ)) (faults : K → ℕ) (p 
     done : (step : Step) → IsTold id outcome (Ok step) → HasDone records faults p.service (call_in p (Submit r)) p.node q.node step
     done step tells = works records faults p.service p.node q.node id up (ap faults keeper) step (effect_of r) work refl result outcome refused told (leads result node) same answered tells
 
-    pub submit_comes : (step : Step) → IsTold id outcome (Ok step) → ComesTo records faults p q (Submit r) step
-    submit_comes step tells =
-        let h = done step tells in (
-          record { written = []; grown = ap records keeper ∙ sym (append-nil (records p.node.keeper)) },
-          inl (record { is = h.is ∙ sym (still_caught p.node.id (call_in p (Submit r) (begin before)) same_behind); counted = h.counted }),
-        )
+    comes : (step : Step) → IsTold id outcome (Ok step) → ComesTo records faults p q (Submit r) step
+    comes step tells =
+        let h = done step tells in
+        record {
+          came = (
+            record { written = []; grown = ap records keeper ∙ sym (append-nil (records p.node.keeper)) },
+            inl (record { is = h.is ∙ sym (still_caught p.node.id (call_in p (Submit r) (begin before)) same_behind); counted = h.counted }),
+          );
+          clock = λ u. same_clock records p q service_is keeper clock_is;
+        }
 
-    pub submit_stays : (step : Step) → IsTold id outcome (Ok step) → IsProcess records faults q
-    submit_stays step tells =
-        stays_process records faults p q good checked process up (Submit r) step (submit_comes step tells) service_is stays tt tt fits
+    stays_so : (step : Step) → IsTold id outcome (Ok step) → IsProcess records faults q
+    stays_so step tells =
+        stays_process records faults p q good checked process up (Submit r) step (comes step tells).came service_is stays tt tt fits
         (λ u. still_reads records p (record q { service = p.service }) (reads_of records faults p (process.up up)) clock_is (ap (λ (d : CallHere). node_trace d.node) (done step tells).is ∙ same_trace))
 
+    pub submit_comes : (result : Result Step AllocError) → IsTold id outcome result → IfOk result (ComesTo records faults p q (Submit r))
+    submit_comes (Ok step) tells = comes step tells
+    submit_comes (Err e) tells = tt
+
     pub submit_kept : (result : Result Step AllocError) → IsTold id outcome result → OnOk result (IsProcess records faults q)
-    submit_kept (Ok step) tells = submit_stays step tells
+    submit_kept (Ok step) tells = stays_so step tells
     submit_kept (Err e) tells = tt

@@ -1,7 +1,10 @@
 -- The test of a value that may be known next.
-use Rattle.std.proofs.Common.{◌≡◌, ℕ, zero, suc, Bool, true, false, not, ◌&&◌, List, [], ◌∷◌, ◌++◌, length, Option, Some, None, refl, sym, ◌∙◌, ap, subst, arith, length-append}
+use Rattle.std.proofs.Common.{◌≡◌, ℕ, zero, suc, ◌+◌, Bool, true, false, not, ◌&&◌, List, [], ◌∷◌, ◌++◌, length, Option, Some, None, Result, Ok, Err, IfOk, refl, sym, ◌∙◌, ap, subst, arith, length-append}
 use Rattle.std.specs.Prelude.{nat_lt}
+use Rattle.std.specs.declared.alloc.AllocError.{AllocError}
 use Rattle.std.proofs.lemmas.Bool.{false≢true}
+use Rattle.rex_msg.specs.declared.message.Content.{Content}
+use Rattle.rex_msg.specs.declared.message.Content.TheVariants as sent
 use Rattle.rex_syntax.specs.declared.service.Declarations.{Declarations}
 use Rattle.rex_syntax.specs.Service.{IsService}
 use Rattle.rex_syntax.specs.Check.{IsChecked}
@@ -20,10 +23,15 @@ use Rattle.rex_cluster.specs.Values.{Value, events_of, trace_of, values_fit}
 use Rattle.rex_cluster.specs.Lanes.{Here}
 use Rattle.rex_cluster.proofs.Replies.{trace_push}
 use Rattle.rex_log.specs.Log.{first}
+use Rattle.rex_log.specs.Messages.{content_in}
 use Rattle.rex_node.specs.Checkpointing.{replayed_state}
 use Rattle.rex_node.specs.Parts.{IsNode, NodeValue, count_of, here_of, knows}
+use Rattle.rex_processes.specs.Tested.{MayBeHeard}
 use Rattle.rex_processes.proofs.Testing.{next_fits_where}
 use Rattle.rex_fits.specs.Applied.{AppliedValue, HasTaken, fits_after}
+use Rattle.rex_process.specs.declared.hearing.Test.{Test}
+use Rattle.rex_process.specs.declared.hearing.Test.TheVariants as test
+use Rattle.rex_process.specs.Hearing.{IsTestOf, IsTestOfNext}
 use Rattle.rex_process.specs.Process.{ProcessValue, IsProcess, IsTest, here, is_behind, is_named_active}
 use Rattle.rex_process.proofs.Standing.{replayed_runs, up_is}
 
@@ -92,3 +100,24 @@ module _ {K : Type 0} (records : K → List (List ℕ)) (faults : K → ℕ) (p 
 
   pub fails : fits_after p.service s v ≡ false → IsTest p.service p.clock x v None
   fails e fits = false≢true (sym e ∙ (sym next ∙ fits))
+
+-- ---- a value that is told as chosen
+
+module _ {K : Type 0} (records : K → List (List ℕ)) (faults : K → ℕ) (p : ProcessValue K) (process : IsProcess records faults p) (up : p.node.up ≡ true) (i many : ℕ) (v : Value) (c : Content) (chosen : c ≡ sent.Chosen i v) (counted : many ≡ count_of p.node) where
+  -- the number after those that the node knows is the next instance
+  next_is : many + 1 ≡ suc (length (known (here records p).log))
+  next_is = let e : count_of p.node ≡ length (known (here records p).log) = many_known records p.service p.node process.node up in omega (arith, counted, e)
+
+  -- that of the next instance is tested
+  pub next_tested : i ≡ many + 1 → (outcome : Result Test AllocError) → IfOk outcome (IsTestOfNext p.service p.clock (here records p) v) → IfOk outcome (IsTestOf records p c)
+  next_tested is (Err e) h = tt
+  next_tested is (Ok t) h = subst (λ (x : Content). IsTestOf records p x t) (sym chosen) (by t h)
+    where
+      by : (t : Test) → IsTestOfNext p.service p.clock (here records p) v t → IsTestOf records p (sent.Chosen i v) t
+      by test.Passed h = absurd h
+      by (test.Known a) h = (λ e. h.fits, (is ∙ next_is, h))
+      by test.Unfit h = λ may. h (may (is ∙ next_is))
+
+  -- that of another one may be heard
+  pub other_passes : (i ≡ many + 1 → ⊥) → MayBeHeard p.service (here records p) (content_in [] c)
+  other_passes not = subst (λ (x : Content). MayBeHeard p.service (here records p) (content_in [] x)) (sym chosen) (λ e. absurd (not (e ∙ sym next_is)))

@@ -58,7 +58,8 @@ task_in p task d = caught_up p.node.id (call_in p task d)
 
 -- ---- what is kept of it
 
--- while it is up it has replayed all that it knows; where it is active it works with a recorder, and the value fits that it has open; no event shows a greater clock than its own, which isn't below 0; and its keeper may fail once more
+-- while it is up it has replayed all that it knows; where it is active it works with a recorder, and the value fits that it has open;
+-- no event shows a greater clock than its own, which isn't below 0; and its keeper may fail once more
 pub record IsUpProcess {K : Type 0} (records : K → List (List ℕ)) (faults : K → ℕ) (p : ProcessValue K) : Type 0 where
   pub caught_up : is_behind (here records p) ≡ false
   pub acts : ActiveIsActing p.service (here records p)
@@ -111,7 +112,7 @@ HasToFit records p _ = Unit {0}
 abbrev pub learned : {K : Type 0} → (K → List (List ℕ)) → ProcessValue K → ProcessValue K → List Value
 learned records p q = drop (length (known (here records p).log)) (known (here records q).log)
 
--- the clock that it has then: the one that the lane read whose turn it was; and else the greatest of its clock before and those that the values show that it learned
+-- the clock that it has then: after a turn the one that the lane read; else the greatest of its clock before and those that the values show that it learned
 abbrev pub clock_then : {K : Type 0} → (K → List (List ℕ)) → ProcessValue K → ProcessValue K → Task → ℤ
 clock_then records p q (Turn lane reads) = pos reads
 clock_then records p q _ = clock_after p.clock (learned records p q)

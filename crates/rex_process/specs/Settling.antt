@@ -28,7 +28,8 @@ pub record IsReady {K : Type 0} (records : K → List (List ℕ)) (p : ProcessVa
 abbrev pub noted_clock : {K : Type 0} → (K → List (List ℕ)) → ProcessValue K → ℕ → ℤ
 noted_clock records p many = clock_after p.clock (drop many (known (here records p).log))
 
--- while the node is up, no event of so many first values, and no live event, shows a greater clock than the process has; what was tested, if something was, is all that the node knows, and its clock is the one that is noted
+-- while the node is up, no event of so many first values, and no live event, shows a greater clock than the process has;
+-- what was tested, if something was, is all that the node knows, and its clock is the one that is noted
 pub record IsUpSettling {K : Type 0} (records : K → List (List ℕ)) (p : ProcessValue K) (many : ℕ) (test : Option AppliedValue) : Type 0 where
   pub within : many ≤ length (known (here records p).log)
   pub reads : ℕ

@@ -19,7 +19,8 @@ use Rattle.rex_process.specs.declared.starting.StartFault.{StartFault}
 use Rattle.rex_process.specs.declared.starting.StartFault.TheVariants.{BadRecord, Unfit, OutOfMemory}
 use Rattle.rex_process.specs.Process.{ProcessValue, caught_up, here}
 
--- it is the node of this number, of so many, with this keeper; it is what the model makes of one that comes up with its records and catches up; and its clock is the greatest that what it knows shows
+-- it is the node of this number, of so many, with this keeper, and it is what the model makes of one that comes up with its records and catches up;
+-- its clock is the greatest that what it knows shows, or 0
 pub record HasStarted {K : Type 0} (records : K → List (List ℕ)) (service : Declarations) (id nodes seed : ℕ) (keeper : K) (p : ProcessValue K) : Type 0 where
   pub service_is : p.service ≡ service
   pub id_is : p.node.id ≡ id

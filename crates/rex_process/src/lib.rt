@@ -1,5 +1,5 @@
 //! A node as a process of its own has it. Nobody tells a process that a value runs which it is handed, so it replays each value
-//! before it takes it as known; and it sees to it that no lane reads an earlier clock than one that was read before.
+//! before it takes it as known; and it sees to it that no lane reads an earlier clock than any that an event shows which it knows.
 #![tactic(auto)]
 
 mod answers;

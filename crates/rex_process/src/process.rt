@@ -29,7 +29,7 @@ pub struct Process<'a, K: Keeper> {
     pub(crate) alloc: Global,
     pub(crate) svc: &'a Checked,
     pub(crate) node: Node<K>,
-    /// The greatest clock that it was handed, or that the events of the values show that it knows; 0 before any.
+    /// The greatest clock that it was handed since it came up, or that the events of the values show that it knows; 0 before any.
     pub(crate) clock: i64,
 }
 

@@ -5,7 +5,7 @@ ghost use Rattle.rex_processes.specs.Plain.{IsPlain};
 ghost use Rattle.rex_node.specs.Parts.{IsNode, StaysNode};
 ghost use Rattle.rex_process.specs.Process as spec;
 ghost use Rattle.rex_process.specs.Process.{here};
-ghost use Rattle.rex_process.specs.Settling.{IsCaught, IsJoined, IsReady, IsSettling};
+ghost use Rattle.rex_process.specs.Settling.{IsCaught, IsJoined, IsReady, IsSettling, noted_clock};
 
 use crate::process::Process;
 use crate::telling::told;
@@ -28,7 +28,7 @@ impl<'a, K: Keeper> Process<'a, K> {
         test: Option<Applied>,
     ) -> Result<Step, AllocError>
         requires settling { IsSettling K.records self.old known test }
-        ensures caught { IfOk result (λ after. IsCaught K.records self.old self.new step after) }
+        ensures caught { IfOk result (λ after. IsCaught K.records self.old self.new (noted_clock K.records self.old known) step after) }
         ensures service { self.new.service ≡ self.old.service }
         ensures kept { StaysNode K.records self.old.service [] self.old.node self.new.node }
         ensures keeper { self.new.node.keeper ≡ self.old.node.keeper }
@@ -48,7 +48,7 @@ impl<'a, K: Keeper> Process<'a, K> {
         requires plain { IsPlain (here K.records self.old).log }
         requires up { self.old.node.up ≡ true }
         requires ready { IsReady K.records self.old applied }
-        ensures caught { IfOk result (λ after. IsCaught K.records self.old self.new step after) }
+        ensures caught { IfOk result (λ after. IsCaught K.records self.old self.new applied.clock step after) }
         ensures service { self.new.service ≡ self.old.service }
         ensures kept { StaysNode K.records self.old.service [] self.old.node self.new.node }
         ensures keeper { self.new.node.keeper ≡ self.old.node.keeper }
@@ -68,7 +68,7 @@ impl<'a, K: Keeper> Process<'a, K> {
     fn noted(&mut self, known: u32, step: Step) -> Result<Step, AllocError>
         requires settling { IsSettling K.records self.old known None }
         requires up { self.old.node.up ≡ true }
-        ensures caught { IfOk result (λ after. IsCaught K.records self.old self.new step after) }
+        ensures caught { IfOk result (λ after. IsCaught K.records self.old self.new (noted_clock K.records self.old known) step after) }
         ensures service { self.new.service ≡ self.old.service }
         ensures kept { StaysNode K.records self.old.service [] self.old.node self.new.node }
         ensures keeper { self.new.node.keeper ≡ self.old.node.keeper }

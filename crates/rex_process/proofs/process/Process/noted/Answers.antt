@@ -4,8 +4,8 @@ use Rattle.rex_transfer.specs.Window.{WindowValue, known_of}
 use Rattle.rex_node.specs.declared.step.Step.{Step}
 use Rattle.rex_fits.specs.Applied.{clock_after}
 use Rattle.rex_process.specs.Process.{ProcessValue, here, is_behind}
-use Rattle.rex_process.specs.Settling.{IsCaught, IsSettling}
-use Rattle.rex_process.proofs.Following.{after_reads_are, caught_behind, caught_none}
+use Rattle.rex_process.specs.Settling.{IsCaught, IsSettling, noted_clock}
+use Rattle.rex_process.proofs.Following.{caught_behind, caught_none, noted_is, noted_reads}
 use Rattle.rex_process.proofs.Standing.{holds}
 use Rattle.rex_process.proofs.Trying.{many_known}
 use Rattle.rex_process.proofs.process.Process.noted.Goals as goal
@@ -30,12 +30,13 @@ returns-then-not-is_behind-clause-caught g c =
     let up = ap (λ (q : ProcessValue g.row.K.Denot). q.node.up) c.self.view_is ∙ c.requires.up in
     let first : to_z w64 (of_z w64 c.self.inside.clock) ≡ c.self.inside.clock = search (to_z-of_z) in
     let last : to_z w64 (of_z w64 c.in_ok-clock.clock) ≡ c.in_ok-clock.clock = search (rules, to_z-of_z) in
-    let reads = after_reads_are g.K.Keeper.records p c.args.known c.window.result.now c.after.result.now c.in_ok-clock.clock settling up c.window.ensures c.after.ensures
+    let noted = noted_is g.K.Keeper.records p c.args.known c.window.result.now c.after.result.now c.in_ok-clock.clock settling up c.window.ensures c.after.ensures
     (c.in_ok-clock.ensures ∙ ap (λ (z : ℤ). clock_after z c.after.result.now) first) in
+    let reads = noted_reads g.K.Keeper.records p c.args.known c.in_ok-clock.clock None (settling.up up) noted in
     let behind : is_behind (here g.K.Keeper.records p) ≡ false = sym c.is_behind.ensures ∙ c.if-not-is_behind.true in
-    subst (λ (q : ProcessValue g.row.K.Denot). IsCaught g.K.Keeper.records q (record { service = c.self.inside.svc.now; node = c.self.inside.node; clock = to_z w64 (of_z w64 c.in_ok-clock.clock) }) c.args.step c.args.step) c.self.view_is
-    (subst (λ (z : ℤ). IsCaught g.K.Keeper.records p (record { service = c.self.inside.svc.now; node = c.self.inside.node; clock = z }) c.args.step c.args.step) (sym last)
-    (caught_none g.K.Keeper.records g.K.Keeper.append_gives g.K.Keeper.faults p (record { service = c.self.inside.svc.now; node = c.self.inside.node; clock = c.in_ok-clock.clock }) refl reads c.args.step refl behind))
+    subst (λ (q : ProcessValue g.row.K.Denot). IsCaught g.K.Keeper.records q (record { service = c.self.inside.svc.now; node = c.self.inside.node; clock = to_z w64 (of_z w64 c.in_ok-clock.clock) }) (noted_clock g.K.Keeper.records q c.args.known) c.args.step c.args.step) c.self.view_is
+    (subst (λ (z : ℤ). IsCaught g.K.Keeper.records p (record { service = c.self.inside.svc.now; node = c.self.inside.node; clock = z }) (noted_clock g.K.Keeper.records p c.args.known) c.args.step c.args.step) (sym last)
+    (caught_none g.K.Keeper.records g.K.Keeper.append_gives g.K.Keeper.faults p (record { service = c.self.inside.svc.now; node = c.self.inside.node; clock = c.in_ok-clock.clock }) refl reads (noted_clock g.K.Keeper.records p c.args.known) noted c.args.step refl behind))
 
 pub returns-clause-caught : goal.returns-clause-caught
 returns-clause-caught g c =
@@ -44,10 +45,11 @@ returns-clause-caught g c =
     let up = ap (λ (q : ProcessValue g.row.K.Denot). q.node.up) c.self.view_is ∙ c.requires.up in
     let first : to_z w64 (of_z w64 c.self.inside.clock) ≡ c.self.inside.clock = search (to_z-of_z) in
     let last : to_z w64 (of_z w64 c.in_ok-clock.clock) ≡ c.in_ok-clock.clock = search (rules, to_z-of_z) in
-    let reads = after_reads_are g.K.Keeper.records p c.args.known c.window.result.now c.after.result.now c.in_ok-clock.clock settling up c.window.ensures c.after.ensures
+    let noted = noted_is g.K.Keeper.records p c.args.known c.window.result.now c.after.result.now c.in_ok-clock.clock settling up c.window.ensures c.after.ensures
     (c.in_ok-clock.ensures ∙ ap (λ (z : ℤ). clock_after z c.after.result.now) first) in
+    let reads = noted_reads g.K.Keeper.records p c.args.known c.in_ok-clock.clock None (settling.up up) noted in
     let behind : is_behind (here g.K.Keeper.records p) ≡ true = sym c.is_behind.ensures ∙ c.if-not-is_behind.false in
-    subst (λ (q : ProcessValue g.row.K.Denot). IfOk c.with_more.result (λ (after : Step). IsCaught g.K.Keeper.records q (record { service = c.self.inside.svc.now; node = c.replay-outcome.new.self; clock = to_z w64 (of_z w64 c.in_ok-clock.clock) }) c.args.step after)) c.self.view_is
-    (subst (λ (z : ℤ). IfOk c.with_more.result (λ (after : Step). IsCaught g.K.Keeper.records p (record { service = c.self.inside.svc.now; node = c.replay-outcome.new.self; clock = z }) c.args.step after)) (sym last)
-    (caught_behind g.K.Keeper.records g.K.Keeper.append_gives g.K.Keeper.faults p (record { service = c.self.inside.svc.now; node = c.replay-outcome.new.self; clock = c.in_ok-clock.clock }) c.replay-outcome.ensures.keeper reads c.args.step
+    subst (λ (q : ProcessValue g.row.K.Denot). IfOk c.with_more.result (λ (after : Step). IsCaught g.K.Keeper.records q (record { service = c.self.inside.svc.now; node = c.replay-outcome.new.self; clock = to_z w64 (of_z w64 c.in_ok-clock.clock) }) (noted_clock g.K.Keeper.records q c.args.known) c.args.step after)) c.self.view_is
+    (subst (λ (z : ℤ). IfOk c.with_more.result (λ (after : Step). IsCaught g.K.Keeper.records p (record { service = c.self.inside.svc.now; node = c.replay-outcome.new.self; clock = z }) (noted_clock g.K.Keeper.records p c.args.known) c.args.step after)) (sym last)
+    (caught_behind g.K.Keeper.records g.K.Keeper.append_gives g.K.Keeper.faults p (record { service = c.self.inside.svc.now; node = c.replay-outcome.new.self; clock = c.in_ok-clock.clock }) c.replay-outcome.ensures.keeper reads (noted_clock g.K.Keeper.records p c.args.known) noted c.args.step
     c.with_more.result c.replay-outcome.result behind c.with_more.ensures c.replay-outcome.ensures.told))
