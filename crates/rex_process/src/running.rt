@@ -41,6 +41,7 @@ impl<'a, K: Keeper> Process<'a, K> {
         ensures process { IsProcess K.records K.faults self.new }
         ensures same { IsSame self.old self.new }
         ensures left { OnErr result ((here K.records self.new).log ≡ (here K.records self.old).log) }
+        ensures clock { OnErr result (self.new.clock ≡ int_max self.old.clock clock) }
     {
         let _service = self.svc.declarations();
         self.raise(clock);
@@ -61,6 +62,7 @@ impl<'a, K: Keeper> Process<'a, K> {
         ensures process { IsProcess K.records K.faults self.new }
         ensures same { IsSame self.old self.new }
         ensures left { OnErr result ((here K.records self.new).log ≡ (here K.records self.old).log) }
+        ensures clock { OnErr result (self.new.clock ≡ int_max self.old.clock clock) }
     {
         self.raise(clock);
         match self.node.role() {

@@ -33,4 +33,5 @@ returns-in_default g c =
       process = process;
       same = subst (IsSame c.args.self.now) (sym raised) (record { service = refl; id = refl; nodes = refl; seed = refl });
       left = tt;
+      clock = tt;
     }
