@@ -23,7 +23,7 @@ use Rattle.rex_process.specs.Coming.{Comes}
 use Rattle.rex_process.specs.declared.answers.Answer.{Answer}
 use Rattle.rex_process.specs.declared.answers.Answer.TheVariants.{Did, Unfit}
 
--- its service, its node, and the greatest clock that it was handed or that what it knows shows
+-- its service, its node, and the greatest clock that it was handed since it came up, or that what it knows shows
 pub record ProcessValue (K : Type 0) : Type 0 where
   pub service : Declarations
   pub node : NodeValue K
