@@ -6,7 +6,7 @@ use Rattle.rex_frames.specs.declared.asking.Asked.{Asked}
 use Rattle.rex_frames.specs.declared.asking.Asked.TheVariants.{Elect, Submit, Run, Turn, Cut, Hear, Ask, Read, Look, Nothing}
 use Rattle.rex_frames.specs.Frames.{front_of}
 use Rattle.rex_frames.specs.Frames.AtFront.{Whole}
-use Rattle.rex_process.specs.Process.{ProcessValue}
+use Rattle.rex_process.specs.Process.{ProcessValue, IsSame}
 use Rattle.rex_serve.specs.Answering.{Answered, BreaksOff, IsLeftOf, asked_of}
 use Rattle.rex_serve.specs.Serving.{GrowsBy, HasBroken, HasBrokenOff, HasServedSome, Serves}
 use Rattle.rex_serve.proofs.Grown.{serves_none}
@@ -36,13 +36,13 @@ module _ {K : Type 0} (records : K → List (List ℕ)) (faults : K → ℕ) whe
 
   -- memory was short at the frame that is next
   pub broken_at : (p m q : ProcessValue K) (bytes left rest frame before now : List ℕ) → GrowsBy (Serves records faults p m bytes left) before now → front_of left ≡ Whole frame rest → m.node.up ≡ true
-      → BreaksOff records faults m q (asked_of m frame) → HasBroken records faults p q bytes
-  broken_at p m q bytes left rest frame before now h front up broken = record {
+      → BreaksOff records faults m q (asked_of m frame) → IsSame m q → HasBroken records faults p q bytes
+  broken_at p m q bytes left rest frame before now h front up broken same = record {
     middle = m;
     left = left;
     out = h.more;
     served = h.holds;
-    broken = inr (record { frame = frame; rest = rest; front = front; up = up; broken = broken });
+    broken = inr (record { frame = frame; rest = rest; front = front; up = up; broken = broken; same = same });
   }
 
   -- nothing was taken of a piece in which memory was short

@@ -13,14 +13,14 @@ use Rattle.rex_serve.proofs.Fronts.{begins_join, begins_more}
 
 module _ {K : Type 0} (records : K → List (List ℕ)) (faults : K → ℕ) where
   -- what came of what a frame asks for, and then what the node is, are the answer to the frame
-  pub answers_frame : {T E : Type 0} (p q : ProcessValue K) (frame before middle now : List ℕ) (asked : Asked) (r : Result T E) → asked ≡ asked_of p frame
+  pub answers_frame : {T E : Type 0} (p q : ProcessValue K) (frame before middle now : List ℕ) (asked : Asked) (r : Result T E) → asked ≡ asked_of p frame → IsSame p q
       → GrowsBy (Answered records faults p q asked) before middle → OnOk r (now ≡ middle ++ standing_frame records q) → OnOk r (GrowsBy (AnswersFrame records faults p q frame) before now)
-  answers_frame p q frame before middle now asked r is grows told =
+  answers_frame p q frame before middle now asked r is same grows told =
       let status : List ℕ = standing_frame records q in
       on_ok_weaker r (λ (e : now ≡ middle ++ status). record {
         more = grows.more ++ status;
         grown = e ∙ ap (λ (t : List ℕ). t ++ status) grows.grown ∙ append_assoc before grows.more status;
-        holds = record { answer = grows.more; answered = subst (λ a. Answered records faults p q a grows.more) is grows.holds; told = refl };
+        holds = record { answer = grows.more; answered = subst (λ a. Answered records faults p q a grows.more) is grows.holds; same = same; told = refl };
       }) told
 
   -- frames are answered, and then others

@@ -2,3 +2,15 @@ pub mod Broken
 pub mod Fronts
 pub mod Grown
 pub mod Sent
+pub mod Happened
+pub mod There
+pub mod Steady
+pub mod Tasks
+pub mod Asked
+pub mod Started
+pub mod OneProcess
+pub mod Telling
+pub mod Clusters
+pub mod Known
+pub mod Replied
+pub mod Served

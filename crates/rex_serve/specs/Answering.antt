@@ -16,7 +16,7 @@ use Rattle.rex_process.specs.declared.answers.Answer.{Answer}
 use Rattle.rex_process.specs.declared.answers.Answer.TheVariants.{Did, Unfit}
 use Rattle.rex_process.specs.declared.running.Ran.{Ran}
 use Rattle.rex_process.specs.declared.running.Ran.TheVariants.{Made, Refused}
-use Rattle.rex_process.specs.Process.{ProcessValue, Answers, ComesTo, HasTurn, IsLeft, here}
+use Rattle.rex_process.specs.Process.{ProcessValue, Answers, ComesTo, HasTurn, IsLeft, IsSame, here}
 use Rattle.rex_process.specs.Running.{HasRun}
 use Rattle.rex_process.specs.Status.{status_of}
 
@@ -74,10 +74,11 @@ Answered records faults p q Nothing out = Stays p q (letter_frame NOTHING) out
 abbrev pub asked_of : {K : Type 0} → ProcessValue K → List ℕ → Asked
 asked_of p frame = asked_in p.service p.node.id p.node.nodes frame
 
--- a process did what a frame asks for; bytes tell what came of it, and then what the node is, while it is up
+-- a process did what a frame asks for, and is the same one; bytes tell what came of it, and then what the node is, while it is up
 pub record AnswersFrame {K : Type 0} (records : K → List (List ℕ)) (faults : K → ℕ) (p q : ProcessValue K) (frame out : List ℕ) : Type 0 where
   pub answer : List ℕ
   pub answered : Answered records faults p q (asked_of p frame) answer
+  pub same : IsSame p q
   pub told : out ≡ answer ++ standing_frame records q
 
 -- ---- where memory is short

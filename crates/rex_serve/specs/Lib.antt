@@ -1,2 +1,5 @@
 pub mod Answering
 pub mod Serving
+pub mod Standing
+pub mod Cluster
+pub mod Laws

@@ -3,7 +3,7 @@ use Rattle.std.specs.Prelude.{◌≡◌, ◌⊎◌, ℕ, ◌≢◌, true, false,
 use Rattle.rex_traits.specs.Growth.{GrowsByFront}
 use Rattle.rex_frames.specs.Frames.{AtFront, front_of}
 use Rattle.rex_frames.specs.Frames.AtFront.{Whole, More, TooLong}
-use Rattle.rex_process.specs.Process.{ProcessValue}
+use Rattle.rex_process.specs.Process.{ProcessValue, IsSame}
 use Rattle.rex_serve.specs.declared.serving.Ended.{Ended}
 use Rattle.rex_serve.specs.declared.serving.Ended.TheVariants as ended
 use Rattle.rex_serve.specs.Answering.{AnswersFrame, BreaksOff, asked_of}
@@ -78,13 +78,14 @@ module _ {K : Type 0} (records : K → List (List ℕ)) (faults : K → ℕ) whe
     pub served : Serves p q input left out
     pub taken : GrowsByFront before now out
 
-  -- memory was short while a process that is up answered the frame that these bytes begin with
+  -- memory was short while a process that is up answered the frame that these bytes begin with; it is the same one
   pub record BreaksOffAt (p q : ProcessValue K) (left : List ℕ) : Type 0 where
     pub frame : List ℕ
     pub rest : List ℕ
     pub front : front_of left ≡ Whole frame rest
     pub up : p.node.up ≡ true
     pub broken : BreaksOff records faults p q (asked_of p frame)
+    pub same : IsSame p q
 
   -- memory was short after whole frames that the input begins with, or while the next one was answered
   pub record HasBrokenOff (p q : ProcessValue K) (input before now : List ℕ) : Type 0 where

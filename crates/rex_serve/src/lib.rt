@@ -4,6 +4,7 @@
 mod acting;
 mod answering;
 mod asking;
+pub mod laws;
 mod serving;
 
 pub use serving::{Ended, serve};

@@ -8,7 +8,7 @@ pub returns-clause-answers : goal.returns-clause-answers
 returns-clause-answers g c =
     let is : c.in_ok-asked.asked ≡ asked_of c.args.process.now c.args.frame.now = cc c.in_ok-asked.ensures.asked in
     answers_frame g.K.Keeper.records g.K.Keeper.faults c.args.process.now c.act.new.process c.args.frame.now c.args.out.now.items c.act.new.out.items c.push_standing.new.out.items c.in_ok-asked.asked
-    c.push_standing.result is c.in_ok-act.ensures.answered c.push_standing.ensures
+    c.push_standing.result is c.in_ok-act.ensures.same c.in_ok-act.ensures.answered c.push_standing.ensures
 
 pub returns-in_err-asked-clause-left : goal.returns-in_err-asked-clause-left
 returns-in_err-asked-clause-left g c = on_err c.from_residual.result _ (inr (left_as_is g.K.Keeper.records g.K.Keeper.faults c.args.process.now (asked_of c.args.process.now c.args.frame.now)))

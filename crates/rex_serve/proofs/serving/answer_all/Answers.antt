@@ -17,4 +17,4 @@ pub returns-in_err-answer-in-Whole-clause-broken : goal.returns-in_err-answer-in
 returns-in_err-answer-in-Whole-clause-broken g c =
     let up : c.loop-alloc.process.node.up ≡ true = cc in
     on_err c.from_residual.result _ (broken_at g.K.Keeper.records g.K.Keeper.faults c.args.process.now c.loop-alloc.process c.answer.new.process c.args.bytes.now c.loop-alloc.left.now c.in-Whole.rest.now c.in-Whole.frame.now
-    c.args.out.now.items c.loop-alloc.out.items c.loop-alloc.invariant.served (sym c.in-Whole.ensures) up c.in_err-answer-in-Whole.ensures.left)
+    c.args.out.now.items c.loop-alloc.out.items c.loop-alloc.invariant.served (sym c.in-Whole.ensures) up c.in_err-answer-in-Whole.ensures.left c.in_err-answer-in-Whole.ensures.same)
