@@ -34,7 +34,8 @@ beginning = record { members = λ m. Left []; told = [] }
 
 -- ---- what happens to one of them
 
--- a process comes up with a keeper, as this one; it answers a frame, comes to this one, and its node reports and sends this step; it breaks off while it answers a frame, and leaves the records of this one; or it ends between two frames
+-- a process comes up with a keeper, as this one; it answers a frame, comes to this one, and its node reports and sends this step; it breaks off while it
+-- answers a frame, and leaves the records of this one; or it ends between two frames
 pub data Transition (K : Type 0) : Type 0 where
   ComesUp : K → ProcessValue K → Transition K
   Answers : List ℕ → ProcessValue K → Step → Transition K
@@ -81,7 +82,8 @@ module _ {K : Type 0} (records : K → List (List ℕ)) (faults : K → ℕ) whe
   abbrev pub goes_on : Cluster K → ℕ → Transition K → Cluster K
   goes_on c m t = record { members = λ k. if k == m then member_after records (c.members m) t else c.members k; told = c.told ++ (step_at t).sends }
 
-  -- it may happen to the process of this number, of so many with this service: one that runs answers frames, and one that doesn't comes up with the records that it left
+  -- it may happen to the process of this number, of so many with this service: one that runs answers frames, and one that doesn't comes up with the
+  -- records that it left
   abbrev pub MayHappen : Declarations → ℕ → ℕ → Cluster K → ℕ → Transition K → Type 0
   MayHappen service seed n c m (ComesUp keeper p) = (c.members m ≡ Left (records keeper)) × HasStarted records service m n seed keeper p
   MayHappen service seed n c m (Answers frame q step) = (p : ProcessValue K) × (c.members m ≡ Runs p) × AnswersSo records faults c.told p q frame step

@@ -86,7 +86,8 @@ pub record IsMember {K : Type 0} (service : Declarations) (seed n m : ℕ) (p : 
   pub seed_is : p.node.seed ≡ seed
 
 module _ {K : Type 0} (records : K → List (List ℕ)) (faults : K → ℕ) where
-  -- of a process that runs, which is the member of this number, a world has its node; and of one that doesn't run, a node that is down with the records that it left
+  -- of a process that runs, which is the member of this number, a world has its node; and of one that doesn't run, a node that is down with the records
+  -- that it left
   abbrev pub MemberStands : Declarations → ℕ → ℕ → ℕ → Member K → Here → Type 0
   MemberStands service seed n m (Runs p) x = IsMember service seed n m p × IsNodeOf (here records p) x
   MemberStands service seed n m (Left kept) x = x ≡ down_node (log_of service [] kept) None
@@ -131,7 +132,8 @@ module _ {K : Type 0} (records : K → List (List ℕ)) (faults : K → ℕ) whe
   -- so it is at any two moments, the first of which is the earlier one or the same
   abbrev pub ClustersKnowOneList : Type 0
   ClustersKnowOneList =
-      (service : Declarations) (seed n : ℕ) (ts more : List (ℕ × Transition K)) → n ≤ most_nodes → AllMayHappen records faults service seed n beginning (ts ++ more)
+      (service : Declarations) (seed n : ℕ) (ts more : List (ℕ × Transition K)) → n ≤ most_nodes
+      → AllMayHappen records faults service seed n beginning (ts ++ more)
       → KnowOneList service n (cluster_after records faults ts) (cluster_after records faults (ts ++ more))
 
   -- what each of them knows are deltas whose trace runs from the start on one thread

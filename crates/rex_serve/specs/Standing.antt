@@ -48,7 +48,8 @@ each_at m xs = map (λ (x : Happening). (m, x)) xs
 abbrev pub world_after : {K : Type 0} → ProcessValue K → World → List Happening → World
 world_after p w xs = after_happenings p.service p.node.seed p.node.nodes w (each_at p.node.id xs)
 
--- this is honest; the process is never told to write its state down, asks others that are there, and hears no message of its own; the other nodes stay as they are, and these messages are sent
+-- this is honest; the process is never told to write its state down, asks others that are there, and hears no message of its own; the other nodes stay
+-- as they are, and these messages are sent
 pub record AreHonestBy {K : Type 0} (p : ProcessValue K) (w : World) (xs : List Happening) (sends : List (model.Message Value)) : Type 0 where
   pub honest : AreHonest p.service p.node.seed p.node.nodes w (each_at p.node.id xs)
   pub plain : ArePlain (each_at p.node.id xs)
@@ -68,7 +69,8 @@ step_of (Did step) = step
 step_of Unfit = no_step
 
 -- what a process' node reports and sends, where it did what it was asked for; lanes that go on, a read and a look have it send nothing
-abbrev pub step_in : {K : Type 0} (records : K → List (List ℕ)) (faults : K → ℕ) (p q : ProcessValue K) (asked : Asked) (out : List ℕ) → Answered records faults p q asked out → Step
+abbrev pub step_in : {K : Type 0} (records : K → List (List ℕ)) (faults : K → ℕ) (p q : ProcessValue K) (asked : Asked) (out : List ℕ)
+    → Answered records faults p q asked out → Step
 step_in records faults p q Elect out h = step_of h.outcome
 step_in records faults p q (Submit request) out h = h.outcome
 step_in records faults p q (Run clock) out h = no_step
@@ -81,7 +83,8 @@ step_in records faults p q Look out h = no_step
 step_in records faults p q Nothing out h = no_step
 
 -- so it is of a frame
-abbrev pub step_to : {K : Type 0} (records : K → List (List ℕ)) (faults : K → ℕ) (p q : ProcessValue K) (frame out : List ℕ) → AnswersFrame records faults p q frame out → Step
+abbrev pub step_to : {K : Type 0} (records : K → List (List ℕ)) (faults : K → ℕ) (p q : ProcessValue K) (frame out : List ℕ)
+    → AnswersFrame records faults p q frame out → Step
 step_to records faults p q frame out h = step_in records faults p q (asked_of p frame) h.answer h.answered
 
 -- the message that is to be heard, if one is, is among these
