@@ -24,8 +24,8 @@ __attribute__((constructor)) static void begin(void)
     atomic_store(&asked, 0);
 }
 
-/* The programs end by this call, after which no destructor runs. */
-void _exit(int status)
+/* Programs that are built before any proof end by their return. */
+__attribute__((destructor)) static void tell(void)
 {
     const char *name = getenv("ALLOCATIONS_FILE");
     int file = name ? open(name, O_WRONLY | O_CREAT | O_TRUNC, 0600) : -1;
@@ -33,6 +33,12 @@ void _exit(int status)
         dprintf(file, "%lu\n", atomic_load(&asked));
         close(file);
     }
+}
+
+/* Proved ones end by this call, after which no destructor runs. */
+void _exit(int status)
+{
+    tell();
     for (;;)
         syscall(SYS_exit_group, status);
 }
