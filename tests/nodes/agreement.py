@@ -16,9 +16,14 @@ def demand(is_so, text, *parts):
         raise Wrong(text % parts)
 
 
+def accepted_in(record):
+    """The instance, the ballot and the value that a record says was accepted."""
+    return int.from_bytes(record[9:13], "big"), int.from_bytes(record[1:9], "big"), record[17:]
+
+
 def accepted_by(node, records):
-    """What records say was accepted: instances and ballots, with the values. Promises rise, and nothing is accepted below one."""
-    promised, accepted = 0, {}
+    """What records say was accepted. Promises rise, and nothing is accepted below one."""
+    promised, accepted = 0, []
     for record in records:
         ballot = int.from_bytes(record[1:9], "big")
         if record[0] == journals.PROMISED:
@@ -27,25 +32,27 @@ def accepted_by(node, records):
         elif record[0] == journals.ACCEPTED:
             demand(ballot >= promised, "node %d promised %d, and accepts at %d", node, promised, ballot)
             promised = ballot
-            accepted[int.from_bytes(record[9:13], "big"), ballot] = record[17:]
+            accepted.append(accepted_in(record))
         else:
             demand(record[0] == journals.KNOWN, "node %d has a record of kind %d", node, record[0])
     return accepted
 
 
 def agreed_in(cluster):
-    """The agreed values, by the journals of all nodes."""
-    lists, accepted, acceptors = [], {}, collections.Counter()
+    """The agreed values, by the journals of all nodes, of which some may know fewer."""
+    lists, accepted, acceptors = [], {}, collections.defaultdict(set)
     for node in range(1, cluster.nodes + 1):
         records = journals.records_at(cluster.journal(node))
         demand(records[:1] == [cluster.identity(node)], "the journal of node %d begins with %s", node, records[0].hex() if records else "nothing")
         lists.append(journals.known_in(records[1:]))
-        for (instance, ballot), value in accepted_by(node, records[1:]).items():
+        # what a planted bug took out was written, too
+        for instance, ballot, value in accepted_by(node, records[1:]) + [accepted_in(record) for record in cluster.plant.taken(cluster.journal(node))]:
             demand(accepted.setdefault((instance, ballot), value) == value, "two values are proposed as %d at ballot %d", instance, ballot)
-            acceptors[instance, ballot] += 1
+            acceptors[instance, ballot].add(node)
     agreed = max(lists, key=len)
-    demand(all(values == agreed for values in lists), "nodes know different values: %s", [len(values) for values in lists])
-    majorities = {(instance, accepted[instance, ballot]) for (instance, ballot), count in acceptors.items() if 2 * count > cluster.nodes}
+    for values in lists:
+        demand(values == agreed[:len(values)], "nodes agree on different values: %s", [len(values) for values in lists])
+    majorities = {(instance, accepted[instance, ballot]) for (instance, ballot), nodes in acceptors.items() if 2 * len(nodes) > cluster.nodes}
     for instance, value in enumerate(agreed, 1):
         demand((instance, value) in majorities, "value %d was accepted by no majority", instance)
     return agreed
@@ -79,6 +86,8 @@ def replayed(agreed, service):
 def check(cluster):
     """Checks what the journals have, and what clients got. Answers how many values, events and replies are agreed, and how often the lock was held."""
     agreed, history = agreed_in(cluster), cluster.history
+    counts = [len(journals.known_in(journals.records_at(cluster.journal(node))[1:])) for node in range(1, cluster.nodes + 1)]
+    demand(len(set(counts)) == 1, "nodes know different numbers of values: %s", counts)
     begun, replied, variables, events = replayed(agreed, cluster.service)
     for _, _, client, sequence, value in history:
         told = replied.get((client, sequence), (0, None))[1]

@@ -14,6 +14,10 @@ class Plant:
     def before_start(self, path):
         """What becomes of a journal before the program comes up with it."""
 
+    def taken(self, path):
+        """The acceptances that became of no effect so, though the program had written them."""
+        return []
+
     def claimed(self, path, identity):
         """What becomes of one before the program comes up with it, which has another identity."""
 
@@ -52,10 +56,20 @@ class BetweenPlant(Plant):
 class JournalPlant(Plant):
     """A bug in what is written: some records are others, or aren't there, where the program comes up again."""
 
+    def __init__(self):
+        self.out = {}
+
     def before_start(self, path):
         records = journals.records_at(path)
         if records:
-            journals.write_records(path, self.left(records))
+            left = self.left(records)
+            self.out.setdefault(path, []).extend(record for record in set(records) - set(left) if record[0] == journals.ACCEPTED)
+            journals.write_records(path, left)
+            # what wasn't synced, and may have been lost later, stood at other places
+            journals.forget_stale(path)
+
+    def taken(self, path):
+        return self.out.get(path, [])
 
     def left(self, records):
         """The records that are there."""
