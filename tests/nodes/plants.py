@@ -132,6 +132,23 @@ class Foreign(Plant):
         journals.write_records(path, [identity, *journals.records_at(path)[1:]])
 
 
+class Disowned(Plant):
+    """No bug: where one with another identity comes up, the journal is that of a third one, which has to be refused, too. Then it is put back."""
+
+    def __init__(self):
+        self.kept = {}
+
+    def claimed(self, path, identity):
+        self.kept.setdefault(path, journals.read(path))
+        # the digest of another service stands at the end
+        journals.write_records(path, [identity[:-1] + bytes([identity[-1] ^ 1]), *journals.records_at(path)[1:]])
+
+    def before_start(self, path):
+        if path in self.kept:
+            with open(path, "wb") as file:
+                file.write(self.kept.pop(path))
+
+
 class Unlocked(Plant):
     """A journal is taken that another process has."""
 
@@ -219,8 +236,8 @@ class Unasked(BetweenPlant):
         return [*frames[:-1], *more, frames[-1]]
 
 
-# by which nothing is altered: to see that it is the bugs that are found
-CONTROLS = {"no bug between": BetweenPlant, "no bug in the journal": JournalPlant}
+# which are no bugs: to see that it is the bugs that are found
+CONTROLS = {"no bug between": BetweenPlant, "no bug in the journal": JournalPlant, "no bug in whose it is": Disowned}
 
 PLANTS = {
     "unaccepted": Unaccepted, "unpromised": Unpromised, "unknown": Unknown, "unsynced": Unsynced, "unfailed": Unfailed, "unrefreshed": Unrefreshed,

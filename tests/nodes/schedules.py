@@ -270,14 +270,14 @@ class Schedule(Drawing):
 
     def start_wrongly(self, it, how):
         """One with another number, number of nodes, seed, cluster or service comes up with a node's journal: it has to be refused."""
-        records = journals.records_at(it.path)
         other = {
             "id": it.number % self.nodes + 1, "nodes": 9 if self.nodes < 9 else 7, "seed": self.seed ^ 1, "cluster": self.cluster[:254] + "y",
             "service": "another",
         }[how]
-        if not records or how == "id" and self.nodes == 1 or how == "nodes" and it.number > other:
+        if not journals.records_at(it.path) or how == "id" and self.nodes == 1 or how == "nodes" and it.number > other:
             return
         self.plant.claimed(it.path, self.identity_of(it.number, **{how: other}))
+        records = journals.records_at(it.path)
         words = self.words_of(it.number, it.path, **{how: other})
         ran = subprocess.run(words, input=framed(b"T"), stdout=subprocess.PIPE, stderr=subprocess.DEVNULL, timeout=60)
         self.counts["wrong starts"] += 1
