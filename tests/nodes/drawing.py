@@ -33,7 +33,8 @@ class Drawing:
     def __init__(self, options, number, folder, counts, plant):
         self.options, self.folder, self.counts, self.plant = options, folder, counts, plant
         self.library, self.steps, self.log = options.library, 0, []
-        self.dice = dice = random.Random("%s.%s" % (options.seed, number))
+        self.draws = "%s.%s" % (options.seed, number)
+        self.dice = dice = random.Random(self.draws)
         self.nodes, self.seed = options.nodes or dice.choice([1, 3, 3, 3, 5, 5]), dice.choice([0, 1, 4294967295])
         self.cluster = dice.choice(["", "", "lab", "x" * 255])
         lines, self.handlers = long_service(dice) if dice.random() < 0.03 else make_service(dice, dice.random() < 0.6)

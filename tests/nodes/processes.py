@@ -27,6 +27,8 @@ class Process:
         self.test, self.number, self.path = test, number, "%s/journal%d" % (test.folder, number)
         self.twins, self.running = [Twin(test.room, number)], None
         self.asked, self.size, self.due, self.expected = [], 0, 0, []
+        # where what is written is split: drawn apart from the steps, of which a part may be done again
+        self.splits = random.Random("%s splits %d" % (test.draws, number))
         with open(self.path + ".fate", "wb") as file:
             file.write(bytes(8))
         self.file = open(self.path + ".fate", "r+b")
@@ -88,9 +90,9 @@ class Process:
     def exchange(self, bytes_, count, length=None):
         """Writes frames, and reads until as many are answered, or so many bytes are there, or the process ends."""
         try:
-            if random.random() < 0.2:
+            if self.splits.random() < 0.2:
                 # a read may end anywhere
-                at = random.randrange(len(bytes_))
+                at = self.splits.randrange(len(bytes_))
                 os.write(self.into, bytes_[:at])
                 bytes_ = bytes_[at:]
             if len(bytes_) < PIPE:
