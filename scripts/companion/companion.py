@@ -1,0 +1,217 @@
+"""What stands between a node, its peers and its clients."""
+import asyncio
+import hashlib
+import random
+import signal
+import sys
+import time
+
+from companion.elections import Elections
+from companion.frames import ACCEPT, ACTIVE, ADOPTING, CANDIDATE, CHOSEN, FOLLOWER, PREPARE, framed
+from companion.lines import Lines
+from companion.links import Turns
+from companion.node import Node
+from companion.peers import Hearing, Peer
+from companion.requests import Requests
+
+HEARTBEAT, TICK, RESENDS, ASKS = 0.05, 0.02, 0.15, 0.05  # seconds
+CUT_OFF = 1.0  # a leader that has heard no majority for so long sends its clients away
+
+
+class Companion:
+    def __init__(self, options):
+        self.options, self.turns = options, Turns(self.turn_ends)
+        self.node = Node(options, self)
+        with open(options.service, "rb") as file:
+            service = file.read()
+        told = "\n".join([options.cluster, str(len(options.peers)), str(options.seed), ""]).encode()
+        self.digest = hashlib.sha256(told + service).digest()
+        self.peers = {number: Peer(number, where, self.hello(options.id, number), options, self.turns)
+                      for number, where in enumerate(options.peers, 1) if number != options.id}
+        self.leads, self.is_cut_off, self.last_role, self.began = False, False, FOLLOWER, time.monotonic()
+        self.elections, self.requests = Elections(self), Requests(self)
+        # the last prepare or accept to each peer, for as long as it may have to be sent again
+        self.last_sent, self.sent_at, self.asked_at, self.beaten_at = {}, 0.0, 0.0, 0.0
+        self.strangers, self.links, self.are_held, self.tasks = set(), set(), False, set()
+
+    def hello(self, from_, to):
+        """What a connection begins with: who comes, to whom, and the digest of what all nodes have to have in common."""
+        return framed(b"N" + bytes([from_, to]) + self.digest)
+
+    def say(self, text):
+        print("%.3f node %d %s" % (time.time(), self.options.id, text), file=sys.stderr, flush=True)
+
+    def later(self, work):
+        task = asyncio.ensure_future(work)
+        self.tasks.add(task)
+        task.add_done_callback(self.tasks.discard)
+
+    # ---- what the node answers
+
+    def on_answer(self, reports, sends):
+        for words in reports:
+            self.on_report(words)
+        has_learned = any(words[2:3] == ["known"] for words in reports)
+        for to, message in sends:
+            if message[1] in (PREPARE, ACCEPT):
+                self.last_sent[to], self.sent_at = message, time.monotonic()
+            if to in self.peers:
+                self.peers[to].send_message(message, has_learned and message[1] == CHOSEN and random.random() < self.options.forget)
+        if self.node.role != self.last_role:
+            self.on_role(self.last_role)
+        if has_learned and self.node.role == ADOPTING:
+            self.elections.wait()
+
+    def on_report(self, words):
+        what, requests = words[2] if words[0] == "node" else words[0], self.requests
+        if what == "released":
+            requests.on_released(*words[1:4])
+        elif what in ("proposes", "adopts"):
+            requests.is_open = True
+        elif what == "known":
+            requests.is_open, requests.is_new = False, True
+        elif what == "candidate":
+            requests.is_open = False
+        elif what == "unfit":
+            self.say("refuses a value that doesn't fit after those that it knows")
+
+    def on_role(self, was):
+        role = self.last_role = self.node.role
+        if role == ACTIVE or was == ACTIVE:
+            self.last_sent.clear()
+            self.requests.nothing_is_open()
+            self.requests.is_new = role == ACTIVE
+        self.notice()
+
+    def notice(self):
+        """Says so, to clients and peers, too, where this node begins to lead, or leads no more. It leads where rexnode is active, no other node was heard to
+        lead by a later ballot, and a majority is heard."""
+        leads = self.node.role == ACTIVE and self.elections.rival <= self.node.promised and not self.is_cut_off
+        if leads == self.leads:
+            return
+        self.leads = leads
+        self.say("leads with ballot %d" % self.node.promised if leads else "leads no more")
+        if leads:
+            self.elections.leader = self.options.id
+        else:
+            if self.elections.leader == self.options.id:
+                self.elections.leader = 0
+            self.elections.wait()
+            self.requests.send_away()
+        self.beat()
+
+    def on_down(self):
+        """The program has ended."""
+        if self.last_role != FOLLOWER:
+            self.on_role(self.last_role)
+        self.requests.nothing_is_open()
+
+    def on_last_end(self, status):
+        """The program has ended, and isn't started again."""
+        if not self.ended.done():
+            self.ended.set_result(status)
+
+    def turn_ends(self):
+        """After all that came in together: what is new is cut, and everything is written."""
+        if self.node.role == ACTIVE:
+            self.requests.cut()
+        self.node.flush()
+
+    # ---- peers and clients
+
+    def peer_of(self, hello, hearing):
+        """The peer that comes with this hello. Of two connections of one peer the later one is heard. LookupError where it is none."""
+        from_ = hello[1] if len(hello) > 1 else 0
+        if framed(hello) != self.hello(from_, self.options.id):
+            raise LookupError
+        peer = self.peers[from_]
+        older, peer.hearing = peer.hearing, hearing
+        if older is not None:
+            older.close()
+        return peer
+
+    def say_stranger(self, where):
+        host = where[0] if where else "?"
+        if host not in self.strangers:
+            self.strangers.add(host)
+            self.say("doesn't hear one at %s, of another cluster, number of nodes, seed or service, or none that this node is to hear" % host)
+
+    def on_beat(self, peer, role, promised, known):
+        self.elections.on_beat(peer, role, promised, known)
+        peer.heard, peer.role, peer.promised, peer.known = time.monotonic(), role, promised, known
+        self.notice()
+
+    def beat(self):
+        n = self.node
+        # one that is active, and doesn't lead any more, keeps nobody from leading
+        role = FOLLOWER if n.role == ACTIVE and not self.leads else n.role
+        for peer in self.peers.values():
+            peer.send_beat(role, n.promised, n.known)
+
+    def on_link(self, link):
+        self.links.add(link)
+        if self.are_held:
+            link.hold("node")
+
+    def on_link_lost(self, link):
+        self.links.discard(link)
+
+    def hold_links(self):
+        """The node has more than it has read: nothing is read of anyone meanwhile."""
+        self.are_held = True
+        for link in self.links:
+            link.hold("node")
+
+    def links_go_on(self):
+        self.are_held = False
+        for link in self.links:
+            link.go_on("node")
+
+    def status(self):
+        n = self.node
+        return "node %d %s promised %d known %d live %d leader %d" % (self.options.id, n.role_word(), n.promised, n.known, n.live, self.elections.leader)
+
+    # ---- time
+
+    def tick(self):
+        now, n = time.monotonic(), self.node
+        if now - self.beaten_at >= HEARTBEAT:
+            self.beaten_at = now
+            self.beat()
+        heard = 1 + sum(peer.is_heard(CUT_OFF) for peer in self.peers.values())
+        self.is_cut_off = heard <= len(self.options.peers) // 2
+        self.notice()
+        self.elections.tick()
+        if (n.role in (CANDIDATE, ADOPTING) or self.requests.is_open) and now - self.sent_at > RESENDS:
+            self.sent_at = now
+            for to, message in self.last_sent.items():
+                self.peers[to].send_message(message)
+        if n.is_up and (n.role == FOLLOWER or n.role == ACTIVE and not self.leads) and now - self.asked_at > ASKS:
+            best = max(self.peers.values(), key=lambda peer: peer.known, default=None)
+            if best is not None and best.known > n.known and best.is_heard(CUT_OFF):
+                self.asked_at = now
+                n.call(b"A", bytes([best.number]))
+
+    async def ticks(self):
+        while True:
+            await asyncio.sleep(TICK)
+            self.tick()
+
+    # ---- from its start to its end
+
+    async def run(self):
+        loop, o = asyncio.get_running_loop(), self.options
+        self.ended = loop.create_future()
+        # what may fail without a node comes first
+        servers = [await loop.create_server(lambda: Hearing(self), o.bind, o.peers[o.id - 1][1], start_serving=False),
+                   await loop.create_server(lambda: Lines(self), o.bind, o.clients, start_serving=False)]
+        await self.node.start()
+        for number in signal.SIGTERM, signal.SIGINT:
+            loop.add_signal_handler(number, self.node.end)
+        for server in servers:
+            await server.start_serving()
+        works = [asyncio.ensure_future(it) for it in (self.ticks(), *(peer.run() for peer in self.peers.values()))]
+        done, _ = await asyncio.wait([self.ended, *works], return_when=asyncio.FIRST_COMPLETED)
+        for it in done - {self.ended}:
+            it.result()
+        return self.ended.result()

@@ -1,0 +1,72 @@
+"""Connections whose writes go out together."""
+import asyncio
+
+
+class Turns:
+    """What is done once after all that came in together. The first one who needs that has it called soon: behind what has come in by then."""
+
+    def __init__(self, do):
+        self.do, self.is_due, self.links = do, False, []
+
+    def due(self):
+        if not self.is_due:
+            self.is_due = True
+            asyncio.get_running_loop().call_soon(self.end)
+
+    def end(self):
+        self.is_due = False
+        self.do()
+        links, self.links = self.links, []
+        for link in links:
+            link.flush()
+
+
+class Link(asyncio.Protocol):
+    """A connection. One who doesn't read what it is told isn't heard meanwhile, and where nobody reads for long the connection is closed."""
+
+    MOST_OUT = 1 << 20
+
+    def __init__(self, turns):
+        self.turns, self.unsent, self.transport, self.holds = turns, [], None, set()
+
+    def connection_made(self, transport):
+        self.transport = transport
+
+    def is_open(self):
+        return self.transport is not None and not self.transport.is_closing()
+
+    def write(self, bytes_):
+        if not self.unsent:
+            self.turns.links.append(self)
+            self.turns.due()
+        self.unsent.append(bytes_)
+
+    def flush(self):
+        data, self.unsent = b"".join(self.unsent), []
+        if self.is_open():
+            self.transport.write(data)
+            if self.transport.get_write_buffer_size() > self.MOST_OUT:
+                self.transport.abort()
+
+    def hold(self, why):
+        """Isn't read until nothing holds it any more."""
+        if not self.holds and self.is_open():
+            self.transport.pause_reading()
+        self.holds.add(why)
+
+    def go_on(self, why):
+        self.holds.discard(why)
+        if not self.holds and self.is_open():
+            self.transport.resume_reading()
+
+    def pause_writing(self):
+        self.hold("unread")
+
+    def resume_writing(self):
+        self.go_on("unread")
+
+    def close(self):
+        if self.unsent:
+            self.flush()
+        if self.transport is not None:
+            self.transport.close()

@@ -1,0 +1,125 @@
+"""The ways to and from the other nodes' rexd."""
+import asyncio
+import random
+import struct
+import time
+
+from companion.frames import FOLLOWER, Frames, TooLong, framed
+from companion.links import Link
+
+CONNECTS, FIRST_PAUSE, MOST_PAUSE = 2.0, 0.05, 0.3  # seconds: for a connection, and until the next try
+MOST_WAITING = 1 << 23  # bytes that wait for a peer which doesn't read them; messages beyond that are lost
+MOST_HELLO = 1000
+REORDERED = 0.05  # a message that tests have repeated comes again within so many seconds
+BEAT = struct.Struct(">BQI")
+
+
+class Way(Link):
+    """A connection to another node's rexd, by which nothing comes back."""
+
+    MOST_OUT = 2 * MOST_WAITING
+
+    def __init__(self, turns):
+        super().__init__(turns)
+        self.is_lost = asyncio.get_running_loop().create_future()
+
+    def pause_writing(self):
+        pass
+
+    def resume_writing(self):
+        pass
+
+    def connection_lost(self, _):
+        if not self.is_lost.done():
+            self.is_lost.set_result(None)
+
+
+class Peer:
+    """Another node: the way to its rexd, and what was heard of it. What is sent while there is no way is lost."""
+
+    def __init__(self, number, where, hello, options, turns):
+        self.number, self.where, self.hello, self.options, self.turns = number, where, hello, options, turns
+        self.way, self.hearing, self.is_parted = None, None, False
+        self.heard, self.role, self.promised, self.known = None, FOLLOWER, 0, 0
+
+    def is_heard(self, seconds):
+        return self.heard is not None and time.monotonic() - self.heard < seconds
+
+    def send(self, letter, content=b""):
+        if self.way is not None and self.way.is_open() and not self.is_parted and self.way.transport.get_write_buffer_size() <= MOST_WAITING:
+            self.way.write(framed(letter + content))
+
+    def send_message(self, message, is_lost=False):
+        """Sends a message. Tests have some of them lost, late, or sent once more."""
+        o, loop = self.options, asyncio.get_running_loop()
+        if is_lost or random.random() < o.lose:
+            return
+        if random.random() < o.repeat:
+            loop.call_later(random.random() * REORDERED, self.send, b"M", message)
+        if o.delay:
+            loop.call_later(random.random() * o.delay / 1000, self.send, b"M", message)
+        else:
+            self.send(b"M", message)
+
+    def send_beat(self, role, promised, known):
+        self.send(b"H", BEAT.pack(role, promised, known))
+
+    async def run(self):
+        loop, pause = asyncio.get_running_loop(), FIRST_PAUSE
+        while True:
+            try:
+                transport, way = await asyncio.wait_for(loop.create_connection(lambda: Way(self.turns), *self.where), CONNECTS)
+            except (OSError, asyncio.TimeoutError):
+                await asyncio.sleep(pause)
+                pause = min(MOST_PAUSE, pause * 2)
+                continue
+            # where nobody listens the system may connect the port with itself
+            if transport.get_extra_info("sockname") == transport.get_extra_info("peername"):
+                transport.abort()
+            else:
+                way.write(self.hello)
+                self.way, pause = way, FIRST_PAUSE
+            await way.is_lost
+            self.way = None
+            await asyncio.sleep(pause)
+
+
+class Hearing(Link):
+    """A connection from another node's rexd. Nothing is heard by it before its hello, which says whose it is."""
+
+    def __init__(self, companion):
+        super().__init__(companion.turns)
+        self.companion, self.frames, self.peer = companion, Frames(MOST_HELLO), None
+
+    def connection_made(self, transport):
+        super().connection_made(transport)
+        self.companion.on_link(self)
+
+    def data_received(self, data):
+        try:
+            frames = self.frames.take(data)
+            if frames and self.peer is None:
+                self.peer = self.companion.peer_of(frames.pop(0), self)
+            for it in frames:
+                self.on_frame(it[:1], it[1:])
+        except (TooLong, LookupError, struct.error):
+            self.companion.say_stranger(self.transport.get_extra_info("peername"))
+            self.transport.abort()
+
+    def on_frame(self, letter, content):
+        if self.peer.is_parted:
+            return
+        if letter == b"M":
+            self.companion.node.call(b"M", content)
+        elif letter == b"H":
+            self.companion.on_beat(self.peer, *BEAT.unpack(content))
+        elif letter == b"V":
+            self.companion.elections.on_question(self.peer, content)
+        elif letter == b"W":
+            self.companion.elections.on_support(self.peer, content)
+
+    def connection_lost(self, _):
+        self.companion.on_link_lost(self)
+        if self.peer is not None and self.peer.hearing is self:
+            self.peer.hearing = None
+            self.companion.elections.lost(self.peer.number)

@@ -1,0 +1,101 @@
+"""Clients' requests and reads, until they are answered."""
+import struct
+import time
+
+
+class Requests:
+    """Who waits for which reply. Answers are handed to what was given with the request or the read, as a line."""
+
+    def __init__(self, companion):
+        self.companion, self.node = companion, companion.node
+        self.waiting = {}  # of each client and sequence those who wait for the reply
+        # whether a proposal is open, a cut is on its way to the node, and there is something that wasn't cut yet
+        self.is_open, self.is_cutting, self.is_new, self.is_told_end = False, False, False, False
+
+    # ---- requests
+
+    def submit(self, line, tell):
+        words = line.split(None, 2)
+        if len(words) < 3:
+            tell("bad")
+            return
+        key = words[0], words[1]
+        if not self.companion.leads:
+            tell(self.elsewhere(key))
+            return
+        self.waiting.setdefault(key, []).append(tell)
+        self.is_new = True
+
+        def then(reports):
+            words = reports[0] if reports else [""]
+            if words[0] in ("old", "gap"):
+                self.refuse(key, tell, "%s %s %s" % (words[0], in_words(key), words[1]))
+            elif words[0] == "not":
+                self.refuse(key, tell, "leader %s 0" % in_words(key))
+            elif words[0] == "faulty":
+                self.refuse(key, tell, "bad")
+
+        self.node.call(b"S", line, then)
+
+    def elsewhere(self, key):
+        leader = self.companion.elections.leader
+        return "leader %s %d" % (in_words(key), leader if leader != self.companion.options.id else 0)
+
+    def refuse(self, key, tell, answer):
+        """Answers one alone of those who wait: another's request of the same sequence may be a good one."""
+        waiting = self.waiting.get(key, [])
+        if tell in waiting:
+            waiting.remove(tell)
+            if not waiting:
+                del self.waiting[key]
+            tell(answer)
+
+    def answer(self, key, answer):
+        for tell in self.waiting.pop(key, ()):
+            tell(answer)
+
+    def on_released(self, client, sequence, value):
+        self.answer((client.encode(), sequence.encode()), "ok %s %s %s" % (client, sequence, value))
+
+    def send_away(self):
+        """This node leads no more: who waits has to ask another."""
+        for key in list(self.waiting):
+            self.answer(key, self.elsewhere(key))
+
+    # ---- cuts
+
+    def cut(self):
+        """Lets the lanes go on, and has what they did proposed, one proposal after another; what comes meanwhile is in the next one."""
+        if self.is_new and not self.is_open and not self.is_cutting:
+            self.is_new, self.is_cutting = False, True
+            self.node.call(b"R", struct.pack(">q", time.time_ns() // 1000000))
+            self.node.call(b"C", then=self.on_cut)
+
+    def on_cut(self, reports):
+        self.is_cutting = False
+        if reports and ["ended"] in reports:
+            if not self.is_told_end:
+                self.companion.say("the cluster has agreed on as many log entries as there can be")
+                self.is_told_end = True
+            for key in list(self.waiting):
+                self.answer(key, "ended " + in_words(key))
+
+    def nothing_is_open(self):
+        self.is_open = self.is_cutting = False
+
+    # ---- reads
+
+    def read(self, client, seen, name, tell):
+        """Tells a variable's value. Raises struct.error where the numbers are none."""
+        content = struct.pack(">HI", client, seen) + name
+
+        def then(reports):
+            # a value is told by `read CLIENT VARIABLE VALUE at COUNT`
+            words = reports[0] if reports else ["behind", "0", str(seen)]
+            tell("value %s %s" % (words[3], words[5]) if words[0] == "read" else "bad" if words[0] == "faulty" else " ".join(words))
+
+        self.node.call(b"Q", content, then)
+
+
+def in_words(key):
+    return b" ".join(key).decode("latin-1")
