@@ -11,6 +11,7 @@ from companion.frames import ACCEPT, ACTIVE, ADOPTING, CANDIDATE, CHOSEN, FOLLOW
 from companion.lines import Lines
 from companion.links import Turns
 from companion.node import Node
+from companion.options import node_words
 from companion.peers import Hearing, Peer
 from companion.requests import Requests
 
@@ -21,7 +22,7 @@ CUT_OFF = 1.0  # a leader that has heard no majority for so long sends its clien
 class Companion:
     def __init__(self, options):
         self.options, self.turns = options, Turns(self.turn_ends)
-        self.node = Node(options, self)
+        self.node = Node(node_words(options, options.journal), self)
         with open(options.service, "rb") as file:
             service = file.read()
         told = "\n".join([options.cluster, str(len(options.peers)), str(options.seed), ""]).encode()

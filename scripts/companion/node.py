@@ -18,8 +18,9 @@ MOST_UNREAD = 1 << 20  # bytes that the program hasn't read: no more is read of 
 class Node(asyncio.SubprocessProtocol):
     """The program. It is called by frames, and answers them in their order. Where it ends it is started again, later each time that it doesn't last."""
 
-    def __init__(self, options, companion):
-        self.options, self.companion, self.fails, self.starts, self.is_ending, self.has_come_up = options, companion, 0, 0, False, False
+    def __init__(self, words, companion):
+        """`words` are the program's command line."""
+        self.words, self.companion, self.fails, self.starts, self.is_ending, self.has_come_up = words, companion, 0, 0, False, False
         self.clear()
 
     def clear(self):
@@ -31,11 +32,9 @@ class Node(asyncio.SubprocessProtocol):
         return ROLES[self.role] if self.is_up else "down"
 
     async def start(self):
-        o = self.options
-        words = [o.node, str(o.id), str(len(o.peers)), o.service, o.journal, "--seed", str(o.seed), "--cluster=" + o.cluster]
         self.began, self.starts = time.monotonic(), self.starts + 1
         # a signal from the terminal is for rexd, which ends rexnode
-        await asyncio.get_running_loop().subprocess_exec(lambda: self, *words, stderr=None, start_new_session=True)
+        await asyncio.get_running_loop().subprocess_exec(lambda: self, *self.words, stderr=None, start_new_session=True)
 
     async def start_again(self, pause):
         await asyncio.sleep(pause)
@@ -43,7 +42,7 @@ class Node(asyncio.SubprocessProtocol):
             if not self.is_ending:
                 await self.start()
         except OSError as error:
-            self.companion.say("%s can't be started: %s" % (self.options.node, error))
+            self.companion.say("%s can't be started: %s" % (self.words[0], error))
             self.again()
 
     def again(self):

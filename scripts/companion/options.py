@@ -1,0 +1,153 @@
+"""The options of rexd, on its command line and in a file, and what is wrong with them."""
+import argparse
+import configparser
+import os
+import shutil
+import subprocess
+import tempfile
+
+from companion.node import ENDS
+
+TOP = os.path.dirname(os.path.dirname(os.path.dirname(os.path.realpath(__file__))))
+NEEDED = ("peers", "clients", "service", "journal")
+LOOPBACK = ("127.0.0.1", "localhost", "::1")
+
+
+def port(text):
+    number = int(text)
+    if not 1 <= number <= 65535:
+        raise ValueError
+    return number
+
+
+def address(text):
+    host, _, number = text.strip().rpartition(":")
+    return host.strip("[]"), port(number)
+
+
+def addresses(text):
+    return [address(it) for it in text.split(",")]
+
+
+def parser_of(usage, description):
+    """The parser, and the names of options that may stand in a file."""
+    parser = argparse.ArgumentParser(usage=usage, description=description, formatter_class=argparse.RawDescriptionHelpFormatter)
+    parser.add_argument("id", type=int, help="the node's number, from 1")
+    parser.add_argument("--config", help="a file with options; scripts/rexd.ini is an example. The command line's override it")
+    parser.add_argument("--check", action="store_true", help="says what is wrong with the options and the files, and runs nothing")
+    of_file = [
+        parser.add_argument("--peers", type=addresses, help="HOST:PORT of each node, with commas between"),
+        parser.add_argument("--clients", type=port, help="the port for clients"),
+        parser.add_argument("--service", help="the file with the service's text"),
+        parser.add_argument("--journal", help="the file with the node's records; it is made where it isn't there"),
+        parser.add_argument("--bind", default="127.0.0.1", help="the address on which peers and clients are heard; this machine's own by default"),
+        parser.add_argument("--seed", type=int, default=0, help="the seed of the service's dice, the same at each node"),
+        parser.add_argument("--cluster", default="", help="the cluster's name, the same at each node"),
+        parser.add_argument("--node", default=os.path.join(TOP, "crates", "rexnode", "out", "rexnode"),
+                            help="the program; crates/rexnode/out/rexnode by default"),
+        parser.add_argument("--patience", type=float, default=1.0, help="how much of the usual time a node waits for a leader before it asks to lead"),
+    ]
+    tests = parser.add_argument_group("for tests alone")
+    tests.add_argument("--lose", type=float, default=0.0, help="this part of all messages is lost")
+    tests.add_argument("--forget", type=float, default=0.0, help="this part is lost of the messages by which who leads tells at once what was agreed")
+    tests.add_argument("--repeat", type=float, default=0.0, help="this part of all messages is sent again, in another order")
+    tests.add_argument("--delay", type=float, default=0.0, help="messages wait up to so many milliseconds")
+    tests.add_argument("--parting", action="store_true", help="the lines `part N` and `join N` part this node from node N, and join them again")
+    return parser, {action.dest: action for action in of_file}
+
+
+def options_of(words, usage, description):
+    """The options, what is wrong with them, and the parser."""
+    parser, of_file = parser_of(usage, description)
+    options, problems = parser.parse_args(words), []
+    if options.config:
+        values, problems = values_in(options.config, options.id, of_file)
+        parser.set_defaults(**values)
+        options = parser.parse_args(words)
+    return options, problems + problems_with(options), parser
+
+
+def values_in(path, node, of_file):
+    """The values that a file has for a node, and what is wrong with the file."""
+    file, values, problems = configparser.ConfigParser(interpolation=None, default_section=None), {}, []
+    try:
+        with open(path) as it:
+            file.read_file(it)
+    except (OSError, UnicodeError, configparser.Error) as error:
+        return {}, ["%s: %s" % (path, " ".join(str(error).split()))]
+    for section in file.sections():
+        if section != "rexd" and not (section.startswith("node ") and section[5:].isdigit()):
+            problems.append("%s: there are the sections [rexd] and [node N], and no [%s]" % (path, section))
+    for section in "rexd", "node %d" % node:
+        for name, text in file[section].items() if file.has_section(section) else ():
+            try:
+                values[name] = (of_file[name].type or str)(text)
+            except KeyError:
+                problems.append("%s: [%s] has no option %s" % (path, section, name))
+            except ValueError:
+                problems.append("%s: [%s] %s can't be %s" % (path, section, name, text))
+    return values, problems
+
+
+def problems_with(o):
+    problems = ["--%s is missing" % name for name in NEEDED if getattr(o, name) is None]
+    if o.peers is not None:
+        if not 1 <= o.id <= len(o.peers):
+            problems.append("there are %d peers, and %d is none of them" % (len(o.peers), o.id))
+        if len(o.peers) not in (1, 3, 5, 7, 9):
+            problems.append("there are 1, 3, 5, 7 or 9 nodes, and not %d" % len(o.peers))
+        if len(set(o.peers)) < len(o.peers):
+            problems.append("an address is two peers'")
+    return problems
+
+
+# ---- --check
+
+def check(o, problems):
+    """Tells what is wrong with the options and the files. Answers whether nothing is."""
+    problems = problems + ([] if problems else problems_with_files(o))
+    notes = [] if problems else notes_on(o)
+    for text in problems:
+        print("wrong: " + text)
+    for text in notes:
+        print("note: " + text)
+    if not problems:
+        print("good: node %d of %d, and its journal is %s" % (o.id, len(o.peers), "there" if os.path.exists(o.journal) else "a new one"))
+    return not problems
+
+
+def problems_with_files(o):
+    problems = []
+    if not os.path.isfile(o.service):
+        problems.append("there is no service %s" % o.service)
+    if not os.path.isdir(os.path.dirname(os.path.abspath(o.journal))):
+        problems.append("there is no folder for the journal %s" % o.journal)
+    if not (os.path.isfile(o.node) and os.access(o.node, os.X_OK)):
+        problems.append("%s is no program" % o.node)
+    return problems or problems_of_node(o)
+
+
+def problems_of_node(o):
+    """What rexnode says of the service, and of a copy of the journal."""
+    with tempfile.TemporaryDirectory() as folder:
+        journal = os.path.join(folder, "journal")
+        try:
+            if os.path.exists(o.journal):
+                shutil.copyfile(o.journal, journal)
+            ran = subprocess.run(node_words(o, journal), stdin=subprocess.DEVNULL, stdout=subprocess.PIPE)
+        except OSError as error:
+            return [str(error)]
+    line = ran.stdout.decode("latin-1").strip()
+    return ["rexnode ends with status %d: %s%s" % (ran.returncode, ENDS.get(ran.returncode, "?"), ": " + line if line else "")] if ran.returncode else []
+
+
+def notes_on(o):
+    notes = []
+    if o.bind in LOOPBACK and any(host not in LOOPBACK for host, _ in o.peers):
+        notes.append("there are peers on other machines, and this node is heard on this machine alone: see --bind")
+    return notes
+
+
+def node_words(o, journal):
+    """The command line of rexnode."""
+    return [o.node, str(o.id), str(len(o.peers)), o.service, journal, "--seed", str(o.seed), "--cluster=" + o.cluster]
