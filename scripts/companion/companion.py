@@ -12,7 +12,7 @@ from companion.lines import Lines
 from companion.links import Turns
 from companion.node import Node
 from companion.options import node_words
-from companion.peers import Hearing, Peer
+from companion.peers import Hearing, Peer, hello
 from companion.requests import Requests
 
 HEARTBEAT, TICK, RESENDS, ASKS = 0.05, 0.02, 0.15, 0.05  # seconds
@@ -27,17 +27,13 @@ class Companion:
             service = file.read()
         told = "\n".join([options.cluster, str(len(options.peers)), str(options.seed), ""]).encode()
         self.digest = hashlib.sha256(told + service).digest()
-        self.peers = {number: Peer(number, where, self.hello(options.id, number), options, self.turns)
+        self.peers = {number: Peer(number, where, self.digest, options, self.turns)
                       for number, where in enumerate(options.peers, 1) if number != options.id}
         self.leads, self.is_cut_off, self.last_role, self.began = False, False, FOLLOWER, time.monotonic()
         self.elections, self.requests = Elections(self), Requests(self)
         # the last prepare or accept to each peer, for as long as it may have to be sent again
         self.last_sent, self.sent_at, self.asked_at, self.beaten_at = {}, 0.0, 0.0, 0.0
-        self.strangers, self.links, self.are_held, self.tasks = set(), set(), False, set()
-
-    def hello(self, from_, to):
-        """What a connection begins with: who comes, to whom, and the digest of what all nodes have to have in common."""
-        return framed(b"N" + bytes([from_, to]) + self.digest)
+        self.refused, self.strangers, self.links, self.are_held, self.tasks = 0, set(), set(), False, set()
 
     def say(self, text):
         print("%.3f node %d %s" % (time.time(), self.options.id, text), file=sys.stderr, flush=True)
@@ -120,10 +116,10 @@ class Companion:
 
     # ---- peers and clients
 
-    def peer_of(self, hello, hearing):
-        """The peer that comes with this hello. Of two connections of one peer the later one is heard. LookupError where it is none."""
-        from_ = hello[1] if len(hello) > 1 else 0
-        if framed(hello) != self.hello(from_, self.options.id):
+    def peer_of(self, frame, hearing):
+        """The peer whose hello this frame is. Of two connections of one peer the later one is heard. LookupError where it is none."""
+        from_ = frame[1] if len(frame) > 1 else 0
+        if framed(frame) != hello(from_, self.options.id, self.digest):
             raise LookupError
         peer = self.peers[from_]
         older, peer.hearing = peer.hearing, hearing
@@ -131,11 +127,14 @@ class Companion:
             older.close()
         return peer
 
-    def say_stranger(self, where):
+    def on_stranger(self, where, peer):
+        """What came from there is none of a peer's bytes, or no more."""
         host = where[0] if where else "?"
-        if host not in self.strangers:
-            self.strangers.add(host)
-            self.say("doesn't hear one at %s, of another cluster, number of nodes, seed or service, or none that this node is to hear" % host)
+        self.refused += 1
+        if (host, peer) not in self.strangers:
+            self.strangers.add((host, peer))
+            self.say("refuses what node %d seems to have sent: it was altered" % peer.number if peer else
+                     "doesn't hear one at %s, of another cluster, number of nodes, seed, service or key, or none that this node is to hear" % host)
 
     def on_beat(self, peer, role, promised, known):
         self.elections.on_beat(peer, role, promised, known)
@@ -179,6 +178,9 @@ class Companion:
         if now - self.beaten_at >= HEARTBEAT:
             self.beaten_at = now
             self.beat()
+        for link in self.links:
+            if link.is_stuck():
+                link.transport.abort()
         heard = 1 + sum(peer.is_heard(CUT_OFF) for peer in self.peers.values())
         self.is_cut_off = heard <= len(self.options.peers) // 2
         self.notice()

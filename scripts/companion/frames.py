@@ -17,10 +17,10 @@ def framed(bytes_):
 
 
 class Frames:
-    """Cuts what comes into frames. The first one may have `most` bytes."""
+    """Cuts what comes into frames, each of at most so many bytes, and the first of so many."""
 
-    def __init__(self, most=MOST_FRAME):
-        self.most, self.held = most, bytearray()
+    def __init__(self, first=MOST_FRAME, most=MOST_FRAME):
+        self.most, self.others, self.held = first, most, bytearray()
 
     def take(self, data):
         """The frames that are whole now, in their order."""
@@ -33,7 +33,7 @@ class Frames:
             if len(held) - at - 4 < length:
                 break
             frames.append(bytes(held[at + 4:at + 4 + length]))
-            self.most = MOST_FRAME
+            self.most = self.others
             at += 4 + length
         del held[:at]
         return frames

@@ -44,9 +44,15 @@ class Link(asyncio.Protocol):
     def flush(self):
         data, self.unsent = b"".join(self.unsent), []
         if self.is_open():
-            self.transport.write(data)
+            self.transport.write(self.sealed(data))
             if self.transport.get_write_buffer_size() > self.MOST_OUT:
                 self.transport.abort()
+
+    def sealed(self, data):
+        return data
+
+    def is_stuck(self):
+        return False
 
     def hold(self, why):
         """Isn't read until nothing holds it any more."""

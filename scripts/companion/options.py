@@ -10,6 +10,7 @@ from companion.node import ENDS
 
 TOP = os.path.dirname(os.path.dirname(os.path.dirname(os.path.realpath(__file__))))
 NEEDED = ("peers", "clients", "service", "journal")
+LEAST_KEY = 16
 LOOPBACK = ("127.0.0.1", "localhost", "::1")
 
 
@@ -41,6 +42,7 @@ def parser_of(usage, description):
         parser.add_argument("--service", help="the file with the service's text"),
         parser.add_argument("--journal", help="the file with the node's records; it is made where it isn't there"),
         parser.add_argument("--bind", default="127.0.0.1", help="the address on which peers and clients are heard; this machine's own by default"),
+        parser.add_argument("--key", help="a file with at least 16 bytes that all nodes have and nobody else: what they send each other is sealed by it"),
         parser.add_argument("--seed", type=int, default=0, help="the seed of the service's dice, the same at each node"),
         parser.add_argument("--cluster", default="", help="the cluster's name, the same at each node"),
         parser.add_argument("--node", default=os.path.join(TOP, "crates", "rexnode", "out", "rexnode"),
@@ -91,6 +93,8 @@ def values_in(path, node, of_file):
 
 def problems_with(o):
     problems = ["--%s is missing" % name for name in NEEDED if getattr(o, name) is None]
+    o.secret, bad_key = secret_in(o.key) if o.key else (b"", [])
+    problems += bad_key
     if o.peers is not None:
         if not 1 <= o.id <= len(o.peers):
             problems.append("there are %d peers, and %d is none of them" % (len(o.peers), o.id))
@@ -99,6 +103,16 @@ def problems_with(o):
         if len(set(o.peers)) < len(o.peers):
             problems.append("an address is two peers'")
     return problems
+
+
+def secret_in(path):
+    """The bytes of a key's file, without white space at their ends, and what is wrong with them."""
+    try:
+        with open(path, "rb") as file:
+            secret = file.read().strip()
+    except OSError as error:
+        return b"", ["the key can't be read: %s" % error]
+    return secret, ["the key in %s has fewer than %d bytes" % (path, LEAST_KEY)] if len(secret) < LEAST_KEY else []
 
 
 # ---- --check
@@ -145,6 +159,10 @@ def notes_on(o):
     notes = []
     if o.bind in LOOPBACK and any(host not in LOOPBACK for host, _ in o.peers):
         notes.append("there are peers on other machines, and this node is heard on this machine alone: see --bind")
+    if o.bind not in LOOPBACK and not o.key:
+        notes.append("other machines can reach the peers' port, and there is no --key: who reaches it can forge messages")
+    if o.key and os.stat(o.key).st_mode & 0o077:
+        notes.append("others on this machine can read the key in %s, or change it" % o.key)
     return notes
 
 

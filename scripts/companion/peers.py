@@ -1,17 +1,25 @@
 """The ways to and from the other nodes' rexd."""
 import asyncio
+import os
 import random
 import struct
 import time
 
 from companion.frames import FOLLOWER, Frames, TooLong, framed
 from companion.links import Link
+from companion.seals import MAC, MOST_PIECE, NONCE, Altered, Seal
 
 CONNECTS, FIRST_PAUSE, MOST_PAUSE = 2.0, 0.05, 0.3  # seconds: for a connection, and until the next try
 MOST_WAITING = 1 << 23  # bytes that wait for a peer which doesn't read them; messages beyond that are lost
 MOST_HELLO = 1000
+STUCK = 3.0  # seconds
 REORDERED = 0.05  # a message that tests have repeated comes again within so many seconds
 BEAT = struct.Struct(">BQI")
+
+
+def hello(from_, to, digest):
+    """What a connection begins with: who comes, to whom, and the digest of what all nodes have to have in common."""
+    return framed(b"N" + bytes([from_, to]) + digest)
 
 
 class Way(Link):
@@ -21,7 +29,18 @@ class Way(Link):
 
     def __init__(self, turns):
         super().__init__(turns)
-        self.is_lost = asyncio.get_running_loop().create_future()
+        self.seal, self.is_lost = None, asyncio.get_running_loop().create_future()
+
+    def begin(self, hello, seal, nonce):
+        """Says hello; where there is a key the nonce goes before, and all is sealed from there on."""
+        if seal is not None:
+            self.transport.write(framed(nonce))
+            self.seal = seal
+        self.write(hello)
+        self.flush()
+
+    def sealed(self, data):
+        return b"".join(map(framed, self.seal.sealed(data))) if self.seal is not None else data
 
     def pause_writing(self):
         pass
@@ -37,8 +56,8 @@ class Way(Link):
 class Peer:
     """Another node: the way to its rexd, and what was heard of it. What is sent while there is no way is lost."""
 
-    def __init__(self, number, where, hello, options, turns):
-        self.number, self.where, self.hello, self.options, self.turns = number, where, hello, options, turns
+    def __init__(self, number, where, digest, options, turns):
+        self.number, self.where, self.digest, self.options, self.turns = number, where, digest, options, turns
         self.way, self.hearing, self.is_parted = None, None, False
         self.heard, self.role, self.promised, self.known = None, FOLLOWER, 0, 0
 
@@ -77,7 +96,9 @@ class Peer:
             if transport.get_extra_info("sockname") == transport.get_extra_info("peername"):
                 transport.abort()
             else:
-                way.write(self.hello)
+                own, secret, nonce = self.options.id, self.options.secret, os.urandom(NONCE)
+                seal = Seal(secret, self.digest, own, self.number, nonce) if secret else None
+                way.begin(hello(own, self.number, self.digest), seal, bytes([own]) + nonce)
                 self.way, pause = way, FIRST_PAUSE
             await way.is_lost
             self.way = None
@@ -90,6 +111,7 @@ class Hearing(Link):
     def __init__(self, companion):
         super().__init__(companion.turns)
         self.companion, self.frames, self.peer = companion, Frames(MOST_HELLO), None
+        self.pieces, self.seal, self.heard = Frames(MOST_HELLO, MAC + MOST_PIECE), None, time.monotonic()
 
     def connection_made(self, transport):
         super().connection_made(transport)
@@ -97,14 +119,31 @@ class Hearing(Link):
 
     def data_received(self, data):
         try:
-            frames = self.frames.take(data)
+            frames = self.frames_in(data)
             if frames and self.peer is None:
                 self.peer = self.companion.peer_of(frames.pop(0), self)
             for it in frames:
                 self.on_frame(it[:1], it[1:])
-        except (TooLong, LookupError, struct.error):
-            self.companion.say_stranger(self.transport.get_extra_info("peername"))
+        except (TooLong, Altered, LookupError, struct.error):
+            self.companion.on_stranger(self.transport.get_extra_info("peername"), self.peer)
             self.transport.abort()
+
+    def frames_in(self, data):
+        """The frames that are whole now. Where there is a key they come in pieces, behind a nonce."""
+        options, frames = self.companion.options, []
+        if not options.secret:
+            return self.frames.take(data)
+        for piece in self.pieces.take(data):
+            if self.seal is None:
+                self.seal = Seal(options.secret, self.companion.digest, piece[0] if piece else 0, options.id, piece[1:])
+            else:
+                frames += self.frames.take(self.seal.opened(piece))
+                self.heard = time.monotonic()
+        return frames
+
+    def is_stuck(self):
+        """Whether no piece was whole for long. One whose length was altered would be waited for."""
+        return self.companion.options.secret and not self.holds and time.monotonic() - self.heard > STUCK
 
     def on_frame(self, letter, content):
         if self.peer.is_parted:
