@@ -10,6 +10,7 @@ from companion.elections import Elections
 from companion.frames import ACCEPT, ACTIVE, ADOPTING, CANDIDATE, CHOSEN, FOLLOWER, PREPARE, framed
 from companion.lines import Lines
 from companion.links import Turns
+from companion.looking import Looking
 from companion.node import Node
 from companion.options import node_words
 from companion.peers import Hearing, Peer, hello
@@ -66,7 +67,7 @@ class Companion:
         elif what in ("proposes", "adopts"):
             requests.is_open = True
         elif what == "known":
-            requests.is_open, requests.is_new = False, True
+            requests.on_known()
         elif what == "candidate":
             requests.is_open = False
         elif what == "unfit":
@@ -208,6 +209,8 @@ class Companion:
         # what may fail without a node comes first
         servers = [await loop.create_server(lambda: Hearing(self), o.bind, o.peers[o.id - 1][1], start_serving=False),
                    await loop.create_server(lambda: Lines(self), o.bind, o.clients, start_serving=False)]
+        if o.http:
+            servers.append(await loop.create_server(lambda: Looking(self), *o.http, start_serving=False))
         await self.node.start()
         for number in signal.SIGTERM, signal.SIGINT:
             loop.add_signal_handler(number, self.node.end)

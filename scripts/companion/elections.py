@@ -18,7 +18,7 @@ class Elections:
 
     def __init__(self, companion):
         self.companion, self.scale = companion, companion.options.patience
-        self.leader, self.rival = 0, 0  # a node, or 0; the greatest ballot by which another node was heard to lead
+        self.leader, self.rival, self.count = 0, 0, 0  # a node, or 0; the greatest ballot by which another node was heard to lead; for who looks
         self.question, self.supporters = b"", set()
         self.supported, self.supported_at = 0, 0.0
         self.wait()
@@ -88,4 +88,5 @@ class Elections:
         if len(self.supporters) > len(self.companion.options.peers) // 2:
             self.question = b""
             self.wait()
+            self.count += 1
             self.companion.node.call(b"E")

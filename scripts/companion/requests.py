@@ -1,4 +1,5 @@
 """Clients' requests and reads, until they are answered."""
+import collections
 import struct
 import time
 
@@ -11,6 +12,8 @@ class Requests:
         self.waiting = {}  # of each client and sequence those who wait for the reply
         # whether a proposal is open, a cut is on its way to the node, and there is something that wasn't cut yet
         self.is_open, self.is_cutting, self.is_new, self.is_told_end = False, False, False, False
+        # for who looks: replies, and how long it took from cuts until they were agreed on
+        self.replies, self.cut_at, self.times, self.time_sum, self.time_count = 0, None, collections.deque(maxlen=1000), 0.0, 0
 
     # ---- requests
 
@@ -54,7 +57,15 @@ class Requests:
         for tell in self.waiting.pop(key, ()):
             tell(answer)
 
+    def on_known(self):
+        if self.is_open and self.cut_at is not None:
+            took = time.monotonic() - self.cut_at
+            self.times.append(took)
+            self.time_sum, self.time_count, self.cut_at = self.time_sum + took, self.time_count + 1, None
+        self.is_open, self.is_new = False, True
+
     def on_released(self, client, sequence, value):
+        self.replies += 1
         self.answer((client.encode(), sequence.encode()), "ok %s %s %s" % (client, sequence, value))
 
     def send_away(self):
@@ -67,7 +78,7 @@ class Requests:
     def cut(self):
         """Lets the lanes go on, and has what they did proposed, one proposal after another; what comes meanwhile is in the next one."""
         if self.is_new and not self.is_open and not self.is_cutting:
-            self.is_new, self.is_cutting = False, True
+            self.is_new, self.is_cutting, self.cut_at = False, True, time.monotonic()
             self.node.call(b"R", struct.pack(">q", time.time_ns() // 1000000))
             self.node.call(b"C", then=self.on_cut)
 
@@ -81,7 +92,7 @@ class Requests:
                 self.answer(key, "ended " + in_words(key))
 
     def nothing_is_open(self):
-        self.is_open = self.is_cutting = False
+        self.is_open, self.is_cutting, self.cut_at = False, False, None
 
     # ---- reads
 

@@ -1,0 +1,124 @@
+"""What a node says of itself and the others over HTTP: a page, a text, JSON, and metrics."""
+import json
+import os
+import time
+
+from companion.frames import ROLES
+from companion.links import Link
+
+MOST_HEAD = 1 << 14
+LAST_ENTRY = 65535
+HERE = os.path.dirname(os.path.realpath(__file__))
+
+# name in the JSON, kind, and what it is
+METRICS = (
+    ("ballot", "gauge", "The greatest ballot that the node has promised."),
+    ("known", "gauge", "Log entries that the node knows to be agreed on."),
+    ("entries_left", "gauge", "Log entries that the cluster can still agree on."),
+    ("live", "gauge", "Events of the node that aren't agreed on yet."),
+    ("waiting", "gauge", "Requests of clients that wait for a reply here."),
+    ("connections", "gauge", "Connections of clients and peers to this node."),
+    ("replies", "counter", "Replies that were released here."),
+    ("elections", "counter", "How often the node asked to lead."),
+    ("starts", "counter", "How often the program was started."),
+    ("refused", "counter", "Connections that were refused or ended since what came was none of a peer's bytes."),
+    ("journal_bytes", "gauge", "Bytes of the journal."),
+    ("uptime_seconds", "gauge", "Seconds since the companion was started."),
+    ("leads", "gauge", "Whether the node leads, as far as it has heard."),
+)
+OF_PEERS = (
+    ("connected", "Whether there is a way to the peer."),
+    ("heard_seconds", "Seconds since the peer was heard."),
+    ("known", "Log entries that the peer said it knows."),
+)
+
+
+def facts_of(companion):
+    """What there is to say, by names."""
+    c, n, o, now = companion, companion.node, companion.options, time.monotonic()
+    times = sorted(c.requests.times)
+    return {
+        "node": o.id, "nodes": len(o.peers), "cluster": o.cluster, "role": n.role_word(), "leads": c.leads, "leader": c.elections.leader,
+        "ballot": n.promised, "known": n.known, "entries_left": LAST_ENTRY - n.known, "live": n.live, "waiting": len(c.requests.waiting),
+        "connections": len(c.links), "replies": c.requests.replies, "elections": c.elections.count, "starts": n.starts, "refused": c.refused,
+        "journal_bytes": os.path.getsize(o.journal) if os.path.exists(o.journal) else 0, "uptime_seconds": round(now - c.began, 1),
+        "agreement_seconds": {name: times[int(len(times) * part)] if times else None for name, part in (("median", 0.5), ("p99", 0.99))},
+        "peers": {peer.number: facts_of_peer(peer, now) for peer in c.peers.values()},
+    }
+
+
+def facts_of_peer(peer, now):
+    return {
+        "address": "%s:%d" % peer.where, "connected": peer.way is not None, "heard_seconds": round(now - peer.heard, 3) if peer.heard else None,
+        "role": ROLES[peer.role], "ballot": peer.promised, "known": peer.known,
+    }
+
+
+def in_text(facts):
+    lines = ["%-18s %s" % (name.replace("_", " "), value) for name, value in facts.items() if not isinstance(value, dict)]
+    lines += ["%-18s %s" % ("agreement " + name, "%.1f ms" % (1000 * value)) for name, value in facts["agreement_seconds"].items() if value is not None]
+    for number, peer in facts["peers"].items():
+        lines.append("%-18s %s" % ("peer %d" % number, ", ".join("%s %s" % (name.replace("_", " "), value) for name, value in peer.items())))
+    return "\n".join(lines) + "\n"
+
+
+def in_metrics(facts, requests):
+    """The text form of Prometheus."""
+    lines = []
+
+    def metric(name, kind, text, values):
+        lines.extend(["# HELP rex_%s %s" % (name, text), "# TYPE rex_%s %s" % (name, kind)])
+        lines.extend("rex_%s%s{%s} %s" % (name, suffix, ",".join('%s="%s"' % it for it in {"node": facts["node"], **labels}.items()), value)
+                     for suffix, labels, value in values)
+
+    for name, kind, text in METRICS:
+        metric(name + "_total" * (kind == "counter"), kind, text, [("", {}, float(facts[name]))])
+    metric("role", "gauge", "What the node is: 1 at one of the roles.", [("", {"role": it}, float(it == facts["role"])) for it in (*ROLES, "down")])
+    parts = [("", {"quantile": part}, facts["agreement_seconds"][name]) for name, part in (("median", "0.5"), ("p99", "0.99"))]
+    sums = [("_sum", {}, requests.time_sum), ("_count", {}, requests.time_count)]
+    metric("agreement_seconds", "summary", "Seconds from a cut until it was agreed on.", [it for it in parts if it[2] is not None] + sums)
+    for name, text in OF_PEERS:
+        values = [("", {"peer": number}, float(peer[name])) for number, peer in facts["peers"].items() if peer[name] is not None]
+        metric("peer_" + name, "gauge", text, values)
+    return "\n".join(lines) + "\n"
+
+
+def page():
+    with open(os.path.join(HERE, "page.html")) as file:
+        return file.read()
+
+
+class Looking(Link):
+    """A connection of one who looks."""
+
+    def __init__(self, companion):
+        super().__init__(companion.turns)
+        self.companion, self.held = companion, b""
+
+    def data_received(self, data):
+        self.held += data
+        while b"\r\n\r\n" in self.held:
+            head, _, self.held = self.held.partition(b"\r\n\r\n")
+            self.on_request(head.split(b"\r\n")[0].split())
+        if len(self.held) > MOST_HEAD:
+            self.transport.abort()
+
+    def on_request(self, words):
+        facts, path = facts_of(self.companion), words[1].split(b"?")[0] if len(words) == 3 else b""
+        kinds = {
+            b"/": ("text/html", page), b"/status": ("text/plain", lambda: in_text(facts)), b"/status.json": ("application/json", lambda: json.dumps(facts)),
+            b"/metrics": ("text/plain; version=0.0.4", lambda: in_metrics(facts, self.companion.requests)),
+        }
+        if words[:1] not in ([b"GET"], [b"HEAD"]):
+            self.answer("405 Method Not Allowed", "text/plain", "there is nothing but GET and HEAD here\n")
+        elif path not in kinds:
+            self.answer("404 Not Found", "text/plain", "here are /, /status, /status.json and /metrics\n")
+        else:
+            self.answer("200 OK", kinds[path][0], kinds[path][1](), words[0] == b"HEAD")
+
+    def answer(self, status, kind, text, is_head=False):
+        body = text.encode()
+        # what a page of another place asks for isn't shown to it, and the page loads nothing from elsewhere
+        head = ("HTTP/1.1 %s\r\nContent-Type: %s; charset=utf-8\r\nContent-Length: %d\r\nCache-Control: no-store\r\nX-Content-Type-Options: nosniff\r\n"
+                "Content-Security-Policy: default-src 'none'; connect-src 'self'; style-src 'unsafe-inline'; script-src 'unsafe-inline'\r\n\r\n")
+        self.write((head % (status, kind, len(body))).encode() + body * (not is_head))
