@@ -66,7 +66,7 @@ class Requests:
 
     def on_released(self, client, sequence, value):
         self.replies += 1
-        self.answer((client.encode(), sequence.encode()), "ok %s %s %s" % (client, sequence, value))
+        self.answer((client.encode(), sequence.encode()), "ok %s %s %s %d" % (client, sequence, value, self.node.known))
 
     def send_away(self):
         """This node leads no more: who waits has to ask another."""
