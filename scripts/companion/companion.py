@@ -6,6 +6,7 @@ import signal
 import sys
 import time
 
+from companion.calls import Calls
 from companion.elections import Elections
 from companion.frames import ACCEPT, ACTIVE, ADOPTING, CANDIDATE, CHOSEN, FOLLOWER, PREPARE, framed
 from companion.lines import Lines
@@ -15,6 +16,7 @@ from companion.node import Node
 from companion.options import node_words
 from companion.peers import Hearing, Peer, hello
 from companion.requests import Requests
+from companion.resp import Resp
 
 HEARTBEAT, TICK, RESENDS, ASKS = 0.05, 0.02, 0.15, 0.05  # seconds
 CUT_OFF = 1.0  # a leader that has heard no majority for so long sends its clients away
@@ -31,7 +33,7 @@ class Companion:
         self.peers = {number: Peer(number, where, self.digest, options, self.turns)
                       for number, where in enumerate(options.peers, 1) if number != options.id}
         self.leads, self.is_cut_off, self.last_role, self.began = False, False, FOLLOWER, time.monotonic()
-        self.elections, self.requests = Elections(self), Requests(self)
+        self.elections, self.requests, self.calls = Elections(self), Requests(self), Calls(self)
         # the last prepare or accept to each peer, for as long as it may have to be sent again
         self.last_sent, self.sent_at, self.asked_at, self.beaten_at = {}, 0.0, 0.0, 0.0
         self.refused, self.strangers, self.links, self.are_held, self.tasks = 0, set(), set(), False, set()
@@ -43,6 +45,9 @@ class Companion:
         task = asyncio.ensure_future(work)
         self.tasks.add(task)
         task.add_done_callback(self.tasks.discard)
+
+    def soon(self, what):
+        asyncio.get_running_loop().call_soon(what)
 
     # ---- what the node answers
 
@@ -186,6 +191,7 @@ class Companion:
         self.is_cut_off = heard <= len(self.options.peers) // 2
         self.notice()
         self.elections.tick()
+        self.calls.tick()
         if (n.role in (CANDIDATE, ADOPTING) or self.requests.is_open) and now - self.sent_at > RESENDS:
             self.sent_at = now
             for to, message in self.last_sent.items():
@@ -209,6 +215,8 @@ class Companion:
         # what may fail without a node comes first
         servers = [await loop.create_server(lambda: Hearing(self), o.bind, o.peers[o.id - 1][1], start_serving=False),
                    await loop.create_server(lambda: Lines(self), o.bind, o.clients, start_serving=False)]
+        if o.resp:
+            servers.append(await loop.create_server(lambda: Resp(self), *o.resp, start_serving=False))
         if o.http:
             servers.append(await loop.create_server(lambda: Looking(self), *o.http, start_serving=False))
         await self.node.start()

@@ -47,6 +47,7 @@ def parser_of(usage, description):
         parser.add_argument("--service", help="the file with the service's text"),
         parser.add_argument("--journal", help="the file with the node's records; it is made where it isn't there"),
         parser.add_argument("--bind", default="127.0.0.1", help="the address on which peers and clients are heard; this machine's own by default"),
+        parser.add_argument("--resp", type=address_here, metavar="[HOST:]PORT", help="where clients of Redis may ask; on this machine alone, without a HOST"),
         parser.add_argument("--http", type=address_here, metavar="[HOST:]PORT", help="where the node can be looked at; on this machine alone, without a HOST"),
         parser.add_argument("--key", help="a file with at least 16 bytes that all nodes have and nobody else: what they send each other is sealed by it"),
         parser.add_argument("--seed", type=int, default=0, help="the seed of the service's dice, the same at each node"),

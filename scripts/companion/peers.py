@@ -124,7 +124,7 @@ class Hearing(Link):
                 self.peer = self.companion.peer_of(frames.pop(0), self)
             for it in frames:
                 self.on_frame(it[:1], it[1:])
-        except (TooLong, Altered, LookupError, struct.error):
+        except (TooLong, Altered, LookupError, ValueError, struct.error):
             self.companion.on_stranger(self.transport.get_extra_info("peername"), self.peer)
             self.transport.abort()
 
@@ -156,6 +156,10 @@ class Hearing(Link):
             self.companion.elections.on_question(self.peer, content)
         elif letter == b"W":
             self.companion.elections.on_support(self.peer, content)
+        elif letter == b"F":
+            self.companion.calls.on_forwarded(self.peer, content)
+        elif letter == b"G":
+            self.companion.calls.on_told(content)
 
     def connection_lost(self, _):
         self.companion.on_link_lost(self)

@@ -17,7 +17,9 @@ class Requests:
 
     # ---- requests
 
-    def submit(self, line, tell):
+    def submit(self, line, tell, is_new=False):
+        """Hands a request to the node. Where it has to be new, it is told to be `begun` before its reply, or `taken` where the node has had one of its
+        sequence before."""
         words = line.split(None, 2)
         if len(words) < 3:
             tell("bad")
@@ -26,12 +28,20 @@ class Requests:
         if not self.companion.leads:
             tell(self.elsewhere(key))
             return
-        self.waiting.setdefault(key, []).append(tell)
+        if not is_new:
+            self.waiting.setdefault(key, []).append(tell)
         self.is_new = True
 
         def then(reports):
             words = reports[0] if reports else [""]
-            if words[0] in ("old", "gap"):
+            if is_new and words[0] in ("waiting", "released"):
+                tell("taken " + in_words(key))
+                return
+            if is_new:
+                self.waiting.setdefault(key, []).append(tell)
+            if is_new and words[0] == "queued":
+                tell("begun " + in_words(key))
+            elif words[0] in ("old", "gap"):
                 self.refuse(key, tell, "%s %s %s" % (words[0], in_words(key), words[1]))
             elif words[0] == "not":
                 self.refuse(key, tell, "leader %s 0" % in_words(key))
