@@ -102,6 +102,8 @@ class Node(asyncio.SubprocessProtocol):
             return
         for frame in frames:
             self.on_frame(frame[:1], frame[1:])
+        # there may be something to cut now
+        self.companion.turns.due()
 
     def on_frame(self, letter, content):
         if letter == b"e":
