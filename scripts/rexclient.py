@@ -114,8 +114,11 @@ class Client:
     def next_sequence(self, what):
         """The next sequence: a request with one that can't be next is answered by it."""
         words = self.nodes.ask_until("%d %d %s" % (self.number, LAST_SEQUENCE, what), time.monotonic() + self.seconds)
-        if words[:1] != ["gap"]:
-            raise Refused(" ".join(words)) if words else Unknown("the next sequence of client %d" % self.number)
+        if words[:1] == ["ok"] or not words:
+            # where the last sequence of all was the next one that request was done
+            raise Unknown("the next sequence of client %d" % self.number)
+        if words[0] != "gap":
+            raise Refused(" ".join(words))
         return int(words[3])
 
     def get(self, variable):

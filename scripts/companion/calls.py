@@ -73,7 +73,9 @@ class Calls:
         if words[0] == "begun":
             number.is_new = False
         elif words[0] == "ok":
-            number.sequence, number.is_new = number.sequence + 1, False
+            # the last sequence of all can be next, and then the question for the next one is a request
+            call.is_in_doubt = call.is_in_doubt or number.sequence is None
+            number.sequence, number.is_new = (number.sequence or LAST_SEQUENCE) + 1, False
             if call.is_in_doubt:
                 self.end(call, None, "it may have been done or not")
             else:
@@ -90,7 +92,8 @@ class Calls:
 
     def end(self, call, value, rest):
         del self.calls[call.tag]
-        self.free.append(call.number)
+        if (call.number.sequence or 0) <= LAST_SEQUENCE:
+            self.free.append(call.number)
         self.tell(call, value, rest)
         self.start()
 

@@ -126,7 +126,8 @@ def secret_in(path):
 
 def check(o, problems):
     """Tells what is wrong with the options and the files. Answers whether nothing is."""
-    problems = problems + ([] if problems else problems_with_files(o))
+    problems = problems + problems_with_files(o)
+    problems = problems or problems_of_node(o)
     notes = [] if problems else notes_on(o)
     for text in problems:
         print("wrong: " + text)
@@ -139,13 +140,13 @@ def check(o, problems):
 
 def problems_with_files(o):
     problems = []
-    if not os.path.isfile(o.service):
+    if o.service and not os.path.isfile(o.service):
         problems.append("there is no service %s" % o.service)
-    if not os.path.isdir(os.path.dirname(os.path.abspath(o.journal))):
+    if o.journal and not os.path.isdir(os.path.dirname(os.path.abspath(o.journal))):
         problems.append("there is no folder for the journal %s" % o.journal)
     if not (os.path.isfile(o.node) and os.access(o.node, os.X_OK)):
         problems.append("%s is no program" % o.node)
-    return problems or problems_of_node(o)
+    return problems
 
 
 def problems_of_node(o):

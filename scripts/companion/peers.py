@@ -1,5 +1,6 @@
 """The ways to and from the other nodes' rexd."""
 import asyncio
+import math
 import os
 import random
 import struct
@@ -23,9 +24,9 @@ def hello(from_, to, digest):
 
 
 class Way(Link):
-    """A connection to another node's rexd, by which nothing comes back."""
+    """A connection to another node's rexd, by which nothing comes back. A single message may be a long one."""
 
-    MOST_OUT = 2 * MOST_WAITING
+    MOST_OUT = math.inf
 
     def __init__(self, turns):
         super().__init__(turns)
