@@ -1,7 +1,10 @@
 """Clients' requests and reads, until they are answered."""
+import asyncio
 import collections
 import struct
 import time
+
+GATHERING = 0.005  # seconds for which a cut waits at most
 
 
 class Requests:
@@ -12,6 +15,8 @@ class Requests:
         self.waiting = {}  # of each client and sequence those who wait for the reply
         # whether a proposal is open, a cut is on its way to the node, and there is something that wasn't cut yet
         self.is_open, self.is_cutting, self.is_new, self.is_told_end = False, False, False, False
+        # requests since the last cut, how many are expected before the next one, and until when it waits for them
+        self.uncut, self.expected, self.gathers_until = 0, 0, 0.0
         # for who looks: replies, and how long it took from cuts until they were agreed on
         self.replies, self.cut_at, self.times, self.time_sum, self.time_count = 0, None, collections.deque(maxlen=1000), 0.0, 0
 
@@ -31,6 +36,7 @@ class Requests:
         if not is_new:
             self.waiting.setdefault(key, []).append(tell)
         self.is_new = True
+        self.uncut += 1
 
         def then(reports):
             words = reports[0] if reports else [""]
@@ -68,14 +74,19 @@ class Requests:
             tell(answer)
 
     def on_known(self):
+        """A proposal is agreed on. Who is answered by that asks again soon, as a rule: for a moment the next cut waits for as many requests as there are
+        answers, since one proposal for all of them is done sooner than two."""
         if self.is_open and self.cut_at is not None:
-            took = time.monotonic() - self.cut_at
+            now = time.monotonic()
+            took = now - self.cut_at
             self.times.append(took)
             self.time_sum, self.time_count, self.cut_at = self.time_sum + took, self.time_count + 1, None
+            self.expected, self.gathers_until = self.uncut, now + min(took / 2, GATHERING)
+            asyncio.get_running_loop().call_later(min(took / 2, GATHERING), self.companion.turns.due)
         self.is_open, self.is_new = False, True
 
     def on_released(self, client, sequence, value):
-        self.replies += 1
+        self.replies, self.expected = self.replies + 1, self.expected + 1
         self.answer((client.encode(), sequence.encode()), "ok %s %s %s %d" % (client, sequence, value, self.node.known))
 
     def send_away(self):
@@ -87,8 +98,9 @@ class Requests:
 
     def cut(self):
         """Lets the lanes go on, and has what they did proposed, one proposal after another; what comes meanwhile is in the next one."""
-        if self.is_new and not self.is_open and not self.is_cutting:
-            self.is_new, self.is_cutting, self.cut_at = False, True, time.monotonic()
+        is_waiting = self.uncut < self.expected and time.monotonic() < self.gathers_until
+        if self.is_new and not self.is_open and not self.is_cutting and not is_waiting:
+            self.is_new, self.is_cutting, self.cut_at, self.uncut, self.expected = False, True, time.monotonic(), 0, 0
             self.node.call(b"R", struct.pack(">q", time.time_ns() // 1000000))
             self.node.call(b"C", then=self.on_cut)
 
