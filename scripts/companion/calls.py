@@ -5,6 +5,7 @@ may have left a request of that sequence behind. So the first one of a number is
 import asyncio
 import collections
 import itertools
+import os
 import random
 import struct
 import time
@@ -34,7 +35,8 @@ class Calls:
     def __init__(self, companion):
         first = LAST_CLIENT - OWN * companion.options.id + 1
         self.companion, self.free, self.queue = companion, collections.deque(map(Number, range(first, first + OWN))), collections.deque()
-        self.calls, self.reads, self.tags, self.reader = {}, {}, itertools.count(1), first
+        # an answer to an earlier life of this process has none of these tags
+        self.calls, self.reads, self.tags, self.reader = {}, {}, itertools.count(int.from_bytes(os.urandom(7), "big")), first
 
     # ---- calls
 
@@ -61,7 +63,7 @@ class Calls:
         kind = NEW if number.sequence and number.is_new else PLAIN
         if leader == self.companion.options.id:
             tag = call.tag
-            self.companion.requests.submit(line, lambda answer: self.on_answer(tag, answer), kind == NEW)
+            self.companion.requests.submit(line, self, lambda answer: self.on_answer(tag, answer), kind == NEW)
         elif leader in self.companion.peers:
             self.companion.peers[leader].send(b"F", struct.pack(">Q", call.tag) + kind + line)
 
@@ -155,7 +157,7 @@ class Calls:
             client, seen, name = line.split(b" ", 2)
             self.companion.requests.read(int(client), int(seen), name, tell)
         else:
-            self.companion.requests.submit(line, tell, kind == NEW)
+            self.companion.requests.submit(line, peer, tell, kind == NEW)
 
     def on_told(self, content):
         tag, answer = struct.unpack(">Q", content[:8])[0], content[8:].decode("latin-1")

@@ -68,7 +68,7 @@ class Companion:
     def on_report(self, words):
         what, requests = words[2] if words[0] == "node" else words[0], self.requests
         if what == "released":
-            requests.on_released(*words[1:4])
+            requests.on_released(int(words[1]), int(words[2]), words[3])
         elif what in ("proposes", "adopts"):
             requests.is_open = True
         elif what == "known":
@@ -211,7 +211,7 @@ class Companion:
 
     async def run(self):
         loop, o = asyncio.get_running_loop(), self.options
-        self.ended = loop.create_future()
+        self.ended, is_over = loop.create_future(), asyncio.Event()
         # what may fail without a node comes first
         servers = [await loop.create_server(lambda: Hearing(self), o.bind, o.peers[o.id - 1][1], start_serving=False),
                    await loop.create_server(lambda: Lines(self), o.bind, o.clients, start_serving=False)]
@@ -221,11 +221,18 @@ class Companion:
             servers.append(await loop.create_server(lambda: Looking(self), *o.http, start_serving=False))
         await self.node.start()
         for number in signal.SIGTERM, signal.SIGINT:
-            loop.add_signal_handler(number, self.node.end)
+            loop.add_signal_handler(number, is_over.set)
         for server in servers:
             await server.start_serving()
-        works = [asyncio.ensure_future(it) for it in (self.ticks(), *(peer.run() for peer in self.peers.values()))]
-        done, _ = await asyncio.wait([self.ended, *works], return_when=asyncio.FIRST_COMPLETED)
-        for it in done - {self.ended}:
-            it.result()
-        return self.ended.result()
+        works = [asyncio.ensure_future(it) for it in (is_over.wait(), self.ticks(), *(peer.run() for peer in self.peers.values()))]
+        await asyncio.wait([self.ended, *works], return_when=asyncio.FIRST_COMPLETED)
+        # nobody connects any more, and the ports are free before rexd has ended
+        for server in servers:
+            server.close()
+        if not self.ended.done():
+            self.node.end()
+        for it in works:
+            if it.done():
+                it.result()
+            it.cancel()
+        return await self.ended

@@ -19,6 +19,7 @@ class Lines(Link):
 
     def connection_lost(self, _):
         self.companion.on_link_lost(self)
+        self.companion.requests.forget(self)
 
     def data_received(self, data):
         lines = (self.held + data).split(b"\n")
@@ -39,7 +40,7 @@ class Lines(Link):
         elif words[0] in (b"part", b"join") and companion.options.parting:
             self.on_part(words)
         else:
-            companion.requests.submit(line, self.tell)
+            companion.requests.submit(line, self, self.tell)
 
     def tell(self, answer):
         self.write(answer.encode("latin-1") + b"\n")

@@ -20,7 +20,8 @@ class Node(asyncio.SubprocessProtocol):
 
     def __init__(self, words, companion):
         """`words` are the program's command line."""
-        self.words, self.companion, self.fails, self.starts, self.is_ending, self.has_come_up = words, companion, 0, 0, False, False
+        self.words, self.companion, self.fails, self.starts = words, companion, 0, 0
+        self.is_starting, self.is_ending, self.has_come_up = False, False, False
         self.clear()
 
     def clear(self):
@@ -32,9 +33,12 @@ class Node(asyncio.SubprocessProtocol):
         return ROLES[self.role] if self.is_up else "down"
 
     async def start(self):
-        self.began, self.starts = time.monotonic(), self.starts + 1
-        # a signal from the terminal is for rexd, which ends rexnode
-        await asyncio.get_running_loop().subprocess_exec(lambda: self, *self.words, stderr=None, start_new_session=True)
+        self.began, self.starts, self.is_starting = time.monotonic(), self.starts + 1, True
+        try:
+            # a signal from the terminal is for rexd, which ends rexnode
+            await asyncio.get_running_loop().subprocess_exec(lambda: self, *self.words, stderr=None, start_new_session=True)
+        finally:
+            self.is_starting = False
 
     async def start_again(self, pause):
         await asyncio.sleep(pause)
@@ -43,26 +47,29 @@ class Node(asyncio.SubprocessProtocol):
                 await self.start()
         except OSError as error:
             self.companion.say("%s can't be started: %s" % (self.words[0], error))
-            self.again()
+            if self.is_ending:
+                self.companion.on_last_end(0)
+            else:
+                self.again()
 
     def again(self):
         self.fails = 0 if time.monotonic() - self.began > LASTING else self.fails + 1
         self.companion.later(self.start_again(min(MOST_PAUSE, FIRST_PAUSE * 2 ** min(self.fails, 10))))
 
     def end(self):
-        """Ends the program, and does not start it again."""
+        """Ends the program once it has answered what it was asked, and does not start it again."""
         self.is_ending = True
         if self.pipe is not None:
             self.flush()
             self.pipe.close()
-        else:
+        elif not self.is_starting:
             self.companion.on_last_end(0)
 
     # ---- calls
 
     def call(self, letter, content=b"", then=None):
-        """Calls the node. What it reports is handed to `then` once it has answered, or None where it went down before."""
-        if self.pipe is None:
+        """Calls the node. What it reports is handed to `then` once it has answered, or None where it went down before, or is about to end."""
+        if self.pipe is None or self.is_ending:
             if then:
                 then(None)
             return

@@ -9,6 +9,7 @@ import time
 from companion.frames import FOLLOWER, Frames, TooLong, framed
 from companion.links import Link
 from companion.seals import MAC, MOST_PIECE, NONCE, Altered, Seal
+from waiting import within
 
 CONNECTS, FIRST_PAUSE, MOST_PAUSE = 2.0, 0.05, 0.3  # seconds: for a connection, and until the next try
 MOST_WAITING = 1 << 23  # bytes that wait for a peer which doesn't read them; messages beyond that are lost
@@ -88,7 +89,7 @@ class Peer:
         loop, pause = asyncio.get_running_loop(), FIRST_PAUSE
         while True:
             try:
-                transport, way = await asyncio.wait_for(loop.create_connection(lambda: Way(self.turns), *self.where), CONNECTS)
+                transport, way = await within(CONNECTS, loop.create_connection(lambda: Way(self.turns), *self.where))
             except (OSError, asyncio.TimeoutError):
                 await asyncio.sleep(pause)
                 pause = min(MOST_PAUSE, pause * 2)

@@ -12,7 +12,7 @@ class Requests:
 
     def __init__(self, companion):
         self.companion, self.node = companion, companion.node
-        self.waiting = {}  # of each client and sequence those who wait for the reply
+        self.waiting = {}  # of each client and sequence who waits for the reply, and how it is told
         # whether a proposal is open, a cut is on its way to the node, and there is something that wasn't cut yet
         self.is_open, self.is_cutting, self.is_new, self.is_told_end = False, False, False, False
         # requests since the last cut, how many are expected before the next one, and until when it waits for them
@@ -22,55 +22,65 @@ class Requests:
 
     # ---- requests
 
-    def submit(self, line, tell, is_new=False):
-        """Hands a request to the node. Where it has to be new, it is told to be `begun` before its reply, or `taken` where the node has had one of its
-        sequence before."""
-        words = line.split(None, 2)
-        if len(words) < 3:
+    def submit(self, line, who, tell, is_new=False):
+        """Hands a request to the node. `who` waits for a reply once, however often it asks. Where a request has to be new, it is told to be `begun`
+        before its reply, or `taken` where the node has had one of its sequence before."""
+        try:
+            key = client, sequence = tuple(map(int, line.split(None, 2)[:2]))
+        except ValueError:
             tell("bad")
             return
-        key = words[0], words[1]
         if not self.companion.leads:
             tell(self.elsewhere(key))
             return
-        if not is_new:
-            self.waiting.setdefault(key, []).append(tell)
         self.is_new = True
         self.uncut += 1
 
         def then(reports):
-            words = reports[0] if reports else [""]
+            # what is wrong with this line is told to who sent it alone: others may wait for a good request of these numbers
+            words = reports[0] if reports else ["down"]
             if is_new and words[0] in ("waiting", "released"):
-                tell("taken " + in_words(key))
-                return
-            if is_new:
-                self.waiting.setdefault(key, []).append(tell)
-            if is_new and words[0] == "queued":
-                tell("begun " + in_words(key))
+                tell("taken %d %d" % key)
+            elif words[0] in ("queued", "waiting"):
+                if is_new:
+                    tell("begun %d %d" % key)
+                self.wait(key, who, tell)
+            elif words[0] == "released":
+                tell(self.reply(*key, words[3]))
             elif words[0] in ("old", "gap"):
-                self.refuse(key, tell, "%s %s %s" % (words[0], in_words(key), words[1]))
+                tell("%s %d %d %s" % (words[0], client, sequence, words[1]))
             elif words[0] == "not":
-                self.refuse(key, tell, "leader %s 0" % in_words(key))
+                tell("leader %d %d 0" % key)
             elif words[0] == "faulty":
-                self.refuse(key, tell, "bad")
+                tell("bad")
+            else:
+                tell(self.elsewhere(key))
 
         self.node.call(b"S", line, then)
 
+    def wait(self, key, who, tell):
+        if self.companion.leads:
+            self.waiting.setdefault(key, {})[who] = tell
+        else:
+            tell(self.elsewhere(key))
+
+    def forget(self, who):
+        """Has one that is gone wait for nothing any more."""
+        for key in [key for key, waiting in self.waiting.items() if who in waiting]:
+            del self.waiting[key][who]
+            if not self.waiting[key]:
+                del self.waiting[key]
+
     def elsewhere(self, key):
         leader = self.companion.elections.leader
-        return "leader %s %d" % (in_words(key), leader if leader != self.companion.options.id else 0)
+        return "leader %d %d %d" % (*key, leader if leader != self.companion.options.id else 0)
 
-    def refuse(self, key, tell, answer):
-        """Answers one alone of those who wait: another's request of the same sequence may be a good one."""
-        waiting = self.waiting.get(key, [])
-        if tell in waiting:
-            waiting.remove(tell)
-            if not waiting:
-                del self.waiting[key]
-            tell(answer)
+    def reply(self, client, sequence, value):
+        return "ok %d %d %s %d" % (client, sequence, value, self.node.known)
 
     def answer(self, key, answer):
-        for tell in self.waiting.pop(key, ()):
+        """Tells all who wait for a reply."""
+        for tell in self.waiting.pop(key, {}).values():
             tell(answer)
 
     def on_known(self):
@@ -87,7 +97,7 @@ class Requests:
 
     def on_released(self, client, sequence, value):
         self.replies, self.expected = self.replies + 1, self.expected + 1
-        self.answer((client.encode(), sequence.encode()), "ok %s %s %s %d" % (client, sequence, value, self.node.known))
+        self.answer((client, sequence), self.reply(client, sequence, value))
 
     def send_away(self):
         """This node leads no more: who waits has to ask another."""
@@ -111,7 +121,7 @@ class Requests:
                 self.companion.say("the cluster has agreed on as many log entries as there can be")
                 self.is_told_end = True
             for key in list(self.waiting):
-                self.answer(key, "ended " + in_words(key))
+                self.answer(key, "ended %d %d" % key)
 
     def nothing_is_open(self):
         self.is_open, self.is_cutting, self.cut_at = False, False, None
@@ -128,7 +138,3 @@ class Requests:
             tell("value %s %s" % (words[3], words[5]) if words[0] == "read" else "bad" if words[0] == "faulty" else " ".join(words))
 
         self.node.call(b"Q", content, then)
-
-
-def in_words(key):
-    return b" ".join(key).decode("latin-1")
