@@ -81,6 +81,7 @@ class Client:
         number is still on its way. A call or a read takes at most so many seconds."""
         self.nodes, self.number, self.sequence, self.seconds = Nodes(addresses), number, sequence, seconds
         self.seen, self.open = 0, None  # log entries; the line of a call whose reply isn't known
+        self.is_next = False  # whether the sequence comes after a reply, so that no node which leads can miss one before it
 
     def __enter__(self):
         return self
@@ -100,15 +101,21 @@ class Client:
 
     def again(self):
         """Asks once more for the reply to a call that ended in Unknown."""
-        words = self.nodes.ask_until(self.open, time.monotonic() + self.seconds)
+        end = time.monotonic() + self.seconds
+        words = self.nodes.ask_until(self.open, end)
+        while words[:1] == ["gap"] and self.is_next:
+            # one that leads no more, and hasn't heard so yet, doesn't know of the last reply
+            self.nodes.at = (self.nodes.at + 1) % len(self.nodes.addresses)
+            time.sleep(PAUSE)
+            words = self.nodes.ask_until(self.open, end)
         if not words:
             raise Unknown(self.open)
         self.open = None
         if words[0] != "ok":
             if words[0] in ("gap", "old"):
-                self.sequence = None
+                self.sequence, self.is_next = None, False
             raise Refused(" ".join(words))
-        self.sequence, self.seen = self.sequence + 1, max(self.seen, int(words[4]))
+        self.sequence, self.seen, self.is_next = self.sequence + 1, max(self.seen, int(words[4])), True
         return int(words[3])
 
     def next_sequence(self, what):
