@@ -1,3 +1,5 @@
 pub mod Faults
 pub mod FileCalls
 pub mod Inside
+pub mod Mixing
+pub mod MixingLaws

@@ -5,9 +5,10 @@ ghost use Rattle.std.specs.Prelude.{IfNone, IfOk, IfSome, IsTrue, OnOk};
 ghost use Rattle.std.specs.Option.{ForSome};
 ghost use Rattle.rex_disk.specs.Calls.{HasRoom, UsesRoom};
 ghost use Rattle.rex_disk.specs.Calls.Call.{Reads, Reserves, Writes, Syncs};
-ghost use Rattle.rex_disk.specs.Record.{LeftAfter, LeftSince, are_within, seen_after};
-ghost use Rattle.rex_disk.specs.RecordLaws.{now_since, seen_left, since_now};
+ghost use Rattle.rex_disk.specs.Record.{are_within, seen_after};
 ghost use Rattle.rex_file.specs.FileCalls.{NotesCall, opened_file};
+ghost use Rattle.rex_file.specs.Mixing.{MixedAfter, MixedSince};
+ghost use Rattle.rex_file.specs.MixingLaws.{now_since, seen_mixed, since_now};
 
 use crate::FileFault;
 use crate::call_trail::CallTrail;
@@ -197,11 +198,11 @@ impl Disk for FileDisk {
 
     ghost seen = { λ d. seen_after d.first d.done };
 
-    ghost may_leave = { λ d image. LeftAfter d.first d.done image };
+    ghost may_leave = { λ d image. MixedAfter d.first d.done image };
 
     ghost moment = { λ d. length d.done };
 
-    ghost left_since = { λ d moment image. LeftSince d.first d.done moment image };
+    ghost left_since = { λ d moment image. MixedSince d.first d.done moment image };
 
     ghost faults = { λ d. d.faults };
 
@@ -211,7 +212,7 @@ impl Disk for FileDisk {
 
     ghost gives = { NotesCall };
 
-    ghost leaves_seen = { λ d met. seen_left d.first d.done met };
+    ghost leaves_seen = { λ d met. seen_mixed d.first d.done met };
 
     ghost counts_now = { λ d t image met le now. now_since d.first d.done t image le now };
 

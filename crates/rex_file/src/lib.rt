@@ -5,11 +5,13 @@
 //! What is trusted is that a stop leaves of the file one of the images that the record allows.
 #![tactic(auto)]
 
+mod byte_atomic;
 mod call_trail;
 mod file_disk;
 mod file_fault;
 mod opening;
 
+pub use byte_atomic::ByteAtomic;
 pub use file_disk::FileDisk;
 pub use file_fault::FileFault;
 pub use opening::open_path;

@@ -1,0 +1,6 @@
+pub mod BytesLaws
+mod Calls
+mod Making
+mod Moments
+mod Settled
+mod Spelling

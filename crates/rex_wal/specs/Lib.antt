@@ -1,0 +1,6 @@
+pub mod Log
+pub mod Spelled
+pub mod Keeping
+pub mod Opening
+pub mod Appending
+pub mod Laws
