@@ -1,5 +1,5 @@
--- What each write of a log makes of its bytes, whole or torn.
-use Rattle.std.proofs.Common.{◌≡◌, ◌⊎◌, inl, inr, ⊎_elim, Bool, true, false, ℕ, suc, ◌+◌, ◌-◌, ◌<◌, ◌≤◌, Some, None, Option, List, [], ◌∷◌, ◌++◌, length, get_or, take, drop, replicate, refl, sym, ◌∙◌, ap, subst, arith, append_assoc, length-append, take-append-drop}
+-- What each write of a journal makes of its bytes, whole or torn.
+use Rattle.std.proofs.Common.{◌≡◌, ◌≢◌, ◌⊎◌, inl, inr, ⊎_elim, Bool, true, false, ℕ, suc, ◌+◌, ◌-◌, ◌<◌, ◌≤◌, Some, None, Option, List, [], ◌∷◌, ◌++◌, length, get_or, take, drop, replicate, refl, sym, ◌∙◌, ap, subst, arith, append_assoc, length-append, take-append-drop}
 use Rattle.std.proofs.lemmas.Bool.{cases_lt}
 use Rattle.std.proofs.lemmas.List.{append-nil, drop-drop, drop_all, drop_at, drop-replicate, get_or-drop, get_or-replicate, get_or_past, length-replicate, replicate-append-replicate, take_at}
 use Rattle.std.proofs.lemmas.List.Elements.{All-push}
@@ -9,9 +9,9 @@ use Rattle.rex_file.specs.Mixing.{Mixed, byte_at}
 use Rattle.rex_wal.specs.Appending.{IsWritten}
 use Rattle.rex_wal.specs.Keeping.{IsClean}
 use Rattle.rex_wal.specs.Opening.{IsCleaning, IsFound}
-use Rattle.rex_wal.specs.Log.{BeginsNone, HasRecords, Holds, IsBegun, IsRecord, StandsFor, entries, entry, head}
+use Rattle.rex_wal.specs.Journal.{BeginsNone, HasRecords, Holds, IsBad, IsBegun, NoneLater, IsRecord, StandsFor, entries, entry, head}
 use Rattle.rex_wal.proofs.BytesLaws.{holds_one}
-use Rattle.rex_wal.proofs.Spelling.{Covers, covered_none, entries_push, torn_entry, zeros_none}
+use Rattle.rex_wal.proofs.Spelling.{Covers, covered_later, covered_none, entries_push, entry_later, torn_entry, zeros_later, zeros_none}
 
 -- ---- bytes 0
 
@@ -68,13 +68,13 @@ module _ (records : List (List ℕ)) (rest file : List ℕ) (split : file ≡ he
         ⊎_elim (λ e. inl (new ∙ e ∙ old)) (λ e. inr (new ∙ e)) (mixed_byte at bytes file image m i)
 
   -- 0 is written over what stands behind the records
-  pub zeros_keep : (n : ℕ) (image : List ℕ) → All IsRecord records → BeginsNone rest → Mixed at (replicate n 0) file image → HasRecords image records
-  zeros_keep n image each none m = record {
-    rest = drop at image;
-    split = mixed_split (replicate n 0) image m;
-    ended = covered_none rest (drop at image) none (λ i. ⊎_elim (λ e. inr e) (λ e. inl (e ∙ zero_at n i)) (mixed_rest (replicate n 0) image m i));
-    each = each;
-  }
+  pub zeros_keep : (n : ℕ) (image : List ℕ) → All IsRecord records → BeginsNone rest → NoneLater rest → Mixed at (replicate n 0) file image → HasRecords image records
+  zeros_keep n image each none later m =
+      let covers : Covers rest (drop at image) = λ i. ⊎_elim (λ e. inr e) (λ e. inl (e ∙ zero_at n i)) (mixed_rest (replicate n 0) image m i) in
+      record {
+        front = record { rest = drop at image; split = mixed_split (replicate n 0) image m; ended = covered_none rest (drop at image) none covers; each = each };
+        none_later = covered_later rest (drop at image) later covers;
+      }
 
   pub zeros_clean : IsClean (overwritten at (replicate (length file - at) 0) file) records
   zeros_clean =
@@ -90,7 +90,10 @@ module _ (records : List (List ℕ)) (rest file : List ℕ) (split : file ≡ he
 
 module _ (records : List (List ℕ)) (file : List ℕ) (clean : IsClean file records) (at : ℕ) (place : at ≡ length head + length (entries records)) where
   pub clean_holds : All IsRecord records → Holds file records
-  clean_holds each = inl record { rest = replicate clean.zeros 0; split = clean.split; ended = zeros_none (replicate clean.zeros 0) (zero_at clean.zeros); each = each }
+  clean_holds each = inl record {
+    front = record { rest = replicate clean.zeros 0; split = clean.split; ended = zeros_none (replicate clean.zeros 0) (zero_at clean.zeros); each = each };
+    none_later = zeros_later (replicate clean.zeros 0) (zero_at clean.zeros);
+  }
 
   pub clean_within : at ≤ length file
   clean_within = within records (replicate clean.zeros 0) file clean.split at place
@@ -105,14 +108,20 @@ module _ (records : List (List ℕ)) (file : List ℕ) (clean : IsClean file rec
         covers : Covers (entry bytes ++ replicate w.zeros 0) (drop at image)
         covers i = ⊎_elim (λ e. inl (e ∙ zero_at clean.zeros i)) (λ e. inr (e ∙ ap (λ (xs : List ℕ). byte_at xs i) w.is)) (mixed_rest records (replicate clean.zeros 0) file clean.split at place written image m i)
 
-        by : ((more : List ℕ) × (drop at image ≡ entry bytes ++ more) × BeginsNone more) ⊎ BeginsNone (drop at image) → StandsFor records (Some bytes) image
-        by (inl (more, is, none)) = inr (inl record {
-          rest = more;
-          split = split ∙ ap (λ (xs : List ℕ). head ++ (entries records ++ xs)) is ∙ ap (λ (xs : List ℕ). head ++ xs) (sym (entries_push records bytes more));
-          ended = none;
-          each = All-push IsRecord records bytes each is_record;
+        by : ((more : List ℕ) × (drop at image ≡ entry bytes ++ more) × ((i : ℕ) → byte_at more i ≡ 0)) ⊎ BeginsNone (drop at image) → StandsFor records (Some bytes) image
+        by (inl (more, is, zeros)) = inr (inl record {
+          front = record {
+            rest = more;
+            split = split ∙ ap (λ (xs : List ℕ). head ++ (entries records ++ xs)) is ∙ ap (λ (xs : List ℕ). head ++ xs) (sym (entries_push records bytes more));
+            ended = zeros_none more zeros;
+            each = All-push IsRecord records bytes each is_record;
+          };
+          none_later = zeros_later more zeros;
         })
-        by (inr none) = inl (inl record { rest = drop at image; split = split; ended = none; each = each })
+        by (inr none) = inl (inl record {
+          front = record { rest = drop at image; split = split; ended = none; each = each };
+          none_later = covered_later (entry bytes ++ replicate w.zeros 0) (drop at image) (entry_later bytes (replicate w.zeros 0) is_record (zero_at w.zeros)) covers;
+        })
 
     pub append_clean : IsClean (overwritten at written file) (records ++ bytes ∷ [])
     append_clean =
@@ -158,7 +167,7 @@ begun_keep file image begun m i = subst (λ (k : ℕ). (byte_at image k ≡ 0) �
     by (inl e) = subst (λ (k : ℕ). (k ≡ 0) ⊎ (k ≡ byte_at head i)) (sym (e ∙ ap (λ (k : ℕ). byte_at file k) there)) (begun i)
     by (inr e) = inr e
 
--- ---- what is written as a log is opened
+-- ---- what is written as a journal is opened
 
 pub begun_cleaning : (file : List ℕ) (records : List (List ℕ)) (end : ℕ) → IsFound file records end true → IsCleaning file records 0 head
 begun_cleaning file records end (begun, none, place) = rw none record {
@@ -171,11 +180,30 @@ begun_cleaning file records end (begun, none, place) = rw none record {
 
 pub record_cleaning : (file : List ℕ) (records : List (List ℕ)) (end : ℕ) → IsFound file records end false → IsCleaning file records end (replicate (length file - end) 0)
 record_cleaning file records end (has, place) = record {
-  within = within records has.rest file has.split end place;
+  within = within records has.front.rest file has.front.split end place;
   few = omega (arith, length-replicate {A = ℕ} (length file - end) 0);
-  reaches = omega (arith, place, within records has.rest file has.split end place);
-  cleans = zeros_clean records has.rest file has.split end place;
-  keeps = λ image m. inl (zeros_keep records has.rest file has.split end place (length file - end) image has.each has.ended m);
+  reaches = omega (arith, place, within records has.front.rest file has.front.split end place);
+  cleans = zeros_clean records has.front.rest file has.front.split end place;
+  keeps = λ image m. inl (zeros_keep records has.front.rest file has.front.split end place (length file - end) image has.front.each has.front.ended has.none_later m);
+}
+
+-- ---- what is read as a journal is opened
+
+place_of : (file : List ℕ) (records : List (List ℕ)) (rest : List ℕ) → file ≡ head ++ (entries records ++ rest) → length file - length rest ≡ length head + length (entries records)
+place_of file records rest split = omega (arith, ap length split, length-append head (entries records ++ rest), length-append (entries records) rest)
+
+pub read_found : (file : List ℕ) (records : List (List ℕ)) (rest : List ℕ) → file ≡ head ++ (entries records ++ rest) → All IsRecord records → BeginsNone rest → NoneLater rest → IsFound file records (length file - length rest) false
+read_found file records rest split each none later = (record { front = record { rest = rest; split = split; ended = none; each = each }; none_later = later }, place_of file records rest split)
+
+pub read_gap : (file : List ℕ) (records : List (List ℕ)) (rest : List ℕ) → file ≡ head ++ (entries records ++ rest) → All IsRecord records → BeginsNone rest → (i : ℕ) × (byte_at rest i ≡ 255) × (byte_at rest (i + 1) ≡ 1) × (byte_at rest (i + 2) ≢ 0) → IsBad file (length file - length rest)
+read_gap file records rest split each none (i, mark, end, some) = inr record {
+  records = records;
+  front = record { rest = rest; split = split; ended = none; each = each };
+  place = place_of file records rest split;
+  later = i;
+  mark = mark;
+  end = end;
+  some = some;
 }
 
 -- where the next record goes, and of what the records are
@@ -185,7 +213,7 @@ found_place file records end false (has, place) = place
 
 pub found_each : (file : List ℕ) (records : List (List ℕ)) (end : ℕ) (begun : Bool) → IsFound file records end begun → All IsRecord records
 found_each file records end true (begun, none, place) = rw none (λ k d lt. absurd (omega (arith, lt)))
-found_each file records end false (has, place) = has.each
+found_each file records end false (has, place) = has.front.each
 
 pub found_holds : (file : List ℕ) (records : List (List ℕ)) (end : ℕ) (begun : Bool) → IsFound file records end begun → Holds file records
 found_holds file records end true (begun, none, place) = inr (begun, none)

@@ -1,11 +1,11 @@
--- What a stop may leave of a disk with a settled log.
+-- What a stop may leave of a disk with a settled journal.
 use Rattle.std.proofs.Common.{◌≡◌, inl, inr, ℕ, ◌+◌, ◌≤◌, max, Bool, IsTrue, List, [], ◌∷◌, ◌++◌, length, Option, Some, sym, ◌∙◌, ap, subst, arith}
 use Rattle.std.proofs.lemmas.List.Elements.{All-push}
 use Rattle.rex_disk.specs.Stops.{LeavesOnly, Only, Rests, overwritten}
 use Rattle.rex_file.specs.Mixing.{Mixed}
 use Rattle.rex_wal.specs.Appending.{IsWritten}
 use Rattle.rex_wal.specs.Keeping.{AllStandFor, IsClean, IsSettled}
-use Rattle.rex_wal.specs.Log.{IsRecord, StandsFor, entry}
+use Rattle.rex_wal.specs.Journal.{IsRecord, StandsFor, entry}
 use Rattle.rex_wal.proofs.Making.{append_clean, append_place, append_stands, clean_holds, written_long}
 use Rattle.rex_wal.proofs.Moments.{rested, started, widen}
 

@@ -4,7 +4,7 @@ use Rattle.std.proofs.lemmas.Bool.{cases_lt, cond_above, cond_below}
 use Rattle.std.proofs.lemmas.List.{append-nil}
 use Rattle.rex_file.specs.Mixing.{byte_at}
 use Rattle.rex_wal.specs.Spelled.{HasNoFront}
-use Rattle.rex_wal.specs.Log.{BeginsNone, IsRecord, entries, entry, mark, marks}
+use Rattle.rex_wal.specs.Journal.{BeginsNone, IsRecord, NoneLater, entries, entry, mark, marks}
 
 -- ---- marks
 
@@ -155,15 +155,62 @@ reach (c ∷ e) z (x ∷ xs) covers = by (covers 0) (reach e z xs (λ i. covers 
     by (inr same) (inl (more, is, rest)) = inl (more, ap (λ (k : ℕ). k ∷ xs) same ∙ ap (λ (ys : List ℕ). c ∷ ys) is, rest)
     by (inr same) (inr (k, lt, is_zero)) = inr (suc k, omega (arith, lt), is_zero)
 
--- of a record's entry and bytes 0 behind it all of the entry is left, or no record
-pub torn_entry : (r z xs : List ℕ) → ((i : ℕ) → byte_at z i ≡ 0) → Covers (entry r ++ z) xs → ((more : List ℕ) × (xs ≡ entry r ++ more) × BeginsNone more) ⊎ BeginsNone xs
+-- bytes that are all 0 have no end mark
+pub zeros_later : (xs : List ℕ) → ((i : ℕ) → byte_at xs i ≡ 0) → NoneLater xs
+zeros_later xs all i first_is second_is = all (i + 2)
+
+-- behind an end mark in them only 0 stands if that is so in the others
+pub covered_later : (over xs : List ℕ) → NoneLater over → Covers over xs → NoneLater xs
+covered_later over xs later covers i first_is second_is = by (covers i) (covers (i + 1)) (covers (i + 2))
+  where
+    by : (byte_at xs i ≡ 0) ⊎ (byte_at xs i ≡ byte_at over i) → (byte_at xs (i + 1) ≡ 0) ⊎ (byte_at xs (i + 1) ≡ byte_at over (i + 1)) → (byte_at xs (i + 2) ≡ 0) ⊎ (byte_at xs (i + 2) ≡ byte_at over (i + 2)) → byte_at xs (i + 2) ≡ 0
+    by (inl z) b c = absurd (omega (arith, z, first_is))
+    by (inr a) (inl z) c = absurd (omega (arith, z, second_is))
+    by (inr a) (inr b) (inl z) = z
+    by (inr a) (inr b) (inr c) = c ∙ later i (sym a ∙ first_is) (sym b ∙ second_is)
+
+-- one byte on
+shift : (k : ℕ) (xs : List ℕ) → NoneLater xs → (j : ℕ) → byte_at (k ∷ xs) (suc j) ≡ 255 → byte_at (k ∷ xs) (suc j + 1) ≡ 1 → byte_at (k ∷ xs) (suc j + 2) ≡ 0
+shift k xs later j first_is second_is =
+    let one : suc j + 1 ≡ suc (j + 1) = omega arith in
+    let two : suc j + 2 ≡ suc (j + 2) = omega arith in
+    ap (λ (n : ℕ). byte_at (k ∷ xs) n) two ∙ later j first_is (ap (λ (n : ℕ). byte_at (k ∷ xs) n) (sym one) ∙ second_is)
+
+shift_none : (z : List ℕ) → ((i : ℕ) → byte_at z i ≡ 0) → NoneLater (1 ∷ z)
+shift_none z zeros zero first_is second_is = zeros 1
+shift_none z zeros (suc i) first_is second_is = shift 1 z (zeros_later z zeros) i first_is second_is
+
+-- the end mark of an entry is its last
+pub entry_later : (r z : List ℕ) → IsRecord r → ((i : ℕ) → byte_at z i ≡ 0) → NoneLater (entry r ++ z)
+entry_later [] z each zeros zero first_is second_is = zeros 0
+entry_later [] z each zeros (suc zero) first_is second_is = absurd (omega (arith, first_is))
+entry_later [] z each zeros (suc (suc i)) first_is second_is = shift 255 (1 ∷ z) (shift_none z zeros) (suc i) first_is second_is
+entry_later (b ∷ r) z each zeros i first_is second_is = by (low_or_high b) (entry_later r z (λ k. each (suc k)) zeros)
+  where
+    is : entry (b ∷ r) ++ z ≡ mark b ++ (entry r ++ z)
+    is = entry_next b r z
+
+    low : (k : ℕ) → NoneLater (entry r ++ z) → k ≢ 255 → NoneLater (k ∷ (entry r ++ z))
+    low k later other zero f s = absurd (other f)
+    low k later other (suc j) f s = shift k (entry r ++ z) later j f s
+
+    high : (k : ℕ) → NoneLater (entry r ++ z) → k ≢ 255 → k ≢ 1 → NoneLater (255 ∷ k ∷ (entry r ++ z))
+    high k later other one zero f s = absurd (one s)
+    high k later other one (suc j) f s = shift 255 (k ∷ (entry r ++ z)) (low k later other) j f s
+
+    by : (b < 254) ⊎ (254 ≤ b) → NoneLater (entry r ++ z) → byte_at (entry (b ∷ r) ++ z) (i + 2) ≡ 0
+    by (inl lt) rest = subst NoneLater (sym (is ∙ ap (λ (m : List ℕ). m ++ (entry r ++ z)) (mark_low b lt))) (low (b + 1) rest (λ e. omega (arith, e, lt))) i first_is second_is
+    by (inr le) rest = subst NoneLater (sym (is ∙ ap (λ (m : List ℕ). m ++ (entry r ++ z)) (mark_high b le))) (high (b - 252) rest (λ e. omega (arith, e, le, each 0)) (λ e. omega (arith, e, le))) i first_is second_is
+
+-- of a record's entry and bytes 0 behind it all of the entry is left, and only 0 behind it, or no record
+pub torn_entry : (r z xs : List ℕ) → ((i : ℕ) → byte_at z i ≡ 0) → Covers (entry r ++ z) xs → ((more : List ℕ) × (xs ≡ entry r ++ more) × ((i : ℕ) → byte_at more i ≡ 0)) ⊎ BeginsNone xs
 torn_entry r z xs zeros covers = by (reach (entry r) z xs covers)
   where
     all_zero : (more : List ℕ) → Covers z more → (i : ℕ) → byte_at more i ≡ 0
     all_zero more rest i = ⊎_elim (λ e. e) (λ e. e ∙ zeros i) (rest i)
 
-    by : ((more : List ℕ) × (xs ≡ entry r ++ more) × Covers z more) ⊎ ((k : ℕ) × (k < length (entry r)) × (byte_at xs k ≡ 0)) → ((more : List ℕ) × (xs ≡ entry r ++ more) × BeginsNone more) ⊎ BeginsNone xs
-    by (inl (more, is, rest)) = inl (more, is, zeros_none more (all_zero more rest))
+    by : ((more : List ℕ) × (xs ≡ entry r ++ more) × Covers z more) ⊎ ((k : ℕ) × (k < length (entry r)) × (byte_at xs k ≡ 0)) → ((more : List ℕ) × (xs ≡ entry r ++ more) × ((i : ℕ) → byte_at more i ≡ 0)) ⊎ BeginsNone xs
+    by (inl (more, is, rest)) = inl (more, is, all_zero more rest)
     by (inr (k, lt, is_zero)) = inr (λ s behind is_record is.
         let found = agree (entry s) (entry r ++ z) xs behind (no_zero_entry s) is covers in
         let same = same_entry r s z found.0 found.1 in

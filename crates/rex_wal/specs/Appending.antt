@@ -6,7 +6,7 @@ use Rattle.rex_journal.specs.Giving.{WritesThrough}
 use Rattle.rex_traits.specs.declared.keeper.KeepFault.{KeepFault}
 use Rattle.rex_traits.specs.declared.keeper.KeepFault.TheVariants.{Failed, OutOfMemory}
 use Rattle.rex_wal.specs.Keeping.{WalValue}
-use Rattle.rex_wal.specs.Log.{entry}
+use Rattle.rex_wal.specs.Journal.{entry}
 
 -- what is written for a record: its entry, and maybe bytes 0 behind it
 pub record IsWritten (bytes written : List ℕ) : Type 0 where

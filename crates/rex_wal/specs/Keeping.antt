@@ -1,7 +1,7 @@
 -- What a keeper on a disk is, and what a stop may leave of it.
 use Rattle.std.specs.Prelude.{◌≡◌, ◌≤◌, ◌+◌, ◌++◌, ℕ, Bool, IsTrue, IsFalse, List, Option, length, replicate, All}
 use Rattle.rex_disk.specs.Stops.{Only}
-use Rattle.rex_wal.specs.Log.{IsRecord, StandsFor, entries, head}
+use Rattle.rex_wal.specs.Journal.{IsRecord, StandsFor, entries, head}
 
 -- A keeper: its disk, its records, whether it is broken, and how many appends were made while it was.
 pub record WalValue (D : Type 0) : Type 0 where

@@ -1,4 +1,4 @@
-pub mod Log
+pub mod Journal
 pub mod Spelled
 pub mod Keeping
 pub mod Opening

@@ -1,35 +1,35 @@
--- What opening a log finds, and when it is refused.
+-- What opening a journal finds, and when it is refused.
 use Rattle.std.specs.Prelude.{◌≡◌, ◌⊎◌, ◌≤◌, ◌+◌, max, ℕ, Bool, true, false, List, [], length, All, Result, Ok, Err}
 use Rattle.rex_disk.specs.Calls.{Call, FailsInTurn}
 use Rattle.rex_journal.specs.Giving.{Goes}
 use Rattle.rex_disk.specs.Stops.{overwritten}
 use Rattle.rex_file.specs.Mixing.{Mixed}
 use Rattle.rex_wal.specs.Keeping.{IsClean}
-use Rattle.rex_wal.specs.Log.{HasRecords, Holds, IsBegun, IsNoLog, entries, head}
+use Rattle.rex_wal.specs.Journal.{HasRecords, Holds, IsBegun, IsBad, entries, head}
 use Rattle.rex_wal.specs.declared.fault.OpenFault.{OpenFault}
-use Rattle.rex_wal.specs.declared.fault.OpenFault.TheVariants.{Failed, NoLog, OutOfMemory}
+use Rattle.rex_wal.specs.declared.fault.OpenFault.TheVariants.{Failed, BadJournal, OutOfMemory}
 
 -- a file is only begun, or has these records up to this place
 abbrev pub IsFound : List ℕ → List (List ℕ) → ℕ → Bool → Type 0
 IsFound file records end true = IsBegun file × (records ≡ []) × (end ≡ length head)
 IsFound file records end false = HasRecords file records × (end ≡ length head + length (entries records))
 
--- the bytes are called no log only where they are none
+-- a journal is called bad only where it is
 abbrev pub IsCauseIn : List ℕ → OpenFault → Type 0
 IsCauseIn file Failed = Unit {0}
-IsCauseIn file NoLog = IsNoLog file
+IsCauseIn file (BadJournal at) = IsBad file at
 IsCauseIn file OutOfMemory = Unit {0}
 
--- what a refusal leaves of the bytes that are read: all as they were, unless the disk failed, and then those that are no log
+-- what a refusal leaves of the bytes that are read: all as they were, unless the disk failed, and then those of a bad journal
 abbrev pub Leaves : List ℕ → List ℕ → OpenFault → Type 0
-Leaves old now Failed = IsNoLog old → now ≡ old
-Leaves old now NoLog = now ≡ old
+Leaves old now Failed = (at : ℕ) → IsBad old at → now ≡ old
+Leaves old now (BadJournal at) = now ≡ old
 Leaves old now OutOfMemory = now ≡ old
 
 -- the count of faults rose by one where the disk is said to have failed, and nowhere else
 abbrev pub CountsAs : OpenFault → ℕ → ℕ → Type 0
 CountsAs Failed before now = now ≡ before + 1
-CountsAs NoLog before now = now ≡ before
+CountsAs (BadJournal at) before now = now ≡ before
 CountsAs OutOfMemory before now = now ≡ before
 
 -- the same of an answer, which leaves the count where it is Ok
@@ -46,7 +46,7 @@ abbrev pub Opens : {D T : Type 0} → (D → Call → Bool → D → Type 0) →
 Opens gives old new (Ok x) = Goes gives old new
 Opens gives old new (Err fault) = Ends gives old new
 
--- what is written as a log is opened: the head of one that is only begun, and 0 over what stands behind the records of another
+-- what is written as a journal is opened: the head of one that is only begun, and 0 over what stands behind the records of another
 pub record IsCleaning (file : List ℕ) (records : List (List ℕ)) (at : ℕ) (written : List ℕ) : Type 0 where
   pub within : at ≤ length file
   pub few : length written ≤ length file + length head

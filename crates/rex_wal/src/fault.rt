@@ -1,4 +1,4 @@
-//! Why a log is not opened, and the disk that a refusal hands back.
+//! Why a journal is not opened, and the disk that a refusal hands back.
 
 ghost use Rattle.std.specs.Prelude.{◌≡◌};
 ghost use Rattle.rex_wal.specs.declared.fault.OpenFault.TheVariants as open_fault;
@@ -6,13 +6,17 @@ ghost use Rattle.rex_wal.specs.declared.fault.OpenFault.TheVariants as open_faul
 use rex_traits::Failed;
 use std::alloc::{AllocError, AllocFailed};
 
-/// Why a log was not opened.
+/// Why a journal was not opened.
 #[derive(Clone, Copy, Debug, PartialEq, Eq)]
 pub enum OpenFault {
     /// The disk failed in this call.
     Failed,
-    /// The bytes are no log: they don't begin with its head, or with what a stop may have left of that.
-    NoLog,
+    /// The bytes don't begin as a journal does, or what stands at this offset is no whole record, though later ones follow. No stop
+    /// leaves that.
+    BadJournal {
+        /// The offset, in bytes from the beginning of the disk.
+        at: u64,
+    },
     /// No memory was left.
     OutOfMemory,
 }
@@ -41,11 +45,11 @@ impl From<Failed> for OpenFault {
     }
 }
 
-/// A disk whose log was not opened, and why.
+/// A disk whose journal was not opened, and why.
 #[derive(Drop)]
 pub struct Refused<D> {
     /// The disk, handed back.
     pub disk: D,
-    /// Why its log was not opened.
+    /// Why its journal was not opened.
     pub fault: OpenFault,
 }

@@ -1,4 +1,4 @@
-//! What is done to the disk when a record is written, and when the records of a log are recovered.
+//! What is done to the disk when a record is written, and when the records of a journal are recovered.
 
 ghost use Rattle.std.specs.Prelude.{◌≡◌, ◌<◌, ◌≤◌, ◌+◌, ◌-◌, ◌^◌, ◌++◌, ℕ, List, Option, IsTrue, IfErr, IfOk, OnOk, length};
 ghost use Rattle.rex_disk.specs.Calls.{Counts, HasRoom, Reaches, UsesRoom};
@@ -6,7 +6,7 @@ ghost use Rattle.rex_disk.specs.Stops.{LeavesOnly, Only, overwritten};
 ghost use Rattle.rex_file.specs.Mixing.{Mixed};
 ghost use Rattle.rex_journal.specs.Giving.{Goes, WritesThrough};
 ghost use Rattle.rex_wal.specs.Keeping.{AllStandFor, IsSettled};
-ghost use Rattle.rex_wal.specs.Log.{Holds, StandsFor, head};
+ghost use Rattle.rex_wal.specs.Journal.{Holds, StandsFor, head};
 ghost use Rattle.rex_wal.specs.Opening.{CountsFailed, IsCauseIn, IsCleaning, IsFound, Leaves, Opens};
 
 use crate::OpenFault;
@@ -40,7 +40,7 @@ pub(crate) fn write_through<D: ByteAtomic>(
     disk.sync()
 }
 
-/// Finds the records of a log, and sees to it that its head stands before them and nothing but 0 behind them.
+/// Finds the records of a journal, and sees to it that its head stands before them and nothing but 0 behind them.
 pub(crate) fn recover<D: ByteAtomic>(alloc: Global, disk: &mut D) -> Result<Found, OpenFault>
     requires count { D.faults disk.old < 2 ^ 64 - 1 }
     ensures holds { IsTrue (D.meets disk.old) → IfOk result (λ f. Holds (D.seen disk.old) f.records.items) }
@@ -60,14 +60,14 @@ pub(crate) fn recover<D: ByteAtomic>(alloc: Global, disk: &mut D) -> Result<Foun
     Ok(found)
 }
 
-// What is to be written at a place of a log's bytes.
+// What is to be written at a place of a journal's bytes.
 #[derive(Drop)]
 struct Cleaning {
     at: usize,
     bytes: Vec<u8>,
 }
 
-// What is to be written of a log of which this was found: its head, or 0 over what stands behind its records.
+// What is to be written of a journal of which this was found: its head, or 0 over what stands behind its records.
 fn cleaning_of(alloc: Global, bytes: &[u8], found: &Found) -> Result<Cleaning, AllocError>
     requires found { IsFound bytes.now found.now.records.items found.now.end found.now.is_begun }
     ensures { IfOk result (λ w. IsCleaning bytes.now found.now.records.items w.at w.bytes.items) }

@@ -1,4 +1,4 @@
-//! A log as a keeper. An append in which the disk fails breaks it for good.
+//! A journal as a keeper. An append in which the disk fails breaks it for good.
 
 ghost use Rattle.std.specs.Prelude.{◌≡◌, ◌<◌, ◌≤◌, ◌+◌, ◌-◌, ◌^◌, ◌++◌, ◌∷◌, [], ℕ, List as Items, Option, Some, None};
 ghost use Rattle.std.specs.Prelude.{false, true, refl, IsTrue, IfErr, IfOk, OnErr, OnOk, MatchResult, length};
@@ -9,7 +9,7 @@ ghost use Rattle.rex_disk.specs.Stops.{LeavesOnly, Rests};
 ghost use Rattle.rex_journal.specs.Keeping.{Breaks, CountsAppend, KeepsRecords};
 ghost use Rattle.rex_wal.specs.Appending.{Appends, IsWritten, MayReserve};
 ghost use Rattle.rex_wal.specs.Keeping.{AllStandFor};
-ghost use Rattle.rex_wal.specs.Log.{Holds, StandsFor, entry};
+ghost use Rattle.rex_wal.specs.Journal.{Holds, StandsFor, entry};
 ghost use Rattle.rex_journal.specs.Giving.{Goes};
 ghost use Rattle.rex_wal.specs.Opening.{CountsAs, Ends, IsCauseIn, Leaves};
 
@@ -47,10 +47,10 @@ impl<D: ByteAtomic> Model for WalKeeper<D> {
 }
 
 impl<D: ByteAtomic> WalKeeper<D> {
-    /// Opens the log on a disk, as a stop may have left it: begins it where no more than a part of its head is there, and writes 0 over
+    /// Opens the journal on a disk, as a stop may have left it: begins it where no more than a part of its head is there, and writes 0 over
     /// what stands behind its last whole record.
     ///
-    /// A refusal hands the disk back. What is no log is left as it was.
+    /// A refusal hands the disk back. What is no journal is left as it was.
     pub fn open(alloc: Global, mut disk: D) -> Result<WalKeeper<D>, Refused<D>>
         requires count { D.faults disk < 2 ^ 64 - 1 }
         ensures holds { IsTrue (D.meets disk) → IfOk result (λ k. Holds (D.seen disk) k.records) }

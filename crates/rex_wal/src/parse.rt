@@ -1,7 +1,8 @@
-//! Reading the records of a log.
+//! Reading the records of a journal.
 
-ghost use Rattle.std.specs.Prelude.{◌≡◌, ◌≢◌, ◌++◌, true, ℕ, List as Items, IfErr, IfOk, IfSome, IsNone};
-ghost use Rattle.rex_wal.specs.Log.{BeginsNone, IsBegun, IsRecord, entry, head};
+ghost use Rattle.std.specs.Prelude.{◌≡◌, ◌≢◌, ◌+◌, ◌++◌, true, false, ℕ, List as Items, IfErr, IfOk, IfSome, IsNone};
+ghost use Rattle.rex_file.specs.Mixing.{byte_at};
+ghost use Rattle.rex_wal.specs.Journal.{BeginsNone, NoneLater, IsBegun, IsRecord, entry, head};
 ghost use Rattle.rex_wal.specs.Opening.{IsCauseIn, IsFound};
 ghost use Rattle.rex_wal.specs.declared.fault.OpenFault.TheVariants as open_fault;
 
@@ -10,7 +11,7 @@ use crate::spell::{Front, HEAD, first_of};
 use rex_list::List;
 use std::alloc::{AllocError, Global};
 
-/// The records of a log, and where the next one is to be written. Where the log is only begun, its head has to be written first.
+/// The records of a journal, and where the next one is to be written. Where the journal is only begun, its head has to be written first.
 #[derive(Drop)]
 pub(crate) struct Found {
     pub(crate) records: Vec<List<u8>>,
@@ -36,6 +37,19 @@ fn first_record(alloc: Global, bytes: &[u8]) -> Result<Option<(List<u8>, &[u8])>
             Front::Nothing => return Ok(None),
         }
     }
+}
+
+// Whether another byte than 0 stands behind an end mark.
+fn has_later(bytes: &[u8]) -> bool
+    ensures yes { result ≡ true → (i : ℕ) × (byte_at bytes.now i ≡ 255) × (byte_at bytes.now (i + 1) ≡ 1) × (byte_at bytes.now (i + 2) ≢ 0) }
+    ensures no { result ≡ false → NoneLater bytes.now }
+{
+    for i in 2..bytes.len() {
+        if bytes[i - 2] == 255 && bytes[i - 1] == 1 && bytes[i] != 0 {
+            return true;
+        }
+    }
+    false
 }
 
 // Whether each byte is 0, or the one that the head has there.
@@ -65,10 +79,10 @@ fn begin(alloc: Global, bytes: &[u8]) -> Result<Found, OpenFault>
             is_begun: true,
         });
     }
-    Err(OpenFault::NoLog)
+    Err(OpenFault::BadJournal { at: 0 })
 }
 
-/// Reads the records of a log.
+/// Reads the records of a journal.
 pub(crate) fn parse(alloc: Global, bytes: &[u8]) -> Result<Found, OpenFault>
     ensures found { IfOk result (λ f. IsFound bytes.now f.records.items f.end f.is_begun) }
     ensures bad { IfErr result (IsCauseIn bytes.now) }
@@ -83,9 +97,13 @@ pub(crate) fn parse(alloc: Global, bytes: &[u8]) -> Result<Found, OpenFault>
         records.push(record)?;
         rest = behind;
     }
+    let end = bytes.len() - rest.len();
+    if has_later(rest) {
+        return Err(OpenFault::BadJournal { at: end as u64 });
+    }
     Ok(Found {
         records,
-        end: bytes.len() - rest.len(),
+        end,
         is_begun: false,
     })
 }

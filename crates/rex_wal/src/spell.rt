@@ -1,13 +1,13 @@
 //! How records are spelled: without any byte 0, and with an end mark.
 
 ghost use Rattle.std.specs.Prelude.{◌≡◌, ◌++◌, ◌∷◌, [], IfOk};
-ghost use Rattle.rex_wal.specs.Log.{entry, mark};
+ghost use Rattle.rex_wal.specs.Journal.{entry, mark};
 ghost use Rattle.rex_wal.specs.Spelled.{IsFront};
 
 use std::alloc::{AllocError, Global};
 
-/// What a log begins with.
-pub(crate) const HEAD: [u8; 8] = *b"rex log\n";
+/// What a journal begins with.
+pub(crate) const HEAD: [u8; 8] = *b"rexnode\n";
 
 // Spells a byte of a record.
 fn push_mark(spelled: &mut Vec<u8>, byte: u8) -> Result<(), AllocError>

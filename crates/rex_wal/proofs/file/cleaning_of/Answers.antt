@@ -1,5 +1,5 @@
 use Rattle.std.proofs.Common.{rules, ◌≡◌, ◌-◌, ℕ, List, [], length, replicate, inl, inr, refl, sym, ◌∙◌, ap, subst}
-use Rattle.rex_wal.specs.Log.{head}
+use Rattle.rex_wal.specs.Journal.{head}
 use Rattle.rex_wal.specs.Opening.{IsCleaning, IsFound}
 use Rattle.rex_wal.proofs.Making.{begun_cleaning, record_cleaning}
 use Rattle.rex_wal.proofs.file.cleaning_of.Goals as goal

@@ -1,8 +1,10 @@
 use Rattle.std.proofs.Common.{◌≡◌, IsTrue, ℕ, List, [], ◌∷◌, sym, ◌∙◌, subst}
 use Rattle.rex_disk.specs.Calls.Call.{Syncs, Writes}
 use Rattle.rex_file.specs.Mixing.{Mixed}
-use Rattle.rex_wal.specs.Log.{Holds, StandsFor}
+use Rattle.rex_wal.specs.Journal.{Holds, StandsFor}
 use Rattle.rex_wal.specs.Opening.{IsCleaning}
+use Rattle.std.proofs.lemmas.Result.{err_from_is_err_and}
+use Rattle.rex_wal.proofs.BytesLaws.{bad_none}
 use Rattle.rex_wal.proofs.Calls.{goes_then, refused, then_ends, written_ends}
 use Rattle.rex_wal.proofs.Making.{found_holds, stands_on}
 use Rattle.rex_wal.proofs.Moments.{moves_on, widen}
@@ -38,3 +40,10 @@ returns-clause-any_moment g c = λ records pending meets all.
 
 pub returns-clause-calls : goal.returns-clause-calls
 returns-clause-calls g c = goes_then g.D.Disk.gives c.args.disk.now c.read_synced.new.disk c.write_through.new.disk c.in_ok-bytes.ensures.calls (Writes c.in_ok-written.written.at c.deref-3.result.now ∷ Syncs ∷ [], c.in_ok-write_through.ensures.calls)
+
+pub returns-in_err-write_through-clause-unread : goal.returns-in_err-write_through-clause-unread
+returns-in_err-write_through-clause-unread g c = λ meets.
+    let is = c.deref.ensures.value ∙ c.in_ok-bytes.ensures.bytes meets in
+    let holds = subst (λ (file : List ℕ). Holds file c.in_ok-found.found.records.items) is (found_holds c.deref.result.now c.in_ok-found.found.records.items c.in_ok-found.found.end c.in_ok-found.found.is_begun c.in_ok-found.ensures.found) in
+    let failed = err_from_is_err_and c.from_residual-in_err-write_through.result c.from_residual-in_err-write_through.ensures.1 in
+    rw (failed.1, failed.2) (λ at bad. absurd (bad_none (g.D.Disk.seen c.args.disk.now) at c.in_ok-found.found.records.items bad holds))

@@ -1,5 +1,5 @@
 use Rattle.std.proofs.Common.{rules, ◌≡◌, [], ◌∷◌, ◌++◌, List, ℕ, sym, ◌∙◌, ap, subst, append_assoc}
-use Rattle.rex_wal.specs.Log.{BeginsNone, IsRecord, mark, marks}
+use Rattle.rex_wal.specs.Journal.{BeginsNone, IsRecord, mark, marks}
 use Rattle.rex_wal.proofs.Spelling.{marks_push, nothing_none, record_push}
 use Rattle.rex_wal.proofs.parse.first_record.Goals as goal
 

@@ -1,5 +1,5 @@
 use Rattle.std.proofs.Common.{◌≡◌, ◌++◌, length}
-use Rattle.rex_wal.specs.Log.{IsRecord, marks}
+use Rattle.rex_wal.specs.Journal.{IsRecord, marks}
 use Rattle.rex_wal.proofs.parse.first_record.Given as goal
 
 -- bytes of a record were taken, and are spelled before what is left

@@ -1,6 +1,6 @@
 use Rattle.std.proofs.Common.{◌≡◌, ◌⊎◌, ◌<◌, ℕ}
 use Rattle.rex_file.specs.Mixing.{byte_at}
-use Rattle.rex_wal.specs.Log.{head}
+use Rattle.rex_wal.specs.Journal.{head}
 use Rattle.rex_wal.proofs.parse.is_begun.Given as goal
 
 -- each byte before this one is 0, or the one that the head has there

@@ -1,6 +1,6 @@
 use Rattle.std.proofs.Common.{◌≡◌, ◌++◌, length}
 use Rattle.std.specs.Prelude.{All}
-use Rattle.rex_wal.specs.Log.{IsRecord, entries, head}
+use Rattle.rex_wal.specs.Journal.{IsRecord, entries, head}
 use Rattle.rex_wal.proofs.parse.parse.Given as goal
 
 -- records were taken, and stand before what is left

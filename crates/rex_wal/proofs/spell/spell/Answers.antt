@@ -1,6 +1,6 @@
 use Rattle.std.proofs.Common.{rules, ◌≡◌, ◌<◌, ◌+◌, suc, [], ◌∷◌, ◌++◌, length, get_or, take, sym, ◌∙◌, ap, arith}
 use Rattle.std.proofs.Math.Seq.{take-suc}
-use Rattle.rex_wal.specs.Log.{mark, marks}
+use Rattle.rex_wal.specs.Journal.{mark, marks}
 use Rattle.rex_wal.proofs.Spelling.{marks_push}
 use Rattle.rex_wal.proofs.spell.spell.Goals as goal
 

@@ -1,5 +1,5 @@
 use Rattle.std.proofs.Common.{◌≡◌, take}
-use Rattle.rex_wal.specs.Log.{marks}
+use Rattle.rex_wal.specs.Journal.{marks}
 use Rattle.rex_wal.proofs.spell.spell.Given as goal
 
 -- the bytes that were taken are spelled

@@ -1,10 +1,10 @@
--- The bytes of a log, and which records they hold.
-use Rattle.std.specs.Prelude.{◌≡◌, ◌≢◌, ◌⊎◌, ◌<◌, ◌+◌, ◌-◌, ℕ, nat_lt, cond, List, [], ◌∷◌, ◌++◌, slice_index_or, All, Option, Some, None, codes}
+-- The bytes of a journal, and which records they hold.
+use Rattle.std.specs.Prelude.{◌≡◌, ◌≢◌, ◌⊎◌, ◌<◌, ◌+◌, ◌-◌, ℕ, nat_lt, cond, List, [], ◌∷◌, ◌++◌, length, slice_index_or, All, Option, Some, None, codes}
 use Rattle.rex_file.specs.Mixing.{byte_at}
 
--- what a log begins with
+-- what a journal begins with
 abbrev pub head : List ℕ
-head = codes "rex log" ++ 10 ∷ []
+head = codes "rexnode" ++ 10 ∷ []
 
 -- a byte of a record as it is spelled, without a byte 0; 255 is the first one of two
 abbrev pub mark : ℕ → List ℕ
@@ -32,12 +32,21 @@ IsRecord bytes = (i : ℕ) → byte_at bytes i < 256
 abbrev pub BeginsNone : List ℕ → Type 0
 BeginsNone bytes = (r behind : List ℕ) → IsRecord r → bytes ≢ entry r ++ behind
 
--- a file has the head, and behind it these records, and no whole one follows
-pub record HasRecords (file : List ℕ) (records : List (List ℕ)) : Type 0 where
+-- behind an end mark only 0 stands
+abbrev pub NoneLater : List ℕ → Type 0
+NoneLater bytes = (i : ℕ) → byte_at bytes i ≡ 255 → byte_at bytes (i + 1) ≡ 1 → byte_at bytes (i + 2) ≡ 0
+
+-- a file has the head, and behind it these records, and then bytes of which none is at the front
+pub record BeginsWithRecords (file : List ℕ) (records : List (List ℕ)) : Type 0 where
   pub rest : List ℕ
   pub split : file ≡ head ++ (entries records ++ rest)
   pub ended : BeginsNone rest
   pub each : All IsRecord records
+
+-- and no later one follows either
+pub record HasRecords (file : List ℕ) (records : List (List ℕ)) : Type 0 where
+  pub front : BeginsWithRecords file records
+  pub none_later : NoneLater front.rest
 
 -- each byte of a file is 0, or the one that the head has there
 abbrev pub IsBegun : List ℕ → Type 0
@@ -47,10 +56,24 @@ IsBegun file = (i : ℕ) → (byte_at file i ≡ 0) ⊎ (byte_at file i ≡ byte
 abbrev pub Holds : List ℕ → List (List ℕ) → Type 0
 Holds file records = HasRecords file records ⊎ (IsBegun file × (records ≡ []))
 
--- a file doesn't begin as a log does
-pub record IsNoLog (file : List ℕ) : Type 0 where
+-- a file doesn't begin as a journal does
+pub record IsNoJournal (file : List ℕ) : Type 0 where
   pub no_head : (behind : List ℕ) → file ≢ head ++ behind
   pub not_begun : IsBegun file → ⊥
+
+-- what stands at this place of a file, behind whole records, is none, and later ones follow
+pub record HasGap (file : List ℕ) (at : ℕ) : Type 0 where
+  pub records : List (List ℕ)
+  pub front : BeginsWithRecords file records
+  pub place : at ≡ length head + length (entries records)
+  pub later : ℕ
+  pub mark : byte_at front.rest later ≡ 255
+  pub end : byte_at front.rest (later + 1) ≡ 1
+  pub some : byte_at front.rest (later + 2) ≢ 0
+
+-- a file is bad at this place, whatever a stop left of it
+abbrev pub IsBad : List ℕ → ℕ → Type 0
+IsBad file at = (IsNoJournal file × (at ≡ 0)) ⊎ HasGap file at
 
 -- it holds these records with the one that is pending
 abbrev pub HoldsPending : List ℕ → List (List ℕ) → Option (List ℕ) → Type 0
