@@ -5,6 +5,7 @@ import subprocess
 
 TESTS = os.path.dirname(os.path.dirname(os.path.abspath(__file__)))
 SECTOR = 512
+HEAD, END = b"rexnode\n", b"\xff\1"
 PROMISED, ACCEPTED, KNOWN, IDENTITY = 1, 2, 3, 7
 
 
@@ -27,16 +28,37 @@ def variables_of(library, path, left_out=None):
 
 # ---- records
 
-def records_and_gate(bytes_):
-    """The records of a journal, and where its last gate is."""
-    records, gate = [], 0
-    while gate < len(bytes_) and bytes_[gate] == 1:
-        length = int.from_bytes(bytes_[gate + 1:gate + 5], "big")
-        records.append(bytes_[gate + 5:gate + 5 + length])
-        if len(bytes_) < gate + 5 + length:
-            raise BadJournal("a journal ends in a record, at %d" % gate)
-        gate += 5 + length
-    return records, gate
+def spelled(record):
+    """A record as it stands in a journal: no byte of it is 0."""
+    marks = (bytes([byte + 1]) if byte < 254 else bytes([255, byte - 252]) for byte in record)
+    return b"".join(marks) + END
+
+
+def records_and_end(bytes_):
+    """The records of a journal, and where the next one goes."""
+    if not bytes_.startswith(HEAD):
+        if any(byte not in (0, *HEAD[at:at + 1]) for at, byte in enumerate(bytes_)):
+            raise BadJournal("a journal begins with %s" % bytes_[:len(HEAD)].hex())
+        return [], len(HEAD)
+    records, record, end, at = [], bytearray(), len(HEAD), len(HEAD)
+    while at < len(bytes_) and bytes_[at]:
+        if bytes_[at] < 255:
+            record.append(bytes_[at] - 1)
+            at += 1
+            continue
+        second = bytes_[at + 1] if at + 1 < len(bytes_) else 0
+        at += 2
+        if second == 1:
+            records.append(bytes(record))
+            record, end = bytearray(), at
+        elif second in (2, 3):
+            record.append(second + 252)
+        else:
+            break
+    later = bytes_.find(END, end)
+    if later >= 0 and any(bytes_[later + 2:]):
+        raise BadJournal("a journal has a gap at %d" % end)
+    return records, end
 
 
 def read(path):
@@ -48,12 +70,12 @@ def read(path):
 
 
 def records_at(path):
-    return records_and_gate(read(path))[0]
+    return records_and_end(read(path))[0]
 
 
 def write_records(path, records):
     with open(path, "wb") as file:
-        file.write(b"".join(b"\1" + struct.pack(">I", len(record)) + record for record in records) + b"\0")
+        file.write(HEAD + b"".join(map(spelled, records)))
 
 
 def known_in(records):
@@ -87,8 +109,8 @@ def forget_stale(path):
 
 
 def lose(path, dice, part):
-    """Stops the machine: this part of the sectors that were written and not synced is left old, and maybe a front of what was added. Answers
-    whether that changed the journal."""
+    """Stops the machine: this part of the sectors that were written and not synced is left old, 0 past the old end, and maybe a front of what was
+    added. Answers whether that changed the journal."""
     entries = entries_at(path + ".stale") + entries_at(path + ".undo")
     forget_stale(path)
     if not entries:
@@ -99,12 +121,14 @@ def lose(path, dice, part):
         if offset < len(old):
             old[offset:offset + len(bytes_)] = bytes_[:max(0, len(old) - offset)]
         del old[max(length, 0):]
+    end = len(old)
+    old += bytes(len(new) - end)
     image = bytearray(new)
     for sector in range(0, len(new), SECTOR):
         if dice.random() < part:
-            image[sector:min(sector + SECTOR, len(old))] = old[sector:sector + SECTOR]
-    if len(old) < len(new) and dice.random() < 0.5:
-        del image[dice.randrange(len(old), len(new) + 1):]
+            image[sector:sector + SECTOR] = old[sector:sector + SECTOR]
+    if end < len(new) and dice.random() < 0.5:
+        del image[dice.randrange(end, len(new) + 1):]
     with open(path, "r+b") as file:
         file.write(image)
         file.truncate(len(image))
@@ -112,13 +136,19 @@ def lose(path, dice, part):
 
 
 def tear(path, dice):
-    """What stands behind the last gate of a journal may be anything. Answers whether there was a gate."""
+    """Leaves a part of a record behind the last one of a journal: some of its bytes, and 0 in place of the others, or a front. Answers whether there is a
+    journal to leave it in."""
     bytes_ = read(path)
-    gate = records_and_gate(bytes_)[1]
-    if gate >= len(bytes_):
+    records, end = records_and_end(bytes_)
+    if not records:
         return False
+    left = bytearray(spelled(dice.choice(records)))
+    for at in range(len(left)):
+        if dice.random() < 0.3:
+            left[at] = 0
+    left[dice.randrange(len(left))] = 0
     with open(path, "r+b") as file:
-        file.truncate(gate + 1)
-        file.seek(gate + 1)
-        file.write(dice.choice([b"", dice.randbytes(dice.randrange(1, 60)), bytes_[gate + 1:][:dice.randrange(len(bytes_) - gate)]]))
+        file.truncate(max(end, dice.choice([end, len(bytes_)])))
+        file.seek(end)
+        file.write(left[:dice.randrange(len(left) + 1)])
     return True

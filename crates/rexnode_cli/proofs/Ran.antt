@@ -5,11 +5,12 @@ use Rattle.rex_traits.specs.Chains.{Answer}
 use Rattle.rex_disk.specs.Calls.{Call}
 use Rattle.std.proofs.lemmas.List.{append-nil}
 use Rattle.rex_syntax.specs.declared.service.Declarations.{Declarations}
-use Rattle.rex_journal.specs.Journal.{Holds}
-use Rattle.rex_journal.specs.Giving.{Appends, EndsAs as OpeningEndsAs, Goes}
-use Rattle.rex_journal.specs.Keeping.{AllStandFor, JournalValue}
-use Rattle.rex_journal.specs.Opening.{CountsAs, IsCauseIn}
-use Rattle.rex_journal.specs.declared.fault.OpenFault.{OpenFault}
+use Rattle.rex_journal.specs.Giving.{Goes}
+use Rattle.rex_wal.specs.Journal.{Holds}
+use Rattle.rex_wal.specs.Appending.{Appends}
+use Rattle.rex_wal.specs.Keeping.{AllStandFor, WalValue}
+use Rattle.rex_wal.specs.Opening.{CountsAs, Ends, IsCauseIn, Leaves}
+use Rattle.rex_wal.specs.declared.fault.OpenFault.{OpenFault}
 use Rattle.rex_identity.specs.Identity.{IdentityValue, identity_bytes}
 use Rattle.rex_identity.specs.Claims as claims
 use Rattle.rex_identity.specs.Claims.{IsCause, OwnedValue}
@@ -68,18 +69,18 @@ module _ {K : Type 0} (records : K → List (List ℕ)) (faults : K → ℕ) (se
 module _ {D : Type 0} (meets : D → Bool) (seen : D → List ℕ) (may_leave : D → List ℕ → Type 0) (gives : D → Call → Bool → D → Type 0) (faults : D → ℕ)
     (service : Declarations) (identity : IdentityValue) (disk : D) where
   -- the node ran on the journal of a disk
-  pub has_opened : (journal : JournalValue D) (status : ℕ) (before now given taken : List ℕ) → (IsTrue (meets disk) → Holds (seen disk) journal.records)
+  pub has_opened : (journal : WalValue D) (status : ℕ) (before now given taken : List ℕ) → (IsTrue (meets disk) → Holds (seen disk) journal.records)
       → (IsTrue (meets journal.disk) → AllStandFor (may_leave journal.disk) journal.records None) → meets journal.disk ≡ meets disk → Goes gives disk journal.disk
-      → GrowsBy (λ input. RunsOwned (λ (j : JournalValue D). j.records) (λ old bytes result new. Appends gives meets faults old bytes result new)
-      (λ (j : JournalValue D). faults j.disk + j.refused) service identity journal input before now status) given taken
+      → GrowsBy (λ input. RunsOwned (λ (j : WalValue D). j.records) (λ old bytes result new. Appends gives meets faults old bytes result new)
+      (λ (j : WalValue D). faults j.disk + j.refused) service identity journal input before now status) given taken
       → GrowsBy (λ input. RunsOn meets seen may_leave gives faults service identity disk input before now status) given taken
   has_opened journal status before now given taken holds safe met opened runs =
       grows_as (λ input r. inl (record { journal = journal; holds = holds; safe = safe; met = met; opened = opened; runs = r })) runs
 
   -- the journal wasn't opened
-  pub not_opened : (fault : OpenFault) (left : D) (status : ℕ) (before given : List ℕ) → (IsTrue (meets disk) → IsCauseIn (seen disk) fault) → CountsAs fault (faults disk) (faults left)
-      → OpeningEndsAs gives disk left fault → status ≡ open_status fault
+  pub not_opened : (fault : OpenFault) (left : D) (status : ℕ) (before given : List ℕ) → (IsTrue (meets disk) → IsCauseIn (seen disk) fault) → (IsTrue (meets disk) → Leaves (seen disk) (seen left) fault) → CountsAs fault (faults disk) (faults left)
+      → Ends gives disk left → status ≡ open_status fault
       → GrowsBy (λ input. RunsOn meets seen may_leave gives faults service identity disk input before before status) given given
-  not_opened fault left status before given cause counted ended told =
+  not_opened fault left status before given cause kept counted ended told =
       still (λ input. RunsOn meets seen may_leave gives faults service identity disk input before before status) given
-      (inr (record { fault = fault; left = left; cause = cause; counted = counted; ended = ended; told = told; untouched = untouched before }))
+      (inr (record { fault = fault; left = left; cause = cause; kept = kept; counted = counted; ended = ended; told = told; untouched = untouched before }))

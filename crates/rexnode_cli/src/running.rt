@@ -6,16 +6,17 @@ ghost use Rattle.rex_ballot.specs.Limits.{most_nodes};
 ghost use Rattle.rexnode_command.specs.Laws.{Fits, IsMember};
 ghost use Rattle.rex_serve.specs.Serving.{GrowsBy};
 ghost use Rattle.rexnode_cli.specs.Running.{Runs, RunsOn, RunsOwned, identity_of};
+ghost use Rattle.rexnode_cli.specs.declared.statuses.TheConstants.{READ_FAILED, WRITE_FAILED};
 
 use crate::loading::Loaded;
 use crate::statuses::{OUT_OF_MEMORY, claim_status, ended_status, open_status, start_status};
-use rex_disk::Disk;
+use rex_file::ByteAtomic;
 use rex_identity::{Identity, Owned};
-use rex_journal::JournalKeeper;
 use rex_process::Process;
 use rex_serve::serve;
 use rex_syntax::checked::Checked;
 use rex_traits::{Keeper, Sink, Source};
+use rex_wal::WalKeeper;
 use rexnode_command::Command;
 use std::alloc::Global;
 
@@ -33,8 +34,8 @@ fn run_process<K: Keeper + Drop, S: Source, W: Sink>(
     ensures runs { GrowsBy (λ input. Runs K.records K.faults svc.now command.now.id command.now.nodes command.now.seed keeper input
         (W.taken sink.old) (W.taken sink.new) result) (S.given source.old) (S.given source.new) }
     ensures over { result ≡ 0 → S.ended source.new ≡ true }
-    ensures unread { result ≡ 4 → Rose (S.faults source.old) (S.faults source.new) ⊎ (2 ^ 64 - 1 ≤ S.calls source.new) }
-    ensures unwritten { result ≡ 5 → Rose (W.faults sink.old) (W.faults sink.new) }
+    ensures unread { result ≡ READ_FAILED → Rose (S.faults source.old) (S.faults source.new) ⊎ (2 ^ 64 - 1 ≤ S.calls source.new) }
+    ensures unwritten { result ≡ WRITE_FAILED → Rose (W.faults sink.old) (W.faults sink.new) }
 {
     match Process::start(alloc, command.id, command.nodes, command.seed, svc, keeper) {
         Ok(mut process) => ended_status(serve(alloc, &mut process, source, sink)),
@@ -56,8 +57,8 @@ fn run_owned<K: Keeper + Drop, S: Source, W: Sink>(
     ensures runs { GrowsBy (λ input. RunsOwned K.records K.append_gives K.faults loaded.now.service (identity_of command.now loaded.now.digest) keeper input
         (W.taken sink.old) (W.taken sink.new) result) (S.given source.old) (S.given source.new) }
     ensures over { result ≡ 0 → S.ended source.new ≡ true }
-    ensures unread { result ≡ 4 → Rose (S.faults source.old) (S.faults source.new) ⊎ (2 ^ 64 - 1 ≤ S.calls source.new) }
-    ensures unwritten { result ≡ 5 → Rose (W.faults sink.old) (W.faults sink.new) }
+    ensures unread { result ≡ READ_FAILED → Rose (S.faults source.old) (S.faults source.new) ⊎ (2 ^ 64 - 1 ≤ S.calls source.new) }
+    ensures unwritten { result ≡ WRITE_FAILED → Rose (W.faults sink.old) (W.faults sink.new) }
 {
     let Ok(identity) = Identity::new(
         alloc,
@@ -79,7 +80,7 @@ fn run_owned<K: Keeper + Drop, S: Source, W: Sink>(
 /// records, and answers the frames that a source gives, until it ends. It answers the program's status: 0 where the source ended; 4
 /// where a read failed; 5 where a write failed; 6 for want of memory; 7 where the journal is bad, has a record that this node
 /// doesn't write, or is another's; 8 where its disk failed; 10 where a frame is longer than any may be.
-pub fn node_main<D: Disk + Drop, S: Source, W: Sink>(
+pub fn node_main<D: ByteAtomic + Drop, S: Source, W: Sink>(
     alloc: Global,
     command: &Command<'_>,
     loaded: &Loaded,
@@ -97,10 +98,10 @@ pub fn node_main<D: Disk + Drop, S: Source, W: Sink>(
 
     // The causes that source and sink tell.
     ensures over { result ≡ 0 → S.ended source.new ≡ true }
-    ensures unread { result ≡ 4 → Rose (S.faults source.old) (S.faults source.new) ⊎ (2 ^ 64 - 1 ≤ S.calls source.new) }
-    ensures unwritten { result ≡ 5 → Rose (W.faults sink.old) (W.faults sink.new) }
+    ensures unread { result ≡ READ_FAILED → Rose (S.faults source.old) (S.faults source.new) ⊎ (2 ^ 64 - 1 ≤ S.calls source.new) }
+    ensures unwritten { result ≡ WRITE_FAILED → Rose (W.faults sink.old) (W.faults sink.new) }
 {
-    match JournalKeeper::open(alloc, disk) {
+    match WalKeeper::open(alloc, disk) {
         Ok(keeper) => run_owned(alloc, command, loaded, keeper, source, sink),
         Err(refused) => open_status(refused.fault),
     }

@@ -4,9 +4,9 @@ ghost use Rattle.std.specs.Prelude.{◌≡◌};
 ghost use Rattle.rexnode_cli.specs.Statuses as spec;
 
 use rex_identity::ClaimFault;
-use rex_journal::OpenFault;
 use rex_process::StartFault;
 use rex_serve::Ended;
+use rex_wal::OpenFault;
 
 /// A read failed.
 pub const READ_FAILED: u8 = 4;

@@ -15,4 +15,4 @@ returns-in-Err-clause-runs g c =
     not_opened g.D.Disk.meets g.D.Disk.seen g.D.Disk.may_leave g.D.Disk.gives g.D.Disk.faults c.args.loaded.now.service
     (identity_of c.args.command.now c.args.loaded.now.digest) c.args.disk c.in-Err.refused.fault
     c.in-Err.refused.disk c.open_status.result (g.W.Sink.taken c.args.sink.now) (g.S.Source.given c.args.source.now) c.in-Err.ensures.bad
-    c.in-Err.ensures.cause c.in-Err.ensures.calls c.open_status.ensures
+    c.in-Err.ensures.unread c.in-Err.ensures.cause c.in-Err.ensures.calls c.open_status.ensures
