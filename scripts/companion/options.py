@@ -8,7 +8,9 @@ import tempfile
 
 from companion.node import ENDS
 
-TOP = os.path.dirname(os.path.dirname(os.path.dirname(os.path.realpath(__file__))))
+SCRIPTS = os.path.dirname(os.path.dirname(os.path.realpath(__file__)))
+# where rexd was installed rexnode is beside it
+INSTALLED, BUILT = os.path.join(SCRIPTS, "rexnode"), os.path.join(os.path.dirname(SCRIPTS), "crates", "rexnode", "out", "rexnode")
 NEEDED = ("peers", "clients", "service", "journal")
 LEAST_KEY = 16
 LOOPBACK = ("127.0.0.1", "localhost", "::1")
@@ -39,7 +41,7 @@ def parser_of(usage, description):
     """The parser, and the names of options that may stand in a file."""
     parser = argparse.ArgumentParser(usage=usage, description=description, formatter_class=argparse.RawDescriptionHelpFormatter)
     parser.add_argument("id", type=int, help="the node's number, from 1")
-    parser.add_argument("--config", help="a file with options; scripts/rexd.ini is an example. The command line's override it")
+    parser.add_argument("--config", help="a file with options; rexd.ini is an example. The command line's override it")
     parser.add_argument("--check", action="store_true", help="says what is wrong with the options and the files, and runs nothing")
     of_file = [
         parser.add_argument("--peers", type=addresses, help="HOST:PORT of each node, with commas between"),
@@ -52,8 +54,8 @@ def parser_of(usage, description):
         parser.add_argument("--key", help="a file with at least 16 bytes that all nodes have and nobody else: what they send each other is sealed by it"),
         parser.add_argument("--seed", type=int, default=0, help="the seed of the service's dice, the same at each node"),
         parser.add_argument("--cluster", default="", help="the cluster's name, the same at each node"),
-        parser.add_argument("--node", default=os.path.join(TOP, "crates", "rexnode", "out", "rexnode"),
-                            help="the program; crates/rexnode/out/rexnode by default"),
+        parser.add_argument("--node", default=INSTALLED if os.path.exists(INSTALLED) else BUILT,
+                            help="the program; that beside rexd by default, or where there is none crates/rexnode/out/rexnode"),
         parser.add_argument("--patience", type=float, default=1.0, help="how much of the usual time a node waits for a leader before it asks to lead"),
     ]
     tests = parser.add_argument_group("for tests alone")
