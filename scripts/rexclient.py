@@ -57,7 +57,7 @@ class Nodes:
             connection.sendall(line.encode() + b"\n")
             answer = reader.readline()
             if answer.endswith("\n"):
-                return answer.split()
+                return answer[:-1].split(" ")
         except OSError:
             pass
         self.drop(node)
