@@ -6,11 +6,13 @@
         token = client.call("take", 7)
         owner = client.get("owner")
 
-The addresses are the nodes' for clients, in the order of their numbers. A client's number, 1 to 256, is for one program at a time, and for one thread of it.
+The addresses are the nodes' for clients, in the order of their numbers; where they speak TLS a client is handed a tls_context. A client's number, 1 to
+256, is for one program at a time, and for one thread of it.
 
 A call is sent again, to whoever leads, until it is answered, always with the same number and sequence: so it is done once, however often it is sent. What a
 client reads is never older than what it has seen: its own calls, and what it read before. It may be older than what others have done."""
 import socket
+import ssl
 import time
 
 ONE_TRY, PAUSE = 3.0, 0.05  # seconds
@@ -25,12 +27,22 @@ class Unknown(Exception):
     """No node has answered in time. A call may have been done, and may still be: see Client.again."""
 
 
+def tls_context(ca, cert=None, key=None):
+    """What `tls` is for nodes that speak TLS. `ca` is a file in PEM of certificates, one of which has to have signed the nodes', and these have to name the
+    hosts of the addresses; `cert` and `key` are files of the client's own, which nodes may ask for."""
+    context = ssl.create_default_context(cafile=ca)
+    if cert:
+        context.load_cert_chain(cert, key)
+    return context
+
+
 class Nodes:
     """Connections to the nodes of a cluster, which are made when they are needed."""
 
-    def __init__(self, addresses):
-        self.addresses = [self.address(it) for it in addresses.split(",")]
+    def __init__(self, addresses, tls=None):
+        self.addresses, self.tls = [self.address(it) for it in addresses.split(",")], tls
         self.connections, self.at = {}, 0  # the node that is asked first, from 0
+        self.fault = None  # the last error of a connection
 
     @staticmethod
     def address(text):
@@ -51,15 +63,17 @@ class Nodes:
             if node not in self.connections:
                 connection = socket.create_connection(self.addresses[node], seconds)
                 connection.setsockopt(socket.IPPROTO_TCP, socket.TCP_NODELAY, 1)
+                if self.tls:
+                    connection = self.tls.wrap_socket(connection, server_hostname=self.addresses[node][0])
                 self.connections[node] = connection.makefile("r", encoding="latin-1"), connection
             reader, connection = self.connections[node]
             connection.settimeout(seconds)
             connection.sendall(line.encode() + b"\n")
             answer = reader.readline()
             if answer.endswith("\n"):
-                return answer.split()
-        except OSError:
-            pass
+                return answer[:-1].split(" ")
+        except OSError as fault:
+            self.fault = fault
         self.drop(node)
         return []
 
@@ -76,10 +90,10 @@ class Nodes:
 
 
 class Client:
-    def __init__(self, addresses, number, sequence=None, seconds=30.0):
+    def __init__(self, addresses, number, sequence=None, seconds=30.0, tls=None):
         """`sequence` is that of the next call, 1 for a client that has called nothing. Without it the nodes are asked: that is good where no call of the same
-        number is still on its way. A call or a read takes at most so many seconds."""
-        self.nodes, self.number, self.sequence, self.seconds = Nodes(addresses), number, sequence, seconds
+        number is still on its way. A call or a read takes at most so many seconds. `tls` is a tls_context where the nodes speak TLS."""
+        self.nodes, self.number, self.sequence, self.seconds = Nodes(addresses, tls), number, sequence, seconds
         self.seen, self.open = 0, None  # log entries; the line of a call whose reply isn't known
         self.is_next = False  # whether the sequence comes after a reply, so that no node which leads can miss one before it
 

@@ -17,6 +17,7 @@ from companion.options import node_words
 from companion.peers import Hearing, Peer, hello
 from companion.requests import Requests
 from companion.resp import Resp
+from companion.tls import tell_faults
 
 HEARTBEAT, TICK, RESENDS, ASKS = 0.05, 0.02, 0.15, 0.05  # seconds
 CUT_OFF = 1.0  # a leader that has heard no majority for so long sends its clients away
@@ -36,6 +37,7 @@ class Companion:
         self.elections, self.requests, self.calls = Elections(self), Requests(self), Calls(self)
         # the last prepare or accept to each peer, for as long as it may have to be sent again
         self.last_sent, self.sent_at, self.asked_at, self.beaten_at = {}, 0.0, 0.0, 0.0
+        tell_faults(options.tls, self.on_bad_handshake)
         self.refused, self.strangers, self.links, self.are_held, self.tasks = 0, set(), set(), False, set()
 
     def say(self, text):
@@ -142,6 +144,12 @@ class Companion:
             self.say("refuses what node %d seems to have sent: it was altered" % peer.number if peer else
                      "doesn't hear one at %s, of another cluster, number of nodes, seed, service or key, or none that this node is to hear" % host)
 
+    def on_bad_handshake(self, host, error):
+        self.refused += 1
+        if (host, str(error)) not in self.strangers:
+            self.strangers.add((host, str(error)))
+            self.say("can't speak by TLS with %s: %s" % ("the one at " + host if host else "one who connects", error))
+
     def on_beat(self, peer, role, promised, known):
         self.elections.on_beat(peer, role, promised, known)
         peer.heard, peer.role, peer.promised, peer.known = time.monotonic(), role, promised, known
@@ -213,10 +221,10 @@ class Companion:
         loop, o = asyncio.get_running_loop(), self.options
         self.ended, is_over = loop.create_future(), asyncio.Event()
         # what may fail without a node comes first
-        servers = [await loop.create_server(lambda: Hearing(self), o.bind, o.peers[o.id - 1][1], start_serving=False),
-                   await loop.create_server(lambda: Lines(self), o.bind, o.clients, start_serving=False)]
+        servers = [await loop.create_server(lambda: Hearing(self), o.bind, o.peers[o.id - 1][1], start_serving=False, ssl=o.tls.heard),
+                   await loop.create_server(lambda: Lines(self), o.bind, o.clients, start_serving=False, ssl=o.tls.clients)]
         if o.resp:
-            servers.append(await loop.create_server(lambda: Resp(self), *o.resp, start_serving=False))
+            servers.append(await loop.create_server(lambda: Resp(self), *o.resp, start_serving=False, ssl=o.tls.clients))
         if o.http:
             servers.append(await loop.create_server(lambda: Looking(self), *o.http, start_serving=False))
         await self.node.start()

@@ -1,7 +1,9 @@
 """Clients that send lines."""
+import json
 import struct
 
 from companion.links import Link
+from companion.looking import facts_of
 
 MOST_LINE = 1 << 16
 
@@ -35,6 +37,8 @@ class Lines(Link):
             return
         if words == [b"status"]:
             self.tell(companion.status())
+        elif words == [b"status", b"json"]:
+            self.tell(json.dumps(facts_of(companion)))
         elif words[0] == b"read":
             self.on_read(words)
         elif words[0] in (b"part", b"join") and companion.options.parting:

@@ -33,7 +33,9 @@ class Link(asyncio.Protocol):
         self.transport = transport
 
     def is_open(self):
-        return self.transport is not None and not self.transport.is_closing()
+        it = self.transport
+        # Python 3.10 and earlier ones never say of one by TLS that it is closing where it was lost, but have its socket no more
+        return it is not None and not it.is_closing() and it.get_extra_info("socket") is not None
 
     def write(self, bytes_):
         if not self.unsent:

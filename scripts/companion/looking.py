@@ -1,4 +1,5 @@
 """What a node says of itself and the others over HTTP: a page, a text, JSON, and metrics."""
+import collections
 import json
 import os
 import time
@@ -26,6 +27,11 @@ METRICS = (
     ("uptime_seconds", "gauge", "Seconds since the companion was started."),
     ("leads", "gauge", "Whether the node leads, as far as it has heard."),
 )
+# the same of what was timed
+TIMED = (
+    ("agreement_seconds", "Seconds from a cut until it was agreed on."),
+    ("answer_seconds", "Seconds from a call of the program that may write to the journal until its answer."),
+)
 OF_PEERS = (
     ("connected", "Whether there is a way to the peer."),
     ("heard_seconds", "Seconds since the peer was heard."),
@@ -33,16 +39,31 @@ OF_PEERS = (
 )
 
 
+class Times:
+    """How long something took: each of the last thousand times, and all of them in sum."""
+
+    def __init__(self):
+        self.last, self.sum, self.count = collections.deque(maxlen=1000), 0.0, 0
+
+    def add(self, seconds):
+        self.last.append(seconds)
+        self.sum, self.count = self.sum + seconds, self.count + 1
+
+    def parts(self):
+        """The median and the 99th percentile in seconds, each None where there is none."""
+        last = sorted(self.last)
+        return {name: last[int(len(last) * part)] if last else None for name, part in (("median", 0.5), ("p99", 0.99))}
+
+
 def facts_of(companion):
     """What there is to say, by names."""
     c, n, o, now = companion, companion.node, companion.options, time.monotonic()
-    times = sorted(c.requests.times)
     return {
         "node": o.id, "nodes": len(o.peers), "cluster": o.cluster, "role": n.role_word(), "leads": c.leads, "leader": c.elections.leader,
         "ballot": n.promised, "known": n.known, "entries_left": LAST_ENTRY - n.known, "live": n.live, "waiting": len(c.requests.waiting),
         "connections": len(c.links), "replies": c.requests.replies, "elections": c.elections.count, "starts": n.starts, "refused": c.refused,
         "journal_bytes": os.path.getsize(o.journal) if os.path.exists(o.journal) else 0, "uptime_seconds": round(now - c.began, 1),
-        "agreement_seconds": {name: times[int(len(times) * part)] if times else None for name, part in (("median", 0.5), ("p99", 0.99))},
+        "agreement_seconds": c.requests.times.parts(), "answer_seconds": n.times.parts(),
         "peers": {peer.number: facts_of_peer(peer, now) for peer in c.peers.values()},
     }
 
@@ -56,14 +77,16 @@ def facts_of_peer(peer, now):
 
 def in_text(facts):
     lines = ["%-18s %s" % (name.replace("_", " "), value) for name, value in facts.items() if not isinstance(value, dict)]
-    lines += ["%-18s %s" % ("agreement " + name, "%.1f ms" % (1000 * value)) for name, value in facts["agreement_seconds"].items() if value is not None]
+    for timed, _ in TIMED:
+        named = ((timed.replace("seconds", name).replace("_", " "), value) for name, value in facts[timed].items())
+        lines += ["%-18s %.1f ms" % (name, 1000 * value) for name, value in named if value is not None]
     for number, peer in facts["peers"].items():
         lines.append("%-18s %s" % ("peer %d" % number, ", ".join("%s %s" % (name.replace("_", " "), value) for name, value in peer.items())))
     return "\n".join(lines) + "\n"
 
 
-def in_metrics(facts, requests):
-    """The text form of Prometheus."""
+def in_metrics(facts, times):
+    """The text form of Prometheus. `times` are what was timed, by the name in the facts."""
     lines = []
 
     def metric(name, kind, text, values):
@@ -74,9 +97,10 @@ def in_metrics(facts, requests):
     for name, kind, text in METRICS:
         metric(name + "_total" * (kind == "counter"), kind, text, [("", {}, float(facts[name]))])
     metric("role", "gauge", "What the node is: 1 at one of the roles.", [("", {"role": it}, float(it == facts["role"])) for it in (*ROLES, "down")])
-    parts = [("", {"quantile": part}, facts["agreement_seconds"][name]) for name, part in (("median", "0.5"), ("p99", "0.99"))]
-    sums = [("_sum", {}, requests.time_sum), ("_count", {}, requests.time_count)]
-    metric("agreement_seconds", "summary", "Seconds from a cut until it was agreed on.", [it for it in parts if it[2] is not None] + sums)
+    for timed, text in TIMED:
+        parts = [("", {"quantile": part}, facts[timed][name]) for name, part in (("median", "0.5"), ("p99", "0.99"))]
+        sums = [("_sum", {}, times[timed].sum), ("_count", {}, times[timed].count)]
+        metric(timed, "summary", text, [it for it in parts if it[2] is not None] + sums)
     for name, text in OF_PEERS:
         values = [("", {"peer": number}, float(peer[name])) for number, peer in facts["peers"].items() if peer[name] is not None]
         metric("peer_" + name, "gauge", text, values)
@@ -105,9 +129,10 @@ class Looking(Link):
 
     def on_request(self, words):
         facts, path = facts_of(self.companion), words[1].split(b"?")[0] if len(words) == 3 else b""
+        times = {"agreement_seconds": self.companion.requests.times, "answer_seconds": self.companion.node.times}
         kinds = {
             b"/": ("text/html", page), b"/status": ("text/plain", lambda: in_text(facts)), b"/status.json": ("application/json", lambda: json.dumps(facts)),
-            b"/metrics": ("text/plain; version=0.0.4", lambda: in_metrics(facts, self.companion.requests)),
+            b"/metrics": ("text/plain; version=0.0.4", lambda: in_metrics(facts, times)),
         }
         if words[:1] not in ([b"GET"], [b"HEAD"]):
             self.answer("405 Method Not Allowed", "text/plain", "there is nothing but GET and HEAD here\n")

@@ -4,6 +4,7 @@ import collections
 import time
 
 from companion.frames import FOLLOWER, ROLES, STATUS, Frames, TooLong, framed
+from companion.looking import Times
 
 ENDS = {
     0: "its input ended", 1: "the service's text is refused", 2: "the words are no command line", 3: "the service isn't checked", 4: "reading failed",
@@ -12,6 +13,7 @@ ENDS = {
 }
 TO_MEND = (1, 2, 3, 7, 9)  # statuses that say what somebody has to mend
 FIRST_PAUSE, MOST_PAUSE, LASTING = 0.05, 5.0, 10.0  # seconds: before the program is started again, and after which it counts as one that lasts
+WRITING = (b"E", b"M", b"C")  # calls that may write to the journal
 MOST_UNREAD = 1 << 20  # bytes that the program hasn't read: no more is read of clients and peers until it has
 
 
@@ -20,7 +22,7 @@ class Node(asyncio.SubprocessProtocol):
 
     def __init__(self, words, companion):
         """`words` are the program's command line."""
-        self.words, self.companion, self.fails, self.starts = words, companion, 0, 0
+        self.words, self.companion, self.fails, self.starts, self.times = words, companion, 0, 0, Times()
         self.is_starting, self.is_ending, self.has_come_up = False, False, False
         self.clear()
 
@@ -73,7 +75,7 @@ class Node(asyncio.SubprocessProtocol):
             if then:
                 then(None)
             return
-        self.calls.append(then)
+        self.calls.append((then, time.monotonic() if letter in WRITING else None))
         self.unsent.append(framed(letter + content))
         self.companion.turns.due()
 
@@ -123,7 +125,9 @@ class Node(asyncio.SubprocessProtocol):
             self.is_up = self.has_come_up = True
             self.role, self.promised, self.known, self.live = STATUS.unpack(content)
             reports, sends, self.reports, self.sends = self.reports, self.sends, [], []
-            then = self.calls.popleft()
+            then, asked_at = self.calls.popleft()
+            if asked_at is not None:
+                self.times.add(time.monotonic() - asked_at)
             self.companion.on_answer(reports, sends)
             if then:
                 then(reports)
@@ -136,7 +140,7 @@ class Node(asyncio.SubprocessProtocol):
         self.companion.say("rexnode ended with status %d: %s%s" % (status, means, ": " + line if line else ""))
         self.companion.links_go_on()
         self.companion.on_down()
-        for then in calls:
+        for then, _ in calls:
             if then:
                 then(None)
         if self.is_ending or status in TO_MEND or not self.has_come_up:

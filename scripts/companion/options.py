@@ -7,8 +7,11 @@ import subprocess
 import tempfile
 
 from companion.node import ENDS
+from companion.tls import contexts_of, fault_of
 
-TOP = os.path.dirname(os.path.dirname(os.path.dirname(os.path.realpath(__file__))))
+SCRIPTS = os.path.dirname(os.path.dirname(os.path.realpath(__file__)))
+# where rexd was installed rexnode is beside it
+INSTALLED, BUILT = os.path.join(SCRIPTS, "rexnode"), os.path.join(os.path.dirname(SCRIPTS), "crates", "rexnode", "out", "rexnode")
 NEEDED = ("peers", "clients", "service", "journal")
 LEAST_KEY = 16
 LOOPBACK = ("127.0.0.1", "localhost", "::1")
@@ -39,7 +42,7 @@ def parser_of(usage, description):
     """The parser, and the names of options that may stand in a file."""
     parser = argparse.ArgumentParser(usage=usage, description=description, formatter_class=argparse.RawDescriptionHelpFormatter)
     parser.add_argument("id", type=int, help="the node's number, from 1")
-    parser.add_argument("--config", help="a file with options; scripts/rexd.ini is an example. The command line's override it")
+    parser.add_argument("--config", help="a file with options; rexd.ini is an example. The command line's override it")
     parser.add_argument("--check", action="store_true", help="says what is wrong with the options and the files, and runs nothing")
     of_file = [
         parser.add_argument("--peers", type=addresses, help="HOST:PORT of each node, with commas between"),
@@ -50,10 +53,14 @@ def parser_of(usage, description):
         parser.add_argument("--resp", type=address_here, metavar="[HOST:]PORT", help="where clients of Redis may ask; on this machine alone, without a HOST"),
         parser.add_argument("--http", type=address_here, metavar="[HOST:]PORT", help="where the node can be looked at; on this machine alone, without a HOST"),
         parser.add_argument("--key", help="a file with at least 16 bytes that all nodes have and nobody else: what they send each other is sealed by it"),
+        parser.add_argument("--tls-cert", help="the node's certificate in PEM, which names the host of its address: peers and clients speak by TLS then"),
+        parser.add_argument("--tls-key", help="its key"),
+        parser.add_argument("--tls-ca", help="certificates in PEM, one of which has to have signed each node's: who has such a one counts as a node"),
+        parser.add_argument("--tls-clients", help="certificates in PEM, one of which has to have signed each client's; without it clients show none"),
         parser.add_argument("--seed", type=int, default=0, help="the seed of the service's dice, the same at each node"),
         parser.add_argument("--cluster", default="", help="the cluster's name, the same at each node"),
-        parser.add_argument("--node", default=os.path.join(TOP, "crates", "rexnode", "out", "rexnode"),
-                            help="the program; crates/rexnode/out/rexnode by default"),
+        parser.add_argument("--node", default=INSTALLED if os.path.exists(INSTALLED) else BUILT,
+                            help="the program; that beside rexd by default, or where there is none crates/rexnode/out/rexnode"),
         parser.add_argument("--patience", type=float, default=1.0, help="how much of the usual time a node waits for a leader before it asks to lead"),
     ]
     tests = parser.add_argument_group("for tests alone")
@@ -62,7 +69,7 @@ def parser_of(usage, description):
     tests.add_argument("--repeat", type=float, default=0.0, help="this part of all messages is sent again, in another order")
     tests.add_argument("--delay", type=float, default=0.0, help="messages wait up to so many milliseconds")
     tests.add_argument("--parting", action="store_true", help="the lines `part N` and `join N` part this node from node N, and join them again")
-    return parser, {action.dest: action for action in of_file}
+    return parser, {action.option_strings[0][2:]: action for action in of_file}
 
 
 def options_of(words, usage, description):
@@ -90,7 +97,7 @@ def values_in(path, node, of_file):
     for section in "rexd", "node %d" % node:
         for name, text in file[section].items() if file.has_section(section) else ():
             try:
-                values[name] = (of_file[name].type or str)(text)
+                values[of_file[name].dest] = (of_file[name].type or str)(text)
             except KeyError:
                 problems.append("%s: [%s] has no option %s" % (path, section, name))
             except ValueError:
@@ -101,7 +108,8 @@ def values_in(path, node, of_file):
 def problems_with(o):
     problems = ["--%s is missing" % name for name in NEEDED if getattr(o, name) is None]
     o.secret, bad_key = secret_in(o.key) if o.key else (b"", [])
-    problems += bad_key
+    o.tls, bad_tls = contexts_of(o)
+    problems += bad_key + bad_tls
     if o.peers is not None:
         if not 1 <= o.id <= len(o.peers):
             problems.append("there are %d peers, and %d is none of them" % (len(o.peers), o.id))
@@ -109,6 +117,10 @@ def problems_with(o):
             problems.append("there are 1, 3, 5, 7 or 9 nodes, and not %d" % len(o.peers))
         if len(set(o.peers)) < len(o.peers):
             problems.append("an address is two peers'")
+    if not problems and o.tls.heard:
+        host = o.peers[o.id - 1][0]
+        fault = fault_of(o.tls, host)
+        problems += ["who connects to this node as %s by TLS fails: %s" % (host, fault)] if fault else []
     return problems
 
 
@@ -167,10 +179,11 @@ def notes_on(o):
     notes = []
     if o.bind in LOOPBACK and any(host not in LOOPBACK for host, _ in o.peers):
         notes.append("there are peers on other machines, and this node is heard on this machine alone: see --bind")
-    if o.bind not in LOOPBACK and not o.key:
+    if o.bind not in LOOPBACK and not o.key and not o.tls_ca:
         notes.append("other machines can reach the peers' port, and there is no --key: who reaches it can forge messages")
-    if o.key and os.stat(o.key).st_mode & 0o077:
-        notes.append("others on this machine can read the key in %s, or change it" % o.key)
+    for path in filter(None, (o.key, o.tls_key)):
+        if os.stat(path).st_mode & 0o077:
+            notes.append("others on this machine can read the key in %s, or change it" % path)
     return notes
 
 

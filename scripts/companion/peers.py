@@ -89,7 +89,7 @@ class Peer:
         loop, pause = asyncio.get_running_loop(), FIRST_PAUSE
         while True:
             try:
-                transport, way = await within(CONNECTS, loop.create_connection(lambda: Way(self.turns), *self.where))
+                transport, way = await within(CONNECTS, loop.create_connection(lambda: Way(self.turns), *self.where, ssl=self.options.tls.told))
             except (OSError, asyncio.TimeoutError):
                 await asyncio.sleep(pause)
                 pause = min(MOST_PAUSE, pause * 2)

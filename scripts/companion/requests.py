@@ -1,8 +1,9 @@
 """Clients' requests and reads, until they are answered."""
 import asyncio
-import collections
 import struct
 import time
+
+from companion.looking import Times
 
 GATHERING = 0.005  # seconds for which a cut waits at most
 
@@ -18,7 +19,7 @@ class Requests:
         # requests since the last cut, how many are expected before the next one, and until when it waits for them
         self.uncut, self.expected, self.gathers_until = 0, 0, 0.0
         # for who looks: replies, and how long it took from cuts until they were agreed on
-        self.replies, self.cut_at, self.times, self.time_sum, self.time_count = 0, None, collections.deque(maxlen=1000), 0.0, 0
+        self.replies, self.cut_at, self.times = 0, None, Times()
 
     # ---- requests
 
@@ -89,8 +90,8 @@ class Requests:
         if self.is_open and self.cut_at is not None:
             now = time.monotonic()
             took = now - self.cut_at
-            self.times.append(took)
-            self.time_sum, self.time_count, self.cut_at = self.time_sum + took, self.time_count + 1, None
+            self.times.add(took)
+            self.cut_at = None
             self.expected, self.gathers_until = self.uncut, now + min(took / 2, GATHERING)
             asyncio.get_running_loop().call_later(min(took / 2, GATHERING), self.companion.turns.due)
         self.is_open, self.is_new = False, True

@@ -5,7 +5,7 @@ python3 tests/model WORDS.. answers as `rex` has to with these words and this st
 a plain interpreter that keeps whole states and whole lists, replays on one thread, and asks for nothing but Python 3.
 
 tests/compare-models, tests/keepfails and tests/live-traces run it beside the program, tests/refusals tries it on a table, and
-`bin/rex --draft` and `bin/rexlive --draft` are it. Nothing is proved of it.
+`bin/rex --draft` and `bin/rexlive --draft` are it, and scripts/draft-node runs its node as a process. Nothing is proved of it.
 
 texts, values: lines, words, names, arithmetic. services, check, scenarios: the readers, with their codes. states: events and what
 they do. cluster: nodes, messages and the schedule. live: lanes as threads, under one lock or by lock words, of whose histories it draws one. answers, words: what a command

@@ -50,6 +50,8 @@ class Drawing:
         self.messages, self.requests, self.sent, self.waiting = {}, {}, [], []
         unrest = dice.choice([0.1, 0.3, 1, 1, 3])
         weights = {kind: weight * (unrest if kind in TROUBLE else 1) for kind, weight in WEIGHTS.items()}
+        if options.fitting:
+            del weights["unfit"]
         if options.raw:
             weights["raw"] = 0.4 * unrest
         self.kinds = list(weights), list(weights.values())

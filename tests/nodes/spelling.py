@@ -2,6 +2,7 @@
 import hashlib
 import struct
 
+from model.cluster import Message
 from model.states import Event, causes_of
 
 KINDS = {
@@ -18,9 +19,9 @@ ROLES = {"follower": 0, "candidate": 1, "adopting": 2, "active": 3}
 class Value(list):
     """The events of a delta, with its bytes."""
 
-    def __init__(self, events, service, bases):
+    def __init__(self, events, bytes_):
         super().__init__(events)
-        self.bytes = delta_bytes(events, service, bases)
+        self.bytes = bytes_
 
 
 def delta_bytes(events, service, bases):
@@ -121,6 +122,30 @@ def message_bytes(m):
     if m.kind == "nack":
         return head + struct.pack(">QQ", m.ballot, m.promised)
     return head + struct.pack(">I", m.first)
+
+
+def message_of(bytes_, service):
+    """The message that these bytes are. struct.error, LookupError or AssertionError where they are none."""
+    reader = Reader(bytes_)
+
+    def value():
+        delta = reader.take("%ds" % reader.take("I"))
+        return Value(events_of(delta, service), delta)
+
+    assert reader.take("B") == 1, "a message of another version"
+    kind, sender, receiver, parts = {number: name for name, number in MESSAGES.items()}[reader.take("B")], reader.take("B"), reader.take("B"), {}
+    if kind not in ("chosen", "ask", "snapshot"):
+        parts["ballot"] = reader.take("Q")
+    if kind == "promise":
+        parts["proposals"] = [(reader.take("I"), reader.take("Q"), value()) for _ in range(reader.take("H"))]
+    elif kind == "nack":
+        parts["promised"] = reader.take("Q")
+    else:
+        parts["first" if kind in ("prepare", "ask") else "instance"] = reader.take("I")
+    if kind in ("accept", "chosen"):
+        parts["value"] = value()
+    assert kind != "snapshot" and reader.at == len(bytes_), "no message of a process"
+    return Message(kind, sender, receiver, **parts)
 
 
 def chosen_bytes(sender, receiver, instance, value):

@@ -4,7 +4,7 @@ import struct
 from model.cluster import Fallen, Node
 from model.values import Dice
 
-from .spelling import ROLES, Value, framed, message_bytes
+from .spelling import ROLES, Value, delta_bytes, framed, message_bytes
 
 
 class Room:
@@ -77,7 +77,7 @@ class Twin(Node):
             bases = dict(self.state.counts)
             for event in self.live:
                 bases[event.lane] -= 1
-            value = Value(value, self.world.service, [bases[lane] for lane in sorted(bases)])
+            value = Value(value, delta_bytes(value, self.world.service, [bases[lane] for lane in sorted(bases)]))
         super().propose(instance, value, word)
 
     def tell_reply(self, client, sequence, value):
