@@ -7,7 +7,10 @@
    FILE.stale, where it is there, has the ranges of writes that an earlier program failed to sync, in the form of FILE.undo: a sync that goes well
    doesn't bring them to the disk, unless they were written again. It keeps those that were not.
 
-   SLOW_SYNCS, where it is there, is how many microseconds a sync takes longer, as on a disk that has to be waited for.
+   FILE.machine, where it is there, has seven numbers of 64 bits. How many writes of FILE from now on fail, as on a full disk; how many syncs of it fail;
+   how many microseconds a sync takes longer, as on a disk that has to be waited for; how many milliseconds the machine's clock is ahead. And, for who wants
+   to know: how many writes and how many syncs failed so, and how many syncs took longer by a hundredth of a second or more. What wasn't synced when a
+   sync failed so is written to FILE.stale. A program reads this clock whether it has FILE or not.
 
    LEFT_OUT names what is left out, to try whether a test finds that: "syncs"; "failures", so that what is to fail is called done; or "rewrite",
    the writes before the first sync. */
@@ -22,9 +25,12 @@
 #include <string.h>
 #include <sys/mman.h>
 #include <sys/stat.h>
+#include <time.h>
 #include <unistd.h>
 
 enum { NOTHING, KILLED_BEFORE, KILLED_AFTER, FAILS };
+enum { FULL, UNSYNCED, SLOWER, AHEAD, WERE_FULL, WERE_UNSYNCED, WERE_SLOWER, NUMBERS };
+enum { SLOW = 10000 };
 
 static int file = -1, undo = -1, is_synced;
 
@@ -56,13 +62,40 @@ static int leaves_out(const char *what)
     return named && !strcmp(named, what);
 }
 
+/* What is told in a file, or MAP_FAILED where it isn't there. */
+static void *told_in(const char *suffix, size_t length)
+{
+    int fd = opened(suffix, O_RDWR);
+    void *told = fd < 0 ? MAP_FAILED : mmap(NULL, length, PROT_READ | PROT_WRITE, MAP_SHARED, fd, 0);
+    if (fd >= 0)
+        close(fd);
+    return told;
+}
+
+static int64_t *machine(void)
+{
+    static int64_t *told;
+    if (!told)
+        told = getenv("LOSE_WRITES") ? told_in(".machine", NUMBERS * sizeof *told) : MAP_FAILED;
+    return told == MAP_FAILED ? NULL : told;
+}
+
+/* Whether a call of this kind fails, and counts it then. */
+static int is_failing(int kind, int counted)
+{
+    int64_t *told = machine();
+    if (!told || told[kind] <= 0)
+        return 0;
+    told[kind]--;
+    told[counted]++;
+    return 1;
+}
+
 static int fate_of_call(void)
 {
     static int32_t *told;
-    if (!told) {
-        int fd = opened(".fate", O_RDWR);
-        told = fd < 0 ? MAP_FAILED : mmap(NULL, 8, PROT_READ | PROT_WRITE, MAP_SHARED, fd, 0);
-    }
+    if (!told)
+        told = told_in(".fate", 8);
     if (told == MAP_FAILED || told[0] == 0 || --told[0] > 0)
         return NOTHING;
     if (told[1] == KILLED_BEFORE)
@@ -85,6 +118,12 @@ static void note(size_t count, off_t at)
     if (write(undo, entry, sizeof head + count) != (ssize_t)(sizeof head + count))
         abort();
     free(entry);
+}
+
+static void forget_noted(void)
+{
+    if (ftruncate(undo, 0) || lseek(undo, 0, SEEK_SET))
+        abort();
 }
 
 /* Of what an earlier program failed to sync, keeps what this write doesn't write again. */
@@ -119,6 +158,22 @@ static void refresh(size_t count, off_t at)
     length = kept;
 }
 
+/* What wasn't synced yet isn't by a later sync, either. */
+static void spoil(void)
+{
+    struct stat now;
+    int stale = opened(".stale", O_CREAT | O_APPEND | O_WRONLY), noted = opened(".undo", O_RDONLY);
+    if (stale < 0 || noted < 0 || fstat(noted, &now))
+        abort();
+    char *entries = malloc(now.st_size + 1);
+    if (!entries || read(noted, entries, now.st_size) != now.st_size || write(stale, entries, now.st_size) != now.st_size)
+        abort();
+    forget_noted();
+    free(entries);
+    close(stale);
+    close(noted);
+}
+
 ssize_t pwrite(int fd, const void *bytes, size_t count, off_t at)
 {
     static ssize_t (*real)(int, const void *, size_t, off_t);
@@ -127,7 +182,7 @@ ssize_t pwrite(int fd, const void *bytes, size_t count, off_t at)
     if (!is_ours(fd))
         return real(fd, bytes, count, at);
     int fate = fate_of_call();
-    if (fate == FAILS) {
+    if (fate == FAILS || is_failing(FULL, WERE_FULL)) {
         errno = ENOSPC;
         return leaves_out("failures") ? (ssize_t)count : -1;
     }
@@ -152,17 +207,21 @@ static int synced(int fd, const char *name)
     if (!is_ours(fd))
         return real(fd);
     int fate = fate_of_call();
-    if (getenv("SLOW_SYNCS"))
-        usleep(atoi(getenv("SLOW_SYNCS")));
-    if (fate == FAILS) {
+    int64_t *told = machine(), slower = told ? told[SLOWER] : 0;
+    if (slower) {
+        usleep(slower);
+        told[WERE_SLOWER] += slower >= SLOW;
+    }
+    if (fate == FAILS || is_failing(UNSYNCED, WERE_UNSYNCED)) {
+        if (fate != FAILS)
+            spoil();
         errno = EIO;
         return leaves_out("failures") ? 0 : -1;
     }
     if (!leaves_out("syncs")) {
         if (real(fd))
             return -1;
-        if (ftruncate(undo, 0) || lseek(undo, 0, SEEK_SET))
-            abort();
+        forget_noted();
     }
     is_synced = 1;
     if (fate == KILLED_AFTER)
@@ -178,4 +237,18 @@ int fdatasync(int fd)
 int fsync(int fd)
 {
     return synced(fd, "fsync");
+}
+
+int clock_gettime(clockid_t clock, struct timespec *now)
+{
+    static int (*real)(clockid_t, struct timespec *);
+    if (!real)
+        real = dlsym(RTLD_NEXT, "clock_gettime");
+    int result = real(clock, now);
+    if (!result && clock == CLOCK_REALTIME && machine()) {
+        int64_t moved = (int64_t)now->tv_sec * 1000000000 + now->tv_nsec + machine()[AHEAD] * 1000000;
+        now->tv_sec = moved / 1000000000;
+        now->tv_nsec = moved % 1000000000;
+    }
+    return result;
 }

@@ -1,1 +1,1 @@
-"""What the tests of the program rexnode share: bytes, journals and stops of the machine, the model's nodes, processes, and planted bugs."""
+"""What the tests of the program rexnode share: bytes, journals and stops of the machine, the model's nodes, processes, services, and planted bugs."""

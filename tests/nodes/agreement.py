@@ -16,6 +16,16 @@ def demand(is_so, text, *parts):
         raise Wrong(text % parts)
 
 
+class Operation:
+    """A request of the agreed trace: what the clock was that it read, in milliseconds, and its reply; None where there is none."""
+
+    def __init__(self, event):
+        self.handler, self.arguments, self.clock, self.reply = event.handler, event.arguments, None, None
+
+    def __str__(self):
+        return "`%s` at %s is answered %s" % (" ".join(map(str, [self.handler, *self.arguments])), self.clock, self.reply)
+
+
 def accepted_in(record):
     """The instance, the ballot and the value that a record says was accepted."""
     return int.from_bytes(record[9:13], "big"), int.from_bytes(record[1:9], "big"), record[17:]
@@ -59,8 +69,10 @@ def agreed_in(cluster):
 
 
 def replayed(agreed, service):
-    """Replays the agreed values by the rules. Answers where requests begin, where they are replied to and with what, and the variables after each value."""
-    state, begun, replied, place = State(service), {}, {}, 0
+    """Replays the agreed values by the rules. Answers where requests begin, where they are replied to and with what, the variables after each value, how many
+    events there are, and the requests in the order in which they took the lock."""
+    state, begun, replied, place, clock = State(service), {}, {}, 0, 0
+    by_lane, operations = {}, []
     variables = [dict(state.variables)]
     for value in agreed:
         for event in events_of(value, service):
@@ -71,24 +83,32 @@ def replayed(agreed, service):
                 is_due = event.lane not in state.frames and event.sequence == sequence + 1 and reply is not None
                 demand(is_due and (event.client, event.sequence) not in begun, "%s isn't due", event.text())
                 begun[event.client, event.sequence] = place
+                by_lane[event.lane] = Operation(event)
             else:
                 due = event if event.kind == "random" else state.next_event(event.lane, event.value, None)
                 demand(not isinstance(due, str) and due.text() == event.text(), "%s isn't due", event.text())
+            if event.kind == "acquire":
+                operations.append(by_lane[event.lane])
+            if event.kind == "clock":
+                demand(event.value >= clock, "%s comes after a clock of %d", event.text(), clock)
+                clock = by_lane[event.lane].clock = event.value
             if event.kind == "reply":
+                by_lane[event.lane].reply = event.value
                 key = event.client, state.clients[event.client][0]
                 demand(key not in replied, "%s comes twice", event.text())
                 replied[key] = place, event.value
             state.apply(event)
         variables.append(dict(state.variables))
-    return begun, replied, variables, place
+    return begun, replied, variables, place, operations
 
 
 def check(cluster):
-    """Checks what the journals have, and what clients got. Answers how many values, events and replies are agreed, and how often the lock was held."""
+    """Checks what the journals have, and what clients got. Answers how many values, events and replies are agreed, how often the lock was held, and how often
+    requests had each outcome that the service has."""
     agreed, history = agreed_in(cluster), cluster.history
     counts = [len(journals.known_in(journals.records_at(cluster.journal(node))[1:])) for node in range(1, cluster.nodes + 1)]
     demand(len(set(counts)) == 1, "nodes know different numbers of values: %s", counts)
-    begun, replied, variables, events = replayed(agreed, cluster.service)
+    begun, replied, variables, events, operations = replayed(agreed, cluster.service)
     for _, _, client, sequence, value in history:
         told = replied.get((client, sequence), (0, None))[1]
         demand(told == value, "client %d got %s for request %d, and the trace has %s", client, value, sequence, told)
@@ -103,4 +123,5 @@ def check(cluster):
     demand(len({hold[3] for hold in holds}) == len(holds), "two clients got the same token")
     for count, name, value in cluster.reads:
         demand(count < len(variables) and variables[count][name] == value, "%s was read as %d after %d log entries", name, value, count)
-    return len(agreed), events, len(replied), len(holds)
+    outcomes = collections.Counter(cluster.kind.step(it) for it in operations)
+    return len(agreed), events, len(replied), len(holds), outcomes

@@ -1,4 +1,5 @@
 """Journals, and what stops of the machine leave of them. tests/lose-writes.c, preloaded beside a program, notes what isn't synced."""
+import mmap
 import os
 import struct
 import subprocess
@@ -7,6 +8,9 @@ TESTS = os.path.dirname(os.path.dirname(os.path.abspath(__file__)))
 SECTOR = 512
 HEAD, END = b"rexnode\n", b"\xff\1"
 PROMISED, ACCEPTED, KNOWN, IDENTITY = 1, 2, 3, 7
+
+# the numbers of a machine, as tests/lose-writes.c has them
+FULL, UNSYNCED, SLOWER, AHEAD, WERE_FULL, WERE_UNSYNCED, WERE_SLOWER, NUMBERS = range(8)
 
 
 class BadJournal(Exception):
@@ -24,6 +28,22 @@ def variables_of(library, path, left_out=None):
     """The environment of a program beside which the library is, for the file at this path."""
     variables = {**os.environ, "LD_PRELOAD": library, "LOSE_WRITES": path}
     return {**variables, "LEFT_OUT": left_out} if left_out else variables
+
+
+class Machine:
+    """The disk and the clock of the machine of the node that has the journal at this path."""
+
+    def __init__(self, path, slower):
+        """A sync takes so many microseconds longer while nothing is wrong."""
+        with open(path + ".machine", "w+b") as file:
+            file.write(bytes(8 * NUMBERS))
+            file.flush()
+            self.numbers = memoryview(mmap.mmap(file.fileno(), 8 * NUMBERS)).cast("q")
+        self.slower = slower
+        self.mend()
+
+    def mend(self):
+        self.numbers[FULL:WERE_FULL] = memoryview(struct.pack("=4q", 0, 0, self.slower, 0)).cast("q")
 
 
 # ---- records
