@@ -4,28 +4,34 @@
 ghost use Rattle.std.specs.Prelude.{◌≡◌, ◌+◌, false, IfOk};
 
 use rex_file::{FileDisk, FileFault, open_path};
-use rex_journal::{JournalKeeper, OpenFault};
 use rex_traits::Keeper;
+use rex_wal::{OpenFault, WalKeeper};
 use std::test::*;
 use std::{fs, io};
 
-/// The journal of the records 7 and 8 9, whose gates have the offsets 0, 6 and 13.
-const WHOLE: [u8; 14] = [1, 0, 0, 0, 1, 7, 1, 0, 0, 0, 2, 8, 9, 0];
+/// The journal of the records 7 and 254 9, which begin at the offsets 8 and 11.
+const WHOLE: [u8; 16] = *b"rexnode\n\x08\xff\x01\xff\x02\x0a\xff\x01";
 
-/// What a file has, and how many records its journal has, or the gate that no whole record follows.
-const FOUND: [(&[u8], Result<usize, u64>); 9] = [
-    (&[], Ok(0)),
+/// What a file has, and how many records its journal has, or where it is bad.
+const FOUND: [(&[u8], Result<usize, u64>); 14] = [
+    // no more than a part of the head
+    (b"", Ok(0)),
+    (b"rexn", Ok(0)),
+    (b"re\0no\0\0\0\0\0", Ok(0)),
     (&WHOLE, Ok(2)),
-    // behind the closed gate a third record that was cut short, or bytes that were never written
-    (&[1, 0, 0, 0, 1, 7, 0, 0, 0, 0, 2, 8], Ok(1)),
-    (&[1, 0, 0, 0, 1, 7, 0, 255, 255], Ok(1)),
-    // a gate that was torn
-    (&[1, 0, 0, 0, 1, 7, 99, 0, 0, 0, 2, 8, 9, 0], Ok(1)),
-    // no next gate, a record that was cut short, one without a length, and a length that was garbled
-    (&[1, 0, 0, 0, 1, 7, 1, 0, 0, 0, 2, 8, 9], Err(6)),
-    (&[1, 0, 0, 0, 1, 7, 1, 0, 0, 0, 2, 8], Err(6)),
-    (&[1, 0, 0, 0, 1, 7, 1, 0, 0], Err(6)),
-    (&[1, 0, 0, 0, 9, 7, 1, 0, 0, 0, 2, 8, 9, 0], Err(0)),
+    (b"rexnode\n\x08\xff\x01\xff\x02\x0a\xff\x01\0\0\0", Ok(2)),
+    // a second record that was cut short, and ones of which a byte wasn't written
+    (b"rexnode\n\x08\xff\x01\xff\x02\x0a", Ok(1)),
+    (b"rexnode\n\x08\xff\x01\xff\x02\x0a\xff\0\0", Ok(1)),
+    (b"rexnode\n\x08\xff\x01\xff\0\x0a\xff\x01", Ok(1)),
+    (b"rexnode\n\x08\xff\x01\0\x02\x0a\xff\x01\0", Ok(1)),
+    // one of which a byte wasn't written, or is none, and a later one
+    (b"rexnode\n\x08\xff\x01\xff\0\x0a\xff\x01\x06\xff\x01", Err(11)),
+    (b"rexnode\n\xff\x04\xff\x01\x06", Err(8)),
+    // no head
+    (b"rexnodes", Err(0)),
+    (b"rexnode\0\x08\xff\x01", Err(0)),
+    (&[1, 0, 0, 0, 1, 7, 0], Err(0)),
 ];
 
 /// Makes a folder that has nothing in it.
@@ -35,20 +41,20 @@ fn make_folder(rt: &HostRuntime, folder: &str) -> io::Result<()> {
 }
 
 /// The journal in the file at a path.
-fn journal(rt: &HostRuntime, path: &str) -> Result<JournalKeeper<FileDisk>, Fail>
+fn journal(rt: &HostRuntime, path: &str) -> Result<WalKeeper<FileDisk>, Fail>
     ensures { IfOk result (λ k. (k.broken ≡ false) × (k.disk.faults + k.refused ≡ 0)) }
 {
-    match JournalKeeper::open(rt.alloc(), open_path(rt, path)?) {
+    match WalKeeper::open(rt.alloc(), open_path(rt, path)?) {
         Ok(keeper) => Ok(keeper),
         Err(_) => Err("not opened")?,
     }
 }
 
-/// How many records are found in a file of these bytes, or the gate that no whole record follows. Where it is a journal a record is
-/// appended, and found when the file is opened again.
+/// How many records are found in a file of these bytes, or where it is bad. Where it is a journal a record is appended, and found when
+/// the file is opened again.
 fn found(rt: &HostRuntime, path: &str, bytes: &[u8]) -> Result<Result<usize, u64>, Fail> {
     fs::write(rt, path, bytes)?;
-    match JournalKeeper::open(rt.alloc(), open_path(rt, path)?) {
+    match WalKeeper::open(rt.alloc(), open_path(rt, path)?) {
         Ok(mut keeper) => {
             let count = keeper.len();
             keeper.append(&[5])?;
@@ -71,7 +77,7 @@ fn records_in_a_file_are_there_when_it_is_opened_again(rt: HostRuntime) -> Resul
     make_folder(&rt, "files_again")?;
     let mut keeper = journal(&rt, "files_again/journal")?;
     assert_eq!(rt; keeper.append(&[7]), Ok(()));
-    assert_eq!(rt; keeper.append(&[8, 9]), Ok(()));
+    assert_eq!(rt; keeper.append(&[254, 9]), Ok(()));
     assert!(rt;
         matches!(
             open_path(&rt, "files_again/journal"),
@@ -81,9 +87,11 @@ fn records_in_a_file_are_there_when_it_is_opened_again(rt: HostRuntime) -> Resul
     drop(keeper);
     let keeper = journal(&rt, "files_again/journal")?;
     assert_eq!(rt; keeper.len(), 2);
-    assert_eq!(rt; keeper.get(1), [8, 9].as_slice());
+    assert_eq!(rt; keeper.get(1), [254, 9].as_slice());
     let bytes = fs::read(&rt, "files_again/journal")?;
-    assert_eq!(rt; bytes.as_slice(), WHOLE.as_slice());
+    // the first record was written with room for others behind it
+    assert_eq!(rt; bytes.len(), 11 + 65_536);
+    assert_eq!(rt; bytes.get(..16), Some(WHOLE.as_slice()));
     fs::remove_dir_all(&rt, "files_again")?;
     Ok(())
 }
