@@ -26,7 +26,7 @@ fn push_mark(spelled: &mut Vec<u8>, byte: u8) -> Result<(), AllocError>
 pub(crate) fn spell(alloc: Global, bytes: &[u8]) -> Result<Vec<u8>, AllocError>
     ensures { IfOk result (λ spelled. spelled.items ≡ entry bytes.now) }
 {
-    let mut spelled = Vec::new(alloc);
+    let mut spelled = Vec::with_capacity(alloc, bytes.len() + 2)?;
     for &byte in bytes {
         push_mark(&mut spelled, byte)?;
     }
