@@ -6,7 +6,6 @@ use Rattle.rex_msg.specs.declared.message.Message.{Message}
 use Rattle.rex_cluster.specs.Quorum.{IsNode}
 use Rattle.rex_cluster.specs.Invariant.{IsIn}
 use Rattle.rex_frames.specs.declared.asking.Asked.{Asked}
-use Rattle.rex_frames.specs.declared.asking.Asked.TheVariants.{Elect, Submit, Run, Turn, Cut, Hear, Ask, Read, Look, Nothing}
 use Rattle.rex_frames.specs.Asking.{asked_in}
 use Rattle.rex_process.specs.Process.{ProcessValue, IsSame}
 use Rattle.rex_serve.specs.declared.serving.Ended.{Ended}
@@ -18,22 +17,13 @@ use Rattle.rex_serve.specs.Cluster.{Cluster, Transition, AllMayHappen, AnswersSo
 use Rattle.rex_serve.specs.Cluster.Member.{Runs}
 use Rattle.rex_serve.specs.Cluster.Transition.{Answers, BreaksOff}
 use Rattle.rex_serve.specs.Laws.{Moves, all_to}
-use Rattle.rex_serve.proofs.Clusters.{in_back, in_front}
+use Rattle.rex_serve.proofs.Clusters.{heard_weaker, in_back, in_front}
 use Rattle.rex_serve.proofs.Fronts.{begins_join}
 use Rattle.rex_serve.proofs.Grown.{same_join}
 
 -- what is heard is among more messages, too
 hears_more : (told more : List Message) → ((x : Message) → IsIn x told → IsIn x more) → (asked : Asked) → HearsOneOf told asked → HearsOneOf more asked
-hears_more told more all Elect h = tt
-hears_more told more all (Submit request) h = tt
-hears_more told more all (Run clock) h = tt
-hears_more told more all (Turn lane clock) h = tt
-hears_more told more all Cut h = tt
-hears_more told more all (Hear message) h = all message h
-hears_more told more all (Ask to) h = tt
-hears_more told more all (Read client variable seen) h = tt
-hears_more told more all Look h = tt
-hears_more told more all Nothing h = tt
+hears_more told more = heard_weaker (λ message. IsIn message told) (λ message. IsIn message more)
 
 -- a frame asks the same process for the same
 same_asked : {K : Type 0} → (p q : ProcessValue K) (frame : List ℕ) → IsSame p q → asked_of p frame ≡ asked_of q frame
