@@ -22,7 +22,7 @@ use Rattle.rex_frames.specs.declared.asking.Asked.TheVariants.{Elect, Submit, Ru
 use Rattle.rex_process.specs.Process.{ProcessValue, here}
 use Rattle.rex_process.specs.Starting.{HasStarted}
 use Rattle.rex_serve.specs.Answering.{asked_of}
-use Rattle.rex_serve.specs.Standing.{HearsOneOf, HearsSent, IsNodeOf, each_at, step_to}
+use Rattle.rex_serve.specs.Standing.{HearsOneOf, HearsSent, IsNodeOf, OfHeard, each_at, step_to}
 use Rattle.rex_serve.specs.Cluster.{Member, Cluster, Transition, AllMayHappen, AnswersSo, BreaksOffSo, MayHappen, after_transitions, beginning, goes_on, member_after, records_in, step_at}
 use Rattle.rex_serve.specs.Cluster.Member.{Runs, Left}
 use Rattle.rex_serve.specs.Cluster.Transition.{ComesUp, Answers, BreaksOff, Ends}
@@ -59,19 +59,25 @@ in_map f x [] h = absurd h
 in_map f x (y ∷ xs) (inl e) = inl (ap f e)
 in_map f x (y ∷ xs) (inr h) = inr (in_map f x xs h)
 
+-- ---- what is heard
+
+-- what follows from what holds of the message that is heard holds of it, too
+pub heard_weaker : (P Q : Message → Type 0) → ((message : Message) → P message → Q message) → (asked : Asked) → OfHeard P asked → OfHeard Q asked
+heard_weaker P Q weaker Elect h = tt
+heard_weaker P Q weaker (Submit request) h = tt
+heard_weaker P Q weaker (Run clock) h = tt
+heard_weaker P Q weaker (Turn lane clock) h = tt
+heard_weaker P Q weaker Cut h = tt
+heard_weaker P Q weaker (Hear message) h = weaker message h
+heard_weaker P Q weaker (Ask to) h = tt
+heard_weaker P Q weaker (Read client variable seen) h = tt
+heard_weaker P Q weaker Look h = tt
+heard_weaker P Q weaker Nothing h = tt
+
 -- what was told was sent
 sent_of : (told : List Message) (w : World) → ((x : Message) → IsIn x told → IsIn (message_in [] x) w.messages) → (asked : Asked) → HearsOneOf told asked
     → HearsSent w asked
-sent_of told w all Elect h = tt
-sent_of told w all (Submit request) h = tt
-sent_of told w all (Run clock) h = tt
-sent_of told w all (Turn lane clock) h = tt
-sent_of told w all Cut h = tt
-sent_of told w all (Hear message) h = all message h
-sent_of told w all (Ask to) h = tt
-sent_of told w all (Read client variable seen) h = tt
-sent_of told w all Look h = tt
-sent_of told w all Nothing h = tt
+sent_of told w = heard_weaker (λ message. IsIn message told) (λ message. IsIn (message_in [] message) w.messages)
 
 -- ---- one transition
 

@@ -1,5 +1,6 @@
 -- What holds of all processes that answer frames, and of all clusters of them.
-use Rattle.std.specs.Prelude.{◌≡◌, ◌⊎◌, ℕ, ℤ, ◌≤◌, true, List, [], ◌++◌, length, map, take, None, Some, slice_get}
+use Rattle.std.specs.Prelude.{◌≡◌, ◌⊎◌, ℕ, ℤ, ◌≤◌, true, List, [], ◌∷◌, ◌++◌, length, map, take, None, Some, slice_get}
+use Rattle.std.specs.List.{flat_map}
 use Rattle.rex_ballot.specs.Limits.{most_nodes}
 use Rattle.rex_syntax.specs.declared.service.Declarations.{Declarations}
 use Rattle.rex_syntax.specs.Service.{IsService}
@@ -75,6 +76,17 @@ BreakingOffIsHappenings {K} records faults =
 abbrev pub CarriedBytesAreHeard : Type 0
 CarriedBytesAreHeard =
     (service : Declarations) (id nodes : ℕ) (told : List Message) (frame : List ℕ) → CarriesOneOf told frame → HearsOneOf told (asked_in service id nodes frame)
+
+-- the frame that is answered, or at which a process breaks off
+abbrev pub frame_in : {K : Type 0} → Transition K → List (List ℕ)
+frame_in (Transition.ComesUp keeper p) = []
+frame_in (Transition.Answers frame q step) = frame ∷ []
+frame_in (Transition.BreaksOff frame q) = frame ∷ []
+frame_in Transition.Ends = []
+
+-- those of all of it, in their order
+abbrev pub frames_in : {K : Type 0} → List (Transition K) → List (List ℕ)
+frames_in ts = flat_map frame_in ts
 
 -- ---- all processes of a cluster
 
@@ -228,9 +240,13 @@ module _ {K : Type 0} (records : K → List (List ℕ)) (faults : K → ℕ) whe
   abbrev pub all_to : ℕ → List (Transition K) → List (ℕ × Transition K)
   all_to m ts = map (λ (t : Transition K). (m, t)) ts
 
-  -- what may happen to one process of a cluster, after which it runs as this one, or has left the records of this one
-  pub record Moves (service : Declarations) (seed n : ℕ) (c : Cluster K) (m : ℕ) (q : ProcessValue K) : Type 0 where
+  -- what may happen to one process of a cluster, after which it runs as this one, or has left the records of this one; each of it is of a frame, and an
+  -- input begins with these frames, in their order
+  pub record Moves (service : Declarations) (seed n : ℕ) (c : Cluster K) (m : ℕ) (input : List ℕ) (q : ProcessValue K) : Type 0 where
     pub moves : List (Transition K)
+    pub left : List ℕ
+    pub begins : BeginsWith input (frames_in moves) left
+    pub each : length (frames_in moves) ≡ length moves
     pub may : AllMayHappen records faults service seed n c (all_to m moves)
     pub comes : ((after_transitions records faults c (all_to m moves)).members m ≡ Runs q)
         ⊎ ((after_transitions records faults c (all_to m moves)).members m ≡ Left (records q.node.keeper))
@@ -241,4 +257,4 @@ module _ {K : Type 0} (records : K → List (List ℕ)) (faults : K → ℕ) whe
       (service : Declarations) (seed n : ℕ) (c : Cluster K) (m : ℕ) (p q : ProcessValue K) (ended : Ended) (input before now : List ℕ)
       → IsNode n m → c.members m ≡ Runs p
       → ((frames : List (List ℕ)) (left : List ℕ) → BeginsWith input frames left → (frame : List ℕ) → IsIn frame frames → HearsOneOf c.told (asked_of p frame))
-      → EndsAs records faults ended p q input before now → Moves service seed n c m q
+      → EndsAs records faults ended p q input before now → Moves service seed n c m input q

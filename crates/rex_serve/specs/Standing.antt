@@ -87,10 +87,18 @@ abbrev pub step_to : {K : Type 0} (records : K → List (List ℕ)) (faults : K 
     → AnswersFrame records faults p q frame out → Step
 step_to records faults p q frame out h = step_in records faults p q (asked_of p frame) h.answer h.answered
 
--- the message that is to be heard, if one is, is among these
+-- this holds of the message that is to be heard, if one is
+abbrev pub OfHeard : (Message → Type 0) → Asked → Type 0
+OfHeard P (Hear message) = P message
+OfHeard P _ = Unit {0}
+
+-- it is among these
 abbrev pub HearsOneOf : List Message → Asked → Type 0
-HearsOneOf told (Hear message) = IsIn message told
-HearsOneOf told _ = Unit {0}
+HearsOneOf told = OfHeard (λ message. IsIn message told)
+
+-- it was sent in this world
+abbrev pub HearsSent : World → Asked → Type 0
+HearsSent w = OfHeard (λ message. IsIn (message_in [] message) w.messages)
 
 -- these bytes spell one of these
 pub record SpellsOneOf (told : List Message) (content : List ℕ) : Type 0 where
@@ -103,8 +111,3 @@ pub record SpellsOneOf (told : List Message) (content : List ℕ) : Type 0 where
 abbrev pub CarriesOneOf : List Message → List ℕ → Type 0
 CarriesOneOf told [] = Unit {0}
 CarriesOneOf told (letter ∷ content) = letter ≡ HEAR → SpellsOneOf told content
-
--- it was sent in this world
-abbrev pub HearsSent : World → Asked → Type 0
-HearsSent w (Hear message) = IsIn (message_in [] message) w.messages
-HearsSent w _ = Unit {0}

@@ -32,7 +32,7 @@ pub fn told_bytes_are_heard()
     ensures { CarriedBytesAreHeard }
 {}
 
-/// What a process comes to that is served, however that ends, is what may happen to it in a cluster, one thing after the other.
+/// What a process comes to that is served, however that ends, is what may happen to it in a cluster, frame by frame of its input.
 pub fn serving_is_transitions<K: Keeper>()
     ensures { ServingIsTransitions K.records K.faults }
 {}
