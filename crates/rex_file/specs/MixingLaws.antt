@@ -1,12 +1,12 @@
 -- What follows from the record of a disk whose writes tear between bytes only.
-use Rattle.std.specs.Prelude.{◌≡◌, ◌⊎◌, ◌<◌, ◌≤◌, ℕ, zero, suc, ◌+◌, ◌-◌, nat_le, Bool, true, false, IsTrue, List, [], ◌∷◌, ◌++◌, length, take, drop, refl}
+use Rattle.std.specs.Prelude.{◌≡◌, ◌⊎◌, ◌<◌, ◌≤◌, ℕ, zero, suc, ◌+◌, ◌-◌, nat_le, Bool, true, false, List, [], ◌∷◌, ◌++◌, length, take, drop, refl}
 use Rattle.std.proofs.Common.{sym, ◌∙◌, ap, subst, inl, inr, arith, get_or, append_assoc}
 use Rattle.std.proofs.lemmas.List.{get_or_append_left, get_or-append_right, length-take-le}
 use Rattle.std.proofs.lemmas.Bool.{and_parts, leb-true}
 use Rattle.rex_disk.specs.Record.{Done, are_within, seen_after}
 use Rattle.rex_disk.specs.Record.Done.{Wrote, Synced}
 use Rattle.rex_disk.specs.RecordLaws.{torn_same, torn_whole}
-use Rattle.rex_disk.specs.Stops.{Elapses, NoMore, Tears, Torn, overwritten}
+use Rattle.rex_disk.specs.Stops.{Elapses, NoMore, overwritten}
 use Rattle.rex_file.specs.Mixing.{Mixed, MixedAfter, MixedSince, Mixes, byte_at}
 
 -- a write that wasn't torn is one that was
@@ -65,10 +65,3 @@ sync_no_more first done true within image left = left
 -- what a write may leave of each byte is the old one or the one that was written
 pub write_mixes : (old_first new_first : List ℕ) (old_done new_done : List Done) (at : ℕ) (bytes : List ℕ) (failed : Bool) → new_first ≡ old_first → new_done ≡ Wrote at bytes failed ∷ old_done → Mixes at bytes (MixedAfter old_first old_done) (MixedAfter new_first new_done)
 write_mixes old_first new_first old_done new_done at bytes failed f d = rw (f, d) (λ image left. left)
-
--- so it is torn
-pub mixed_tears : (at : ℕ) (bytes : List ℕ) (before now : List ℕ → Type 0) → Mixes at bytes before now → Tears at (length bytes) before now
-mixed_tears at bytes before now mixes image left = tears (mixes image left)
-  where
-    tears : (old : List ℕ) × before old × Mixed at bytes old image → (old : List ℕ) × before old × Torn at (length bytes) old image
-    tears (old, left, mixed) = (old, left, mixed.torn)

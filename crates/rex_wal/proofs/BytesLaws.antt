@@ -1,10 +1,10 @@
 -- What follows from how the bytes of a journal are laid out.
-use Rattle.std.proofs.Common.{◌≡◌, ◌⊎◌, inl, inr, ⊎_elim, ℕ, suc, ◌+◌, List, [], ◌∷◌, ◌++◌, length, get_or, drop, refl, sym, ◌∙◌, ap, subst, arith, append_assoc, length-append}
+use Rattle.std.proofs.Common.{◌≡◌, inl, inr, ⊎_elim, ℕ, suc, ◌+◌, List, [], ◌∷◌, ◌++◌, length, drop, refl, sym, ◌∙◌, ap, arith, append_assoc}
 use Rattle.std.proofs.lemmas.List.{drop_at, get_or-append-add, get_or_past}
 use Rattle.rex_file.specs.Mixing.{byte_at}
 use Rattle.std.specs.Prelude.{All}
 use Rattle.rex_wal.specs.Laws.{BadHoldsNone, HoldsOne}
-use Rattle.rex_wal.specs.Journal.{BeginsNone, BeginsWithRecords, HasRecords, IsBegun, IsRecord, entries, entry, head}
+use Rattle.rex_wal.specs.Journal.{BeginsNone, BeginsWithRecords, IsBegun, IsRecord, entries, entry, head}
 use Rattle.rex_wal.proofs.Spelling.{entry_some, same_entry}
 
 -- what stands behind the head

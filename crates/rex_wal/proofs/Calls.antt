@@ -1,5 +1,5 @@
 -- Calls of a disk, one after another.
-use Rattle.std.proofs.Common.{◌≡◌, inl, inr, ℕ, Ok, Err, Bool, true, false, List, [], ◌∷◌, ◌++◌, refl, subst, sym}
+use Rattle.std.proofs.Common.{inl, inr, ℕ, Ok, Err, Bool, true, false, List, [], ◌∷◌, ◌++◌, refl, subst}
 use Rattle.std.specs.Prelude.{Result, IsErrAnd}
 use Rattle.std.proofs.lemmas.Result.{err_from_is_err_and}
 use Rattle.rex_disk.specs.Calls.{Call, CallsInTurn}

@@ -1,5 +1,5 @@
 -- What each write of a journal makes of its bytes, whole or torn.
-use Rattle.std.proofs.Common.{◌≡◌, ◌≢◌, ◌⊎◌, inl, inr, ⊎_elim, Bool, true, false, ℕ, suc, ◌+◌, ◌-◌, ◌<◌, ◌≤◌, Some, None, Option, List, [], ◌∷◌, ◌++◌, length, get_or, take, drop, replicate, refl, sym, ◌∙◌, ap, subst, arith, append_assoc, length-append, take-append-drop}
+use Rattle.std.proofs.Common.{◌≡◌, ◌≢◌, ◌⊎◌, inl, inr, ⊎_elim, Bool, true, false, ℕ, suc, ◌+◌, ◌-◌, ◌≤◌, Some, None, Option, List, [], ◌∷◌, ◌++◌, length, take, drop, replicate, refl, sym, ◌∙◌, ap, subst, arith, append_assoc, length-append, take-append-drop}
 use Rattle.std.proofs.lemmas.Bool.{cases_lt}
 use Rattle.std.proofs.lemmas.List.{append-nil, drop-drop, drop_all, drop_at, drop-replicate, get_or-drop, get_or-replicate, get_or_past, length-replicate, replicate-append-replicate, take_at}
 use Rattle.std.proofs.lemmas.List.Elements.{All-push}
@@ -54,9 +54,6 @@ module _ (records : List (List ℕ)) (rest file : List ℕ) (split : file ≡ he
   pub within : at ≤ length file
   within = omega (arith, long, ap length is, length-append front rest)
 
-  pub rest_long : length rest ≡ length file - at
-  rest_long = omega (arith, long, ap length is, length-append front rest)
-
   module _ (bytes image : List ℕ) (m : Mixed at bytes file image) where
     pub mixed_split : image ≡ head ++ (entries records ++ drop at image)
     mixed_split = sym (take-append-drop at image) ∙ ap (λ (xs : List ℕ). xs ++ drop at image) (m.torn.before ∙ front_is) ∙ append_assoc head (entries records) (drop at image)
@@ -94,9 +91,6 @@ module _ (records : List (List ℕ)) (file : List ℕ) (clean : IsClean file rec
     front = record { rest = replicate clean.zeros 0; split = clean.split; ended = zeros_none (replicate clean.zeros 0) (zero_at clean.zeros); each = each };
     none_later = zeros_later (replicate clean.zeros 0) (zero_at clean.zeros);
   }
-
-  pub clean_within : at ≤ length file
-  clean_within = within records (replicate clean.zeros 0) file clean.split at place
 
   module _ (bytes written : List ℕ) (w : IsWritten bytes written) where
     pub append_stands : (image : List ℕ) → All IsRecord records → IsRecord bytes → Mixed at written file image → StandsFor records (Some bytes) image
@@ -206,15 +200,7 @@ read_gap file records rest split each none (i, mark, end, some) = inr record {
   some = some;
 }
 
--- where the next record goes, and of what the records are
-pub found_place : (file : List ℕ) (records : List (List ℕ)) (end : ℕ) (begun : Bool) → IsFound file records end begun → end ≡ length head + length (entries records)
-found_place file records end true (begun, none, place) = rw none place
-found_place file records end false (has, place) = place
-
-pub found_each : (file : List ℕ) (records : List (List ℕ)) (end : ℕ) (begun : Bool) → IsFound file records end begun → All IsRecord records
-found_each file records end true (begun, none, place) = rw none (λ k d lt. absurd (omega (arith, lt)))
-found_each file records end false (has, place) = has.front.each
-
+-- what was found the file holds
 pub found_holds : (file : List ℕ) (records : List (List ℕ)) (end : ℕ) (begun : Bool) → IsFound file records end begun → Holds file records
 found_holds file records end true (begun, none, place) = inr (begun, none)
 found_holds file records end false (has, place) = inl has

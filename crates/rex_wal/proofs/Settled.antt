@@ -1,5 +1,5 @@
 -- What a stop may leave of a disk with a settled journal.
-use Rattle.std.proofs.Common.{◌≡◌, inl, inr, ℕ, ◌+◌, ◌≤◌, max, Bool, IsTrue, List, [], ◌∷◌, ◌++◌, length, Option, Some, sym, ◌∙◌, ap, subst, arith}
+use Rattle.std.proofs.Common.{◌≡◌, inl, ℕ, ◌+◌, max, Bool, IsTrue, List, [], ◌∷◌, ◌++◌, length, Option, Some, sym, ◌∙◌, ap, subst, arith}
 use Rattle.std.proofs.lemmas.List.Elements.{All-push}
 use Rattle.rex_disk.specs.Stops.{LeavesOnly, Only, Rests, overwritten}
 use Rattle.rex_file.specs.Mixing.{Mixed}

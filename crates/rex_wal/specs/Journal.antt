@@ -1,5 +1,5 @@
 -- The bytes of a journal, and which records they hold.
-use Rattle.std.specs.Prelude.{◌≡◌, ◌≢◌, ◌⊎◌, ◌<◌, ◌+◌, ◌-◌, ℕ, nat_lt, cond, List, [], ◌∷◌, ◌++◌, length, slice_index_or, All, Option, Some, None, codes}
+use Rattle.std.specs.Prelude.{◌≡◌, ◌≢◌, ◌⊎◌, ◌<◌, ◌+◌, ◌-◌, ℕ, nat_lt, cond, List, [], ◌∷◌, ◌++◌, length, All, Option, Some, None, codes}
 use Rattle.rex_file.specs.Mixing.{byte_at}
 
 -- what a journal begins with

@@ -1,5 +1,5 @@
 -- What opening a journal finds, and when it is refused.
-use Rattle.std.specs.Prelude.{◌≡◌, ◌⊎◌, ◌≤◌, ◌+◌, max, ℕ, Bool, true, false, List, [], length, All, Result, Ok, Err}
+use Rattle.std.specs.Prelude.{◌≡◌, ◌⊎◌, ◌≤◌, ◌+◌, max, ℕ, Bool, true, false, List, [], length, Result, Ok, Err}
 use Rattle.rex_disk.specs.Calls.{Call, FailsInTurn}
 use Rattle.rex_journal.specs.Giving.{Goes}
 use Rattle.rex_disk.specs.Stops.{overwritten}

@@ -1,5 +1,5 @@
 -- What stands at the front of spelled records.
-use Rattle.std.specs.Prelude.{◌≡◌, ◌≢◌, ◌<◌, ◌++◌, ◌∷◌, [], ℕ, List}
+use Rattle.std.specs.Prelude.{◌≡◌, ◌≢◌, ◌<◌, ◌++◌, ◌∷◌, ℕ, List}
 use Rattle.rex_wal.specs.Journal.{mark}
 use Rattle.rex_wal.specs.declared.spell.Front.{Front}
 use Rattle.rex_wal.specs.declared.spell.Front.TheVariants.{Byte, End, Nothing}

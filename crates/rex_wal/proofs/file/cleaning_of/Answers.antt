@@ -1,4 +1,4 @@
-use Rattle.std.proofs.Common.{rules, ◌≡◌, ◌-◌, ℕ, List, [], length, replicate, inl, inr, refl, sym, ◌∙◌, ap, subst}
+use Rattle.std.proofs.Common.{rules, ◌≡◌, ◌-◌, ℕ, List, length, replicate, sym, subst}
 use Rattle.rex_wal.specs.Journal.{head}
 use Rattle.rex_wal.specs.Opening.{IsCleaning, IsFound}
 use Rattle.rex_wal.proofs.Making.{begun_cleaning, record_cleaning}

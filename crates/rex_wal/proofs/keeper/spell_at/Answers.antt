@@ -1,4 +1,4 @@
-use Rattle.std.proofs.Common.{rules, ◌≡◌, ◌≤◌, ◌+◌, ◌-◌, ◌++◌, ℕ, List, [], length, replicate, take, sym, ◌∙◌, ap, vec_len}
+use Rattle.std.proofs.Common.{rules, ◌≡◌, ◌≤◌, ◌+◌, ◌-◌, ◌++◌, ℕ, List, length, replicate, take, sym, ◌∙◌, ap, vec_len}
 use Rattle.std.proofs.lemmas.List.{append-nil, take_all}
 use Rattle.rex_wal.specs.Journal.{entry}
 use Rattle.rex_wal.proofs.keeper.spell_at.Goals.{then-len-left+in_ok-resize, else-len-left}

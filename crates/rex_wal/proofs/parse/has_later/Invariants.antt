@@ -1,4 +1,4 @@
-use Rattle.std.proofs.Common.{◌≡◌, ◌<◌, ◌+◌, ◌≤◌, ℕ}
+use Rattle.std.proofs.Common.{◌≡◌, ◌<◌, ◌+◌, ℕ}
 use Rattle.rex_file.specs.Mixing.{byte_at}
 use Rattle.rex_wal.proofs.parse.has_later.Given as goal
 

@@ -1,4 +1,4 @@
-use Rattle.std.proofs.Common.{rules, ◌≡◌, ◌≢◌, ◌<◌, ◌-◌, ◌∷◌, ◌++◌, ◌∙◌, ℕ, List, get_or, ap, sym, arith}
+use Rattle.std.proofs.Common.{rules, ◌≡◌, ◌≢◌, ◌<◌, ◌∷◌, ◌∙◌, ℕ, List, get_or, ap, sym, arith}
 use Rattle.rex_wal.proofs.Spelling.{mark_back}
 use Rattle.rex_wal.proofs.spell.first_of.Goals as goal
 

@@ -1,4 +1,4 @@
-use Rattle.std.proofs.Common.{rules, ◌≡◌, ◌+◌, IsTrue, None, Some, sym, ◌∙◌, subst, arith}
+use Rattle.std.proofs.Common.{rules, ◌≡◌, ◌+◌, IsTrue, None, Some, sym, subst, arith}
 use Rattle.rex_wal.specs.Appending.{IsWritten}
 use Rattle.rex_wal.proofs.Moments.{moves_on}
 use Rattle.rex_wal.proofs.Settled.{settled_more, settled_rests, settled_stands, waits, writes_stand}
