@@ -1,7 +1,11 @@
 -- What follows from how records are spelled.
-use Rattle.std.proofs.Common.{◌≡◌, ◌≢◌, ◌⊎◌, ⊎_elim, ◌<◌, ◌≤◌, ◌+◌, ◌-◌, inl, inr, ℕ, zero, suc, List, [], ◌∷◌, ◌++◌, length, get_or, drop, refl, sym, ◌∙◌, ap, subst, arith, append_assoc, length-append}
+use Rattle.std.proofs.Common.{◌≡◌, ◌≢◌, ◌⊎◌, ⊎_elim, ◌<◌, ◌≤◌, ◌+◌, ◌-◌, inl, inr, ℕ, zero, suc, List, [], ◌∷◌, ◌++◌, length, get_or, take, drop, refl, sym, ◌∙◌, ap, subst, arith, append_assoc, length-append}
 use Rattle.std.proofs.lemmas.Bool.{cases_lt, cond_above, cond_below}
-use Rattle.std.proofs.lemmas.List.{append-nil}
+use Rattle.std.proofs.Math.ListN.{set}
+use Rattle.std.proofs.Math.Seq.{drop-cons, set-append_seam, take-suc}
+use Rattle.std.proofs.lemmas.List.{append-nil, get_or-append_right, get_or-drop, length-take-le}
+use Rattle.std.proofs.lemmas.List.Elements.{All-take}
+use Rattle.std.specs.Prelude.{All}
 use Rattle.rex_file.specs.Mixing.{byte_at}
 use Rattle.rex_wal.specs.Spelled.{HasNoFront}
 use Rattle.rex_wal.specs.Journal.{BeginsNone, IsRecord, NoneLater, entries, entry, mark, marks}
@@ -239,3 +243,31 @@ nothing_none (b ∷ r) rest h [] behind each is = no_end b (marks r ++ rest) beh
 nothing_none (b ∷ r) rest h (c ∷ s) behind each is =
     let both = same_mark b c (marks r ++ rest) (entry s ++ behind) (sym (append_assoc (mark b) (marks r) rest) ∙ is ∙ entry_next c s behind) in
     nothing_none r rest h s behind (λ k. each (suc k)) both.1
+
+-- ---- bytes of which each takes one mark
+
+low_long : (xs : List ℕ) → All (λ b. b < 254) xs → length (marks xs) ≡ length xs
+low_long [] low = refl
+low_long (b ∷ xs) low =
+    let here : b < 254 = low 0 0 (omega arith) in
+    let rest : length (marks xs) ≡ length xs = low_long xs (λ k d lt. low (suc k) d (omega (arith, lt))) in
+    omega (arith, length-append (mark b) (marks xs), ap length (mark_low b here), rest)
+
+-- the next one is spelled
+pub low_next : (bytes : List ℕ) (i : ℕ) → i < length bytes → All (λ b. b < 254) bytes
+    → set (marks (take i bytes) ++ drop i bytes) i (get_or bytes i 0 + 1) ≡ marks (take (suc i) bytes) ++ drop (suc i) bytes
+low_next bytes i lt low =
+    let b = get_or bytes i 0 in
+    let front = marks (take i bytes) in
+    let long : length front ≡ i = low_long (take i bytes) (All-take (λ k. k < 254) i bytes low) ∙ length-take-le i bytes (omega (arith, lt)) in
+    let there : drop i bytes ≡ b ∷ drop (suc i) bytes = drop-cons bytes i 0 lt in
+    let spelled : set (front ++ b ∷ drop (suc i) bytes) i (b + 1) ≡ front ++ (b + 1) ∷ drop (suc i) bytes = subst (λ (k : ℕ). set (front ++ b ∷ drop (suc i) bytes) k (b + 1) ≡ front ++ (b + 1) ∷ drop (suc i) bytes) long (set-append_seam front b (drop (suc i) bytes) (b + 1)) in
+    let next : marks (take (suc i) bytes) ≡ front ++ (b + 1) ∷ [] = ap (λ (xs : List ℕ). marks xs) (take-suc bytes i 0 lt) ∙ marks_push (take i bytes) b ∙ ap (λ (m : List ℕ). front ++ m) (mark_low b (low i 0 lt)) in
+    ap (λ (xs : List ℕ). set (front ++ xs) i (b + 1)) there ∙ spelled ∙ sym (append_assoc front ((b + 1) ∷ []) (drop (suc i) bytes)) ∙ ap (λ (xs : List ℕ). xs ++ drop (suc i) bytes) (sym next)
+
+-- and it isn't spelled before
+pub low_here : (bytes : List ℕ) (i : ℕ) → i < length bytes → All (λ b. b < 254) bytes → get_or (marks (take i bytes) ++ drop i bytes) i 0 ≡ get_or bytes i 0
+low_here bytes i lt low =
+    let long : length (marks (take i bytes)) ≡ i = low_long (take i bytes) (All-take (λ k. k < 254) i bytes low) ∙ length-take-le i bytes (omega (arith, lt)) in
+    let same : i - i ≡ 0 = omega arith in
+    get_or-append_right (marks (take i bytes)) (drop i bytes) i i 0 long (omega arith) ∙ ap (λ (k : ℕ). get_or (drop i bytes) k 0) same ∙ get_or-drop i bytes 0 0 ∙ ap (λ (k : ℕ). get_or bytes k 0) (omega arith)

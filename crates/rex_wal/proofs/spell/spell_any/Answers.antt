@@ -2,7 +2,7 @@ use Rattle.std.proofs.Common.{rules, ◌≡◌, ◌<◌, ◌+◌, suc, [], ◌�
 use Rattle.std.proofs.Math.Seq.{take-suc}
 use Rattle.rex_wal.specs.Journal.{mark, marks}
 use Rattle.rex_wal.proofs.Spelling.{marks_push}
-use Rattle.rex_wal.proofs.spell.spell.Goals as goal
+use Rattle.rex_wal.proofs.spell.spell_any.Goals as goal
 
 pub loop-byte-preserved : goal.loop-byte-preserved
 loop-byte-preserved c =
