@@ -26,7 +26,10 @@ const FOUND: [(&[u8], Result<usize, u64>); 14] = [
     (b"rexnode\n\x08\xff\x01\xff\0\x0a\xff\x01", Ok(1)),
     (b"rexnode\n\x08\xff\x01\0\x02\x0a\xff\x01\0", Ok(1)),
     // one of which a byte wasn't written, or is none, and a later one
-    (b"rexnode\n\x08\xff\x01\xff\0\x0a\xff\x01\x06\xff\x01", Err(11)),
+    (
+        b"rexnode\n\x08\xff\x01\xff\0\x0a\xff\x01\x06\xff\x01",
+        Err(11),
+    ),
     (b"rexnode\n\xff\x04\xff\x01\x06", Err(8)),
     // no head
     (b"rexnodes", Err(0)),
