@@ -39,6 +39,7 @@ class Companion:
         self.last_sent, self.sent_at, self.asked_at, self.beaten_at = {}, 0.0, 0.0, 0.0
         tell_faults(options.tls, self.on_bad_handshake)
         self.refused, self.strangers, self.links, self.are_held, self.tasks = 0, set(), set(), False, set()
+        self.texts = {}  # what was told in this turn, by its form
 
     def say(self, text):
         print("%.3f node %d %s" % (time.time(), self.options.id, text), file=sys.stderr, flush=True)
@@ -118,6 +119,7 @@ class Companion:
 
     def turn_ends(self):
         """After all that came in together: what is new is cut, and everything is written."""
+        self.texts.clear()
         if self.node.role == ACTIVE:
             self.requests.cut()
         self.node.flush()
@@ -184,6 +186,13 @@ class Companion:
     def status(self):
         n = self.node
         return "node %d %s promised %d known %d live %d leader %d" % (self.options.id, n.role_word(), n.promised, n.known, n.live, self.elections.leader)
+
+    def told(self, form):
+        """What there is to say, in a form of looking.py. It is made once a turn: who asks over and over doesn't keep the node from its work."""
+        if form not in self.texts:
+            self.texts[form] = form(self)
+            self.turns.due()
+        return self.texts[form]
 
     # ---- time
 
