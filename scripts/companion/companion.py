@@ -17,7 +17,7 @@ from companion.options import node_words
 from companion.peers import Hearing, Peer, hello
 from companion.requests import Requests
 from companion.resp import Resp
-from companion.tls import tell_faults
+from companion.tls import serving, tell_faults
 
 HEARTBEAT, TICK, RESENDS, ASKS = 0.05, 0.02, 0.15, 0.05  # seconds
 CUT_OFF = 1.0  # a leader that has heard no majority for so long sends its clients away
@@ -230,10 +230,10 @@ class Companion:
         loop, o = asyncio.get_running_loop(), self.options
         self.ended, is_over = loop.create_future(), asyncio.Event()
         # what may fail without a node comes first
-        servers = [await loop.create_server(lambda: Hearing(self), o.bind, o.peers[o.id - 1][1], start_serving=False, ssl=o.tls.heard),
-                   await loop.create_server(lambda: Lines(self), o.bind, o.clients, start_serving=False, ssl=o.tls.clients)]
+        servers = [await loop.create_server(lambda: Hearing(self), o.bind, o.peers[o.id - 1][1], start_serving=False, **serving(o.tls.heard)),
+                   await loop.create_server(lambda: Lines(self), o.bind, o.clients, start_serving=False, **serving(o.tls.clients))]
         if o.resp:
-            servers.append(await loop.create_server(lambda: Resp(self), *o.resp, start_serving=False, ssl=o.tls.clients))
+            servers.append(await loop.create_server(lambda: Resp(self), *o.resp, start_serving=False, **serving(o.tls.clients)))
         if o.http:
             servers.append(await loop.create_server(lambda: Looking(self), *o.http, start_serving=False))
         await self.node.start()
