@@ -17,7 +17,7 @@ from companion.options import node_words
 from companion.peers import Hearing, Peer, hello
 from companion.requests import Requests
 from companion.resp import Resp
-from companion.tls import tell_faults
+from companion.tls import serving, tell_faults
 
 HEARTBEAT, TICK, RESENDS, ASKS = 0.05, 0.02, 0.15, 0.05  # seconds
 CUT_OFF = 1.0  # a leader that has heard no majority for so long sends its clients away
@@ -39,6 +39,7 @@ class Companion:
         self.last_sent, self.sent_at, self.asked_at, self.beaten_at = {}, 0.0, 0.0, 0.0
         tell_faults(options.tls, self.on_bad_handshake)
         self.refused, self.strangers, self.links, self.are_held, self.tasks = 0, set(), set(), False, set()
+        self.texts = {}  # what was told in this turn, by its form
 
     def say(self, text):
         print("%.3f node %d %s" % (time.time(), self.options.id, text), file=sys.stderr, flush=True)
@@ -118,6 +119,7 @@ class Companion:
 
     def turn_ends(self):
         """After all that came in together: what is new is cut, and everything is written."""
+        self.texts.clear()
         if self.node.role == ACTIVE:
             self.requests.cut()
         self.node.flush()
@@ -185,6 +187,13 @@ class Companion:
         n = self.node
         return "node %d %s promised %d known %d live %d leader %d" % (self.options.id, n.role_word(), n.promised, n.known, n.live, self.elections.leader)
 
+    def told(self, form):
+        """What there is to say, in a form of looking.py. It is made once a turn: who asks over and over doesn't keep the node from its work."""
+        if form not in self.texts:
+            self.texts[form] = form(self)
+            self.turns.due()
+        return self.texts[form]
+
     # ---- time
 
     def tick(self):
@@ -221,10 +230,10 @@ class Companion:
         loop, o = asyncio.get_running_loop(), self.options
         self.ended, is_over = loop.create_future(), asyncio.Event()
         # what may fail without a node comes first
-        servers = [await loop.create_server(lambda: Hearing(self), o.bind, o.peers[o.id - 1][1], start_serving=False, ssl=o.tls.heard),
-                   await loop.create_server(lambda: Lines(self), o.bind, o.clients, start_serving=False, ssl=o.tls.clients)]
+        servers = [await loop.create_server(lambda: Hearing(self), o.bind, o.peers[o.id - 1][1], start_serving=False, **serving(o.tls.heard)),
+                   await loop.create_server(lambda: Lines(self), o.bind, o.clients, start_serving=False, **serving(o.tls.clients))]
         if o.resp:
-            servers.append(await loop.create_server(lambda: Resp(self), *o.resp, start_serving=False, ssl=o.tls.clients))
+            servers.append(await loop.create_server(lambda: Resp(self), *o.resp, start_serving=False, **serving(o.tls.clients)))
         if o.http:
             servers.append(await loop.create_server(lambda: Looking(self), *o.http, start_serving=False))
         await self.node.start()

@@ -1,9 +1,8 @@
 """Clients that send lines."""
-import json
 import struct
 
 from companion.links import Link
-from companion.looking import facts_of
+from companion.looking import in_json
 
 MOST_LINE = 1 << 16
 
@@ -38,7 +37,7 @@ class Lines(Link):
         if words == [b"status"]:
             self.tell(companion.status())
         elif words == [b"status", b"json"]:
-            self.tell(json.dumps(facts_of(companion)))
+            self.tell(companion.told(in_json))
         elif words[0] == b"read":
             self.on_read(words)
         elif words[0] in (b"part", b"join") and companion.options.parting:

@@ -75,7 +75,12 @@ def facts_of_peer(peer, now):
     }
 
 
-def in_text(facts):
+def in_json(companion):
+    return json.dumps(facts_of(companion))
+
+
+def in_text(companion):
+    facts = facts_of(companion)
     lines = ["%-18s %s" % (name.replace("_", " "), value) for name, value in facts.items() if not isinstance(value, dict)]
     for timed, _ in TIMED:
         named = ((timed.replace("seconds", name).replace("_", " "), value) for name, value in facts[timed].items())
@@ -85,9 +90,9 @@ def in_text(facts):
     return "\n".join(lines) + "\n"
 
 
-def in_metrics(facts, times):
-    """The text form of Prometheus. `times` are what was timed, by the name in the facts."""
-    lines = []
+def in_metrics(companion):
+    """The text form of Prometheus."""
+    facts, times, lines = facts_of(companion), {"agreement_seconds": companion.requests.times, "answer_seconds": companion.node.times}, []
 
     def metric(name, kind, text, values):
         lines.extend(["# HELP rex_%s %s" % (name, text), "# TYPE rex_%s %s" % (name, kind)])
@@ -107,9 +112,15 @@ def in_metrics(facts, times):
     return "\n".join(lines) + "\n"
 
 
-def page():
+def page(_):
     with open(os.path.join(HERE, "page.html")) as file:
         return file.read()
+
+
+KINDS = {
+    b"/": ("text/html", page), b"/status": ("text/plain", in_text), b"/status.json": ("application/json", in_json),
+    b"/metrics": ("text/plain; version=0.0.4", in_metrics),
+}
 
 
 class Looking(Link):
@@ -121,25 +132,23 @@ class Looking(Link):
 
     def data_received(self, data):
         self.held += data
+        # also where these are many short ones, of which each is answered by a long text
+        if len(self.held) > MOST_HEAD:
+            self.transport.abort()
+            return
         while b"\r\n\r\n" in self.held:
             head, _, self.held = self.held.partition(b"\r\n\r\n")
             self.on_request(head.split(b"\r\n")[0].split())
-        if len(self.held) > MOST_HEAD:
-            self.transport.abort()
 
     def on_request(self, words):
-        facts, path = facts_of(self.companion), words[1].split(b"?")[0] if len(words) == 3 else b""
-        times = {"agreement_seconds": self.companion.requests.times, "answer_seconds": self.companion.node.times}
-        kinds = {
-            b"/": ("text/html", page), b"/status": ("text/plain", lambda: in_text(facts)), b"/status.json": ("application/json", lambda: json.dumps(facts)),
-            b"/metrics": ("text/plain; version=0.0.4", lambda: in_metrics(facts, times)),
-        }
+        path = words[1].split(b"?")[0] if len(words) == 3 else b""
         if words[:1] not in ([b"GET"], [b"HEAD"]):
             self.answer("405 Method Not Allowed", "text/plain", "there is nothing but GET and HEAD here\n")
-        elif path not in kinds:
+        elif path not in KINDS:
             self.answer("404 Not Found", "text/plain", "here are /, /status, /status.json and /metrics\n")
         else:
-            self.answer("200 OK", kinds[path][0], kinds[path][1](), words[0] == b"HEAD")
+            kind, form = KINDS[path]
+            self.answer("200 OK", kind, self.companion.told(form), words[0] == b"HEAD")
 
     def answer(self, status, kind, text, is_head=False):
         body = text.encode()

@@ -26,6 +26,8 @@ def port(text):
 
 def address(text):
     host, _, number = text.strip().rpartition(":")
+    # who looks up a host's addresses spells it so: what can't be spelled would end rexd then
+    host.encode("idna")
     return host.strip("[]"), port(number)
 
 
@@ -35,7 +37,7 @@ def address_here(text):
 
 
 def addresses(text):
-    return [address(it) for it in text.split(",")]
+    return [address_here(it) for it in text.split(",")]
 
 
 def parser_of(usage, description):

@@ -2,7 +2,7 @@
 import collections
 
 from companion.links import Link
-from companion.looking import facts_of, in_text
+from companion.looking import in_text
 
 MOST_COMMAND, MOST_WORDS, MOST_WAITING = 1 << 16, 64, 10000
 COMMANDS = "CALL handler arg.., GET variable, PING, ECHO, INFO, QUIT"
@@ -96,7 +96,7 @@ class Resp(Link):
         elif what in (b"PING", b"ECHO") and len(words) == 2:
             self.write_bulk(words[1])
         elif what == b"INFO":
-            self.write_bulk(in_text(facts_of(self.companion)).replace("\n", "\r\n").encode())
+            self.write_bulk(self.companion.told(in_text).replace("\n", "\r\n").encode())
         elif what == b"COMMAND":
             # redis-cli asks for what there is
             self.write(b"*0\r\n")

@@ -6,6 +6,7 @@ import ssl
 Contexts = collections.namedtuple("Contexts", "heard told clients")
 NONE = Contexts(None, None, None)
 FLIGHTS = 10  # more than a handshake has
+HANDSHAKE = 5.0  # seconds for the handshake of one who connects, who costs a socket and room meanwhile
 
 
 def contexts_of(o):
@@ -46,6 +47,11 @@ def fault_of(contexts, host):
         except ssl.SSLError as error:
             return str(error)
     return None
+
+
+def serving(context):
+    """How a server is made that speaks by a context; without TLS where that is None."""
+    return {"ssl": context, "ssl_handshake_timeout": HANDSHAKE} if context else {}
 
 
 def tell_faults(contexts, tell):

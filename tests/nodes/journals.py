@@ -1,12 +1,14 @@
 """Journals, and what stops of the machine leave of them. tests/lose-writes.c, preloaded beside a program, notes what isn't synced."""
 import mmap
 import os
+import re
 import struct
 import subprocess
 
 TESTS = os.path.dirname(os.path.dirname(os.path.abspath(__file__)))
 SECTOR = 512
 HEAD, END = b"rexnode\n", b"\xff\1"
+LATER = re.compile(END + b"[^\\0]")  # where no whole record stands before it a later one does
 PROMISED, ACCEPTED, KNOWN, IDENTITY = 1, 2, 3, 7
 
 # the numbers of a machine, as tests/lose-writes.c has them
@@ -75,8 +77,7 @@ def records_and_end(bytes_):
             record.append(second + 252)
         else:
             break
-    later = bytes_.find(END, end)
-    if later >= 0 and any(bytes_[later + 2:]):
+    if LATER.search(bytes_, end):
         raise BadJournal("a journal has a gap at %d" % end)
     return records, end
 
@@ -129,8 +130,8 @@ def forget_stale(path):
 
 
 def lose(path, dice, part):
-    """Stops the machine: this part of the sectors that were written and not synced is left old, 0 past the old end, and maybe a front of what was
-    added. Answers whether that changed the journal."""
+    """Stops the machine: of what was written and not synced this part is left old, 0 past the old end, sector by sector or byte by byte, and maybe a front of
+    what was added. Answers whether that changed the journal."""
     entries = entries_at(path + ".stale") + entries_at(path + ".undo")
     forget_stale(path)
     if not entries:
@@ -143,10 +144,13 @@ def lose(path, dice, part):
         del old[max(length, 0):]
     end = len(old)
     old += bytes(len(new) - end)
-    image = bytearray(new)
+    image, piece = bytearray(new), dice.choice([1, SECTOR])
     for sector in range(0, len(new), SECTOR):
-        if dice.random() < part:
-            image[sector:sector + SECTOR] = old[sector:sector + SECTOR]
+        if old[sector:sector + SECTOR] == new[sector:sector + SECTOR]:
+            continue
+        for at in range(sector, min(sector + SECTOR, len(new)), piece):
+            if dice.random() < part:
+                image[at:at + piece] = old[at:at + piece]
     if end < len(new) and dice.random() < 0.5:
         del image[dice.randrange(end, len(new) + 1):]
     with open(path, "r+b") as file:
@@ -168,7 +172,9 @@ def tear(path, dice):
             left[at] = 0
     left[dice.randrange(len(left))] = 0
     with open(path, "r+b") as file:
-        file.truncate(max(end, dice.choice([end, len(bytes_)])))
+        # what an earlier stop left there is gone: no stop leaves parts of two
+        file.truncate(end)
         file.seek(end)
-        file.write(left[:dice.randrange(len(left) + 1)])
+        file.write(left[:dice.choice([len(left), dice.randrange(len(left) + 1)])])
+        file.truncate(max(file.tell(), dice.choice([end, len(bytes_)])))
     return True
