@@ -28,7 +28,8 @@ class Browser:
     """A browser with one page. It keeps what it has to keep in `folder`, and goes on until `with` ends."""
 
     def __init__(self, program, folder):
-        words = ["--headless=new", "--no-sandbox", "--disable-gpu", "--no-first-run", "--remote-debugging-pipe", "--window-size=1200,750", "--user-data-dir=" + folder, "about:blank"]
+        words = ["--headless=new", "--no-sandbox", "--disable-gpu", "--no-first-run", "--remote-debugging-pipe", "--window-size=1200,750",
+                 "--user-data-dir=" + folder, "about:blank"]
         # it hears by the descriptor 3, and answers by 4
         wired = ["sh", "-c", 'exec "$@" 3<&0 4>&1 </dev/null >/dev/null', "sh", program, *words]
         self.process = subprocess.Popen(wired, stdin=subprocess.PIPE, stdout=subprocess.PIPE, stderr=subprocess.DEVNULL, bufsize=0)
@@ -111,7 +112,8 @@ class Browser:
         self.settle()
 
     def click(self, selector):
-        place = self.value("(() => { const it = document.querySelector(%s).getBoundingClientRect(); return [it.x + it.width / 2, it.y + it.height / 2] })()" % json.dumps(selector))
+        box = "document.querySelector(%s).getBoundingClientRect()" % json.dumps(selector)
+        place = self.value("(it => [it.x + it.width / 2, it.y + it.height / 2])(%s)" % box)
         for kind in ("mousePressed", "mouseReleased"):
             self.ask("Input.dispatchMouseEvent", type=kind, x=place[0], y=place[1], button="left", clickCount=1)
         self.settle()
@@ -122,4 +124,5 @@ class Browser:
             method, parts = event.get("method"), event.get("params", {})
             need(method not in ("Runtime.exceptionThrown", "Runtime.consoleAPICalled"), "the page says %s" % json.dumps(parts)[:300])
             need(method != "Log.entryAdded" or parts["entry"]["level"] not in ("error", "warning"), "the browser says %s" % json.dumps(parts)[:300])
-            need(method != "Network.requestWillBeSent" or parts["request"]["url"].startswith((own, "about:")), "a request for %s" % parts.get("request", {}).get("url"))
+            url = parts["request"]["url"] if method == "Network.requestWillBeSent" else own
+            need(url.startswith((own, "about:")), "a request for %s" % url)
