@@ -11,6 +11,7 @@ pub mod Changes
 pub mod LanesAgain
 pub mod Variables
 pub mod Counting
+pub mod Passing
 pub mod Sounding
 pub mod Queueing
 pub mod Whole

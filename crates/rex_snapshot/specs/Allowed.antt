@@ -1,5 +1,5 @@
 -- Which fields of a snapshot are allowed after those before them.
-use Rattle.std.specs.Prelude.{◌==◌, ℕ, ◌+◌, ◌-◌, ◌&&◌, Bool, true, false, not, List, length, nat_eq, nat_lt, nat_le, Option, Some, None, slice_index_or, if◌then◌else◌}
+use Rattle.std.specs.Prelude.{◌≡◌, ◌==◌, ℕ, ◌+◌, ◌-◌, ◌&&◌, Bool, true, false, not, List, length, nat_eq, nat_lt, nat_le, Option, Some, None, slice_index_or, if◌then◌else◌}
 use Rattle.std.specs.List.{list_all, list_any, count_by}
 use Rattle.rex_syntax.specs.declared.line.Line.{Line}
 use Rattle.rex_syntax.specs.declared.line.Line.TheVariants.{Wait}
@@ -15,6 +15,7 @@ use Rattle.rex_state.specs.Touched.{held_in}
 use Rattle.rex_state.specs.Machine.{is_in, no_lane}
 use Rattle.rex_wire.specs.Ranges.{is_between}
 use Rattle.rex_snapshot.specs.declared.parts.Seat.{Seat}
+use Rattle.rex_snapshot.specs.declared.ahead.Ahead.{Ahead}
 use Rattle.rex_snapshot.specs.Locksets.{line_in, lockset_at, is_apart}
 use Rattle.rex_event.specs.declared.event.TheConstants.{CLIENTS, SEQUENCES}
 
@@ -131,3 +132,12 @@ may_be_sequence seats client n = is_between 1 SEQUENCES n && list_all (λ s. has
 -- 0, for no reply, exactly where a lane serves the client; otherwise 1
 abbrev pub may_be_replied : List Seat → ℕ → ℕ → Bool
 may_be_replied seats client n = if is_served seats client then (n == 0) else (n == 1)
+
+-- no lane's client is between this one and the next, and so many are above this one
+pub record IsAhead (seats : List Seat) (above : ℕ) (a : Ahead) : Type 0 where
+  pub none_between : list_any (λ s. is_skipped above a.next s.lane.frame) seats ≡ false
+  pub count_is : a.count ≡ count_by (λ s. is_beyond above s.lane.frame) seats
+
+-- a client is between the two
+abbrev pub is_free : ℕ → Ahead → ℕ → Bool
+is_free above a client = nat_lt above client && nat_lt client a.next

@@ -1,6 +1,7 @@
 //! The bytes of a state in two versions, both ways.
 #![tactic(auto)]
 
+mod ahead;
 mod allowed;
 pub mod laws;
 mod limits;
