@@ -1,5 +1,5 @@
 -- What the records of a keeper hold.
-use Rattle.std.proofs.Common.{◌≡◌, ℕ, suc, ◌+◌, ◌-◌, ◌^◌, ◌<◌, Bool, true, false, List, [], ◌∷◌, length, take, drop, drop-cons, get_or, Result, Ok, Err, Option, Some, None, ◌⊎◌, inl, inr, refl, sym, ap, subst, ◌∙◌, arith}
+use Rattle.std.proofs.Common.{◌≡◌, ℕ, suc, ◌+◌, ◌-◌, ◌^◌, ◌<◌, Bool, true, false, List, [], ◌∷◌, ◌++◌, length, take, drop, drop-cons, take-append-drop, get_or, Result, Ok, Err, Option, Some, None, ◌⊎◌, inl, inr, refl, sym, ap, subst, ◌∙◌, arith}
 use Rattle.std.specs.Prelude.{fold, not, nat_lt, IsOk, slice_index_or, ◌||◌, if◌then◌else◌}
 use Rattle.std.proofs.Math.Seq.{drop-length}
 use Rattle.std.proofs.lemmas.List.{get_or-map, length-map, take_more}
@@ -12,12 +12,13 @@ use Rattle.rex_durable.specs.declared.records.Rec.{Rec}
 use Rattle.rex_durable.specs.declared.records.Rec.TheVariants.{Promised, Accepted, Known, Checkpoint, Dropped, Transferred}
 use Rattle.rex_durable.specs.Spelling.{HasSpelling, record_bytes}
 use Rattle.rex_durable.specs.Kept.{Spell}
-use Rattle.rex_durable.specs.Recovery.{Saved, checkpoint, checkpoint_in, snapshot_of}
+use Rattle.rex_durable.specs.declared.recovery.Recovered.{Recovered}
+use Rattle.rex_durable.specs.Recovery.{Saved, checkpoint, checkpoint_in, offset, snapshot_of}
 use Rattle.rex_state.specs.Value.{StateValue}
 use Rattle.std.specs.List.{filter_map}
 use Rattle.std.proofs.lemmas.Option.{same_Some}
 use Rattle.rex_node.specs.declared.contents.Place.{Place}
-use Rattle.rex_node.specs.Restarting.{bad_at, bad_behind, bad_in, ends_old, first_bad, has_state, is_held, is_state, old_behind, old_in, place_or}
+use Rattle.rex_node.specs.Restarting.{IsFound, IsRead, IsSaved, bad_at, bad_behind, bad_in, ends_old, first_bad, has_state, is_held, is_state, old_behind, old_in, place_or, state_at}
 use Rattle.rex_node.specs.Stated.{is_state_kind}
 
 -- ---- one record
@@ -38,20 +39,61 @@ known_held offset instance value s =
     ap (λ (n : ℕ). nat_lt offset n) (from_be_bytes-to_be_bytes_4 instance few)
 
 -- a state is looked into where none comes behind it
-only_last : (later : Bool) (bad : Option ℕ) → (if not later then bad else None) ≡ (if later then None else bad)
-only_last true bad = refl
-only_last false bad = refl
+only_last : (later : Bool) (last bad : Option ℕ) → (later ≡ false → last ≡ bad) → (if not later then last else None) ≡ (if later then None else bad)
+only_last true last bad h = refl
+only_last false last bad h = h refl
+
+-- a record with a state, behind which none comes, is the one whose state was read, and this is where that is bad, if it is
+abbrev pub IsLast : Declarations → Option ℕ → Rec → List Rec → Type 0
+IsLast service last r rs = (saved : Saved) → checkpoint_in r ≡ Some saved → has_state rs ≡ false → last ≡ bad_at (state_in service saved.snapshot)
 
 -- what a record holds is bad where the record is
-pub bad_is : (service : Declarations) (offset : ℕ) (r : Rec) (rs : List Rec) → HasSpelling r
-    → bad_behind service (get_or (record_bytes r) 0 0) (is_held offset (record_bytes r)) (drop 9 (record_bytes r)) (has_state rs) ≡ bad_in service offset r rs
-bad_is service offset (Promised ballot) rs s = refl
-bad_is service offset (Accepted ballot instance value) rs s = refl
-bad_is service offset (Known instance value) rs s =
+pub bad_is : (service : Declarations) (offset : ℕ) (last : Option ℕ) (r : Rec) (rs : List Rec) → HasSpelling r → IsLast service last r rs
+    → bad_behind last (get_or (record_bytes r) 0 0) (is_held offset (record_bytes r)) (drop 9 (record_bytes r)) (has_state rs) ≡ bad_in service offset r rs
+bad_is service offset last (Promised ballot) rs s h = refl
+bad_is service offset last (Accepted ballot instance value) rs s h = refl
+bad_is service offset last (Known instance value) rs s h =
     ap (λ (held : Bool). if held then bad_at (delta_in value) else None) (known_held offset instance value s)
-bad_is service offset (Checkpoint deltas snapshot) rs s = only_last (has_state rs) (bad_at (state_in service snapshot))
-bad_is service offset (Dropped deltas) rs s = refl
-bad_is service offset (Transferred deltas snapshot) rs s = only_last (has_state rs) (bad_at (state_in service snapshot))
+bad_is service offset last (Checkpoint deltas snapshot) rs s h =
+    only_last (has_state rs) last (bad_at (state_in service snapshot)) (h (record { deltas = deltas; snapshot = snapshot }) refl)
+bad_is service offset last (Dropped deltas) rs s h = refl
+bad_is service offset last (Transferred deltas snapshot) rs s h =
+    only_last (has_state rs) last (bad_at (state_in service snapshot)) (h (record { deltas = deltas; snapshot = snapshot }) refl)
+
+-- ---- the last state that records have
+
+-- the one before them, where they have none
+none_later : (rs : List Rec) (before : Option Saved) → has_state rs ≡ false → fold (λ (b : Option Saved) x. Some x) before (filter_map checkpoint_in rs) ≡ before
+none_later [] before e = refl
+none_later (Promised ballot ∷ rs) before e = none_later rs before e
+none_later (Accepted ballot instance value ∷ rs) before e = none_later rs before e
+none_later (Known instance value ∷ rs) before e = none_later rs before e
+none_later (Checkpoint deltas snapshot ∷ rs) before e = absurd (cc)
+none_later (Dropped deltas ∷ rs) before e = none_later rs before e
+none_later (Transferred deltas snapshot ∷ rs) before e = absurd (cc)
+
+-- that of a record behind which none comes
+last_later : (front : List Rec) (r : Rec) (rs : List Rec) (saved : Saved) (before : Option Saved) → checkpoint_in r ≡ Some saved → has_state rs ≡ false
+    → fold (λ (b : Option Saved) x. Some x) before (filter_map checkpoint_in (front ++ r ∷ rs)) ≡ Some saved
+last_later [] (Promised ballot) rs saved before is e = absurd (cc)
+last_later [] (Accepted ballot instance value) rs saved before is e = absurd (cc)
+last_later [] (Known instance value) rs saved before is e = absurd (cc)
+last_later [] (Checkpoint deltas snapshot) rs saved before is e = none_later rs (Some (record { deltas = deltas; snapshot = snapshot })) e ∙ is
+last_later [] (Dropped deltas) rs saved before is e = absurd (cc)
+last_later [] (Transferred deltas snapshot) rs saved before is e = none_later rs (Some (record { deltas = deltas; snapshot = snapshot })) e ∙ is
+last_later (Promised ballot ∷ front) r rs saved before is e = last_later front r rs saved before is e
+last_later (Accepted ballot instance value ∷ front) r rs saved before is e = last_later front r rs saved before is e
+last_later (Known instance value ∷ front) r rs saved before is e = last_later front r rs saved before is e
+last_later (Checkpoint deltas snapshot ∷ front) r rs saved before is e = last_later front r rs saved (Some (record { deltas = deltas; snapshot = snapshot })) is e
+last_later (Dropped deltas ∷ front) r rs saved before is e = last_later front r rs saved before is e
+last_later (Transferred deltas snapshot ∷ front) r rs saved before is e = last_later front r rs saved (Some (record { deltas = deltas; snapshot = snapshot })) is e
+
+-- so it is the one that was read
+pub is_last : (service : Declarations) (last : Option ℕ) (all front : List Rec) (r : Rec) (rs : List Rec) → all ≡ front ++ r ∷ rs → last ≡ bad_at (state_at service (snapshot_of (checkpoint all)))
+    → IsLast service last r rs
+is_last service last all front r rs parts read = λ saved is none.
+    let found : checkpoint all ≡ Some saved = ap checkpoint parts ∙ last_later front r rs saved None is none in
+    read ∙ ap (λ (o : Option Saved). bad_at (state_at service (snapshot_of o))) found
 
 -- so is the version of the last checkpoint, if there is one, where this record is the last one
 old_is : (before : Bool) (r : Rec) → old_behind before (get_or (record_bytes r) 0 0) (drop 9 (record_bytes r)) ≡ old_in before r
@@ -90,23 +132,24 @@ module _ (kept : List (List ℕ)) (rs : List Rec) (s : Spell kept rs) where
 
 -- ---- from the last record on
 
--- the last records, so many, were looked into: this is the first bad place in them, and whether one with a state is among them
-pub record IsLooked (service : Declarations) (offset : ℕ) (kept : List (List ℕ)) (back : ℕ) (found : Option Place) (later : Bool) : Type 0 where
-  pub bad : (rs : List Rec) → Spell kept rs → found ≡ first_bad service offset (suc (length rs - back)) (drop (length rs - back) rs)
+-- the last records, so many, were looked into: this is the first bad place in them, where the last state is bad here, if it is; and whether one with a state is among them
+pub record IsLooked (offset : ℕ) (kept : List (List ℕ)) (last : Option ℕ) (back : ℕ) (found : Option Place) (later : Bool) : Type 0 where
+  pub bad : (service : Declarations) (rs : List Rec) → Spell kept rs → last ≡ bad_at (state_at service (snapshot_of (checkpoint rs)))
+      → found ≡ first_bad service offset (suc (length rs - back)) (drop (length rs - back) rs)
   pub more : (rs : List Rec) → Spell kept rs → later ≡ has_state (drop (length rs - back) rs)
 
-pub looked_none : (service : Declarations) (offset : ℕ) (kept : List (List ℕ)) → IsLooked service offset kept 0 None false
-looked_none service offset kept = record {
-  bad = λ rs h. ap (first_bad service offset (suc (length rs - 0))) (sym (none_left rs));
+pub looked_none : (offset : ℕ) (kept : List (List ℕ)) (last : Option ℕ) → IsLooked offset kept last 0 None false
+looked_none offset kept last = record {
+  bad = λ service rs h read. ap (first_bad service offset (suc (length rs - 0))) (sym (none_left rs));
   more = λ rs h. ap has_state (sym (none_left rs));
 }
   where
     none_left : (rs : List Rec) → drop (length rs - 0) rs ≡ []
     none_left rs = ap (λ (n : ℕ). drop n rs) (let e : length rs - 0 ≡ length rs = omega arith in e) ∙ drop-length rs
 
-module _ (service : Declarations) (offset : ℕ) (kept : List (List ℕ)) (back index : ℕ) (found now : Option Place) (later now_later : Bool) (bytes : List ℕ) (bad : Option ℕ) (h : IsLooked service offset kept back found later)
+module _ (offset : ℕ) (kept : List (List ℕ)) (last : Option ℕ) (back index : ℕ) (found now : Option Place) (later now_later : Bool) (bytes : List ℕ) (bad : Option ℕ) (h : IsLooked offset kept last back found later)
     (few : back < length kept) (index_is : index ≡ length kept - 1 - back) (bytes_are : bytes ≡ slice_index_or kept index [])
-    (bad_is_so : bad ≡ bad_behind service (get_or bytes 0 0) (is_held offset bytes) (drop 9 bytes) later)
+    (bad_is_so : bad ≡ bad_behind last (get_or bytes 0 0) (is_held offset bytes) (drop 9 bytes) later)
     (now_is : now ≡ place_or (index + 1) bad found) (then_is : now_later ≡ (later || is_state_kind (get_or bytes 0 0))) where
   module _ (rs : List Rec) (s : Spell kept rs) where
     abbrev d : Rec
@@ -133,28 +176,36 @@ module _ (service : Declarations) (offset : ℕ) (kept : List (List ℕ)) (back 
     at : length rs - (back + 1) ≡ index
     at = omega (arith, few, index_is, long)
 
+    from_here : drop index rs ≡ r ∷ drop (length rs - back) rs
+    from_here = drop-cons rs index d there ∙ ap (λ (n : ℕ). r ∷ drop n rs) (sym after)
+
     parts : drop (length rs - (back + 1)) rs ≡ r ∷ drop (length rs - back) rs
-    parts = ap (λ (n : ℕ). drop n rs) at ∙ drop-cons rs index d there ∙ ap (λ (n : ℕ). r ∷ drop n rs) (sym after)
+    parts = ap (λ (n : ℕ). drop n rs) at ∙ from_here
 
-    bad_here : bad ≡ bad_in service offset r (drop (length rs - back) rs)
-    bad_here =
-        bad_is_so ∙ ap (λ (b : List ℕ). bad_behind service (get_or b 0 0) (is_held offset b) (drop 9 b) later) spelled
-        ∙ ap (bad_behind service (get_or (record_bytes r) 0 0) (is_held offset (record_bytes r)) (drop 9 (record_bytes r))) (h.more rs s) ∙ bad_is service offset r (drop (length rs - back) rs) spelling
-
-    bad_now : now ≡ first_bad service offset (suc (length rs - (back + 1))) (drop (length rs - (back + 1)) rs)
-    bad_now =
-        now_is ∙ ap (λ (o : Option ℕ). place_or (index + 1) o found) bad_here ∙ ap (place_or (index + 1) (bad_in service offset r (drop (length rs - back) rs))) (h.bad rs s)
-        ∙ ap (λ (n : ℕ). place_or n (bad_in service offset r (drop (length rs - back) rs)) (first_bad service offset (suc (length rs - back)) (drop (length rs - back) rs))) (let e : index + 1 ≡ suc (length rs - (back + 1)) = omega (arith, at) in e)
-        ∙ ap (λ (n : ℕ). place_or (suc (length rs - (back + 1))) (bad_in service offset r (drop (length rs - back) rs)) (first_bad service offset (suc n) (drop (length rs - back) rs))) (let e : length rs - back ≡ suc (length rs - (back + 1)) = omega (arith, at, after) in e)
-        ∙ ap (first_bad service offset (suc (length rs - (back + 1)))) (sym parts)
+    whole : rs ≡ take index rs ++ r ∷ drop (length rs - back) rs
+    whole = sym (take-append-drop index rs) ∙ ap (λ (others : List Rec). take index rs ++ others) from_here
 
     more_now : now_later ≡ has_state (drop (length rs - (back + 1)) rs)
     more_now =
         then_is ∙ ap (λ (b : List ℕ). later || is_state_kind (get_or b 0 0)) spelled ∙ kind_of r later ∙ ap (λ (t : Bool). if is_state r then true else t) (h.more rs s)
         ∙ ap has_state (sym parts)
 
-  pub looked_more : IsLooked service offset kept (back + 1) now now_later
-  looked_more = record { bad = bad_now; more = more_now }
+    module _ (service : Declarations) (read : last ≡ bad_at (state_at service (snapshot_of (checkpoint rs)))) where
+      bad_here : bad ≡ bad_in service offset r (drop (length rs - back) rs)
+      bad_here =
+          bad_is_so ∙ ap (λ (b : List ℕ). bad_behind last (get_or b 0 0) (is_held offset b) (drop 9 b) later) spelled
+          ∙ ap (bad_behind last (get_or (record_bytes r) 0 0) (is_held offset (record_bytes r)) (drop 9 (record_bytes r))) (h.more rs s)
+          ∙ bad_is service offset last r (drop (length rs - back) rs) spelling (is_last service last rs (take index rs) r (drop (length rs - back) rs) whole read)
+
+      bad_now : now ≡ first_bad service offset (suc (length rs - (back + 1))) (drop (length rs - (back + 1)) rs)
+      bad_now =
+          now_is ∙ ap (λ (o : Option ℕ). place_or (index + 1) o found) bad_here ∙ ap (place_or (index + 1) (bad_in service offset r (drop (length rs - back) rs))) (h.bad service rs s read)
+          ∙ ap (λ (n : ℕ). place_or n (bad_in service offset r (drop (length rs - back) rs)) (first_bad service offset (suc (length rs - back)) (drop (length rs - back) rs))) (let e : index + 1 ≡ suc (length rs - (back + 1)) = omega (arith, at) in e)
+          ∙ ap (λ (n : ℕ). place_or (suc (length rs - (back + 1))) (bad_in service offset r (drop (length rs - back) rs)) (first_bad service offset (suc n) (drop (length rs - back) rs))) (let e : length rs - back ≡ suc (length rs - (back + 1)) = omega (arith, at, after) in e)
+          ∙ ap (first_bad service offset (suc (length rs - (back + 1)))) (sym parts)
+
+  pub looked_more : IsLooked offset kept last (back + 1) now now_later
+  looked_more = record { bad = λ service rs s read. bad_now rs s service read; more = more_now }
 
 -- ---- from the first record on
 
@@ -225,3 +276,39 @@ saved_good service offset rs snapshot good e = by (checkpoint rs) refl e
     by : (o : Option Saved) → checkpoint rs ≡ o → snapshot_of o ≡ Some snapshot → IsOk (state_in service snapshot)
     by None f g = absurd (cc)
     by (Some saved) f g = subst (λ (bytes : List ℕ). IsOk (state_in service bytes)) (same_Some saved.snapshot snapshot g) (or_none saved (last_good service offset rs 1 None saved good f))
+
+-- so the state that was read isn't bad
+pub read_good : (service : Declarations) (offset : ℕ) (rs : List Rec) → first_bad service offset 1 rs ≡ None → bad_at (state_at service (snapshot_of (checkpoint rs))) ≡ None
+read_good service offset rs good = by (snapshot_of (checkpoint rs)) refl
+  where
+    fine : (q : Result StateValue ℕ) → IsOk q → bad_at q ≡ None
+    fine (Ok s) h = refl
+    fine (Err e) h = absurd (cc)
+
+    by : (o : Option (List ℕ)) → snapshot_of (checkpoint rs) ≡ o → bad_at (state_at service o) ≡ None
+    by None e = refl
+    by (Some snapshot) e = fine (state_in service snapshot) (saved_good service offset rs snapshot good e)
+
+-- ---- records that were read
+
+module _ (service : Declarations) (kept : List (List ℕ)) (x : Recovered) (r : IsRead kept x) where
+  -- the state that was read is the last one
+  pub read_last : (saved : Result StateValue ℕ) (last : Option ℕ) → saved ≡ state_at service x.snapshot → last ≡ bad_at saved → last ≡ bad_at (state_at service (snapshot_of (checkpoint r.rs)))
+  read_last saved last is bad = bad ∙ ap bad_at is ∙ ap (λ (y : Recovered). bad_at (state_at service y.snapshot)) r.is
+
+  pub none_bad : (found : Option Place) → found ≡ first_bad service x.offset 1 r.rs → found ≡ None → IsFound service kept x
+  none_bad found is none = record { read = r; good = ap (λ (y : Recovered). first_bad service y.offset 1 r.rs) (sym r.is) ∙ sym is ∙ none }
+
+  -- so it isn't bad where no record is
+  pub not_bad : (at : ℕ) → IsFound service kept x → Err at ≡ state_at service x.snapshot → ⊥
+  not_bad at f is = some_none (read_last_of f ∙ read_good service (offset f.read.rs) f.read.rs f.good)
+    where
+      read_last_of : (f : IsFound service kept x) → bad_at {A = StateValue} (Err at) ≡ bad_at (state_at service (snapshot_of (checkpoint f.read.rs)))
+      read_last_of f = ap bad_at is ∙ ap (λ (y : Recovered). bad_at (state_at service y.snapshot)) f.read.is
+
+      some_none : bad_at {A = StateValue} (Err at) ≡ None → ⊥
+      some_none e = cc
+
+pub saved_so : (service : Declarations) (snapshot : Option (List ℕ)) (s : StateValue) → Ok s ≡ state_at service snapshot → IsSaved service snapshot s
+saved_so service None s e = cc
+saved_so service (Some bytes) s e = sym e

@@ -69,7 +69,7 @@ module _ {K : Type 0} (records : K → List (List ℕ)) (service : Declarations)
   log = log_of service past (records keeper)
 
   said : Says service x log
-  said = recovered_says service past (records keeper) h.found.rs x h.found.spelled h.found.is
+  said = recovered_says service past (records keeper) h.found.read.rs x h.found.read.spelled h.found.read.is
 
   abbrev node_with : AcceptorValue → WindowValue → NodeValue K
   node_with acceptor window = record {
@@ -101,25 +101,25 @@ module _ {K : Type 0} (records : K → List (List ℕ)) (service : Declarations)
     all_known = whole_is service past log x said forgotten
 
     runs_there : run service (start_of service) (trace_of (take x.base (first x.offset past ++ x.known))) ≡ Some start
-    runs_there = subst (λ (vs : List Value). run service (start_of service) (trace_of (take x.base vs)) ≡ Some start) (sym all_known) (start_runs service log x start said fit right h.start_is h.found.fits.snapshot)
+    runs_there = subst (λ (vs : List Value). run service (start_of service) (trace_of (take x.base vs)) ≡ Some start) (sym all_known) (start_runs service log x start said fit right h.start_is h.found.read.fits.snapshot)
 
     node_up : IsUp service (whole past (node_with acceptor_is window_is)) (here_of records service past (node_with acceptor_is window_is))
     node_up = record {
       promised = said.promised;
       accepted = said.accepted;
       offset = said.offset;
-      low = h.found.fits.dropped;
+      low = h.found.read.fits.dropped;
       known = all_known;
       base = said.base;
-      old_base = h.old_is ∙ old_base_is service past (records keeper) h.found.rs h.found.spelled;
+      old_base = h.old_is ∙ old_base_is service past (records keeper) h.found.read.rs h.found.read.spelled;
       start = runs_there;
       replayed = record {
         based = subst (λ (n : ℕ). n ≤ x.base) said.base (omega arith);
-        replayed = subst (λ (n : ℕ). x.base ≤ n) said.count h.found.fits.base;
+        replayed = subst (λ (n : ℕ). x.base ≤ n) said.count h.found.read.fits.base;
       };
       ahead = λ _. runs_there;
       caught_up = λ t. absurd (false≢true t);
-      short = short_values x.promised x.accepted h.found.fits.accepted;
+      short = short_values x.promised x.accepted h.found.read.fits.accepted;
       proposer = tt;
       acting = tt;
       stamped = tt;
@@ -135,15 +135,15 @@ module _ {K : Type 0} (records : K → List (List ℕ)) (service : Declarations)
         ∙ ap (λ (a : AcceptorValue). node_with a window) (sym acceptor_of)
 
     -- each part is what was read
-    as_recovered : IsAsRecovered service (recovered h.found.rs) (node_with acceptor window)
+    as_recovered : IsAsRecovered service (recovered h.found.read.rs) (node_with acceptor window)
     as_recovered = record {
-      promised = ap (λ (a : AcceptorValue). a.promised) acceptor_of ∙ ap (λ (y : Recovered). y.promised) h.found.is;
-      accepted = ap (λ (a : AcceptorValue). a.accepted) acceptor_of ∙ accepted_are ∙ ap (λ (y : Recovered). y.accepted) h.found.is;
-      offset_is = ap (λ (w : WindowValue). w.offset) window_of ∙ ap (λ (y : Recovered). y.offset) h.found.is;
-      known_are = ap (λ (w : WindowValue). w.values) window_of ∙ ap (λ (y : Recovered). y.known) h.found.is;
-      base_is = ap (λ (y : Recovered). y.base) h.found.is;
-      start = subst (λ (y : Recovered). IsSaved service y.snapshot start) h.found.is h.start_is;
-      replayed = ap (λ (y : Recovered). y.base) h.found.is;
+      promised = ap (λ (a : AcceptorValue). a.promised) acceptor_of ∙ ap (λ (y : Recovered). y.promised) h.found.read.is;
+      accepted = ap (λ (a : AcceptorValue). a.accepted) acceptor_of ∙ accepted_are ∙ ap (λ (y : Recovered). y.accepted) h.found.read.is;
+      offset_is = ap (λ (w : WindowValue). w.offset) window_of ∙ ap (λ (y : Recovered). y.offset) h.found.read.is;
+      known_are = ap (λ (w : WindowValue). w.values) window_of ∙ ap (λ (y : Recovered). y.known) h.found.read.is;
+      base_is = ap (λ (y : Recovered). y.base) h.found.read.is;
+      start = subst (λ (y : Recovered). IsSaved service y.snapshot start) h.found.read.is h.start_is;
+      replayed = ap (λ (y : Recovered). y.base) h.found.read.is;
       ahead = refl;
       proposer = refl;
       acting = refl;
@@ -155,7 +155,7 @@ module _ {K : Type 0} (records : K → List (List ℕ)) (service : Declarations)
       nodes_are = refl;
       seed_is = refl;
       keeper_is = refl;
-      good = record { rs = h.found.rs; spelled = h.found.spelled; first = h.found.good };
+      good = record { rs = h.found.read.rs; spelled = h.found.read.spelled; first = h.found.good };
       recovered_is = as_recovered;
       old_is = h.old_is;
       node = ap (λ (n : ℕ). record (here_of records service past (node_with acceptor window)) { replayed = n }) said.base;

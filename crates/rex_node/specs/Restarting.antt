@@ -53,11 +53,11 @@ abbrev pub is_held : ℕ → List ℕ → Bool
 is_held offset (kind ∷ a ∷ b ∷ c ∷ d ∷ content) = nat_lt offset (from_be_bytes w32 (a ∷ b ∷ c ∷ d ∷ []))
 is_held offset _ = false
 
--- the same from a record's kind, from whether its known value is held, from what stands behind its length, and from whether a record with a state comes behind it
-abbrev pub bad_behind : Declarations → ℕ → Bool → List ℕ → Bool → Option ℕ
-bad_behind service kind held content later =
+-- the same from where the last state is bad, if it is, from a record's kind, from whether its known value is held, from what stands behind its length, and from whether a record with a state comes behind it
+abbrev pub bad_behind : Option ℕ → ℕ → Bool → List ℕ → Bool → Option ℕ
+bad_behind last kind held content later =
     if kind == 3 && held then bad_at (delta_in content)
-    else if is_state_kind kind && not later then bad_at (state_in service content)
+    else if is_state_kind kind && not later then last
     else None
 
 -- this place in the record of the number, or else a later one
@@ -83,15 +83,23 @@ IsRestartFault service kept OutOfMemory = Unit {0}
 
 -- ---- what they say of a node
 
--- this is what the lists of bytes, none of which is bad, say of a node
-pub record IsFound (service : Declarations) (kept : List (List ℕ)) (x : Recovered) : Type 0 where
+-- the lists of bytes spell records, and this is what they say of a node
+pub record IsRead (kept : List (List ℕ)) (x : Recovered) : Type 0 where
   pub rs : List Rec
   pub spelled : Spell kept rs
-  pub good : first_bad service (offset rs) 1 rs ≡ None
   pub is : x ≡ recovered rs
   pub fits : IsRecovered x
 
--- the state that a snapshot spells; without one, the start
+-- and none of them is bad
+pub record IsFound (service : Declarations) (kept : List (List ℕ)) (x : Recovered) : Type 0 where
+  pub read : IsRead kept x
+  pub good : first_bad service (offset read.rs) 1 read.rs ≡ None
+
+-- the state that a snapshot spells, or where it is bad; without one, the start
+abbrev pub state_at : Declarations → Option (List ℕ) → Result StateValue ℕ
+state_at service None = Ok (start_of service)
+state_at service (Some snapshot) = state_in service snapshot
+
 abbrev pub IsSaved : Declarations → Option (List ℕ) → StateValue → Type 0
 IsSaved service None s = s ≡ start_of service
 IsSaved service (Some snapshot) s = state_in service snapshot ≡ Ok s
@@ -112,7 +120,7 @@ old_behind before kind content = if kind == 4 then is_old (version_in content) e
 pub record IsRecalled (service : Declarations) (kept : List (List ℕ)) (x : Recovered) (start : StateValue) (old : Bool) : Type 0 where
   pub found : IsFound service kept x
   pub start_is : IsSaved service x.snapshot start
-  pub old_is : old ≡ ends_old found.rs
+  pub old_is : old ≡ ends_old found.read.rs
 
 -- the last checkpoint, or state that was taken over, is of known deltas, and of the state to which these run
 abbrev pub HasRightBase : Declarations → List (ModelRec Value StateValue) → Type 0

@@ -1,20 +1,18 @@
 //! What the records of a keeper hold.
 
-ghost use Rattle.std.specs.Prelude.{◌≡◌, ◌==◌, ◌||◌, ℕ, List as Items, drop, get_or, IfOk};
+ghost use Rattle.std.specs.Prelude.{◌≡◌, ◌==◌, ◌||◌, ℕ, List as Items, drop, get_or};
+ghost use Rattle.rex_syntax.specs.declared.service.Declarations.{Declarations};
 ghost use Rattle.rex_delta.specs.Reading.{delta_in};
 ghost use Rattle.rex_durable.specs.declared.records.Rec.{Rec};
 ghost use Rattle.rex_durable.specs.Kept.{Spell};
-ghost use Rattle.rex_snapshot.specs.Reading.{state_in};
+ghost use Rattle.rex_durable.specs.Recovery.{checkpoint, snapshot_of};
 ghost use Rattle.rex_node.specs.Restarting as spec;
 ghost use Rattle.rex_node.specs.Stated.{is_state_kind};
 
 use crate::checkpointing::is_old;
-use rex_delta::DecodeError;
 use rex_durable::layout::{CHECKPOINT, HEAD, KNOWN, TRANSFERRED};
 use rex_snapshot::version_in;
-use rex_syntax::checked::Checked;
 use rex_traits::Keeper;
-use std::alloc::{AllocError, Global};
 
 /// The number of a record, counted from 1, and an offset in it.
 #[derive(Clone, Copy, Debug, PartialEq, Eq)]
@@ -58,46 +56,21 @@ fn is_held(bytes: &[u8], offset: u32) -> bool
 fn bad_in_value(value: &[u8]) -> Option<usize>
     ensures { result ≡ spec.bad_at (delta_in value.now) }
 {
-    match rex_delta::check(value) {
-        Ok(_) => None,
-        Err(at) => Some(at.saturating_add(HEAD)),
-    }
+    bad_at(&rex_delta::check(value))
 }
 
-// Where a record is bad that holds this snapshot.
-fn bad_in_snapshot(
-    alloc: Global,
-    svc: &Checked,
-    snapshot: &[u8],
-) -> Result<Option<usize>, AllocError>
-    ensures { IfOk result (λ bad. bad ≡ spec.bad_at (state_in svc.now snapshot.now)) }
+// Where a record of a node of this offset is bad, behind which one with a state comes or none, where the last state is bad here, or isn't.
+fn bad_in(bytes: &[u8], offset: u32, later: bool, last: Option<usize>) -> Option<usize>
+    ensures { result ≡ spec.bad_behind last (get_or bytes.now 0 0) (spec.is_held offset bytes.now) (drop 9 bytes.now) later }
 {
-    match rex_snapshot::decode(alloc, svc, snapshot) {
-        Ok(_) => Ok(None),
-        Err(DecodeError::Bad { at }) => Ok(Some(at.saturating_add(HEAD))),
-        Err(DecodeError::OutOfMemory) => Err(AllocError),
-    }
-}
-
-// Where a record of a node of this offset is bad, behind which one with a state comes or none.
-fn bad_in(
-    alloc: Global,
-    svc: &Checked,
-    bytes: &[u8],
-    offset: u32,
-    later: bool,
-) -> Result<Option<usize>, AllocError>
-    ensures { IfOk result (λ bad. bad ≡ spec.bad_behind svc.now (get_or bytes.now 0 0) (spec.is_held offset bytes.now) (drop 9 bytes.now) later) }
-{
-    let content = content_of(bytes);
     let kind = kind_of(bytes);
     if kind == KNOWN && is_held(bytes, offset) {
-        return Ok(bad_in_value(content));
+        return bad_in_value(content_of(bytes));
     }
     if is_state(kind) && !later {
-        return bad_in_snapshot(alloc, svc, content);
+        return last;
     }
-    Ok(None)
+    None
 }
 
 // Whether a record of this kind holds a state.
@@ -124,15 +97,21 @@ fn place_or(number: usize, bad: Option<usize>, later: Option<Place>) -> Option<P
     }
 }
 
+/// Where a record is bad whose content reads so, if it is.
+pub(crate) fn bad_at<T>(content: &Result<T, usize>) -> Option<usize>
+    ensures { result ≡ spec.bad_at content.now }
+{
+    match content {
+        Ok(_) => None,
+        Err(at) => Some(at.saturating_add(HEAD)),
+    }
+}
+
 /// The first bad place in what a keeper's records hold: known values above the offset have to spell deltas, and the last snapshot,
-/// of a checkpoint or of a state that was taken over, a state.
-pub(crate) fn first_bad<K: Keeper>(
-    alloc: Global,
-    svc: &Checked,
-    keeper: &K,
-    offset: u32,
-) -> Result<Option<Place>, AllocError>
-    ensures { IfOk result (λ bad. (rs : Items Rec) → Spell (K.records keeper.now) rs → bad ≡ spec.first_bad svc.now offset 1 rs) }
+/// of a checkpoint or of a state that was taken over, a state. The caller read that, and says where it is bad.
+pub(crate) fn first_bad<K: Keeper>(keeper: &K, offset: u32, last: Option<usize>) -> Option<Place>
+    ensures { (service : Declarations) (rs : Items Rec) → Spell (K.records keeper.now) rs
+        → last ≡ spec.bad_at (spec.state_at service (snapshot_of (checkpoint rs))) → result ≡ spec.first_bad service offset 1 rs }
 {
     let count = keeper.len();
     let mut found = None;
@@ -140,11 +119,10 @@ pub(crate) fn first_bad<K: Keeper>(
     for back in 0..count {
         let index = count - 1 - back;
         let bytes = keeper.get(index);
-        let bad = bad_in(alloc, svc, bytes, offset, later)?;
-        found = place_or(index + 1, bad, found);
+        found = place_or(index + 1, bad_in(bytes, offset, later, last), found);
         later = comes(later, bytes);
     }
-    Ok(found)
+    found
 }
 
 // Whether the last checkpoint is in the old version, this record being the last one.

@@ -10,9 +10,9 @@ ghost use Rattle.rex_log.specs.Log.{AreRead, log_of};
 ghost use Rattle.rex_node.specs.Parts.{IsNode};
 ghost use Rattle.rex_node.specs.Stated.{AreStated};
 ghost use Rattle.rex_node.specs.declared.restart.RestartFault.TheVariants.{OutOfMemory};
-ghost use Rattle.rex_node.specs.Restarting.{CameUp, HasForgotten, HasRightBase, IsFound, IsRecalled, IsRestartFault, IsSaved};
+ghost use Rattle.rex_node.specs.Restarting.{CameUp, HasForgotten, HasRightBase, IsRead, IsRecalled, IsRestartFault, state_at};
 
-use crate::contents::{Place, ends_old, first_bad};
+use crate::contents::{Place, bad_at, ends_old, first_bad};
 use crate::node::Node;
 use rex_ballot::Proposals;
 use rex_durable::{RecoverFault, Recovered, recover};
@@ -119,8 +119,29 @@ fn recall<K: Keeper>(alloc: Global, svc: &Checked, keeper: &K) -> Result<Recalle
     ensures recalled { IfOk result (λ r. IsRecalled svc.now (K.records keeper.now) r.recovered r.start r.old_base) }
     ensures fault { IfErr result (IsRestartFault svc.now (K.records keeper.now)) }
 {
-    let recovered = read(alloc, svc, keeper)?;
-    let start = saved_state(alloc, svc, &recovered)?;
+    match recover(alloc, keeper) {
+        Ok(recovered) => recall_with(alloc, svc, keeper, recovered),
+        Err(RecoverFault::BadRecord { number, at }) => Err(RestartFault::BadRecord { number, at }),
+        Err(RecoverFault::OutOfMemory) => Err(RestartFault::OutOfMemory),
+    }
+}
+
+// The same, where each record is read.
+fn recall_with<K: Keeper>(
+    alloc: Global,
+    svc: &Checked,
+    keeper: &K,
+    recovered: Recovered,
+) -> Result<Recalled, RestartFault>
+    requires { IsRead (K.records keeper.now) recovered }
+    ensures recalled { IfOk result (λ r. IsRecalled svc.now (K.records keeper.now) r.recovered r.start r.old_base) }
+    ensures fault { IfErr result (IsRestartFault svc.now (K.records keeper.now)) }
+{
+    let saved = saved_state(alloc, svc, &recovered)?;
+    if let Some(Place { number, at }) = first_bad(keeper, recovered.offset, bad_at(&saved)) {
+        return Err(RestartFault::BadRecord { number, at });
+    }
+    let Ok(start) = saved else { unreachable!() };
     let old_base = ends_old(keeper);
     Ok(Recalled {
         recovered,
@@ -129,33 +150,20 @@ fn recall<K: Keeper>(alloc: Global, svc: &Checked, keeper: &K) -> Result<Recalle
     })
 }
 
-// What a keeper's records say of its node, where none is bad.
-fn read<K: Keeper>(alloc: Global, svc: &Checked, keeper: &K) -> Result<Recovered, RestartFault>
-    ensures found { IfOk result (IsFound svc.now (K.records keeper.now)) }
-    ensures fault { IfErr result (IsRestartFault svc.now (K.records keeper.now)) }
-{
-    match recover(alloc, keeper) {
-        Ok(recovered) => match first_bad(alloc, svc, keeper, recovered.offset)? {
-            None => Ok(recovered),
-            Some(Place { number, at }) => Err(RestartFault::BadRecord { number, at }),
-        },
-        Err(RecoverFault::BadRecord { number, at }) => Err(RestartFault::BadRecord { number, at }),
-        Err(RecoverFault::OutOfMemory) => Err(RestartFault::OutOfMemory),
-    }
-}
-
-// The state at the base; without one, the start.
-fn saved_state(alloc: Global, svc: &Checked, recovered: &Recovered) -> Result<State, RestartFault>
-    requires { (s : List ℕ) → recovered.now.snapshot ≡ Some s → IsOk (state_in svc.now s) }
-    ensures saved { IfOk result (IsSaved svc.now recovered.now.snapshot) }
-    ensures memory { IfErr result (λ e. e ≡ OutOfMemory) }
+// The state at the base, or where its snapshot is bad; without one, the start.
+fn saved_state(
+    alloc: Global,
+    svc: &Checked,
+    recovered: &Recovered,
+) -> Result<Result<State, usize>, AllocError>
+    ensures { IfOk result (λ saved. saved ≡ state_at svc.now recovered.now.snapshot) }
 {
     match &recovered.snapshot {
-        None => Ok(State::start(alloc, svc)?),
+        None => Ok(Ok(State::start(alloc, svc)?)),
         Some(snapshot) => match decode(alloc, svc, snapshot.as_slice()) {
-            Ok(state) => Ok(state),
-            Err(DecodeError::OutOfMemory) => Err(RestartFault::OutOfMemory),
-            Err(DecodeError::Bad { .. }) => unreachable!(),
+            Ok(state) => Ok(Ok(state)),
+            Err(DecodeError::Bad { at }) => Ok(Err(at)),
+            Err(DecodeError::OutOfMemory) => Err(AllocError),
         },
     }
 }
