@@ -11,7 +11,7 @@ ghost use Rattle.rex_wal.specs.Appending.{Appends, IsWritten, MayReserve};
 ghost use Rattle.rex_wal.specs.Keeping.{AllStandFor};
 ghost use Rattle.rex_wal.specs.Journal.{Holds, StandsFor, entry};
 ghost use Rattle.rex_journal.specs.Giving.{Goes};
-ghost use Rattle.rex_wal.specs.Opening.{CountsAs, Ends, IsCauseIn, Leaves};
+ghost use Rattle.rex_wal.specs.Opening.{CountsAs, EndsAs, IsCauseIn, Leaves};
 
 use crate::Refused;
 use crate::file::{recover, write_through};
@@ -62,7 +62,7 @@ impl<D: ByteAtomic> WalKeeper<D> {
             → AllStandFor (D.may_leave disk) records pending → MatchResult result
             (λ k. LeavesOnly D.moment D.left_since disk k.disk (StandsFor records pending))
             (λ r. LeavesOnly D.moment D.left_since disk r.disk (StandsFor records pending)) }
-        ensures calls { MatchResult result (λ k. Goes D.gives disk k.disk) (λ r. Ends D.gives disk r.disk) }
+        ensures calls { MatchResult result (λ k. Goes D.gives disk k.disk) (λ r. EndsAs D.gives disk r.disk r.fault) }
         ensures cause { MatchResult result (λ k. D.faults k.disk ≡ D.faults disk) (λ r. CountsAs r.fault (D.faults disk) (D.faults r.disk)) }
         ensures model { MatchResult result (λ k. D.meets k.disk ≡ D.meets disk) (λ r. D.meets r.disk ≡ D.meets disk) }
     {

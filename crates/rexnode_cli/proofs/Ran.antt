@@ -9,7 +9,8 @@ use Rattle.rex_journal.specs.Giving.{Goes}
 use Rattle.rex_wal.specs.Journal.{Holds}
 use Rattle.rex_wal.specs.Appending.{Appends}
 use Rattle.rex_wal.specs.Keeping.{AllStandFor, WalValue}
-use Rattle.rex_wal.specs.Opening.{CountsAs, Ends, IsCauseIn, Leaves}
+use Rattle.rex_wal.specs.Opening as opening
+use Rattle.rex_wal.specs.Opening.{CountsAs, IsCauseIn, Leaves}
 use Rattle.rex_wal.specs.declared.fault.OpenFault.{OpenFault}
 use Rattle.rex_identity.specs.Identity.{IdentityValue, identity_bytes}
 use Rattle.rex_identity.specs.Claims as claims
@@ -79,7 +80,7 @@ module _ {D : Type 0} (meets : D → Bool) (seen : D → List ℕ) (may_leave : 
 
   -- the journal wasn't opened
   pub not_opened : (fault : OpenFault) (left : D) (status : ℕ) (before given : List ℕ) → (IsTrue (meets disk) → IsCauseIn (seen disk) fault) → (IsTrue (meets disk) → Leaves (seen disk) (seen left) fault) → CountsAs fault (faults disk) (faults left)
-      → Ends gives disk left → status ≡ open_status fault
+      → opening.EndsAs gives disk left fault → status ≡ open_status fault
       → GrowsBy (λ input. RunsOn meets seen may_leave gives faults service identity disk input before before status) given given
   not_opened fault left status before given cause kept counted ended told =
       still (λ input. RunsOn meets seen may_leave gives faults service identity disk input before before status) given
