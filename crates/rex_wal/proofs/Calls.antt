@@ -1,36 +1,16 @@
--- Calls of a disk, one after another.
-use Rattle.std.proofs.Common.{◌≡◌, inl, inr, ◌⊎◌, ℕ, Bool, true, false, List, [], ◌∷◌, ◌++◌, Result, refl, subst}
+-- How the calls of opening end.
+use Rattle.std.proofs.Common.{◌≡◌, inl, inr, ◌⊎◌, ℕ, Bool, true, List, [], Result, refl}
 use Rattle.std.specs.Prelude.{IsErrAnd}
 use Rattle.std.proofs.lemmas.Result.{err_from_is_err_and}
-use Rattle.rex_disk.specs.Calls.{Call, CallsInTurn}
-use Rattle.rex_journal.specs.Giving.{AreLooks, Goes, IsLook, IsOfDevice, Looks, WriteFails}
+use Rattle.rex_disk.specs.Calls.{Call}
+use Rattle.rex_journal.specs.Giving.{IsLook, IsOfDevice, Looks, WriteFails}
 use Rattle.rex_wal.specs.Opening.{Ends, EndsAs, HasNoRoom, LooksInto, Opens}
-use Rattle.rex_wal.specs.declared.fault.OpenFault.{OpenFault}
-use Rattle.rex_wal.specs.declared.fault.OpenFault.TheVariants as open_fault
+use Rattle.rex_journal.specs.declared.fault.OpenFault.{OpenFault}
+use Rattle.rex_journal.specs.declared.fault.OpenFault.TheVariants as open_fault
 
 module _ {D : Type 0} (gives : D → Call → Bool → D → Type 0) where
-  calls_then : (xs ys : List Call) (old mid new : D) → CallsInTurn gives old xs mid → CallsInTurn gives mid ys new → CallsInTurn gives old (xs ++ ys) new
-  calls_then [] ys old mid new first second = subst (λ (d : D). CallsInTurn gives d ys new) first second
-  calls_then (x ∷ xs) ys old mid new (between, one, first) second = (between, one, calls_then xs ys between mid new first second)
-
-  pub goes_then : (old mid new : D) → Goes gives old mid → Goes gives mid new → Goes gives old new
-  goes_then old mid new first second = (first.0 ++ second.0, calls_then first.0 second.0 old mid new first.1 second.1)
-
-  looks_append : (xs ys : List Call) → AreLooks xs → AreLooks ys → AreLooks (xs ++ ys)
-  looks_append [] ys first second = second
-  looks_append (x ∷ xs) ys first second = (first.0, looks_append xs ys first.1 second)
-
   pub looks_none : (old : D) → Looks gives old old
   looks_none old = ([], tt, refl)
-
-  pub looks_one : (call : Call) (old new : D) → IsLook call → gives old call false new → Looks gives old new
-  looks_one call old new look h = (call ∷ [], (look, tt), (new, h, refl))
-
-  pub looks_then : (old mid new : D) → Looks gives old mid → Looks gives mid new → Looks gives old new
-  looks_then old mid new first second = (first.0 ++ second.0, looks_append first.0 second.0 first.1 second.1, calls_then first.0 second.0 old mid new first.2 second.2)
-
-  pub looks_go : (old new : D) → Looks gives old new → Goes gives old new
-  looks_go old new looks = (looks.0, looks.2)
 
   pub look_ends : (call : Call) (old mid new : D) → Looks gives old mid → IsLook call → IsOfDevice call → gives mid call true new → Ends gives old new
   look_ends call old mid new looks look of h = (mid, looks, inl (call, look, of, h))

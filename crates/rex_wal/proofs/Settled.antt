@@ -8,7 +8,7 @@ use Rattle.rex_wal.specs.Keeping.{AllStandFor, IsClean, IsSettled}
 use Rattle.rex_wal.specs.Journal.{Holds, IsRecord, StandsFor, entry}
 use Rattle.rex_wal.specs.Opening.{IsCleaning, IsFound}
 use Rattle.rex_wal.proofs.Making.{append_clean, append_place, append_stands, clean_holds, found_holds, stands_on, written_long}
-use Rattle.rex_wal.proofs.Moments.{moves_on, rested, started, widen}
+use Rattle.rex_disk.proofs.Moments.{moves_on, rested, started, widen}
 
 module _ {D : Type 0} (meets : D → Bool) (seen : D → List ℕ) (may_leave : D → List ℕ → Type 0) where
   pub settled_stands : (disk : D) (records : List (List ℕ)) (end : ℕ) (pending : Option (List ℕ)) → IsSettled meets seen may_leave disk records end → IsTrue (meets disk) → AllStandFor (may_leave disk) records pending

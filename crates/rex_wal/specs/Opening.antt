@@ -6,37 +6,14 @@ use Rattle.rex_journal.specs.Giving.{Goes, LookFails, Looks, WriteFails}
 use Rattle.rex_disk.specs.Stops.{overwritten}
 use Rattle.rex_file.specs.Mixing.{Mixed}
 use Rattle.rex_wal.specs.Keeping.{IsClean}
-use Rattle.rex_wal.specs.Journal.{HasRecords, Holds, IsBegun, IsBad, entries, head}
-use Rattle.rex_wal.specs.declared.fault.OpenFault.{OpenFault}
-use Rattle.rex_wal.specs.declared.fault.OpenFault.TheVariants.{Failed, BadJournal, OutOfMemory}
+use Rattle.rex_wal.specs.Journal.{HasRecords, Holds, IsBegun, entries, head}
+use Rattle.rex_journal.specs.declared.fault.OpenFault.{OpenFault}
+use Rattle.rex_journal.specs.declared.fault.OpenFault.TheVariants.{Failed, BadJournal, OutOfMemory}
 
 -- a file is only begun, or has these records up to this place
 abbrev pub IsFound : List ℕ → List (List ℕ) → ℕ → Bool → Type 0
 IsFound file records end true = IsBegun file × (records ≡ []) × (end ≡ length head)
 IsFound file records end false = HasRecords file records × (end ≡ length head + length (entries records))
-
--- a journal is called bad only where it is
-abbrev pub IsCauseIn : List ℕ → OpenFault → Type 0
-IsCauseIn file Failed = Unit {0}
-IsCauseIn file (BadJournal at) = IsBad file at
-IsCauseIn file OutOfMemory = Unit {0}
-
--- what a refusal leaves of the bytes that are read: all as they were, unless the disk failed, and then those of a bad journal
-abbrev pub Leaves : List ℕ → List ℕ → OpenFault → Type 0
-Leaves old now Failed = (at : ℕ) → IsBad old at → now ≡ old
-Leaves old now (BadJournal at) = now ≡ old
-Leaves old now OutOfMemory = now ≡ old
-
--- the count of faults rose by one where the disk is said to have failed, and nowhere else
-abbrev pub CountsAs : OpenFault → ℕ → ℕ → Type 0
-CountsAs Failed before now = now ≡ before + 1
-CountsAs (BadJournal at) before now = now ≡ before
-CountsAs OutOfMemory before now = now ≡ before
-
--- the same of an answer, which leaves the count where it is Ok
-abbrev pub CountsFailed : {T : Type 0} → ℕ → ℕ → Result T OpenFault → Type 0
-CountsFailed before now (Ok x) = now ≡ before
-CountsFailed before now (Err fault) = CountsAs fault before now
 
 -- calls were made that wrote nothing, and then one failed: nothing was written but maybe some bytes at one place, and that right before
 abbrev pub Ends : {D : Type 0} → (D → Call → Bool → D → Type 0) → D → D → Type 0

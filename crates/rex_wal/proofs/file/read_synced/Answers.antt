@@ -1,6 +1,7 @@
 use Rattle.std.proofs.Common.{inl, inr, length}
 use Rattle.rex_disk.specs.Calls.Call.{Reads, Syncs, Reserves}
-use Rattle.rex_wal.proofs.Calls.{look_ends, looks_failed, looks_none, looks_one, looks_short, looks_then}
+use Rattle.rex_journal.proofs.Making.{looks_one, looks_then}
+use Rattle.rex_wal.proofs.Calls.{look_ends, looks_failed, looks_none, looks_short}
 use Rattle.rex_wal.proofs.file.read_synced.Goals as goal
 
 pub returns-in_err-room-clause-calls : goal.returns-in_err-room-clause-calls

@@ -3,7 +3,8 @@ use Rattle.rex_disk.specs.Calls.Call.{Syncs, Writes}
 use Rattle.rex_wal.specs.Journal.{Holds}
 use Rattle.std.proofs.lemmas.Result.{err_from_is_err_and}
 use Rattle.rex_wal.proofs.BytesLaws.{bad_none}
-use Rattle.rex_wal.proofs.Calls.{goes_then, looks_go, opens_failed, opens_short, opens_unwritten, write_ends}
+use Rattle.rex_journal.proofs.Making.{goes_then, looks_go}
+use Rattle.rex_wal.proofs.Calls.{opens_failed, opens_short, opens_unwritten, write_ends}
 use Rattle.rex_wal.proofs.Making.{found_holds}
 use Rattle.rex_wal.proofs.Settled.{open_leaves}
 use Rattle.rex_wal.proofs.file.recover.Goals as goal
