@@ -1,3 +1,4 @@
 mod Allowing
 mod Imaging
+pub mod Moments
 mod Recorded

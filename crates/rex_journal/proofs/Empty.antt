@@ -3,7 +3,7 @@ use Rattle.std.proofs.Common.{◌≡◌, ℕ, true, false, IsTrue, List, [], ◌
 use Rattle.rex_disk.specs.Memory.{DiskValue, DoesCall, new_disk}
 use Rattle.rex_disk.specs.Record.{seen_after}
 use Rattle.rex_journal.specs.Giving.{EndsAs, Goes}
-use Rattle.rex_journal.specs.Journal.{Holds, open_records}
+use Rattle.rex_journal.specs.Journal.{Holds, IsBad, open_records}
 use Rattle.rex_journal.specs.Keeping.{JournalValue}
 use Rattle.rex_journal.specs.Opening.{IsCauseIn}
 use Rattle.rex_journal.specs.StoringLaws.{faults, meets, value_of}
@@ -38,7 +38,7 @@ module _ (disk : DiskValue) (empty : disk ≡ new_disk [] []) where
       let still : meets k.disk ≡ true = model ∙ met in
       rw (records, end.none, end.unplanned, counted, whole.0, whole.1, whole.2, still) refl
 
-  pub opened_unless_short : (fault : OpenFault) (new : DiskValue) → (IsTrue (meets disk) → IsCauseIn (seen disk) fault) → EndsAs DoesCall disk new fault → fault ≡ OutOfMemory
+  pub opened_unless_short : (fault : OpenFault) (new : DiskValue) → (IsTrue (meets disk) → IsCauseIn IsBad (seen disk) fault) → EndsAs DoesCall disk new fault → fault ≡ OutOfMemory
   opened_unless_short Failed new cause ends = absurd (no_end disk new calm ends)
   opened_unless_short (BadJournal at) new cause ends = let bad = cause met in let long : length (seen disk) ≡ 0 = ap length unwritten in absurd (omega (arith, bad.long, long))
   opened_unless_short OutOfMemory new cause ends = refl

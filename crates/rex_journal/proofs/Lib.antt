@@ -5,9 +5,8 @@ mod Closing
 mod Committing
 mod Empty
 mod Examples
-mod Making
+pub mod Making
 mod Refusing
-mod Moments
 mod Reopening
 mod Same
 mod Settled

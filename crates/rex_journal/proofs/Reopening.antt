@@ -5,7 +5,7 @@ use Rattle.std.proofs.lemmas.Bool.{and_parts, not-true}
 use Rattle.rex_disk.specs.Memory.{DiskValue, DoesCall}
 use Rattle.rex_disk.specs.Record.{seen_after}
 use Rattle.rex_journal.specs.Giving.{EndsAs, Goes}
-use Rattle.rex_journal.specs.Journal.{Holds}
+use Rattle.rex_journal.specs.Journal.{Holds, IsBad}
 use Rattle.rex_journal.specs.Keeping.{IsFront, JournalValue}
 use Rattle.rex_journal.specs.Opening.{IsCauseIn}
 use Rattle.rex_journal.specs.Storing.{IsReopened, fails_as_armed, is_empty, is_of_fate}
@@ -61,7 +61,7 @@ module _ (old : JournalValue DiskValue) (gate : ℕ) (front : IsFalse old.unsure
     model = model ∙ ap meets unplanned;
   }
 
-  pub short_of_memory : (fault : OpenFault) (new : DiskValue) → (IsTrue (meets disk) → IsCauseIn (seen disk) fault) → EndsAs DoesCall disk new fault → fault ≡ OutOfMemory
+  pub short_of_memory : (fault : OpenFault) (new : DiskValue) → (IsTrue (meets disk) → IsCauseIn IsBad (seen disk) fault) → EndsAs DoesCall disk new fault → fault ≡ OutOfMemory
   short_of_memory Failed new cause ends = absurd (no_end disk new calm ends)
   short_of_memory (BadJournal at) new cause ends = absurd (bad_none (seen disk) at old.records (cause met) (at_rest_holds (seen disk) old.records f.short rests))
   short_of_memory OutOfMemory new cause ends = refl

@@ -3,7 +3,7 @@
 ghost use Rattle.std.specs.Prelude.{◌≡◌, ◌<◌, ◌≤◌, ◌+◌, ◌-◌, ◌^◌, ◌++◌, ◌∷◌, [], ℕ, List, Option, Some, None, IsTrue, IfErr, IfOk, OnOk, length, take};
 ghost use Rattle.rex_disk.specs.Calls.{Counts, HasRoom, Reaches, UsesRoom};
 ghost use Rattle.rex_disk.specs.Stops.{LeavesOnly, Only, Torn, overwritten};
-ghost use Rattle.rex_journal.specs.Journal.{AllShort, Holds, StandsFor, entry};
+ghost use Rattle.rex_journal.specs.Journal.{AllShort, Holds, IsBad, StandsFor, entry};
 ghost use Rattle.rex_journal.specs.Keeping.{AllStandFor, IsSettled};
 ghost use Rattle.rex_journal.specs.Opening.{CountsFailed, IsCauseIn, IsClosing, Leaves};
 ghost use Rattle.rex_journal.specs.Giving.{Closes, Commits, LooksInto, Opened, Opens, OpensGate, WritesThrough};
@@ -103,8 +103,8 @@ pub(crate) fn recover<D: Disk>(alloc: Global, disk: &mut D) -> Result<Found, Ope
     requires count { D.faults disk.old < 2 ^ 64 - 1 }
     ensures holds { IsTrue (D.meets disk.old) → IfOk result (λ f. Holds (D.seen disk.old) f.records.items) }
     ensures settled { IfOk result (λ f. IsSettled D.meets D.seen D.may_leave disk.new f.records.items f.gate) }
-    ensures bad { IsTrue (D.meets disk.old) → IfErr result (IsCauseIn (D.seen disk.old)) }
-    ensures unread { IsTrue (D.meets disk.old) → IfErr result (Leaves (D.seen disk.old) (D.seen disk.new)) }
+    ensures bad { IsTrue (D.meets disk.old) → IfErr result (IsCauseIn IsBad (D.seen disk.old)) }
+    ensures unread { IsTrue (D.meets disk.old) → IfErr result (Leaves IsBad (D.seen disk.old) (D.seen disk.new)) }
     ensures any_moment { (records : List (List ℕ)) (pending : Option (List ℕ)) → IsTrue (D.meets disk.old) → AllShort records
         → AllStandFor (D.may_leave disk.old) records pending → LeavesOnly D.moment D.left_since disk.old disk.new (StandsFor records pending) }
     ensures calls { Opens D.gives disk.old disk.new result }
@@ -152,7 +152,7 @@ fn read_synced<D: Disk>(alloc: Global, disk: &mut D) -> Result<Vec<u8>, OpenFaul
     ensures room { OnOk result (HasRoom 2 1 (D.calls_left disk.new) (D.bytes_left disk.new) (length (D.seen disk.new))) }
     ensures calls { LooksInto D.gives disk.old disk.new result }
     ensures cause { CountsFailed (D.faults disk.old) (D.faults disk.new) result }
-    ensures good { IfErr result (IsCauseIn (D.seen disk.old)) }
+    ensures good { IfErr result (IsCauseIn IsBad (D.seen disk.old)) }
     ensures model { D.meets disk.new ≡ D.meets disk.old }
 {
     disk.reserve(3, 1)?;

@@ -5,7 +5,7 @@ ghost use Rattle.std.specs.Prelude.{false, true, refl, Bool, IsTrue, IfErr, IfOk
 ghost use Rattle.std.proofs.Common.{inl};
 ghost use Rattle.rex_disk.specs.Calls.{HasRoom};
 ghost use Rattle.rex_disk.specs.Stops.{LeavesOnly, Rests};
-ghost use Rattle.rex_journal.specs.Journal.{AllShort, Holds, StandsFor, entry};
+ghost use Rattle.rex_journal.specs.Journal.{AllShort, Holds, IsBad, StandsFor, entry};
 ghost use Rattle.rex_journal.specs.Giving.{Appends, EndsAs, Goes, gate_left, records_cut, unsure_left};
 ghost use Rattle.rex_journal.specs.Keeping.{AllStandFor, Breaks, CountsAppend, KeepsRecords};
 ghost use Rattle.rex_journal.specs.Opening.{CountsAs, IsCauseIn, Leaves};
@@ -51,8 +51,8 @@ impl<D: Disk> JournalKeeper<D> {
         ensures holds { IsTrue (D.meets disk) → IfOk result (λ k. Holds (D.seen disk) k.records) }
         ensures whole { IfOk result (λ k. (k.broken ≡ false) × (k.unsure ≡ false) × (k.refused ≡ 0)) }
         ensures safe { IfOk result (λ k. IsTrue (D.meets k.disk) → AllStandFor (D.may_leave k.disk) k.records None) }
-        ensures bad { IsTrue (D.meets disk) → IfErr result (λ r. IsCauseIn (D.seen disk) r.fault) }
-        ensures unread { IsTrue (D.meets disk) → IfErr result (λ r. Leaves (D.seen disk) (D.seen r.disk) r.fault) }
+        ensures bad { IsTrue (D.meets disk) → IfErr result (λ r. IsCauseIn IsBad (D.seen disk) r.fault) }
+        ensures unread { IsTrue (D.meets disk) → IfErr result (λ r. Leaves IsBad (D.seen disk) (D.seen r.disk) r.fault) }
         ensures any_moment { (records : Items (Items ℕ)) (pending : Option (Items ℕ)) → IsTrue (D.meets disk) → AllShort records
             → AllStandFor (D.may_leave disk) records pending → MatchResult result
             (λ k. LeavesOnly D.moment D.left_since disk k.disk (StandsFor records pending))
@@ -72,8 +72,8 @@ impl<D: Disk> JournalKeeper<D> {
         ensures holds { IsTrue (D.meets self.disk) → IfOk result (λ k. Holds (D.seen self.disk) k.records) }
         ensures whole { IfOk result (λ k. (k.broken ≡ false) × (k.unsure ≡ false) × (k.refused ≡ self.refused)) }
         ensures safe { IfOk result (λ k. IsTrue (D.meets k.disk) → AllStandFor (D.may_leave k.disk) k.records None) }
-        ensures bad { IsTrue (D.meets self.disk) → IfErr result (λ r. IsCauseIn (D.seen self.disk) r.fault) }
-        ensures unread { IsTrue (D.meets self.disk) → IfErr result (λ r. Leaves (D.seen self.disk) (D.seen r.disk) r.fault) }
+        ensures bad { IsTrue (D.meets self.disk) → IfErr result (λ r. IsCauseIn IsBad (D.seen self.disk) r.fault) }
+        ensures unread { IsTrue (D.meets self.disk) → IfErr result (λ r. Leaves IsBad (D.seen self.disk) (D.seen r.disk) r.fault) }
         ensures any_moment { (records : Items (Items ℕ)) (pending : Option (Items ℕ)) → IsTrue (D.meets self.disk) → AllShort records
             → AllStandFor (D.may_leave self.disk) records pending → MatchResult result
             (λ k. LeavesOnly D.moment D.left_since self.disk k.disk (StandsFor records pending))
@@ -95,8 +95,8 @@ impl<D: Disk> JournalKeeper<D> {
         ensures holds { IsTrue (D.meets disk) → IfOk result (λ k. Holds (D.seen disk) k.records) }
         ensures whole { IfOk result (λ k. (k.broken ≡ false) × (k.unsure ≡ false) × (k.refused ≡ refused)) }
         ensures safe { IfOk result (λ k. IsTrue (D.meets k.disk) → AllStandFor (D.may_leave k.disk) k.records None) }
-        ensures bad { IsTrue (D.meets disk) → IfErr result (λ r. IsCauseIn (D.seen disk) r.fault) }
-        ensures unread { IsTrue (D.meets disk) → IfErr result (λ r. Leaves (D.seen disk) (D.seen r.disk) r.fault) }
+        ensures bad { IsTrue (D.meets disk) → IfErr result (λ r. IsCauseIn IsBad (D.seen disk) r.fault) }
+        ensures unread { IsTrue (D.meets disk) → IfErr result (λ r. Leaves IsBad (D.seen disk) (D.seen r.disk) r.fault) }
         ensures any_moment { (records : Items (Items ℕ)) (pending : Option (Items ℕ)) → IsTrue (D.meets disk) → AllShort records
             → AllStandFor (D.may_leave disk) records pending → MatchResult result
             (λ k. LeavesOnly D.moment D.left_since disk k.disk (StandsFor records pending))

@@ -5,9 +5,10 @@ use Rattle.rex_disk.specs.Stops.{LeavesOnly, Only, Rests, overwritten}
 use Rattle.rex_file.specs.Mixing.{Mixed}
 use Rattle.rex_wal.specs.Appending.{IsWritten}
 use Rattle.rex_wal.specs.Keeping.{AllStandFor, IsClean, IsSettled}
-use Rattle.rex_wal.specs.Journal.{IsRecord, StandsFor, entry}
-use Rattle.rex_wal.proofs.Making.{append_clean, append_place, append_stands, clean_holds, written_long}
-use Rattle.rex_wal.proofs.Moments.{rested, started, widen}
+use Rattle.rex_wal.specs.Journal.{Holds, IsRecord, StandsFor, entry}
+use Rattle.rex_wal.specs.Opening.{IsCleaning, IsFound}
+use Rattle.rex_wal.proofs.Making.{append_clean, append_place, append_stands, clean_holds, found_holds, stands_on, written_long}
+use Rattle.rex_disk.proofs.Moments.{moves_on, rested, started, widen}
 
 module _ {D : Type 0} (meets : D → Bool) (seen : D → List ℕ) (may_leave : D → List ℕ → Type 0) where
   pub settled_stands : (disk : D) (records : List (List ℕ)) (end : ℕ) (pending : Option (List ℕ)) → IsSettled meets seen may_leave disk records end → IsTrue (meets disk) → AllStandFor (may_leave disk) records pending
@@ -41,8 +42,23 @@ module _ {D : Type 0} (meets : D → Bool) (seen : D → List ℕ) (may_leave : 
     durable = λ met. durable (subst IsTrue model met);
   }
 
-  -- while it is written a stop leaves the records, with it or without
-  pub writes_stand : (old new : D) (records : List (List ℕ)) (end : ℕ) (bytes written : List ℕ) (moment : D → ℕ) (left_since : D → ℕ → List ℕ → Type 0) → IsSettled meets seen may_leave old records end → IsRecord bytes → IsWritten bytes written → IsTrue (meets old)
-      → LeavesOnly moment left_since old new (Mixed end written (seen old)) → LeavesOnly moment left_since old new (StandsFor records (Some bytes))
-  writes_stand old new records end bytes written moment left_since s is_record w met only =
-      widen moment left_since only (λ image m. append_stands records (seen old) (s.clean met) end s.place bytes written w image s.each is_record m)
+  -- from its beginning to the end of its write a stop leaves the records, with the new one or without
+  pub append_leaves : (old mid new : D) (records : List (List ℕ)) (end : ℕ) (bytes written : List ℕ) (moment : D → ℕ) (left_since : D → ℕ → List ℕ → Type 0) → ((image : List ℕ) → left_since old (moment old) image → may_leave old image) → IsSettled meets seen may_leave old records end → IsTrue (meets old)
+      → meets mid ≡ meets old → length (seen mid) ≡ length (seen old) → (IsTrue (meets old) → seen mid ≡ seen old) → (IsTrue (meets old) → Rests (moment old) (moment mid) (left_since old) (left_since mid) (may_leave old) (may_leave mid))
+      → IsRecord bytes → IsWritten bytes written → (IsTrue (meets mid) → Only (seen mid) (may_leave mid) → LeavesOnly moment left_since mid new (Mixed end written (seen mid))) → LeavesOnly moment left_since old new (StandsFor records (Some bytes))
+  append_leaves old mid new records end bytes written moment left_since only_now s met model len same rests is_record w writes =
+      let still = subst IsTrue (sym model) met in
+      let now = settled_rests old mid records end moment left_since s model len same rests in
+      moves_on moment left_since (waits old mid records end (Some bytes) moment left_since only_now s met (rests met))
+      (widen moment left_since (writes still (now.durable still)) (λ image m. append_stands records (seen mid) (now.clean still) end now.place bytes written w image now.each is_record m))
+
+  -- as a journal is opened a stop leaves what it left before, and while it is cleaned what holds the records that were found
+  pub open_leaves : (old mid new : D) (found records : List (List ℕ)) (end at : ℕ) (begun : Bool) (read file bytes written shown : List ℕ) (pending : Option (List ℕ)) (moment : D → ℕ) (left_since : D → ℕ → List ℕ → Type 0) → read ≡ bytes → file ≡ bytes → shown ≡ written → bytes ≡ seen old → seen mid ≡ seen old
+      → IsFound read found end begun → IsCleaning file found at written → may_leave old (seen old) → AllStandFor (may_leave old) records pending
+      → LeavesOnly moment left_since old mid (may_leave old) → LeavesOnly moment left_since mid new (Mixed at shown (seen mid)) → LeavesOnly moment left_since old new (StandsFor records pending)
+  open_leaves old mid new found records end at begun read file bytes written shown pending moment left_since read_is file_is shown_is bytes_are same is_found cleaning left all reads writes =
+      let holds = subst (λ (l : List ℕ). Holds l found) (read_is ∙ bytes_are ∙ sym same) (found_holds read found end begun is_found) in
+      let cleans = subst (λ (l : List ℕ). IsCleaning l found at written) (file_is ∙ bytes_are ∙ sym same) cleaning in
+      let stands = subst (StandsFor records pending) (sym same) (all (seen old) left) in
+      moves_on moment left_since (widen moment left_since reads all)
+      (widen moment left_since writes (λ image mixed. stands_on (seen mid) image found records pending holds stands (cleans.keeps image (subst (λ (l : List ℕ). Mixed at l (seen mid) image) shown_is mixed))))

@@ -1,50 +1,43 @@
 -- What opening a journal finds, and when it is refused.
 use Rattle.std.specs.Prelude.{◌≡◌, ◌⊎◌, ◌≤◌, ◌+◌, max, ℕ, Bool, true, false, List, [], length, Result, Ok, Err}
-use Rattle.rex_disk.specs.Calls.{Call, FailsInTurn}
-use Rattle.rex_journal.specs.Giving.{Goes}
+use Rattle.rex_disk.specs.Calls.{Call}
+use Rattle.rex_disk.specs.Calls.Call.{Reserves}
+use Rattle.rex_journal.specs.Giving.{Goes, LookFails, Looks, WriteFails}
 use Rattle.rex_disk.specs.Stops.{overwritten}
 use Rattle.rex_file.specs.Mixing.{Mixed}
 use Rattle.rex_wal.specs.Keeping.{IsClean}
-use Rattle.rex_wal.specs.Journal.{HasRecords, Holds, IsBegun, IsBad, entries, head}
-use Rattle.rex_wal.specs.declared.fault.OpenFault.{OpenFault}
-use Rattle.rex_wal.specs.declared.fault.OpenFault.TheVariants.{Failed, BadJournal, OutOfMemory}
+use Rattle.rex_wal.specs.Journal.{HasRecords, Holds, IsBegun, entries, head}
+use Rattle.rex_journal.specs.declared.fault.OpenFault.{OpenFault}
+use Rattle.rex_journal.specs.declared.fault.OpenFault.TheVariants.{Failed, BadJournal, OutOfMemory}
 
 -- a file is only begun, or has these records up to this place
 abbrev pub IsFound : List ℕ → List (List ℕ) → ℕ → Bool → Type 0
 IsFound file records end true = IsBegun file × (records ≡ []) × (end ≡ length head)
 IsFound file records end false = HasRecords file records × (end ≡ length head + length (entries records))
 
--- a journal is called bad only where it is
-abbrev pub IsCauseIn : List ℕ → OpenFault → Type 0
-IsCauseIn file Failed = Unit {0}
-IsCauseIn file (BadJournal at) = IsBad file at
-IsCauseIn file OutOfMemory = Unit {0}
-
--- what a refusal leaves of the bytes that are read: all as they were, unless the disk failed, and then those of a bad journal
-abbrev pub Leaves : List ℕ → List ℕ → OpenFault → Type 0
-Leaves old now Failed = (at : ℕ) → IsBad old at → now ≡ old
-Leaves old now (BadJournal at) = now ≡ old
-Leaves old now OutOfMemory = now ≡ old
-
--- the count of faults rose by one where the disk is said to have failed, and nowhere else
-abbrev pub CountsAs : OpenFault → ℕ → ℕ → Type 0
-CountsAs Failed before now = now ≡ before + 1
-CountsAs (BadJournal at) before now = now ≡ before
-CountsAs OutOfMemory before now = now ≡ before
-
--- the same of an answer, which leaves the count where it is Ok
-abbrev pub CountsFailed : {T : Type 0} → ℕ → ℕ → Result T OpenFault → Type 0
-CountsFailed before now (Ok x) = now ≡ before
-CountsFailed before now (Err fault) = CountsAs fault before now
-
--- calls were made of which only the last may have failed
+-- calls were made that wrote nothing, and then one failed: nothing was written but maybe some bytes at one place, and that right before
 abbrev pub Ends : {D : Type 0} → (D → Call → Bool → D → Type 0) → D → D → Type 0
-Ends gives old new = Goes gives old new ⊎ ((calls : List Call) × (call : Call) × FailsInTurn gives old calls call new)
+Ends {D} gives old new = (mid : D) × Looks gives old mid × (LookFails gives mid new ⊎ ((at : ℕ) × (written : List ℕ) × WriteFails gives at written mid new))
+
+-- a disk was asked for room and had none
+abbrev pub HasNoRoom : {D : Type 0} → (D → Call → Bool → D → Type 0) → D → D → Type 0
+HasNoRoom gives old new = (calls : ℕ) × (bytes : ℕ) × gives old (Reserves calls bytes) true new
+
+-- how the calls of opening a journal end where it is refused: nothing was written, unless the disk failed
+abbrev pub EndsAs : {D : Type 0} → (D → Call → Bool → D → Type 0) → D → D → OpenFault → Type 0
+EndsAs gives old new Failed = Ends gives old new
+EndsAs gives old new (BadJournal at) = Looks gives old new
+EndsAs gives old new OutOfMemory = Looks gives old new ⊎ HasNoRoom gives old new
 
 -- the calls behind an answer: none failed where it is Ok
 abbrev pub Opens : {D T : Type 0} → (D → Call → Bool → D → Type 0) → D → D → Result T OpenFault → Type 0
 Opens gives old new (Ok x) = Goes gives old new
-Opens gives old new (Err fault) = Ends gives old new
+Opens gives old new (Err fault) = EndsAs gives old new fault
+
+-- the same where nothing is written before the answer
+abbrev pub LooksInto : {D T : Type 0} → (D → Call → Bool → D → Type 0) → D → D → Result T OpenFault → Type 0
+LooksInto gives old new (Ok x) = Looks gives old new
+LooksInto gives old new (Err fault) = EndsAs gives old new fault
 
 -- what is written as a journal is opened: the head of one that is only begun, and 0 over what stands behind the records of another
 pub record IsCleaning (file : List ℕ) (records : List (List ℕ)) (at : ℕ) (written : List ℕ) : Type 0 where

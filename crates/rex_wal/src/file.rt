@@ -4,10 +4,11 @@ ghost use Rattle.std.specs.Prelude.{◌≡◌, ◌<◌, ◌≤◌, ◌+◌, ◌-
 ghost use Rattle.rex_disk.specs.Calls.{Counts, HasRoom, Reaches, UsesRoom};
 ghost use Rattle.rex_disk.specs.Stops.{LeavesOnly, Only, overwritten};
 ghost use Rattle.rex_file.specs.Mixing.{Mixed};
-ghost use Rattle.rex_journal.specs.Giving.{Goes, WritesThrough};
+ghost use Rattle.rex_journal.specs.Giving.{WritesThrough};
+ghost use Rattle.rex_journal.specs.Opening.{CountsFailed, IsCauseIn, Leaves};
 ghost use Rattle.rex_wal.specs.Keeping.{AllStandFor, IsSettled};
-ghost use Rattle.rex_wal.specs.Journal.{Holds, StandsFor, head};
-ghost use Rattle.rex_wal.specs.Opening.{CountsFailed, IsCauseIn, IsCleaning, IsFound, Leaves, Opens};
+ghost use Rattle.rex_wal.specs.Journal.{Holds, IsBad, StandsFor, head};
+ghost use Rattle.rex_wal.specs.Opening.{IsCleaning, IsFound, LooksInto, Opens};
 
 use crate::OpenFault;
 use crate::parse::{Found, parse};
@@ -45,8 +46,8 @@ pub(crate) fn recover<D: ByteAtomic>(alloc: Global, disk: &mut D) -> Result<Foun
     requires count { D.faults disk.old < 2 ^ 64 - 1 }
     ensures holds { IsTrue (D.meets disk.old) → IfOk result (λ f. Holds (D.seen disk.old) f.records.items) }
     ensures settled { IfOk result (λ f. IsSettled D.meets D.seen D.may_leave disk.new f.records.items f.end) }
-    ensures bad { IsTrue (D.meets disk.old) → IfErr result (IsCauseIn (D.seen disk.old)) }
-    ensures unread { IsTrue (D.meets disk.old) → IfErr result (Leaves (D.seen disk.old) (D.seen disk.new)) }
+    ensures bad { IsTrue (D.meets disk.old) → IfErr result (IsCauseIn IsBad (D.seen disk.old)) }
+    ensures unread { IsTrue (D.meets disk.old) → IfErr result (Leaves IsBad (D.seen disk.old) (D.seen disk.new)) }
     ensures any_moment { (records : List (List ℕ)) (pending : Option (List ℕ)) → IsTrue (D.meets disk.old)
         → AllStandFor (D.may_leave disk.old) records pending → LeavesOnly D.moment D.left_since disk.old disk.new (StandsFor records pending) }
     ensures calls { Opens D.gives disk.old disk.new result }
@@ -92,9 +93,9 @@ fn read_synced<D: ByteAtomic>(alloc: Global, disk: &mut D) -> Result<Vec<u8>, Op
     ensures any_moment { IsTrue (D.meets disk.old) → LeavesOnly D.moment D.left_since disk.old disk.new (D.may_leave disk.old) }
     ensures len { IfOk result (λ b. length b.items ≡ length (D.seen disk.new)) }
     ensures room { IfOk result (λ b. HasRoom 2 (length b.items + length head) (D.calls_left disk.new) (D.bytes_left disk.new) (length (D.seen disk.new))) }
-    ensures calls { Opens D.gives disk.old disk.new result }
+    ensures calls { LooksInto D.gives disk.old disk.new result }
     ensures cause { CountsFailed (D.faults disk.old) (D.faults disk.new) result }
-    ensures good { IfErr result (IsCauseIn (D.seen disk.old)) }
+    ensures good { IfErr result (IsCauseIn IsBad (D.seen disk.old)) }
     ensures model { D.meets disk.new ≡ D.meets disk.old }
 {
     let room = disk.len().checked_add(HEAD.len() as u64).ok_or(AllocError)?;

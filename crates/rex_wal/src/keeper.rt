@@ -9,9 +9,10 @@ ghost use Rattle.rex_disk.specs.Stops.{LeavesOnly, Rests};
 ghost use Rattle.rex_journal.specs.Keeping.{Breaks, CountsAppend, KeepsRecords};
 ghost use Rattle.rex_wal.specs.Appending.{Appends, IsWritten, MayReserve};
 ghost use Rattle.rex_wal.specs.Keeping.{AllStandFor};
-ghost use Rattle.rex_wal.specs.Journal.{Holds, StandsFor, entry};
+ghost use Rattle.rex_wal.specs.Journal.{Holds, IsBad, StandsFor, entry};
 ghost use Rattle.rex_journal.specs.Giving.{Goes};
-ghost use Rattle.rex_wal.specs.Opening.{CountsAs, Ends, IsCauseIn, Leaves};
+ghost use Rattle.rex_journal.specs.Opening.{CountsAs, IsCauseIn, Leaves};
+ghost use Rattle.rex_wal.specs.Opening.{EndsAs};
 
 use crate::Refused;
 use crate::file::{recover, write_through};
@@ -56,13 +57,13 @@ impl<D: ByteAtomic> WalKeeper<D> {
         ensures holds { IsTrue (D.meets disk) → IfOk result (λ k. Holds (D.seen disk) k.records) }
         ensures whole { IfOk result (λ k. (k.broken ≡ false) × (k.refused ≡ 0)) }
         ensures safe { IfOk result (λ k. IsTrue (D.meets k.disk) → AllStandFor (D.may_leave k.disk) k.records None) }
-        ensures bad { IsTrue (D.meets disk) → IfErr result (λ r. IsCauseIn (D.seen disk) r.fault) }
-        ensures unread { IsTrue (D.meets disk) → IfErr result (λ r. Leaves (D.seen disk) (D.seen r.disk) r.fault) }
+        ensures bad { IsTrue (D.meets disk) → IfErr result (λ r. IsCauseIn IsBad (D.seen disk) r.fault) }
+        ensures unread { IsTrue (D.meets disk) → IfErr result (λ r. Leaves IsBad (D.seen disk) (D.seen r.disk) r.fault) }
         ensures any_moment { (records : Items (Items ℕ)) (pending : Option (Items ℕ)) → IsTrue (D.meets disk)
             → AllStandFor (D.may_leave disk) records pending → MatchResult result
             (λ k. LeavesOnly D.moment D.left_since disk k.disk (StandsFor records pending))
             (λ r. LeavesOnly D.moment D.left_since disk r.disk (StandsFor records pending)) }
-        ensures calls { MatchResult result (λ k. Goes D.gives disk k.disk) (λ r. Ends D.gives disk r.disk) }
+        ensures calls { MatchResult result (λ k. Goes D.gives disk k.disk) (λ r. EndsAs D.gives disk r.disk r.fault) }
         ensures cause { MatchResult result (λ k. D.faults k.disk ≡ D.faults disk) (λ r. CountsAs r.fault (D.faults disk) (D.faults r.disk)) }
         ensures model { MatchResult result (λ k. D.meets k.disk ≡ D.meets disk) (λ r. D.meets r.disk ≡ D.meets disk) }
     {

@@ -4,12 +4,11 @@
 //! one all bytes are 0. So a record whose write was torn, of which some byte is still 0, isn't taken for a whole one.
 #![tactic(auto)]
 
-mod fault;
 mod file;
 mod keeper;
 pub mod laws;
 mod parse;
 mod spell;
 
-pub use fault::{OpenFault, Refused};
 pub use keeper::WalKeeper;
+pub use rex_journal::{OpenFault, Refused};

@@ -2,9 +2,10 @@
 
 ghost use Rattle.std.specs.Prelude.{◌≡◌, ◌≢◌, ◌+◌, ◌++◌, true, false, ℕ, List as Items, IfErr, IfOk, IfSome, IsNone};
 ghost use Rattle.rex_file.specs.Mixing.{byte_at};
-ghost use Rattle.rex_wal.specs.Journal.{BeginsNone, NoneLater, IsBegun, IsRecord, entry, head};
-ghost use Rattle.rex_wal.specs.Opening.{IsCauseIn, IsFound};
-ghost use Rattle.rex_wal.specs.declared.fault.OpenFault.TheVariants as open_fault;
+ghost use Rattle.rex_wal.specs.Journal.{BeginsNone, NoneLater, IsBad, IsBegun, IsRecord, entry, head};
+ghost use Rattle.rex_journal.specs.Opening.{IsCauseIn};
+ghost use Rattle.rex_wal.specs.Opening.{IsFound};
+ghost use Rattle.rex_journal.specs.declared.fault.OpenFault.TheVariants as open_fault;
 
 use crate::OpenFault;
 use crate::spell::{Front, HEAD, first_of};
@@ -69,7 +70,7 @@ fn is_begun(bytes: &[u8]) -> bool
 fn begin(alloc: Global, bytes: &[u8]) -> Result<Found, OpenFault>
     requires no_head { (behind : Items ℕ) → bytes.now ≢ head ++ behind }
     ensures found { IfOk result (λ f. IsFound bytes.now f.records.items f.end f.is_begun) }
-    ensures bad { IfErr result (IsCauseIn bytes.now) }
+    ensures bad { IfErr result (IsCauseIn IsBad bytes.now) }
     ensures whole { IfErr result (λ e. (e ≡ open_fault.Failed) → ⊥) }
 {
     if is_begun(bytes) {
@@ -85,7 +86,7 @@ fn begin(alloc: Global, bytes: &[u8]) -> Result<Found, OpenFault>
 /// Reads the records of a journal.
 pub(crate) fn parse(alloc: Global, bytes: &[u8]) -> Result<Found, OpenFault>
     ensures found { IfOk result (λ f. IsFound bytes.now f.records.items f.end f.is_begun) }
-    ensures bad { IfErr result (IsCauseIn bytes.now) }
+    ensures bad { IfErr result (IsCauseIn IsBad bytes.now) }
     ensures whole { IfErr result (λ e. (e ≡ open_fault.Failed) → ⊥) }
 {
     let Some(behind_head) = bytes.strip_prefix(&HEAD) else {

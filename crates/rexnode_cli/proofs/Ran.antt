@@ -6,11 +6,12 @@ use Rattle.rex_disk.specs.Calls.{Call}
 use Rattle.std.proofs.lemmas.List.{append-nil}
 use Rattle.rex_syntax.specs.declared.service.Declarations.{Declarations}
 use Rattle.rex_journal.specs.Giving.{Goes}
-use Rattle.rex_wal.specs.Journal.{Holds}
+use Rattle.rex_journal.specs.Opening.{CountsAs, IsCauseIn, Leaves}
+use Rattle.rex_wal.specs.Journal.{Holds, IsBad}
 use Rattle.rex_wal.specs.Appending.{Appends}
 use Rattle.rex_wal.specs.Keeping.{AllStandFor, WalValue}
-use Rattle.rex_wal.specs.Opening.{CountsAs, Ends, IsCauseIn, Leaves}
-use Rattle.rex_wal.specs.declared.fault.OpenFault.{OpenFault}
+use Rattle.rex_wal.specs.Opening as opening
+use Rattle.rex_journal.specs.declared.fault.OpenFault.{OpenFault}
 use Rattle.rex_identity.specs.Identity.{IdentityValue, identity_bytes}
 use Rattle.rex_identity.specs.Claims as claims
 use Rattle.rex_identity.specs.Claims.{IsCause, OwnedValue}
@@ -78,8 +79,8 @@ module _ {D : Type 0} (meets : D → Bool) (seen : D → List ℕ) (may_leave : 
       grows_as (λ input r. inl (record { journal = journal; holds = holds; safe = safe; met = met; opened = opened; runs = r })) runs
 
   -- the journal wasn't opened
-  pub not_opened : (fault : OpenFault) (left : D) (status : ℕ) (before given : List ℕ) → (IsTrue (meets disk) → IsCauseIn (seen disk) fault) → (IsTrue (meets disk) → Leaves (seen disk) (seen left) fault) → CountsAs fault (faults disk) (faults left)
-      → Ends gives disk left → status ≡ open_status fault
+  pub not_opened : (fault : OpenFault) (left : D) (status : ℕ) (before given : List ℕ) → (IsTrue (meets disk) → IsCauseIn IsBad (seen disk) fault) → (IsTrue (meets disk) → Leaves IsBad (seen disk) (seen left) fault) → CountsAs fault (faults disk) (faults left)
+      → opening.EndsAs gives disk left fault → status ≡ open_status fault
       → GrowsBy (λ input. RunsOn meets seen may_leave gives faults service identity disk input before before status) given given
   not_opened fault left status before given cause kept counted ended told =
       still (λ input. RunsOn meets seen may_leave gives faults service identity disk input before before status) given

@@ -4,11 +4,12 @@ use Rattle.rex_traits.specs.Chains.{Answer}
 use Rattle.rex_disk.specs.Calls.{Call}
 use Rattle.rex_syntax.specs.declared.service.Declarations.{Declarations}
 use Rattle.rex_journal.specs.Giving.{Goes}
-use Rattle.rex_wal.specs.Journal.{Holds}
+use Rattle.rex_journal.specs.Opening.{CountsAs, IsCauseIn, Leaves}
+use Rattle.rex_wal.specs.Journal.{Holds, IsBad}
 use Rattle.rex_wal.specs.Appending.{Appends}
 use Rattle.rex_wal.specs.Keeping.{AllStandFor, WalValue}
-use Rattle.rex_wal.specs.Opening.{CountsAs, Ends, IsCauseIn, Leaves}
-use Rattle.rex_wal.specs.declared.fault.OpenFault.{OpenFault}
+use Rattle.rex_wal.specs.Opening as opening
+use Rattle.rex_journal.specs.declared.fault.OpenFault.{OpenFault}
 use Rattle.rex_identity.specs.Identity.{IdentityValue, identity_bytes}
 use Rattle.rex_identity.specs.Claims as claims
 use Rattle.rex_identity.specs.Claims.{IsCause, OwnedValue}
@@ -93,14 +94,14 @@ module _ {D : Type 0} (meets : D → Bool) (seen : D → List ℕ) (may_leave : 
     pub runs : RunsOwned (λ j. j.records) (λ old bytes result new. Appends gives meets faults old bytes result new) (λ j. faults j.disk + j.refused)
         service identity journal input before now status
 
-  -- it was not: it is bad, and was left as it was, or the disk failed
+  -- it was not: it is bad, or memory was short, and then nothing was written; or the disk failed
   pub record IsNotOpened (input before now : List ℕ) (status : ℕ) : Type 0 where
     pub fault : OpenFault
     pub left : D
-    pub cause : IsTrue (meets disk) → IsCauseIn (seen disk) fault
-    pub kept : IsTrue (meets disk) → Leaves (seen disk) (seen left) fault
+    pub cause : IsTrue (meets disk) → IsCauseIn IsBad (seen disk) fault
+    pub kept : IsTrue (meets disk) → Leaves IsBad (seen disk) (seen left) fault
     pub counted : CountsAs fault (faults disk) (faults left)
-    pub ended : Ends gives disk left
+    pub ended : opening.EndsAs gives disk left fault
     pub told : status ≡ open_status fault
     pub untouched : IsUntouched input before now
 

@@ -1,7 +1,7 @@
 -- With which status the program ends.
 use Rattle.std.specs.Prelude.{ℕ}
-use Rattle.rex_wal.specs.declared.fault.OpenFault.{OpenFault}
-use Rattle.rex_wal.specs.declared.fault.OpenFault.TheVariants as open_fault
+use Rattle.rex_journal.specs.declared.fault.OpenFault.{OpenFault}
+use Rattle.rex_journal.specs.declared.fault.OpenFault.TheVariants as open_fault
 use Rattle.rex_identity.specs.declared.fault.ClaimFault.{ClaimFault}
 use Rattle.rex_identity.specs.declared.fault.ClaimFault.TheVariants as claim_fault
 use Rattle.rex_process.specs.declared.starting.StartFault.{StartFault}

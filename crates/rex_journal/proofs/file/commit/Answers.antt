@@ -2,7 +2,7 @@ use Rattle.std.proofs.Common.{◌+◌, IsTrue, Some, inl, inr, sym, ◌∙◌, a
 use Rattle.rex_disk.specs.Stops.{overwritten}
 use Rattle.rex_journal.specs.Journal.{StandsFor}
 use Rattle.rex_journal.proofs.Committing.{commit_front, commit_settled}
-use Rattle.rex_journal.proofs.Moments.{moves_on, widen}
+use Rattle.rex_disk.proofs.Moments.{moves_on, widen}
 use Rattle.rex_journal.proofs.Steps.{staged, torn_behind, torn_open}
 use Rattle.rex_journal.proofs.file.commit.Goals as goal
 

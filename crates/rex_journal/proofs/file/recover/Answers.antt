@@ -3,7 +3,7 @@ use Rattle.rex_journal.specs.Journal.{StandsFor}
 use Rattle.rex_journal.specs.Opening.{IsFound}
 use Rattle.rex_journal.proofs.Closing.{closing_keeps, found_front}
 use Rattle.rex_journal.proofs.Making.{goes_then, looks_go, opens_failed, write_ends}
-use Rattle.rex_journal.proofs.Moments.{moves_on, widen}
+use Rattle.rex_disk.proofs.Moments.{moves_on, widen}
 use Rattle.rex_journal.proofs.Refusing.{fails_good}
 use Rattle.rex_journal.proofs.BytesLaws.{bad_none}
 use Rattle.rex_journal.proofs.file.recover.Goals as goal

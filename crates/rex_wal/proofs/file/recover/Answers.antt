@@ -1,45 +1,40 @@
-use Rattle.std.proofs.Common.{◌≡◌, IsTrue, ℕ, List, [], ◌∷◌, sym, ◌∙◌, subst}
+use Rattle.std.proofs.Common.{IsTrue, List, ℕ, [], ◌∷◌, sym, ◌∙◌, subst}
 use Rattle.rex_disk.specs.Calls.Call.{Syncs, Writes}
-use Rattle.rex_file.specs.Mixing.{Mixed}
-use Rattle.rex_wal.specs.Journal.{Holds, StandsFor}
-use Rattle.rex_wal.specs.Opening.{IsCleaning}
+use Rattle.rex_wal.specs.Journal.{Holds}
 use Rattle.std.proofs.lemmas.Result.{err_from_is_err_and}
 use Rattle.rex_wal.proofs.BytesLaws.{bad_none}
-use Rattle.rex_wal.proofs.Calls.{goes_then, refused, then_ends, written_ends}
-use Rattle.rex_wal.proofs.Making.{found_holds, stands_on}
-use Rattle.rex_wal.proofs.Moments.{moves_on, widen}
+use Rattle.rex_journal.proofs.Making.{goes_then, looks_go}
+use Rattle.rex_wal.proofs.Calls.{opens_failed, opens_short, opens_unwritten, write_ends}
+use Rattle.rex_wal.proofs.Making.{found_holds}
+use Rattle.rex_wal.proofs.Settled.{open_leaves}
 use Rattle.rex_wal.proofs.file.recover.Goals as goal
 
 pub returns-in_err-write_through-clause-any_moment : goal.returns-in_err-write_through-clause-any_moment
 returns-in_err-write_through-clause-any_moment g c = λ records pending meets all.
-    let seen = g.D.Disk.seen c.read_synced.new.disk in
-    let found = c.in_ok-found.found.records.items in
     let still = subst IsTrue (sym c.read_synced.ensures.model) meets in
-    let is : c.deref.result.now ≡ seen = c.deref.ensures.value ∙ c.in_ok-bytes.ensures.bytes meets ∙ sym (c.read_synced.ensures.seen meets) in
-    let holds = subst (λ (file : List ℕ). Holds file found) is (found_holds c.deref.result.now found c.in_ok-found.found.end c.in_ok-found.found.is_begun c.in_ok-found.ensures.found) in
-    let stands = subst (StandsFor records pending) (sym (c.read_synced.ensures.seen meets)) (all _ (g.met.D.Disk.leaves_seen c.args.disk.now meets)) in
-    let first = widen g.D.Disk.moment g.D.Disk.left_since (c.read_synced.ensures.any_moment meets) all in
-    let clean = subst (λ (file : List ℕ). IsCleaning file found c.in_ok-written.written.at c.in_ok-written.written.bytes.items) (c.deref-2.ensures.value ∙ c.in_ok-bytes.ensures.bytes meets ∙ sym (c.read_synced.ensures.seen meets)) c.in_ok-written.ensures in
-    moves_on g.D.Disk.moment g.D.Disk.left_since first (widen g.D.Disk.moment g.D.Disk.left_since (c.write_through.ensures.any_moment still (c.in_ok-bytes.ensures.durable meets)) (λ image mixed. stands_on seen image found records pending holds stands (clean.keeps image (subst (λ (written : List ℕ). Mixed c.in_ok-written.written.at written seen image) c.deref-3.ensures.value mixed))))
+    open_leaves g.D.Disk.meets g.D.Disk.seen g.D.Disk.may_leave c.args.disk.now c.read_synced.new.disk c.write_through.new.disk c.in_ok-found.found.records.items records c.in_ok-found.found.end c.in_ok-written.written.at c.in_ok-found.found.is_begun _ _ _ _ _ pending g.D.Disk.moment g.D.Disk.left_since
+    c.deref.ensures.value c.deref-2.ensures.value c.deref-3.ensures.value (c.in_ok-bytes.ensures.bytes meets) (c.read_synced.ensures.seen meets) c.in_ok-found.ensures.found c.in_ok-written.ensures (g.met.D.Disk.leaves_seen c.args.disk.now meets) all
+    (c.read_synced.ensures.any_moment meets) (c.write_through.ensures.any_moment still (c.in_ok-bytes.ensures.durable meets))
+
+pub returns-in_err-found-clause-calls : goal.returns-in_err-found-clause-calls
+returns-in_err-found-clause-calls g c = opens_unwritten g.D.Disk.gives c.args.disk.now c.read_synced.new.disk c.from_residual-in_err-found.result _ c.from_residual-in_err-found.ensures.1 c.in_ok-bytes.ensures.calls c.in_err-found.ensures.whole
+
+pub returns-in_err-written-clause-calls : goal.returns-in_err-written-clause-calls
+returns-in_err-written-clause-calls g c = opens_short g.D.Disk.gives c.args.disk.now c.read_synced.new.disk c.from_residual-in_err-written.result c.from_residual-in_err-written.ensures.1 c.in_ok-bytes.ensures.calls
 
 pub returns-in_err-write_through-clause-calls : goal.returns-in_err-write_through-clause-calls
-returns-in_err-write_through-clause-calls g c = refused g.D.Disk.gives _ c.args.disk.now c.write_through.new.disk c.from_residual-in_err-write_through.result c.from_residual-in_err-write_through.ensures.1
-    (then_ends g.D.Disk.gives c.args.disk.now c.read_synced.new.disk c.write_through.new.disk c.in_ok-bytes.ensures.calls (written_ends g.D.Disk.gives c.in_ok-written.written.at c.deref-3.result.now c.read_synced.new.disk c.write_through.new.disk c.write_through.result c.write_through.ensures.calls))
+returns-in_err-write_through-clause-calls g c = opens_failed g.D.Disk.gives c.args.disk.now c.write_through.new.disk c.from_residual-in_err-write_through.result c.from_residual-in_err-write_through.ensures.1
+    (write_ends g.D.Disk.gives c.in_ok-written.written.at c.deref-3.result.now c.args.disk.now c.read_synced.new.disk c.write_through.new.disk c.in_ok-bytes.ensures.calls c.in_err-write_through.ensures.calls)
 
 pub returns-clause-any_moment : goal.returns-clause-any_moment
 returns-clause-any_moment g c = λ records pending meets all.
-    let seen = g.D.Disk.seen c.read_synced.new.disk in
-    let found = c.in_ok-found.found.records.items in
     let still = subst IsTrue (sym c.read_synced.ensures.model) meets in
-    let is : c.deref.result.now ≡ seen = c.deref.ensures.value ∙ c.in_ok-bytes.ensures.bytes meets ∙ sym (c.read_synced.ensures.seen meets) in
-    let holds = subst (λ (file : List ℕ). Holds file found) is (found_holds c.deref.result.now found c.in_ok-found.found.end c.in_ok-found.found.is_begun c.in_ok-found.ensures.found) in
-    let stands = subst (StandsFor records pending) (sym (c.read_synced.ensures.seen meets)) (all _ (g.met.D.Disk.leaves_seen c.args.disk.now meets)) in
-    let first = widen g.D.Disk.moment g.D.Disk.left_since (c.read_synced.ensures.any_moment meets) all in
-    let clean = subst (λ (file : List ℕ). IsCleaning file found c.in_ok-written.written.at c.in_ok-written.written.bytes.items) (c.deref-2.ensures.value ∙ c.in_ok-bytes.ensures.bytes meets ∙ sym (c.read_synced.ensures.seen meets)) c.in_ok-written.ensures in
-    moves_on g.D.Disk.moment g.D.Disk.left_since first (widen g.D.Disk.moment g.D.Disk.left_since (c.write_through.ensures.any_moment still (c.in_ok-bytes.ensures.durable meets)) (λ image mixed. stands_on seen image found records pending holds stands (clean.keeps image (subst (λ (written : List ℕ). Mixed c.in_ok-written.written.at written seen image) c.deref-3.ensures.value mixed))))
+    open_leaves g.D.Disk.meets g.D.Disk.seen g.D.Disk.may_leave c.args.disk.now c.read_synced.new.disk c.write_through.new.disk c.in_ok-found.found.records.items records c.in_ok-found.found.end c.in_ok-written.written.at c.in_ok-found.found.is_begun _ _ _ _ _ pending g.D.Disk.moment g.D.Disk.left_since
+    c.deref.ensures.value c.deref-2.ensures.value c.deref-3.ensures.value (c.in_ok-bytes.ensures.bytes meets) (c.read_synced.ensures.seen meets) c.in_ok-found.ensures.found c.in_ok-written.ensures (g.met.D.Disk.leaves_seen c.args.disk.now meets) all
+    (c.read_synced.ensures.any_moment meets) (c.write_through.ensures.any_moment still (c.in_ok-bytes.ensures.durable meets))
 
 pub returns-clause-calls : goal.returns-clause-calls
-returns-clause-calls g c = goes_then g.D.Disk.gives c.args.disk.now c.read_synced.new.disk c.write_through.new.disk c.in_ok-bytes.ensures.calls (Writes c.in_ok-written.written.at c.deref-3.result.now ∷ Syncs ∷ [], c.in_ok-write_through.ensures.calls)
+returns-clause-calls g c = goes_then g.D.Disk.gives c.args.disk.now c.read_synced.new.disk c.write_through.new.disk (looks_go g.D.Disk.gives c.args.disk.now c.read_synced.new.disk c.in_ok-bytes.ensures.calls) (Writes c.in_ok-written.written.at c.deref-3.result.now ∷ Syncs ∷ [], c.in_ok-write_through.ensures.calls)
 
 pub returns-in_err-write_through-clause-unread : goal.returns-in_err-write_through-clause-unread
 returns-in_err-write_through-clause-unread g c = λ meets.

@@ -1,7 +1,7 @@
 use Rattle.std.proofs.Common.{ℕ, List, IsTrue, false, subst, sym}
 use Rattle.rex_file.specs.Mixing.{Mixed}
 use Rattle.rex_file.specs.MixingLaws.{mixed_same}
-use Rattle.rex_wal.proofs.Moments.{goes_on, started}
+use Rattle.rex_disk.proofs.Moments.{goes_on, started}
 use Rattle.rex_wal.proofs.file.write_through.Goals as goal
 
 pub returns-clause-any_moment : goal.returns-clause-any_moment

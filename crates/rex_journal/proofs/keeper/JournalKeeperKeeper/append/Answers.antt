@@ -1,5 +1,5 @@
 use Rattle.std.proofs.Common.{rules, ◌≡◌, ◌++◌, ◌∷◌, [], IsTrue, None, Some, sym, ◌∙◌, subst}
-use Rattle.rex_journal.proofs.Moments.{moves_on}
+use Rattle.rex_disk.proofs.Moments.{moves_on}
 use Rattle.rex_journal.proofs.Settled.{settled_rests, settled_stands, waits}
 use Rattle.rex_journal.proofs.keeper.JournalKeeperKeeper.append.Goals as goal
 

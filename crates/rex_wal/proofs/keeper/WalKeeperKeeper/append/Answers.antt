@@ -1,7 +1,6 @@
 use Rattle.std.proofs.Common.{rules, ◌≡◌, ◌+◌, IsTrue, None, Some, sym, subst, arith}
 use Rattle.rex_wal.specs.Appending.{IsWritten}
-use Rattle.rex_wal.proofs.Moments.{moves_on}
-use Rattle.rex_wal.proofs.Settled.{settled_more, settled_rests, settled_stands, waits, writes_stand}
+use Rattle.rex_wal.proofs.Settled.{append_leaves, settled_more, settled_rests, settled_stands, waits}
 use Rattle.rex_wal.proofs.keeper.WalKeeperKeeper.append.Goals as goal
 
 pub returns-in_default-clause-safe : goal.returns-in_default-clause-safe
@@ -34,21 +33,15 @@ returns-in-Ok-write_through-clause-any_moment g c = λ meets unbroken.
     let disk_is : c.args.self.now.disk ≡ c.self.inside.disk = search rules in
     let records_are : c.args.self.now.records ≡ c.self.inside.records.items = search rules in
     let met = subst (λ d. IsTrue (g.D.Disk.meets d)) disk_is meets in
-    let still = subst IsTrue (sym c.prepare.ensures.model) met in
-    let s = c.self.invariant c.if-self.false in
-    let mid = settled_rests g.D.Disk.meets g.D.Disk.seen g.D.Disk.may_leave c.self.inside.disk c.prepare.new.disk c.self.inside.records.items c.self.inside.end g.D.Disk.moment g.D.Disk.left_since s c.prepare.ensures.model c.prepare.ensures.length c.prepare.ensures.seen c.prepare.ensures.time in
-    let first = waits g.D.Disk.meets g.D.Disk.seen g.D.Disk.may_leave c.self.inside.disk c.prepare.new.disk c.self.inside.records.items c.self.inside.end (Some c.args.bytes.now) g.D.Disk.moment g.D.Disk.left_since (λ image left. g.met.D.Disk.only_now c.self.inside.disk image met left) s met (c.prepare.ensures.time met) in
     let written = subst (λ xs. IsWritten c.args.bytes.now xs) (sym c.deref.ensures.value) c.in-Ok.ensures.written in
-    rw (disk_is, records_are) (moves_on g.D.Disk.moment g.D.Disk.left_since first (writes_stand g.D.Disk.meets g.D.Disk.seen g.D.Disk.may_leave c.prepare.new.disk c.write_through.new.disk c.self.inside.records.items c.self.inside.end c.args.bytes.now c.deref.result.now g.D.Disk.moment g.D.Disk.left_since mid (λ i. omega (arith, c.type_inv.bytes i)) written still (c.write_through.ensures.any_moment still (mid.durable still))))
+    rw (disk_is, records_are) (append_leaves g.D.Disk.meets g.D.Disk.seen g.D.Disk.may_leave c.self.inside.disk c.prepare.new.disk c.write_through.new.disk c.self.inside.records.items c.self.inside.end c.args.bytes.now c.deref.result.now g.D.Disk.moment g.D.Disk.left_since (λ image left. g.met.D.Disk.only_now c.self.inside.disk image met left) (c.self.invariant c.if-self.false) met
+    c.prepare.ensures.model c.prepare.ensures.length c.prepare.ensures.seen c.prepare.ensures.time (λ i. omega (arith, c.type_inv.bytes i)) written c.write_through.ensures.any_moment)
 
 pub returns-clause-any_moment : goal.returns-clause-any_moment
 returns-clause-any_moment g c = λ meets unbroken.
     let disk_is : c.args.self.now.disk ≡ c.self.inside.disk = search rules in
     let records_are : c.args.self.now.records ≡ c.self.inside.records.items = search rules in
     let met = subst (λ d. IsTrue (g.D.Disk.meets d)) disk_is meets in
-    let still = subst IsTrue (sym c.prepare.ensures.model) met in
-    let s = c.self.invariant c.if-self.false in
-    let mid = settled_rests g.D.Disk.meets g.D.Disk.seen g.D.Disk.may_leave c.self.inside.disk c.prepare.new.disk c.self.inside.records.items c.self.inside.end g.D.Disk.moment g.D.Disk.left_since s c.prepare.ensures.model c.prepare.ensures.length c.prepare.ensures.seen c.prepare.ensures.time in
-    let first = waits g.D.Disk.meets g.D.Disk.seen g.D.Disk.may_leave c.self.inside.disk c.prepare.new.disk c.self.inside.records.items c.self.inside.end (Some c.args.bytes.now) g.D.Disk.moment g.D.Disk.left_since (λ image left. g.met.D.Disk.only_now c.self.inside.disk image met left) s met (c.prepare.ensures.time met) in
     let written = subst (λ xs. IsWritten c.args.bytes.now xs) (sym c.deref.ensures.value) c.in-Ok.ensures.written in
-    rw (disk_is, records_are) (moves_on g.D.Disk.moment g.D.Disk.left_since first (writes_stand g.D.Disk.meets g.D.Disk.seen g.D.Disk.may_leave c.prepare.new.disk c.write_through.new.disk c.self.inside.records.items c.self.inside.end c.args.bytes.now c.deref.result.now g.D.Disk.moment g.D.Disk.left_since mid (λ i. omega (arith, c.type_inv.bytes i)) written still (c.write_through.ensures.any_moment still (mid.durable still))))
+    rw (disk_is, records_are) (append_leaves g.D.Disk.meets g.D.Disk.seen g.D.Disk.may_leave c.self.inside.disk c.prepare.new.disk c.write_through.new.disk c.self.inside.records.items c.self.inside.end c.args.bytes.now c.deref.result.now g.D.Disk.moment g.D.Disk.left_since (λ image left. g.met.D.Disk.only_now c.self.inside.disk image met left) (c.self.invariant c.if-self.false) met
+    c.prepare.ensures.model c.prepare.ensures.length c.prepare.ensures.seen c.prepare.ensures.time (λ i. omega (arith, c.type_inv.bytes i)) written c.write_through.ensures.any_moment)
