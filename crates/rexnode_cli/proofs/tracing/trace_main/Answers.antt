@@ -14,12 +14,15 @@ returns-in-Ok-clause-traces g c =
 
 pub returns-in-Err-clause-traces : goal.returns-in-Err-clause-traces
 returns-in-Err-clause-traces g c =
-    inr (record {
-      fault = c.in-Err.refused.fault;
-      left = c.in-Err.refused.disk;
-      cause = c.in-Err.ensures.bad;
-      kept = c.in-Err.ensures.unread;
-      counted = c.in-Err.ensures.cause;
-      ended = c.in-Err.ensures.calls;
-      told = c.open_status.ensures;
-    }, refl)
+    inr (
+      record {
+        fault = c.in-Err.refused.fault;
+        left = c.in-Err.refused.disk;
+        cause = c.in-Err.ensures.bad;
+        kept = c.in-Err.ensures.unread;
+        counted = c.in-Err.ensures.cause;
+        ended = c.in-Err.ensures.calls;
+        told = c.open_status.ensures;
+      },
+      refl,
+    )
