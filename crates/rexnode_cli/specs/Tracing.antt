@@ -21,13 +21,13 @@ abbrev pub Traces : {K : Type 0} → (K → List (List ℕ)) → (K → ℕ) →
 Traces records faults service id nodes seed keeper before now status =
     Starts records faults service id nodes seed keeper (λ first. IsWritten (known_text records first) before now status) (now ≡ before) status
 
--- it has no records, so it has no trace, and was not claimed
+-- it has no records, and so its trace is empty
 pub record HasNoRecords {K : Type 0} (records : K → List (List ℕ)) (keeper : K) (before now : List ℕ) (status : ℕ) : Type 0 where
   pub none : records keeper ≡ []
   pub unwritten : now ≡ before
   pub told : status ≡ 0
 
--- it has records, the first of which is the identity's, and the trace is that of those behind it; or the first one isn't
+-- it has records: the first one is the identity's, and the trace is that of those behind it; or it isn't
 pub record HasRecords {K : Type 0} (records : K → List (List ℕ)) (gives : K → List ℕ → Answer → K → Type 0) (faults : K → ℕ) (service : Declarations) (identity : IdentityValue) (keeper : K)
     (before now : List ℕ) (status : ℕ) : Type 0 where
   pub some : records keeper ≢ []
