@@ -1,4 +1,4 @@
--- What is written of the trace of a journal: of all that a node knows that comes up with it, whose bytes the sink had taken before, and has taken now.
+-- The trace of a journal, as the bytes that the sink had taken before and has taken now: the lines of all that a node knows that comes up with it.
 use Rattle.std.specs.Prelude.{◌≡◌, ◌≢◌, ◌⊎◌, [], ℕ, Bool, List}
 use Rattle.rex_traits.specs.Chains.{Answer}
 use Rattle.rex_disk.specs.Calls.{Call}
