@@ -6,6 +6,8 @@ import struct
 import subprocess
 import time
 
+from model.live import trace_of
+
 from . import journals
 from .drawing import FOR_LEADERS, Drawing
 from .processes import FAILS, KILLED_AFTER, KILLED_BEFORE, Difference
@@ -16,7 +18,7 @@ ENDINGS = ("die", "fail", "raw")
 OF_DOWN = ("start", "start badly", "start wrongly")
 NAMES = (
     "kills", "blackouts", "deaths", "raw kills", "failed calls", "undisturbed", "starts", "bad starts", "wrong starts", "second starts", "forks left",
-    "lost writes", "torn", "stale", "leaders", "adopted", "unfit", "faulty", "full", "longest frame", "answers", "known", "values", "events", "released",
+    "lost writes", "torn", "stale", "leaders", "adopted", "unfit", "faulty", "full", "longest frame", "answers", "known", "values", "events", "released", "traces",
 )
 
 
@@ -330,6 +332,7 @@ class Schedule(Drawing):
         self.compare(leader)
         for it in self.all:
             it.kill()
+            self.trace(it)
 
     def compare(self, leader):
         """The journals: whose they are, and which values they say are known."""
@@ -342,6 +345,15 @@ class Schedule(Drawing):
                 raise self.fault(it, ": its journal has other values in the end than its twin or the leader")
         self.counts["values"] += len(agreed)
         self.counts["events"] += sum(map(len, leader.twin.held))
+
+    def trace(self, it):
+        """What is written of its journal with --trace: the model's lines of what is agreed. Nothing is appended."""
+        records, (program, *words) = journals.records_at(it.path), self.words_of(it.number, it.path)
+        ran = subprocess.run([program, "--trace", *words], stdin=subprocess.DEVNULL, stdout=subprocess.PIPE, stderr=subprocess.DEVNULL, timeout=60)
+        due = "".join(line + "\n" for line in trace_of(it.twin.held)).encode()
+        if ran.returncode or ran.stdout != due or journals.records_at(it.path) != records:
+            raise self.fault(it, ": its trace ends with %d, and is %r in place of %r", ran.returncode, ran.stdout[-1000:], due[-1000:])
+        self.counts["traces"] += bool(due)
 
     def run(self, steps):
         for it in self.all:

@@ -22,7 +22,7 @@ use Rattle.rex_cluster.specs.Takes.{BeginsInRange}
 use Rattle.rex_cluster.specs.World.{World}
 use Rattle.rex_steady.specs.Blocks.{values_of}
 use Rattle.rex_steady.specs.Steady.{IsSteady, live_world}
-use Rattle.rex_world.specs.Tracing.{values_text}
+use Rattle.rex_steps.specs.Tracing.{values_text}
 use Rattle.rex_world.specs.Report.{ends_text}
 
 -- the history in blocks of as many events as a delta has at most, the last block being the rest

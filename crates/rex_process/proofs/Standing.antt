@@ -79,6 +79,10 @@ module _ {K : Type 0} (records : K → List (List ℕ)) (service : Declarations)
   pub known_is : x.known ≡ known here.log
   known_is = up_is.known
 
+  -- and that is no more than there are instances
+  pub known_few : length x.known ≤ 65535
+  known_few = subst (λ (vs : List Value). length vs ≤ 65535) (sym known_is) up_is.numbers.log.few
+
   -- where it isn't behind, the state that it has replayed is the one after all that it knows
   pub replayed_runs : is_behind here ≡ false → run service (start_of service) (trace_of (known here.log)) ≡ Some (replayed_state x)
   replayed_runs e = subst (λ (vs : List Value). run service (start_of service) (trace_of vs) ≡ Some (replayed_state x)) known_is (by x.acting refl)

@@ -7,3 +7,4 @@ pub mod Sending
 pub mod Settling
 pub mod Starting
 pub mod Status
+pub mod Tracing

@@ -11,6 +11,7 @@ mod settling;
 mod starting;
 mod telling;
 mod testing;
+mod tracing;
 
 pub use answers::Answer;
 pub use process::Process;

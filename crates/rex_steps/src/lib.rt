@@ -3,6 +3,8 @@
 
 mod effects;
 mod steps;
+mod tracing;
 
 pub use effects::{effect_of, read_effect};
 pub use steps::{answered, joined, step_of, turned};
+pub use tracing::push_values;

@@ -1,5 +1,5 @@
 //! The program `rexnode`: a node of a cluster as a process. It reads frames from its standard input, answers them on its standard output,
-//! and keeps its records in a file.
+//! and keeps its records in a file. With the first word `--trace` it writes the trace of what they say is known.
 #![tactic(auto)]
 
 ghost use Rattle.std.specs.Prelude.{◌<◌};
@@ -9,8 +9,8 @@ use rex_answer::Answer;
 use rex_file::{FileFault, open_path};
 use rex_traits::{StdSink, StdSource};
 use rexnode_cli::{
-    DISK_FAILED, JOURNAL_LOCKED, NotLoaded, OUT_OF_MEMORY, READ_FAILED, load_service, node_main,
-    usage,
+    DISK_FAILED, JOURNAL_LOCKED, Loaded, NotLoaded, OUT_OF_MEMORY, READ_FAILED, load_service,
+    node_main, trace_main, usage,
 };
 use rexnode_command::{Command, command_of};
 use std::env::{self, Env};
@@ -45,20 +45,28 @@ fn file_status(fault: FileFault) -> u8 {
     }
 }
 
+// The service that a command names, or the status with which the program ends.
+fn load(rt: &HostRuntime, command: &Command<'_>) -> Result<Loaded, u8> {
+    let text = match File::open(rt, command.service) {
+        Ok(text) => text,
+        Err(error) if error.kind() == io::ErrorKind::OutOfMemory => return Err(OUT_OF_MEMORY),
+        Err(_) => return Err(READ_FAILED),
+    };
+    match load_service(rt.alloc(), &mut StdSource::new(text)) {
+        Ok(loaded) => Ok(loaded),
+        Err(NotLoaded::Refused(answer)) => Err(give(rt, &answer)),
+        Err(NotLoaded::Unread) => Err(READ_FAILED),
+        Err(NotLoaded::OutOfMemory) => Err(OUT_OF_MEMORY),
+    }
+}
+
 // Runs the node that a command asks for. The journal is opened once there is a service to run.
 fn run(rt: &HostRuntime, command: &Command<'_>) -> u8
     requires { Fits command.now }
 {
-    let text = match File::open(rt, command.service) {
-        Ok(text) => text,
-        Err(error) if error.kind() == io::ErrorKind::OutOfMemory => return OUT_OF_MEMORY,
-        Err(_) => return READ_FAILED,
-    };
-    let loaded = match load_service(rt.alloc(), &mut StdSource::new(text)) {
+    let loaded = match load(rt, command) {
         Ok(loaded) => loaded,
-        Err(NotLoaded::Refused(answer)) => return give(rt, &answer),
-        Err(NotLoaded::Unread) => return READ_FAILED,
-        Err(NotLoaded::OutOfMemory) => return OUT_OF_MEMORY,
+        Err(status) => return status,
     };
     let disk = match open_path(rt, command.journal) {
         Ok(disk) => disk,
@@ -69,10 +77,50 @@ fn run(rt: &HostRuntime, command: &Command<'_>) -> u8
     node_main(rt.alloc(), command, &loaded, disk, &mut source, &mut sink)
 }
 
-// What the words ask for.
-fn run_words(rt: &HostRuntime, words: &[String]) -> u8 {
+// Writes the trace of the journal that a command names.
+fn trace(rt: &HostRuntime, command: &Command<'_>) -> u8
+    requires { Fits command.now }
+{
+    let loaded = match load(rt, command) {
+        Ok(loaded) => loaded,
+        Err(status) => return status,
+    };
+    // Opening a journal makes one where there is none, so it is looked for first.
+    if let Err(error) = File::open(rt, command.journal) {
+        return match error.kind() {
+            io::ErrorKind::OutOfMemory => OUT_OF_MEMORY,
+            _ => DISK_FAILED,
+        };
+    }
+    let disk = match open_path(rt, command.journal) {
+        Ok(disk) => disk,
+        Err(fault) => return file_status(fault),
+    };
+    let mut sink = StdSink::new(io::writer(rt));
+    trace_main(rt.alloc(), command, &loaded, disk, &mut sink)
+}
+
+// The words from `--trace` on, where it is the first one behind the program's name.
+fn trace_words(words: &[String]) -> Option<&[String]> {
+    match words.split_first() {
+        Some((_, rest)) => match rest.first() {
+            Some(word) if word.as_str() == "--trace" => Some(rest),
+            _ => None,
+        },
+        None => None,
+    }
+}
+
+// What the words of a command ask for, of which the first one isn't looked at.
+fn run_words(rt: &HostRuntime, words: &[String], traces: bool) -> u8 {
     match command_of(rt.alloc(), words) {
-        Ok(Some(command)) => run(rt, &command),
+        Ok(Some(command)) => {
+            if traces {
+                trace(rt, &command)
+            } else {
+                run(rt, &command)
+            }
+        }
         Ok(None) => match usage(rt.alloc()) {
             Ok(answer) => give(rt, &answer),
             Err(_) => OUT_OF_MEMORY,
@@ -85,5 +133,9 @@ fn main(rt: HostRuntime) -> ExitCode {
     let Some(words) = words_of(&rt) else {
         return ExitCode::from(OUT_OF_MEMORY);
     };
-    ExitCode::from(run_words(&rt, &words))
+    let status = match trace_words(&words) {
+        Some(words) => run_words(&rt, words, true),
+        None => run_words(&rt, &words, false),
+    };
+    ExitCode::from(status)
 }

@@ -1,6 +1,6 @@
 -- Nodes that ran, and what was refused before they did.
-use Rattle.std.proofs.Common.{◌≡◌, ℕ, Bool, IsTrue, List, [], ◌∷◌, ◌+◌, ◌++◌, inl, inr, ◌⊎◌, refl, sym}
-use Rattle.std.specs.Prelude.{◌≢◌, None, Ok, drop}
+use Rattle.std.proofs.Common.{◌≡◌, ℕ, Bool, IsTrue, List, [], ◌+◌, ◌++◌, inl, inr, ◌⊎◌, refl, sym}
+use Rattle.std.specs.Prelude.{None, drop}
 use Rattle.rex_traits.specs.Chains.{Answer}
 use Rattle.rex_disk.specs.Calls.{Call}
 use Rattle.std.proofs.lemmas.List.{append-nil}
@@ -12,17 +12,15 @@ use Rattle.rex_wal.specs.Appending.{Appends}
 use Rattle.rex_wal.specs.Keeping.{AllStandFor, WalValue}
 use Rattle.rex_wal.specs.Opening as opening
 use Rattle.rex_journal.specs.declared.fault.OpenFault.{OpenFault}
-use Rattle.rex_identity.specs.Identity.{IdentityValue, identity_bytes}
-use Rattle.rex_identity.specs.Claims as claims
-use Rattle.rex_identity.specs.Claims.{IsCause, OwnedValue}
-use Rattle.rex_identity.specs.declared.fault.ClaimFault.{ClaimFault}
+use Rattle.rex_identity.specs.Identity.{IdentityValue}
+use Rattle.rex_identity.specs.Claims.{OwnedValue}
 use Rattle.rex_process.specs.Process.{IsProcess, ProcessValue}
 use Rattle.rex_process.specs.Starting.{HasStarted, IsStartFault}
 use Rattle.rex_process.specs.declared.starting.StartFault.{StartFault}
 use Rattle.rex_serve.specs.Serving.{EndsAs, GrowsBy}
 use Rattle.rex_serve.specs.declared.serving.Ended.{Ended}
-use Rattle.rexnode_cli.specs.Statuses.{claim_status, ended_status, open_status, start_status}
-use Rattle.rexnode_cli.specs.Running.{HasOpened, HasOwned, IsNotOpened, IsNotOwned, IsUntouched, Runs, RunsOn, RunsOwned}
+use Rattle.rexnode_cli.specs.Statuses.{ended_status, open_status, start_status}
+use Rattle.rexnode_cli.specs.Running.{IsNotOwned, IsOwnedAs, IsUntouched, Runs, RunsOn, RunsOwned}
 
 -- bytes that didn't grow
 pub still : (P : List ℕ → Type 0) (before : List ℕ) → P [] → GrowsBy P before before
@@ -36,36 +34,32 @@ grows_as implies g = record { more = g.more; grown = g.grown; holds = implies g.
 pub untouched : (before : List ℕ) → IsUntouched [] before before
 untouched before = record { unread = refl; unwritten = refl }
 
-module _ {K : Type 0} (records : K → List (List ℕ)) (faults : K → ℕ) (service : Declarations) where
-  -- frames were served
-  pub has_served : (id nodes seed : ℕ) (keeper : K) (first last : ProcessValue K) (ended : Ended) (status : ℕ) (before now given taken : List ℕ) → IsProcess records faults first
-      → HasStarted records service id nodes seed keeper first → status ≡ ended_status ended → GrowsBy (λ input. EndsAs records faults ended first last input before now) given taken
-      → GrowsBy (λ input. Runs records faults service id nodes seed keeper input before now status) given taken
-  has_served id nodes seed keeper first last ended status before now given taken process started told served =
-      grows_as (λ input ends. inl (record { first = first; last = last; ended = ended; process = process; started = started; served = ends; told = told })) served
+-- frames were served
+pub has_served : {K : Type 0} (records : K → List (List ℕ)) (faults : K → ℕ) (service : Declarations) (id nodes seed : ℕ) (keeper : K) (first last : ProcessValue K) (ended : Ended) (status : ℕ) (before now given taken : List ℕ) → IsProcess records faults first
+    → HasStarted records service id nodes seed keeper first → status ≡ ended_status ended → GrowsBy (λ input. EndsAs records faults ended first last input before now) given taken
+    → GrowsBy (λ input. Runs records faults service id nodes seed keeper input before now status) given taken
+has_served records faults service id nodes seed keeper first last ended status before now given taken process started told served =
+    grows_as (λ input ends. inl (record { first = first; process = process; started = started; does = record { last = last; ended = ended; served = ends; told = told } })) served
 
-  -- the process didn't come up
-  pub not_started : (id nodes seed : ℕ) (keeper : K) (fault : StartFault) (status : ℕ) (before given : List ℕ) → IsStartFault service (records keeper) fault → status ≡ start_status fault
-      → GrowsBy (λ input. Runs records faults service id nodes seed keeper input before before status) given given
-  not_started id nodes seed keeper fault status before given cause told =
-      still (λ input. Runs records faults service id nodes seed keeper input before before status) given (inr (record { fault = fault; cause = cause; told = told; untouched = untouched before }))
+-- the process didn't come up
+pub not_started : {K : Type 0} (records : K → List (List ℕ)) (faults : K → ℕ) (service : Declarations) (id nodes seed : ℕ) (keeper : K) (fault : StartFault) (status : ℕ) (before given : List ℕ) → IsStartFault service (records keeper) fault → status ≡ start_status fault
+    → GrowsBy (λ input. Runs records faults service id nodes seed keeper input before before status) given given
+not_started records faults service id nodes seed keeper fault status before given cause told =
+    still (λ input. Runs records faults service id nodes seed keeper input before before status) given (inr (record { fault = fault; cause = cause; told = told }, untouched before))
 
-  -- the node ran with a keeper of its own
-  pub has_owned : (gives : K → List ℕ → Answer → K → Type 0) (identity : IdentityValue) (keeper : K) (owned : OwnedValue K) (status : ℕ) (before now given taken : List ℕ)
-      → records owned.keeper ≡ identity_bytes identity ∷ drop 1 (records keeper) → (records keeper ≢ [] → owned.keeper ≡ keeper)
-      → (records keeper ≡ [] → gives keeper (identity_bytes identity) (Ok tt) owned.keeper)
-      → GrowsBy (λ input. Runs (λ (o : OwnedValue K). drop 1 (records o.keeper)) (λ (o : OwnedValue K). faults o.keeper) service identity.id identity.nodes identity.seed owned input before now status) given taken
-      → GrowsBy (λ input. RunsOwned records gives faults service identity keeper input before now status) given taken
-  has_owned gives identity keeper owned status before now given taken claimed same appended runs =
-      grows_as (λ input r. inl (record { owned = owned; claimed = claimed; same = same; appended = appended; runs = r })) runs
+-- the node ran with a keeper of its own
+pub has_owned : {K : Type 0} (records : K → List (List ℕ)) (gives : K → List ℕ → Answer → K → Type 0) (faults : K → ℕ) (service : Declarations) (identity : IdentityValue) (keeper : K) (owned : OwnedValue K) (status : ℕ) (before now given taken : List ℕ)
+    → IsOwnedAs records gives identity keeper owned
+    → GrowsBy (λ input. Runs (λ (o : OwnedValue K). drop 1 (records o.keeper)) (λ (o : OwnedValue K). faults o.keeper) service identity.id identity.nodes identity.seed owned input before now status) given taken
+    → GrowsBy (λ input. RunsOwned records gives faults service identity keeper input before now status) given taken
+has_owned records gives faults service identity keeper owned status before now given taken own runs =
+    grows_as (λ input r. inl (record { owned = owned; own = own; runs = r })) runs
 
-  -- the keeper is another's, or wasn't claimed
-  pub not_owned : (gives : K → List ℕ → Answer → K → Type 0) (identity : IdentityValue) (keeper left : K) (fault : ClaimFault) (status : ℕ) (before given : List ℕ)
-      → IsCause (identity_bytes identity) (records keeper) fault → claims.CountsAs (faults keeper) (faults left) fault → status ≡ claim_status fault
-      → GrowsBy (λ input. RunsOwned records gives faults service identity keeper input before before status) given given
-  not_owned gives identity keeper left fault status before given cause counted told =
-      still (λ input. RunsOwned records gives faults service identity keeper input before before status) given
-      (inr (record { fault = fault; left = left; cause = cause; counted = counted; told = told; untouched = untouched before }))
+-- the keeper is another's, or wasn't claimed
+pub not_owned : {K : Type 0} (records : K → List (List ℕ)) (gives : K → List ℕ → Answer → K → Type 0) (faults : K → ℕ) (service : Declarations) (identity : IdentityValue) (keeper : K) (status : ℕ) (before given : List ℕ)
+    → IsNotOwned records faults identity keeper status → GrowsBy (λ input. RunsOwned records gives faults service identity keeper input before before status) given given
+not_owned records gives faults service identity keeper status before given refused =
+    still (λ input. RunsOwned records gives faults service identity keeper input before before status) given (inr (refused, untouched before))
 
 module _ {D : Type 0} (meets : D → Bool) (seen : D → List ℕ) (may_leave : D → List ℕ → Type 0) (gives : D → Call → Bool → D → Type 0) (faults : D → ℕ)
     (service : Declarations) (identity : IdentityValue) (disk : D) where
@@ -84,4 +78,4 @@ module _ {D : Type 0} (meets : D → Bool) (seen : D → List ℕ) (may_leave : 
       → GrowsBy (λ input. RunsOn meets seen may_leave gives faults service identity disk input before before status) given given
   not_opened fault left status before given cause kept counted ended told =
       still (λ input. RunsOn meets seen may_leave gives faults service identity disk input before before status) given
-      (inr (record { fault = fault; left = left; cause = cause; kept = kept; counted = counted; ended = ended; told = told; untouched = untouched before }))
+      (inr (record { fault = fault; left = left; cause = cause; kept = kept; counted = counted; ended = ended; told = told }, untouched before))

@@ -1,3 +1,4 @@
 pub mod Loading
 pub mod Statuses
 pub mod Running
+pub mod Tracing

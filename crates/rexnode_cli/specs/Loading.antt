@@ -18,7 +18,7 @@ use Rattle.rexnode_cli.specs.declared.loading.NotLoaded.TheVariants as not_loade
 
 -- words that are no command line are answered so
 abbrev pub due_usage : Due
-due_usage = record { status = 2; text = codes "usage: rexnode ID NODES SERVICE JOURNAL [--seed N] [--cluster NAME]" ++ 10 ∷ [] }
+due_usage = record { status = 2; text = codes "usage: rexnode [--trace] ID NODES SERVICE JOURNAL [--seed N] [--cluster NAME]" ++ 10 ∷ [] }
 
 -- what is answered to a text that is no service, or one that isn't checked
 abbrev pub due_in : Result Above (ℕ × ServiceCode) → Option Due

@@ -1,4 +1,4 @@
--- How a node runs on a disk: with which records it comes up, and which frames it answers; or why it doesn't.
+-- How a node comes up on a disk: with which records, and what it does then, as which frames it answers; or why it doesn't.
 use Rattle.std.specs.Prelude.{◌≡◌, ◌≢◌, ◌⊎◌, ◌∷◌, ◌+◌, [], ℕ, Bool, IsTrue, List, None, Ok, drop}
 use Rattle.rex_traits.specs.Chains.{Answer}
 use Rattle.rex_disk.specs.Calls.{Call}
@@ -26,76 +26,68 @@ use Rattle.rexnode_cli.specs.Statuses.{claim_status, ended_status, open_status, 
 abbrev pub identity_of : CommandValue → List ℕ → IdentityValue
 identity_of c digest = record { cluster = c.cluster; id = c.id; nodes = c.nodes; seed = c.seed; service = digest }
 
--- ---- what was read and written: the bytes that the source gave, and those that the sink had taken before and has taken now
-
--- nothing was read and nothing written
-pub record IsUntouched (input before now : List ℕ) : Type 0 where
-  pub unread : input ≡ []
-  pub unwritten : now ≡ before
-
 -- ---- a keeper
 
-module _ {K : Type 0} (records : K → List (List ℕ)) (faults : K → ℕ) (service : Declarations) where
-  -- a process came up with a keeper's records, and answered the frames of the input, until that ended as the status says
-  pub record HasServed (id nodes seed : ℕ) (keeper : K) (input before now : List ℕ) (status : ℕ) : Type 0 where
+module _ {K : Type 0} (records : K → List (List ℕ)) (faults : K → ℕ) (service : Declarations) (id nodes seed : ℕ) (keeper : K) where
+  -- a process came up with a keeper's records, and did this
+  pub record HasProcess (Does : ProcessValue K → Type 0) : Type 0 where
     pub first : ProcessValue K
-    pub last : ProcessValue K
-    pub ended : Ended
     pub process : IsProcess records faults first
     pub started : HasStarted records service id nodes seed keeper first
-    pub served : EndsAs records faults ended first last input before now
-    pub told : status ≡ ended_status ended
+    pub does : Does first
 
   -- it didn't come up with them
-  pub record HasNotStarted (keeper : K) (input before now : List ℕ) (status : ℕ) : Type 0 where
+  pub record HasNotStarted (status : ℕ) : Type 0 where
     pub fault : StartFault
     pub cause : IsStartFault service (records keeper) fault
     pub told : status ≡ start_status fault
-    pub untouched : IsUntouched input before now
 
-  abbrev pub Runs : ℕ → ℕ → ℕ → K → List ℕ → List ℕ → List ℕ → ℕ → Type 0
-  Runs id nodes seed keeper input before now status = HasServed id nodes seed keeper input before now status ⊎ HasNotStarted keeper input before now status
+  -- it did this; or it didn't come up, and this was left untouched
+  abbrev pub Starts : (ProcessValue K → Type 0) → Type 0 → ℕ → Type 0
+  Starts Does Untouched status = HasProcess Does ⊎ (HasNotStarted status × Untouched)
 
 -- ---- a keeper whose first record says whose it is
 
-module _ {K : Type 0} (records : K → List (List ℕ)) (gives : K → List ℕ → Answer → K → Type 0) (faults : K → ℕ)
-    (service : Declarations) (identity : IdentityValue) (keeper : K) where
-  -- it has the identity's record first, or had none, and that one was appended; the node ran with the records behind it
-  pub record HasOwned (input before now : List ℕ) (status : ℕ) : Type 0 where
+-- it has the identity's record first, or had none, and that one was appended
+pub record IsOwnedAs {K : Type 0} (records : K → List (List ℕ)) (gives : K → List ℕ → Answer → K → Type 0) (identity : IdentityValue) (keeper : K) (owned : OwnedValue K) : Type 0 where
+  pub claimed : records owned.keeper ≡ identity_bytes identity ∷ drop 1 (records keeper)
+  pub same : records keeper ≢ [] → owned.keeper ≡ keeper
+  pub appended : records keeper ≡ [] → gives keeper (identity_bytes identity) (Ok tt) owned.keeper
+
+-- it isn't the identity's, or failed as it was given that record, which it counted
+pub record IsNotOwned {K : Type 0} (records : K → List (List ℕ)) (faults : K → ℕ) (identity : IdentityValue) (keeper : K) (status : ℕ) : Type 0 where
+  pub fault : ClaimFault
+  pub left : K
+  pub cause : IsCause (identity_bytes identity) (records keeper) fault
+  pub counted : claims.CountsAs (faults keeper) (faults left) fault
+  pub told : status ≡ claim_status fault
+
+module _ {K : Type 0} (records : K → List (List ℕ)) (gives : K → List ℕ → Answer → K → Type 0) (faults : K → ℕ) (identity : IdentityValue) (keeper : K) where
+  -- it is the identity's, and this was run with the records behind the first one
+  pub record HasOwned (Runs : (OwnedValue K → List (List ℕ)) → (OwnedValue K → ℕ) → OwnedValue K → Type 0) : Type 0 where
     pub owned : OwnedValue K
-    pub claimed : records owned.keeper ≡ identity_bytes identity ∷ drop 1 (records keeper)
-    pub same : records keeper ≢ [] → owned.keeper ≡ keeper
-    pub appended : records keeper ≡ [] → gives keeper (identity_bytes identity) (Ok tt) owned.keeper
-    pub runs : Runs (λ o. drop 1 (records o.keeper)) (λ o. faults o.keeper) service identity.id identity.nodes identity.seed owned input before now status
+    pub own : IsOwnedAs records gives identity keeper owned
+    pub runs : Runs (λ o. drop 1 (records o.keeper)) (λ o. faults o.keeper) owned
 
-  -- it isn't the identity's, or failed as it was given that record, which it counted
-  pub record IsNotOwned (input before now : List ℕ) (status : ℕ) : Type 0 where
-    pub fault : ClaimFault
-    pub left : K
-    pub cause : IsCause (identity_bytes identity) (records keeper) fault
-    pub counted : claims.CountsAs (faults keeper) (faults left) fault
-    pub told : status ≡ claim_status fault
-    pub untouched : IsUntouched input before now
-
-  abbrev pub RunsOwned : List ℕ → List ℕ → List ℕ → ℕ → Type 0
-  RunsOwned input before now status = HasOwned input before now status ⊎ IsNotOwned input before now status
+  -- this was run; or it isn't the identity's, and this was left untouched
+  abbrev pub Claims : ((OwnedValue K → List (List ℕ)) → (OwnedValue K → ℕ) → OwnedValue K → Type 0) → Type 0 → ℕ → Type 0
+  Claims Runs Untouched status = HasOwned Runs ⊎ (IsNotOwned records faults identity keeper status × Untouched)
 
 -- ---- a disk
 
 module _ {D : Type 0} (meets : D → Bool) (seen : D → List ℕ) (may_leave : D → List ℕ → Type 0) (gives : D → Call → Bool → D → Type 0) (faults : D → ℕ)
-    (service : Declarations) (identity : IdentityValue) (disk : D) where
-  -- the journal on the disk was opened by calls that didn't fail: it has the records that the disk holds, and a stop leaves no others; the node ran on it
-  pub record HasOpened (input before now : List ℕ) (status : ℕ) : Type 0 where
+    (disk : D) where
+  -- the journal on the disk was opened by calls that didn't fail: it has the records that the disk holds, and a stop leaves no others; this was run with it
+  pub record HasOpened (Runs : (WalValue D → List (List ℕ)) → (WalValue D → List ℕ → Answer → WalValue D → Type 0) → (WalValue D → ℕ) → WalValue D → Type 0) : Type 0 where
     pub journal : WalValue D
     pub holds : IsTrue (meets disk) → Holds (seen disk) journal.records
     pub safe : IsTrue (meets journal.disk) → AllStandFor (may_leave journal.disk) journal.records None
     pub met : meets journal.disk ≡ meets disk
     pub opened : Goes gives disk journal.disk
-    pub runs : RunsOwned (λ j. j.records) (λ old bytes result new. Appends gives meets faults old bytes result new) (λ j. faults j.disk + j.refused)
-        service identity journal input before now status
+    pub runs : Runs (λ j. j.records) (λ old bytes result new. Appends gives meets faults old bytes result new) (λ j. faults j.disk + j.refused) journal
 
   -- it was not: it is bad, or memory was short, and then nothing was written; or the disk failed
-  pub record IsNotOpened (input before now : List ℕ) (status : ℕ) : Type 0 where
+  pub record IsNotOpened (status : ℕ) : Type 0 where
     pub fault : OpenFault
     pub left : D
     pub cause : IsTrue (meets disk) → IsCauseIn IsBad (seen disk) fault
@@ -103,7 +95,39 @@ module _ {D : Type 0} (meets : D → Bool) (seen : D → List ℕ) (may_leave : 
     pub counted : CountsAs fault (faults disk) (faults left)
     pub ended : opening.EndsAs gives disk left fault
     pub told : status ≡ open_status fault
-    pub untouched : IsUntouched input before now
 
-  abbrev pub RunsOn : List ℕ → List ℕ → List ℕ → ℕ → Type 0
-  RunsOn input before now status = HasOpened input before now status ⊎ IsNotOpened input before now status
+  -- this was run; or the journal wasn't opened, and this was left untouched
+  abbrev pub Opens : ((WalValue D → List (List ℕ)) → (WalValue D → List ℕ → Answer → WalValue D → Type 0) → (WalValue D → ℕ) → WalValue D → Type 0) → Type 0 → ℕ → Type 0
+  Opens Runs Untouched status = HasOpened Runs ⊎ (IsNotOpened status × Untouched)
+
+-- ---- frames: the bytes that the source gave, and those that the sink had taken before and has taken now
+
+-- nothing was read and nothing written
+pub record IsUntouched (input before now : List ℕ) : Type 0 where
+  pub unread : input ≡ []
+  pub unwritten : now ≡ before
+
+-- a process answered the frames of the input, until that ended as the status says
+pub record HasServed {K : Type 0} (records : K → List (List ℕ)) (faults : K → ℕ) (first : ProcessValue K) (input before now : List ℕ) (status : ℕ) : Type 0 where
+  pub last : ProcessValue K
+  pub ended : Ended
+  pub served : EndsAs records faults ended first last input before now
+  pub told : status ≡ ended_status ended
+
+-- one that came up with a keeper's records did so, if any did
+abbrev pub Runs : {K : Type 0} → (K → List (List ℕ)) → (K → ℕ) → Declarations → ℕ → ℕ → ℕ → K → List ℕ → List ℕ → List ℕ → ℕ → Type 0
+Runs records faults service id nodes seed keeper input before now status =
+    Starts records faults service id nodes seed keeper (λ first. HasServed records faults first input before now status) (IsUntouched input before now) status
+
+-- one that came up with the records behind the identity's did so
+abbrev pub RunsOwned : {K : Type 0} → (K → List (List ℕ)) → (K → List ℕ → Answer → K → Type 0) → (K → ℕ) → Declarations → IdentityValue → K → List ℕ → List ℕ → List ℕ → ℕ → Type 0
+RunsOwned records gives faults service identity keeper input before now status =
+    Claims records gives faults identity keeper
+    (λ behind failed owned. Runs behind failed service identity.id identity.nodes identity.seed owned input before now status) (IsUntouched input before now) status
+
+-- one that came up with the journal on a disk did so
+abbrev pub RunsOn : {D : Type 0} → (D → Bool) → (D → List ℕ) → (D → List ℕ → Type 0) → (D → Call → Bool → D → Type 0) → (D → ℕ) → Declarations → IdentityValue → D
+    → List ℕ → List ℕ → List ℕ → ℕ → Type 0
+RunsOn meets seen may_leave gives faults service identity disk input before now status =
+    Opens meets seen may_leave gives faults disk
+    (λ records appends failed journal. RunsOwned records appends failed service identity journal input before now status) (IsUntouched input before now) status

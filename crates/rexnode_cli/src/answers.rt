@@ -10,7 +10,7 @@ use std::alloc::{AllocError, Global};
 pub fn usage(alloc: Global) -> Result<Answer, AllocError>
     ensures { IfOk result (λ a. a ≡ spec.due_usage) }
 {
-    let line = b"usage: rexnode ID NODES SERVICE JOURNAL [--seed N] [--cluster NAME]\n";
+    let line = b"usage: rexnode [--trace] ID NODES SERVICE JOURNAL [--seed N] [--cluster NAME]\n";
     let text = Vec::from_slice(alloc, line)?;
     Ok(Answer { status: 2, text })
 }

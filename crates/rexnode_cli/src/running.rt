@@ -9,9 +9,9 @@ ghost use Rattle.rexnode_cli.specs.Running.{Runs, RunsOn, RunsOwned, identity_of
 ghost use Rattle.rexnode_cli.specs.declared.statuses.TheConstants.{READ_FAILED, WRITE_FAILED};
 
 use crate::loading::Loaded;
-use crate::statuses::{OUT_OF_MEMORY, claim_status, ended_status, open_status, start_status};
+use crate::owning::own;
+use crate::statuses::{ended_status, open_status, start_status};
 use rex_file::ByteAtomic;
-use rex_identity::{Identity, Owned};
 use rex_process::Process;
 use rex_serve::serve;
 use rex_syntax::checked::Checked;
@@ -60,19 +60,9 @@ fn run_owned<K: Keeper + Drop, S: Source, W: Sink>(
     ensures unread { result ≡ READ_FAILED → Rose (S.faults source.old) (S.faults source.new) ⊎ (2 ^ 64 - 1 ≤ S.calls source.new) }
     ensures unwritten { result ≡ WRITE_FAILED → Rose (W.faults sink.old) (W.faults sink.new) }
 {
-    let Ok(identity) = Identity::new(
-        alloc,
-        command.cluster,
-        command.id,
-        command.nodes,
-        command.seed,
-        loaded.digest,
-    ) else {
-        return OUT_OF_MEMORY;
-    };
-    match Owned::claim(alloc, keeper, identity) {
+    match own(alloc, command, loaded, keeper) {
         Ok(owned) => run_process(alloc, command, &loaded.service, owned, source, sink),
-        Err(not_owned) => claim_status(not_owned.fault),
+        Err(status) => status,
     }
 }
 

@@ -1,6 +1,6 @@
 use Rattle.std.proofs.Common.{◌≡◌, ◌++◌, take}
-use Rattle.rex_world.specs.Tracing.{values_text}
-use Rattle.rex_world.proofs.tracing.push_values.Given as goal
+use Rattle.rex_steps.specs.Tracing.{values_text}
+use Rattle.rex_steps.proofs.tracing.push_values.Given as goal
 
 -- the lines of the values before this one were appended
 abbrev pub invariant-loop-place : goal.invariant-loop-place

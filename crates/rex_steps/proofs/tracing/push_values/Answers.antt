@@ -1,8 +1,8 @@
 use Rattle.std.proofs.Common.{◌+◌, ◌++◌, ap, ◌∙◌}
 use Rattle.rex_report.specs.Trace.{delta_text}
 use Rattle.rex_cluster.specs.Values.{Value, delta_of}
-use Rattle.rex_world.proofs.Traces.{values_more}
-use Rattle.rex_world.proofs.tracing.push_values.Goals as goal
+use Rattle.rex_steps.proofs.Traces.{values_more}
+use Rattle.rex_steps.proofs.tracing.push_values.Goals as goal
 
 pub loop-place-preserved : goal.loop-place-preserved
 loop-place-preserved c =
