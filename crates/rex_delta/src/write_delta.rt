@@ -41,13 +41,24 @@ fn write(writer: &mut Writer, delta: &Delta) -> Result<(), AllocError>
     events(writer, delta.events.as_slice(), delta.causes.as_slice())
 }
 
+/// How many bytes an event and its causes usually have, or less.
+const EVENT_BYTES: usize = 12;
+
+/// How many bytes the delta usually has, or less: the version, the numbers of lanes and of events, of 4 bytes together, a base of 4 bytes
+/// for each lane, and the events.
+fn usual_bytes(delta: &Delta) -> usize
+    requires { IsDelta delta.now }
+{
+    4 + delta.bases.len() * 4 + delta.events.len() * EVENT_BYTES
+}
+
 /// The one spelling of the delta.
 pub fn encode(alloc: Global, delta: &Delta) -> Result<Vec<u8>, AllocError>
     requires { IsDelta delta.now }
     ensures spelled { IfOk result (λ v. v.items ≡ delta_bytes delta.now) }
     ensures again { IfOk result (λ v. delta_in v.items ≡ Ok delta.now) }
 {
-    let mut writer = Writer::new(alloc);
+    let mut writer = Writer::with_capacity(alloc, usual_bytes(delta))?;
     write(&mut writer, delta)?;
     Ok(writer.into_vec())
 }

@@ -5,7 +5,7 @@ ghost use Rattle.rex_ballot.specs.Proposals.{IsValue};
 ghost use Rattle.rex_durable.specs.Spelling.{HasSpelling, code_of, content, record_bytes};
 ghost use Rattle.rex_durable.specs.declared.records.Rec.TheVariants.{Accepted};
 
-use crate::layout::{ACCEPTED, CHECKPOINT, DROPPED, KNOWN, PROMISED, TRANSFERRED};
+use crate::layout::{ACCEPTED, CHECKPOINT, DROPPED, KNOWN, LONGEST_HEAD, PROMISED, TRANSFERRED};
 use crate::records::Rec;
 use rex_wire::{Writer, write_value};
 use std::alloc::{AllocError, Global};
@@ -61,12 +61,21 @@ fn fields(writer: &mut Writer, rec: &Rec) -> Result<(), AllocError>
     }
 }
 
+/// How many bytes the record's value or state has; 0 where it has none.
+fn value_len(rec: &Rec) -> usize {
+    match rec {
+        Rec::Accepted { value, .. } | Rec::Known { value, .. } => value.len(),
+        Rec::Checkpoint { snapshot, .. } | Rec::Transferred { snapshot, .. } => snapshot.len(),
+        Rec::Promised { .. } | Rec::Dropped { .. } => 0,
+    }
+}
+
 /// The one spelling of the record.
 pub fn encode(alloc: Global, rec: &Rec) -> Result<Vec<u8>, AllocError>
     requires { HasSpelling rec.now }
     ensures { IfOk result (λ v. v.items ≡ record_bytes rec.now) }
 {
-    let mut writer = Writer::new(alloc);
+    let mut writer = Writer::with_capacity(alloc, value_len(rec).saturating_add(LONGEST_HEAD))?;
     writer.u8(code(rec))?;
     fields(&mut writer, rec)?;
     Ok(writer.into_vec())

@@ -1,18 +1,19 @@
 -- A word is read as the number of which it is the spelling.
-use Rattle.std.proofs.Common.{◌≡◌, ℕ, suc, ◌-◌, ◌<◌, ◌≤◌, ◌^◌, Bool, true, false, cond, ltb, ◌&&◌, ◌⊎◌, ℤ, pos, negsuc, neg_ℤ, w64}
-use Rattle.std.proofs.Common.{List, [], ◌∷◌, length, get_or, drop, take, Option, Some, None, Result, Ok, Err, refl, sym, ap, ◌∙◌, arith, inl, inr}
+use Rattle.std.proofs.Common.{◌≡◌, ℕ, suc, ◌+◌, ◌-◌, ◌*◌, ◌<◌, ◌≤◌, ◌^◌, Bool, true, false, cond, ltb, ◌&&◌, ◌⊎◌, ℤ, pos, negsuc, neg_ℤ, w64}
+use Rattle.std.proofs.Common.{List, [], ◌∷◌, length, get_or, drop, take, Option, Some, None, Result, Ok, Err, refl, sym, ap, subst, ◌∙◌, arith, inl, inr}
 use Rattle.std.specs.Bool.{Decides}
 use Rattle.std.specs.Fmt.{decimal, signed_decimal}
 use Rattle.std.specs.Result.{OkIff, result_ok}
-use Rattle.std.specs.Str.{IsUtf8, bytes_eq}
-use Rattle.std.specs.Str.Parse.{AllDigits, IsNumeral, ParsesUnsigned, digits_value, signed_digits_value, without_leading_plus}
+use Rattle.std.specs.Char.{IsAsciiDigit, digit_value}
+use Rattle.std.specs.Str.{bytes_eq}
+use Rattle.std.specs.Str.Parse.{AllDigits, IsNumeral, digits_value, digits_value_after, signed_digits_value}
 use Rattle.std.proofs.lemmas.Bool.{cases_lt, ltb-true, lt-ltb, ne_eqb}
 use Rattle.std.proofs.lemmas.Bool.Decides.{Decides-and, Decides-ltb}
-use Rattle.std.proofs.lemmas.Fmt.{IsAscii-decimal, decimal_digit, decimal-digits_value, decimal_is_IsNumeral, decimal_nonempty, first_decimal}
-use Rattle.std.proofs.lemmas.List.{take_rest}
+use Rattle.std.proofs.lemmas.Fmt.{decimal_digit, decimal-digits_value, decimal_is_IsNumeral, decimal_nonempty, first_decimal}
+use Rattle.std.proofs.lemmas.List.{drop_all, drop_more, take_rest}
 use Rattle.std.proofs.lemmas.Slice.Eq.{bytes_eq-Decides}
-use Rattle.std.proofs.lemmas.Str.{IsUtf8-from_ascii}
-use Rattle.std.proofs.lemmas.Str.Parse.{IsNumeralModel}
+use Rattle.std.proofs.lemmas.Str.{digit_value_digit}
+use Rattle.std.proofs.lemmas.Str.Parse.{IsNumeralModel, digit_at}
 use Rattle.rex_text.specs.Numbers.{fits_i64, i64_at, u64_at}
 use mir.Val.{SFits}
 
@@ -85,30 +86,55 @@ i64_is_none w stop = dropped _ (signed_digits_value 10 w) (λ t. let h = (tested
 own : IsNumeralModel (AllDigits 10) (digits_value 10)
 own = record { to = λ ds h. h; from = λ ds h. h; same = λ ds h. refl }
 
--- std's `parse`, where no zero and no plus leads
-pub parsed : {E : Type 0} (bs : List ℕ) (r : Result ℕ E) → 0 < length bs → (get_or bs 0 0 ≡ 48 → length bs ≡ 1) → (get_or bs 0 0 ≡ 43 → ⊥) → ParsesUnsigned 64 10 bs r → result_ok r ≡ u64_at bs
-parsed bs (Ok x) some zero_alone plus h =
-    let plain : without_leading_plus bs ≡ bs = rw (ne_eqb (get_or bs 0 0) 43 plus) refl in
-    let g : (IsNumeral 10 bs × (digits_value 10 bs < 2 ^ 64)) × (x ≡ digits_value 10 bs) = rw (← plain) h in
-    let spelling : decimal (digits_value 10 bs) ≡ bs = decimal-digits_value own bs g.0.0.1 some zero_alone g.0.1 in
-    rw g.1 (sym (u64_is bs (digits_value 10 bs) g.0.1 (sym spelling)))
-parsed bs (Err e) some zero_alone plus h =
-    let plain : without_leading_plus bs ≡ bs = rw (ne_eqb (get_or bs 0 0) 43 plus) refl in
-    let g : (IsNumeral 10 bs × (digits_value 10 bs < 2 ^ 64)) → ⊥ = rw (← plain) h in
-    sym (u64_is_none bs (λ n lt e. let d = decimal_is_IsNumeral n lt in g (rw e (d.0, rw d.1 lt))))
+-- the digits behind a number only make it larger
+after_is_at_least : (n : ℕ) (ds : List ℕ) → n ≤ digits_value_after 10 n ds
+after_is_at_least n [] = omega arith
+after_is_at_least n (c ∷ cs) = omega (arith, after_is_at_least (n * 10 + digit_value c) cs)
 
--- bytes that are no text spell no number
-pub no_utf8 : (w : List ℕ) → (IsUtf8 w → ⊥) → None ≡ u64_at w
-no_utf8 w not_text = sym (u64_is_none w (λ n lt e. not_text (rw e (IsUtf8-from_ascii (decimal n) (IsAscii-decimal n lt)))))
+-- the bytes of w before i are digits, and write n
+pub record HasRead (w : List ℕ) (i n : ℕ) : Type 0 where
+  pub digits : AllDigits 10 (drop i w) → AllDigits 10 w
+  pub value : digits_value_after 10 n (drop i w) ≡ digits_value 10 w
 
--- no spelling is empty, or begins with a plus, or begins with a zero and goes on
-pub not_begun : (w : List ℕ) → (length w ≡ 0) ⊎ ((get_or w 0 0 ≡ 43) ⊎ ((get_or w 0 0 ≡ 48) × (1 < length w))) → None ≡ u64_at w
+pub read_none : (w : List ℕ) → HasRead w 0 0
+read_none w = record { digits = λ h. h; value = refl }
+
+pub read_more : (w : List ℕ) (i n : ℕ) → i < length w → IsAsciiDigit (get_or w i 0) → HasRead w i n → HasRead w (i + 1) (n * 10 + digit_value (get_or w i 0))
+read_more w i n lt digit h =
+    let front : drop i w ≡ get_or w i 0 ∷ drop (i + 1) w = drop_more w i 0 lt in
+    let small : digit_value (get_or w i 0) < 10 = omega (arith, digit_value_digit (get_or w i 0) digit) in
+    record {
+      digits = λ rest. h.digits (subst (λ l. AllDigits 10 l) (sym front) (small, rest));
+      value = subst (λ l. digits_value_after 10 n l ≡ digits_value 10 w) front h.value;
+    }
+
+-- all bytes were read
+pub all_read : (w : List ℕ) (n : ℕ) → n < 2 ^ 64 → 0 < length w → (get_or w 0 0 ≡ 48 → length w ≡ 1) → HasRead w (length w) n → Some n ≡ u64_at w
+all_read w n fits some zero_alone h =
+    let gone : drop (length w) w ≡ [] = drop_all (length w) w (omega arith) in
+    let all : AllDigits 10 w = h.digits (subst (λ l. AllDigits 10 l) (sym gone) tt) in
+    let value : n ≡ digits_value 10 w = subst (λ l. digits_value_after 10 n l ≡ digits_value 10 w) gone h.value in
+    let below : digits_value 10 w < 2 ^ 64 = subst (λ m. m < 2 ^ 64) value fits in
+    let spelling : decimal (digits_value 10 w) ≡ w = decimal-digits_value own w all some zero_alone below in
+    sym (u64_is w n fits (subst (λ m. w ≡ decimal m) (sym value) (sym spelling)))
+
+-- a byte is no digit, or its digit makes the number too large
+pub not_read : (w : List ℕ) (i n : ℕ) → i < length w → HasRead w i n → ¬ (IsAsciiDigit (get_or w i 0) × (n * 10 + digit_value (get_or w i 0) < 2 ^ 64)) → None ≡ u64_at w
+not_read w i n lt h stop = sym (u64_is_none w (λ m small e.
+    let spelled : IsNumeral 10 w × (digits_value 10 w ≡ m) = rw e (decimal_is_IsNumeral m small) in
+    let digit = digit_at w i spelled.0.1 lt in
+    let more = read_more w i n lt digit h in
+    let least = after_is_at_least (n * 10 + digit_value (get_or w i 0)) (drop (i + 1) w) in
+    stop (digit, omega (arith, least, more.value, spelled.1))))
+
+-- no spelling is empty, or begins with a zero and goes on
+pub not_begun : (w : List ℕ) → (length w ≡ 0) ⊎ ((get_or w 0 0 ≡ 48) × (1 < length w)) → None ≡ u64_at w
 not_begun w why = sym (u64_is_none w (λ n lt e.
     let f = first_is n lt in
     let some = decimal_nonempty n lt in
     let g : (48 ≤ get_or w 0 0) × (get_or w 0 0 ≡ 48 → length w ≡ 1) = rw e f in
     let len : 0 < length w = rw e some in
-    elim why [ inl z ↦ omega arith | inr rest ↦ elim rest [ inl plus ↦ omega arith | inr two ↦ omega (arith, g.1 two.0, two.1) ] ]))
+    elim why [ inl z ↦ omega arith | inr two ↦ omega (arith, g.1 two.0, two.1) ]))
 
 -- ---- what `read_i64` reads
 

@@ -1,23 +1,34 @@
 //! Reading words as numbers, unsigned and signed.
 
-ghost use Rattle.std.specs.Prelude.{◌≡◌, ◌-◌, ◌^◌, ◌<◌, ◌≤◌, ◌⊎◌, IfNone, IfSome, negsuc};
+ghost use Rattle.std.specs.Prelude.{◌≡◌, ◌+◌, ◌-◌, ◌*◌, ◌^◌, ◌<◌, ◌≤◌, ◌⊎◌, IfNone, IfSome, SomeIff, negsuc};
+ghost use Rattle.std.specs.Char.{IsAsciiDigit, digit_value};
 ghost use Rattle.rex_text.specs.Numbers.{i64_at, u64_at};
 
 /// The number that a word spells: `0`, or digits that do not begin with `0`, below 2^64.
 pub fn read_u64(word: &[u8]) -> Option<u64>
     ensures { result ≡ u64_at word.now }
 {
-    // std's `parse` also takes a leading plus and leading zeros.
-    if word.is_empty() || word[0] == b'+' {
+    if word.is_empty() {
         return None;
     }
     if word[0] == b'0' && word.len() > 1 {
         return None;
     }
-    match str::from_utf8(word) {
-        Ok(text) => text.parse().ok(),
-        Err(_) => None,
+    let mut number: u64 = 0;
+    for byte in word {
+        number = with_digit(number, *byte)?;
     }
+    Some(number)
+}
+
+// The number with the byte behind it, if the byte is a digit and the number then fits 64 bits.
+fn with_digit(number: u64, byte: u8) -> Option<u64>
+    ensures { SomeIff result (IsAsciiDigit byte × (number * 10 + digit_value byte < 2 ^ 64)) (number * 10 + digit_value byte) }
+{
+    if !byte.is_ascii_digit() {
+        return None;
+    }
+    number.checked_mul(10)?.checked_add(u64::from(byte - b'0'))
 }
 
 /// The signed number that a word spells, from -2^63 to 2^63 - 1: as for [`read_u64`], but `-` may

@@ -1,6 +1,6 @@
 //! Writing.
 
-ghost use Rattle.std.specs.Prelude.{◌≡◌, ◌++◌, [], OnOk, OnErr};
+ghost use Rattle.std.specs.Prelude.{◌≡◌, ◌++◌, [], OnOk, OnErr, IfOk};
 ghost use Rattle.std.specs.Int.{w16, w32, w64, to_be_bytes};
 ghost use Rattle.rex_wire.specs.Spelling.{byte, signed};
 
@@ -30,6 +30,15 @@ impl Writer {
         Writer {
             bytes: Vec::new(alloc),
         }
+    }
+
+    /// No bytes yet, and room for so many. More bytes may be written, too.
+    pub fn with_capacity(alloc: Global, capacity: usize) -> Result<Writer, AllocError>
+        ensures { IfOk result (λ w. w ≡ []) }
+    {
+        Ok(Writer {
+            bytes: Vec::with_capacity(alloc, capacity)?,
+        })
     }
 
     /// Bytes as they are.

@@ -7,5 +7,5 @@ use Rattle.rex_delta.proofs.write_delta.encode.Goals as goal
 pub returns-clause-again : goal.returns-clause-again
 returns-clause-again c =
     let d = c.args.delta.now in
-    let whole = c.into_vec.ensures ∙ c.in_ok-write.ensures.spelled ∙ ap (λ (start : List ℕ). start ++ delta_bytes d) c.new-writer.ensures in
+    let whole = c.into_vec.ensures ∙ c.in_ok-write.ensures.spelled ∙ ap (λ (start : List ℕ). start ++ delta_bytes d) c.in_ok-writer.ensures in
     ap delta_in whole ∙ delta_read d (record { delta = c.requires; typed = c.in_ok-write.ensures.typed })
