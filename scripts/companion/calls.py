@@ -72,9 +72,9 @@ class Calls:
         if call is None:
             return
         number, call.is_unheard = call.number, False
-        if words[0] == "begun":
+        if words[0] == b"begun":
             number.is_new = False
-        elif words[0] == "ok":
+        elif words[0] == b"ok":
             # the last sequence of all can be next, and then the question for the next one is a request
             call.is_in_doubt = call.is_in_doubt or number.sequence is None
             number.sequence, number.is_new = (number.sequence or LAST_SEQUENCE) + 1, False
@@ -82,15 +82,15 @@ class Calls:
                 self.end(call, None, "it may have been done or not")
             else:
                 self.end(call, int(words[3]), int(words[4]))
-        elif words[0] == "gap" and number.sequence is None:
+        elif words[0] == b"gap" and number.sequence is None:
             number.sequence, number.is_new = int(words[3]), True
             self.send(call)
-        elif words[0] in ("gap", "old", "taken"):
+        elif words[0] in (b"gap", b"old", b"taken"):
             number.sequence, call.node = None, 0
-        elif words[0] == "leader":
+        elif words[0] == b"leader":
             call.node = 0
         else:
-            self.end(call, None, "no handler of this name takes these arguments" if words[0] == "bad" else "the cluster is at its end")
+            self.end(call, None, "no handler of this name takes these arguments" if words[0] == b"bad" else "the cluster is at its end")
 
     def end(self, call, value, rest):
         del self.calls[call.tag]
@@ -127,9 +127,9 @@ class Calls:
             if not self.reads.pop(tag, None):
                 return
             words = answer.split()
-            if words[0] == "value":
+            if words[0] == b"value":
                 done(int(words[1]), int(words[2]))
-            elif words[0] == "bad":
+            elif words[0] == b"bad":
                 done(None, "there is no such variable")
             elif time.monotonic() > until:
                 done(None, "no follower has seen so much")
@@ -137,7 +137,7 @@ class Calls:
                 loop.call_later(PAUSE, self.get, name, seen, done, until)
 
         self.reads[tag] = tell
-        loop.call_later(1.0, tell, "behind")
+        loop.call_later(1.0, tell, b"behind")
         heard = [peer for peer in self.companion.peers.values() if peer.is_heard(1.0)]
         if self.companion.node.role != ACTIVE:
             self.companion.requests.read(self.reader, seen, name, tell)
@@ -151,7 +151,7 @@ class Calls:
         tag, kind, line = content[:8], content[8:9], content[9:]
 
         def tell(answer):
-            peer.send(b"G", tag + answer.encode("latin-1"))
+            peer.send(b"G", tag + answer)
 
         if kind == READ:
             client, seen, name = line.split(b" ", 2)
@@ -160,7 +160,7 @@ class Calls:
             self.companion.requests.submit(line, peer, tell, kind == NEW)
 
     def on_told(self, content):
-        tag, answer = struct.unpack(">Q", content[:8])[0], content[8:].decode("latin-1")
+        tag, answer = struct.unpack(">Q", content[:8])[0], content[8:]
         if tag in self.reads:
             self.reads[tag](answer)
         else:

@@ -12,9 +12,11 @@ from companion.frames import ACCEPT, ACTIVE, ADOPTING, CANDIDATE, CHOSEN, FOLLOW
 from companion.lines import Lines
 from companion.links import Turns
 from companion.looking import Looking
+from companion.messages import Messages
 from companion.node import Node
 from companion.options import node_words
 from companion.peers import Hearing, Peer, hello
+from companion.plain import Taking
 from companion.requests import Requests
 from companion.resp import Resp
 from companion.tls import serving, tell_faults
@@ -24,17 +26,18 @@ CUT_OFF = 1.0  # a leader that has heard no majority for so long sends its clien
 
 
 class Companion:
-    def __init__(self, options):
-        self.options, self.turns = options, Turns(self.turn_ends)
+    def __init__(self, options, selector):
+        self.options, self.selector, self.turns = options, selector, Turns(self.turn_ends, selector)
         self.node = Node(node_words(options, options.journal), self)
         with open(options.service, "rb") as file:
             service = file.read()
         told = "\n".join([options.cluster, str(len(options.peers)), str(options.seed), ""]).encode()
         self.digest = hashlib.sha256(told + service).digest()
-        self.peers = {number: Peer(number, where, self.digest, options, self.turns)
+        self.peers = {number: Peer(number, where, self)
                       for number, where in enumerate(options.peers, 1) if number != options.id}
         self.leads, self.is_cut_off, self.last_role, self.began = False, False, FOLLOWER, time.monotonic()
         self.elections, self.requests, self.calls = Elections(self), Requests(self), Calls(self)
+        self.messages = Messages(self.node, len(options.peers) // 2)
         # the last prepare or accept to each peer, for as long as it may have to be sent again
         self.last_sent, self.sent_at, self.asked_at, self.beaten_at = {}, 0.0, 0.0, 0.0
         tell_faults(options.tls, self.on_bad_handshake)
@@ -55,9 +58,16 @@ class Companion:
     # ---- what the node answers
 
     def on_answer(self, reports, sends):
-        for words in reports:
-            self.on_report(words)
-        has_learned = any(words[2:3] == ["known"] for words in reports)
+        has_learned = False
+        for report in reports:
+            if report.startswith(b"released "):
+                self.requests.on_released(report[len(b"released "):])
+            elif report.startswith(b"node "):
+                what = report.split(b" ")[2]
+                self.on_step(what)
+                has_learned = has_learned or what == b"known"
+            elif report == b"unfit":
+                self.say("refuses a value that doesn't fit after those that it knows")
         for to, message in sends:
             if message[1] in (PREPARE, ACCEPT):
                 self.last_sent[to], self.sent_at = message, time.monotonic()
@@ -68,18 +78,14 @@ class Companion:
         if has_learned and self.node.role == ADOPTING:
             self.elections.wait()
 
-    def on_report(self, words):
-        what, requests = words[2] if words[0] == "node" else words[0], self.requests
-        if what == "released":
-            requests.on_released(int(words[1]), int(words[2]), words[3])
-        elif what in ("proposes", "adopts"):
-            requests.is_open = True
-        elif what == "known":
-            requests.on_known()
-        elif what == "candidate":
-            requests.is_open = False
-        elif what == "unfit":
-            self.say("refuses a value that doesn't fit after those that it knows")
+    def on_step(self, what):
+        """The node took a step of the protocol."""
+        if what in (b"proposes", b"adopts"):
+            self.requests.is_open = True
+        elif what == b"known":
+            self.requests.on_known()
+        elif what == b"candidate":
+            self.requests.is_open = False
 
     def on_role(self, was):
         role = self.last_role = self.node.role
@@ -198,6 +204,7 @@ class Companion:
 
     def tick(self):
         now, n = time.monotonic(), self.node
+        n.look()
         if now - self.beaten_at >= HEARTBEAT:
             self.beaten_at = now
             self.beat()
@@ -226,16 +233,22 @@ class Companion:
 
     # ---- from its start to its end
 
+    def server(self, kind, host, port, tls=None):
+        """A server of connections of a kind, which doesn't serve yet."""
+        def made():
+            return kind(self) if tls else Taking(self.selector, kind(self))
+
+        return asyncio.get_running_loop().create_server(made, host, port, start_serving=False, **serving(tls))
+
     async def run(self):
         loop, o = asyncio.get_running_loop(), self.options
         self.ended, is_over = loop.create_future(), asyncio.Event()
         # what may fail without a node comes first
-        servers = [await loop.create_server(lambda: Hearing(self), o.bind, o.peers[o.id - 1][1], start_serving=False, **serving(o.tls.heard)),
-                   await loop.create_server(lambda: Lines(self), o.bind, o.clients, start_serving=False, **serving(o.tls.clients))]
+        servers = [await self.server(Hearing, o.bind, o.peers[o.id - 1][1], o.tls.heard), await self.server(Lines, o.bind, o.clients, o.tls.clients)]
         if o.resp:
-            servers.append(await loop.create_server(lambda: Resp(self), *o.resp, start_serving=False, **serving(o.tls.clients)))
+            servers.append(await self.server(Resp, *o.resp, o.tls.clients))
         if o.http:
-            servers.append(await loop.create_server(lambda: Looking(self), *o.http, start_serving=False))
+            servers.append(await self.server(Looking, *o.http))
         await self.node.start()
         for number in signal.SIGTERM, signal.SIGINT:
             loop.add_signal_handler(number, is_over.set)

@@ -31,13 +31,17 @@ class Lines(Link):
             self.transport.abort()
 
     def on_line(self, line):
-        words, companion = line.split(), self.companion
+        companion = self.companion
+        if line[:1].isdigit():
+            companion.requests.submit(line, self, self.tell)
+            return
+        words = line.split()
         if not words:
             return
         if words == [b"status"]:
-            self.tell(companion.status())
+            self.tell(companion.status().encode())
         elif words == [b"status", b"json"]:
-            self.tell(companion.told(in_json))
+            self.tell(companion.told(in_json).encode())
         elif words[0] == b"read":
             self.on_read(words)
         elif words[0] in (b"part", b"join") and companion.options.parting:
@@ -46,18 +50,18 @@ class Lines(Link):
             companion.requests.submit(line, self, self.tell)
 
     def tell(self, answer):
-        self.write(answer.encode("latin-1") + b"\n")
+        self.write(answer + b"\n")
 
     def on_read(self, words):
         try:
             _, client, seen, name = words
             self.companion.requests.read(int(client), int(seen), name, self.tell)
         except (ValueError, struct.error):
-            self.tell("bad")
+            self.tell(b"bad")
 
     def on_part(self, words):
         """Parts this node from another one, or joins it with that one again: nothing passes between them meanwhile."""
         peer = self.companion.peers.get(int(words[1])) if len(words) == 2 and words[1].isdigit() else None
         if peer is not None:
             peer.is_parted = words[0] == b"part"
-        self.tell("bad" if peer is None else "done")
+        self.tell(b"bad" if peer is None else b"done")

@@ -3,22 +3,28 @@ import asyncio
 
 
 class Turns:
-    """What is done once after all that came in together. The first one who needs that has it called soon: behind what has come in by then."""
+    """What is done once after all that came in together, where something made it due."""
 
-    def __init__(self, do):
+    def __init__(self, do, selector):
         self.do, self.is_due, self.links = do, False, []
+        selector.end_turn = self.end
 
     def due(self):
-        if not self.is_due:
-            self.is_due = True
-            asyncio.get_running_loop().call_soon(self.end)
+        self.is_due = True
 
     def end(self):
+        """Does it where it is due, and answers whether it was."""
+        if not self.is_due:
+            return False
         self.is_due = False
-        self.do()
-        links, self.links = self.links, []
-        for link in links:
-            link.flush()
+        try:
+            self.do()
+            links, self.links = self.links, []
+            for link in links:
+                link.flush()
+        except Exception as error:
+            asyncio.get_running_loop().call_exception_handler({"message": "a turn fails", "exception": error})
+        return True
 
 
 class Link(asyncio.Protocol):
@@ -47,7 +53,7 @@ class Link(asyncio.Protocol):
         data, self.unsent = b"".join(self.unsent), []
         if self.is_open():
             self.transport.write(self.sealed(data))
-            if self.transport.get_write_buffer_size() > self.MOST_OUT:
+            if self.holds and self.transport.get_write_buffer_size() > self.MOST_OUT:
                 self.transport.abort()
 
     def sealed(self, data):

@@ -30,7 +30,7 @@ METRICS = (
 # the same of what was timed
 TIMED = (
     ("agreement_seconds", "Seconds from a cut until it was agreed on."),
-    ("answer_seconds", "Seconds from a call of the program that may write to the journal until its answer."),
+    ("answer_seconds", "Seconds from a call of the program that may write to the journal until its answer, where that is awaited."),
 )
 OF_PEERS = (
     ("connected", "Whether there is a way to the peer."),

@@ -8,6 +8,7 @@ import time
 
 from companion.frames import FOLLOWER, Frames, TooLong, framed
 from companion.links import Link
+from companion.plain import Taking
 from companion.seals import MAC, MOST_PIECE, NONCE, Altered, Seal
 from waiting import within
 
@@ -58,8 +59,8 @@ class Way(Link):
 class Peer:
     """Another node: the way to its rexd, and what was heard of it. What is sent while there is no way is lost."""
 
-    def __init__(self, number, where, digest, options, turns):
-        self.number, self.where, self.digest, self.options, self.turns = number, where, digest, options, turns
+    def __init__(self, number, where, companion):
+        self.number, self.where, self.companion, self.options = number, where, companion, companion.options
         self.way, self.hearing, self.is_parted = None, None, False
         self.heard, self.role, self.promised, self.known = None, FOLLOWER, 0, 0
 
@@ -72,39 +73,50 @@ class Peer:
 
     def send_message(self, message, is_lost=False):
         """Sends a message. Tests have some of them lost, late, or sent once more."""
-        o, loop = self.options, asyncio.get_running_loop()
+        o = self.options
         if is_lost or random.random() < o.lose:
             return
         if random.random() < o.repeat:
-            loop.call_later(random.random() * REORDERED, self.send, b"M", message)
+            self.send_later(random.random() * REORDERED, message)
         if o.delay:
-            loop.call_later(random.random() * o.delay / 1000, self.send, b"M", message)
+            self.send_later(random.random() * o.delay / 1000, message)
         else:
             self.send(b"M", message)
+
+    def send_later(self, seconds, message):
+        asyncio.get_running_loop().call_later(seconds, self.send, b"M", message)
 
     def send_beat(self, role, promised, known):
         self.send(b"H", BEAT.pack(role, promised, known))
 
     async def run(self):
-        loop, pause = asyncio.get_running_loop(), FIRST_PAUSE
+        pause = FIRST_PAUSE
         while True:
             try:
-                transport, way = await within(CONNECTS, loop.create_connection(lambda: Way(self.turns), *self.where, ssl=self.options.tls.told))
+                way = await within(CONNECTS, self.connected())
             except (OSError, asyncio.TimeoutError):
                 await asyncio.sleep(pause)
                 pause = min(MOST_PAUSE, pause * 2)
                 continue
             # where nobody listens the system may connect the port with itself
-            if transport.get_extra_info("sockname") == transport.get_extra_info("peername"):
-                transport.abort()
+            if way.transport.get_extra_info("sockname") == way.transport.get_extra_info("peername"):
+                way.transport.abort()
             else:
-                own, secret, nonce = self.options.id, self.options.secret, os.urandom(NONCE)
-                seal = Seal(secret, self.digest, own, self.number, nonce) if secret else None
-                way.begin(hello(own, self.number, self.digest), seal, bytes([own]) + nonce)
+                own, secret, nonce, digest = self.options.id, self.options.secret, os.urandom(NONCE), self.companion.digest
+                seal = Seal(secret, digest, own, self.number, nonce) if secret else None
+                way.begin(hello(own, self.number, digest), seal, bytes([own]) + nonce)
                 self.way, pause = way, FIRST_PAUSE
             await way.is_lost
             self.way = None
             await asyncio.sleep(pause)
+
+    async def connected(self):
+        """A connection that was made."""
+        loop, tls, way = asyncio.get_running_loop(), self.options.tls.told, Way(self.companion.turns)
+        await loop.create_connection(lambda: way if tls else Taking(self.companion.selector, way), *self.where, ssl=tls)
+        if way.transport is None:
+            raise OSError("it can't be taken")
+        return way
 
 
 class Hearing(Link):
@@ -151,7 +163,7 @@ class Hearing(Link):
         if self.peer.is_parted:
             return
         if letter == b"M":
-            self.companion.node.call(b"M", content)
+            self.companion.messages.hear(content)
         elif letter == b"H":
             self.companion.on_beat(self.peer, *BEAT.unpack(content))
         elif letter == b"V":

@@ -16,8 +16,8 @@ class Requests:
         self.waiting = {}  # of each client and sequence who waits for the reply, and how it is told
         # whether a proposal is open, a cut is on its way to the node, and there is something that wasn't cut yet
         self.is_open, self.is_cutting, self.is_new, self.is_told_end = False, False, False, False
-        # requests since the last cut, how many are expected before the next one, and until when it waits for them
-        self.uncut, self.expected, self.gathers_until = 0, 0, 0.0
+        # requests since the last cut, how many are expected before the next one, until when it waits for them, and the timer for that
+        self.uncut, self.expected, self.gathers_until, self.timer = 0, 0, 0.0, None
         # for who looks: replies, and how long it took from cuts until they were agreed on
         self.replies, self.cut_at, self.times = 0, None, Times()
 
@@ -27,10 +27,12 @@ class Requests:
         """Hands a request to the node. `who` waits for a reply once, however often it asks. Where a request has to be new, it is told to be `begun`
         before its reply, or `taken` where the node has had one of its sequence before."""
         try:
-            key = client, sequence = tuple(map(int, line.split(None, 2)[:2]))
+            client, sequence = map(int, line.split(None, 2)[:2])
         except ValueError:
-            tell("bad")
+            tell(b"bad")
             return
+        # as the node spells them
+        key = b"%d %d" % (client, sequence)
         if not self.companion.leads:
             tell(self.elsewhere(key))
             return
@@ -39,21 +41,21 @@ class Requests:
 
         def then(reports):
             # what is wrong with this line is told to who sent it alone: others may wait for a good request of these numbers
-            words = reports[0] if reports else ["down"]
-            if is_new and words[0] in ("waiting", "released"):
-                tell("taken %d %d" % key)
-            elif words[0] in ("queued", "waiting"):
+            what, _, rest = (reports[0] if reports else b"down").partition(b" ")
+            if is_new and what in (b"waiting", b"released"):
+                tell(b"taken " + key)
+            elif what in (b"queued", b"waiting"):
                 if is_new:
-                    tell("begun %d %d" % key)
+                    tell(b"begun " + key)
                 self.wait(key, who, tell)
-            elif words[0] == "released":
-                tell(self.reply(*key, words[3]))
-            elif words[0] in ("old", "gap"):
-                tell("%s %d %d %s" % (words[0], client, sequence, words[1]))
-            elif words[0] == "not":
-                tell("leader %d %d 0" % key)
-            elif words[0] == "faulty":
-                tell("bad")
+            elif what == b"released":
+                tell(self.reply(rest))
+            elif what in (b"old", b"gap"):
+                tell(b"%b %b %b" % (what, key, rest))
+            elif what == b"not":
+                tell(b"leader %b 0" % key)
+            elif what == b"faulty":
+                tell(b"bad")
             else:
                 tell(self.elsewhere(key))
 
@@ -74,10 +76,11 @@ class Requests:
 
     def elsewhere(self, key):
         leader = self.companion.elections.leader
-        return "leader %d %d %d" % (*key, leader if leader != self.companion.options.id else 0)
+        return b"leader %b %d" % (key, leader if leader != self.companion.options.id else 0)
 
-    def reply(self, client, sequence, value):
-        return "ok %d %d %s %d" % (client, sequence, value, self.node.known)
+    def reply(self, released):
+        """How it is told what was released: the words CLIENT SEQUENCE VALUE of the node."""
+        return b"ok %b %d" % (released, self.node.known)
 
     def answer(self, key, answer):
         """Tells all who wait for a reply."""
@@ -93,12 +96,11 @@ class Requests:
             self.times.add(took)
             self.cut_at = None
             self.expected, self.gathers_until = self.uncut, now + min(took / 2, GATHERING)
-            asyncio.get_running_loop().call_later(min(took / 2, GATHERING), self.companion.turns.due)
         self.is_open, self.is_new = False, True
 
-    def on_released(self, client, sequence, value):
+    def on_released(self, released):
         self.replies, self.expected = self.replies + 1, self.expected + 1
-        self.answer((client, sequence), self.reply(client, sequence, value))
+        self.answer(released.rpartition(b" ")[0], self.reply(released))
 
     def send_away(self):
         """This node leads no more: who waits has to ask another."""
@@ -109,20 +111,35 @@ class Requests:
 
     def cut(self):
         """Lets the lanes go on, and has what they did proposed, one proposal after another; what comes meanwhile is in the next one."""
-        is_waiting = self.uncut < self.expected and time.monotonic() < self.gathers_until
-        if self.is_new and not self.is_open and not self.is_cutting and not is_waiting:
-            self.is_new, self.is_cutting, self.cut_at, self.uncut, self.expected = False, True, time.monotonic(), 0, 0
-            self.node.call(b"R", struct.pack(">q", time.time_ns() // 1000000))
-            self.node.call(b"C", then=self.on_cut)
+        if not self.is_new or self.is_open or self.is_cutting:
+            return
+        now = time.monotonic()
+        if self.uncut < self.expected and now < self.gathers_until:
+            if self.timer is None:
+                self.timer = asyncio.get_running_loop().call_later(self.gathers_until - now, self.on_timer)
+            return
+        self.stop_timer()
+        self.is_new, self.is_cutting, self.cut_at, self.uncut, self.expected = False, True, now, 0, 0
+        self.node.call(b"R", struct.pack(">q", time.time_ns() // 1000000))
+        self.node.call(b"C", then=self.on_cut)
+
+    def stop_timer(self):
+        if self.timer is not None:
+            self.timer.cancel()
+            self.timer = None
+
+    def on_timer(self):
+        self.timer = None
+        self.companion.turns.due()
 
     def on_cut(self, reports):
         self.is_cutting = False
-        if reports and ["ended"] in reports:
+        if reports and b"ended" in reports:
             if not self.is_told_end:
                 self.companion.say("the cluster has agreed on as many log entries as there can be")
                 self.is_told_end = True
             for key in list(self.waiting):
-                self.answer(key, "ended %d %d" % key)
+                self.answer(key, b"ended " + key)
 
     def nothing_is_open(self):
         self.is_open, self.is_cutting, self.cut_at = False, False, None
@@ -135,7 +152,8 @@ class Requests:
 
         def then(reports):
             # a value is told by `read CLIENT VARIABLE VALUE at COUNT`
-            words = reports[0] if reports else ["behind", "0", str(seen)]
-            tell("value %s %s" % (words[3], words[5]) if words[0] == "read" else "bad" if words[0] == "faulty" else " ".join(words))
+            report = reports[0] if reports else b"behind 0 %d" % seen
+            words = report.split(b" ")
+            tell(b"value %b %b" % (words[3], words[5]) if words[0] == b"read" else b"bad" if words[0] == b"faulty" else report)
 
         self.node.call(b"Q", content, then)

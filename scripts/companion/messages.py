@@ -1,0 +1,35 @@
+"""What peers' nodes send, on its way to the node."""
+
+ACCEPTED, CHOSEN = b"\4", b"\5"  # kinds of messages, by which a node says that it accepted a value, and that one is agreed on
+KIND, INSTANCE = slice(1, 2), slice(12, 16)  # where a message has its kind, and an accepted its instance
+
+
+class Messages:
+    """Hands messages to the node. Of those that say that a value was accepted some tell nothing new, and would only wake the node."""
+
+    def __init__(self, node, needed):
+        """Besides the node that proposed a value so many have to accept it."""
+        self.node, self.needed, self.count, self.held = node, needed, 0, []
+
+    def hear(self, message):
+        if message[KIND] == ACCEPTED:
+            self.hear_accepted(message)
+        else:
+            # who tells what is agreed on waits for no answer
+            self.node.call(b"M", message, can_wait=message[KIND] == CHOSEN)
+
+    def hear_accepted(self, message):
+        """While the node has as many as are needed the others wait for what it makes of these. What it knows to be agreed on by then it isn't told again."""
+        if int.from_bytes(message[INSTANCE], "big") <= self.node.known:
+            return
+        if self.count < self.needed:
+            self.count += 1
+            self.node.call(b"M", message, self.on_answer)
+        else:
+            self.held.append(message)
+
+    def on_answer(self, _):
+        self.count -= 1
+        held, self.held = self.held, []
+        for message in held:
+            self.hear_accepted(message)
