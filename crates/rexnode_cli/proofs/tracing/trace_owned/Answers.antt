@@ -1,10 +1,12 @@
-use Rattle.std.proofs.Common.{inl, inr, refl, ap, length}
-use Rattle.std.proofs.lemmas.List.{nil_from_length}
+use Rattle.std.proofs.Common.{inl, inr, refl, ap, length, ◌∙◌}
 use Rattle.rexnode_cli.proofs.tracing.trace_owned.Goals as goal
 
 pub returns-in-Ok-clause-traces : goal.returns-in-Ok-clause-traces
 returns-in-Ok-clause-traces g c =
-    inr (record { some = ?; claims = inl (record { owned = c.in-Ok.owned; own = c.in-Ok.ensures.owned; runs = c.trace_process.ensures.traces }) })
+    inr (record {
+      some = λ e. c.if-len-eq0.false (c.len.ensures ∙ ap length e);
+      claims = inl (record { owned = c.in-Ok.owned; own = c.in-Ok.ensures.owned; runs = c.trace_process.ensures.traces });
+    })
 
 pub returns-in-Err-clause-traces : goal.returns-in-Err-clause-traces
-returns-in-Err-clause-traces g c = inr (record { some = ?; claims = inr (c.in-Err.ensures.refused, refl) })
+returns-in-Err-clause-traces g c = inr (record { some = λ e. c.if-len-eq0.false (c.len.ensures ∙ ap length e); claims = inr (c.in-Err.ensures.refused, refl) })
