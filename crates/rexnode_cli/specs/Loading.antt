@@ -1,5 +1,5 @@
 -- The service that a node runs, and what is answered where there is none.
-use Rattle.std.specs.Prelude.{◌≡◌, ◌<◌, ◌≤◌, ◌++◌, ◌∷◌, [], ℕ, List, length, nat_lt, Option, Some, None, Result, Ok, Err, codes, option_map, if◌then◌else◌}
+use Rattle.std.specs.Prelude.{◌≡◌, ◌<◌, ◌++◌, ◌∷◌, [], ℕ, List, length, nat_lt, Option, Some, None, Result, Ok, Err, codes, option_map, if◌then◌else◌}
 use Rattle.sha2.specs.Sha256.{sha256}
 use Rattle.rex_syntax.specs.declared.service.Declarations.{Declarations}
 use Rattle.rex_parse.specs.Reading.{answer_of}
@@ -9,7 +9,6 @@ use Rattle.rex_parse.specs.declared.language.ServiceCode.{ServiceCode}
 use Rattle.rex_scenario.specs.declared.reading.TheConstants.{SCENARIO_BYTES}
 use Rattle.rex_scenario.specs.declared.scenario.ScenarioCode.TheVariants.{TooLong}
 use Rattle.rex_lockset.specs.Refusal.{refusal_of}
-use Rattle.rex_lockset.specs.declared.refusal.Refused.{Refused}
 use Rattle.rex_answer.specs.Refusals.{service_code, scenario_code}
 use Rattle.rex_answer.specs.Due.{Due, due_refused, due_unchecked}
 use Rattle.rexnode_cli.specs.declared.loading.Loaded.{Loaded}
