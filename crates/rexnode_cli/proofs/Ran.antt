@@ -1,5 +1,5 @@
 -- Nodes that ran, and what was refused before they did.
-use Rattle.std.proofs.Common.{◌≡◌, ℕ, Bool, IsTrue, List, [], ◌+◌, ◌++◌, inl, inr, ◌⊎◌, refl, sym}
+use Rattle.std.proofs.Common.{◌≡◌, ℕ, Bool, IsTrue, List, [], ◌+◌, inl, inr, refl, sym}
 use Rattle.std.specs.Prelude.{None, drop}
 use Rattle.rex_traits.specs.Chains.{Answer}
 use Rattle.rex_disk.specs.Calls.{Call}
