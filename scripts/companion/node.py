@@ -203,7 +203,8 @@ class Node:
         for then, _ in calls:
             if then:
                 then(None)
-        if self.is_ending or status in TO_MEND or not self.has_come_up:
+        # one that was killed is started again, also where it hadn't come up yet
+        if self.is_ending or status in TO_MEND or (status >= 0 and not self.has_come_up):
             self.companion.on_last_end(status if status >= 0 else 128 - status)
         else:
             self.again()

@@ -21,7 +21,7 @@ class Plain:
     def __init__(self, selector, sock, protocol, full=FULL):
         self.selector, self.sock, self.protocol, self.full, self.loop = selector, sock, protocol, full, asyncio.get_running_loop()
         self.fd, self.events, self.unsent = sock.fileno(), 0, bytearray()
-        self.is_reading, self.is_full, self.ends, self.closes, self.is_lost = True, False, False, False, False
+        self.is_reading, self.is_full, self.ends, self.closes, self.is_broken, self.is_lost = True, False, False, False, False, False
         self.names = {"sockname": sock.getsockname(), "peername": peername_of(sock)}
         protocol.connection_made(self)
         self.watch()
@@ -66,10 +66,10 @@ class Plain:
         return not self.closes
 
     def write(self, data):
-        if self.closes:
+        if self.closes or self.is_broken:
             return
         sent = 0 if self.unsent else self.send(data)
-        if sent < len(data) and not self.is_lost:
+        if sent < len(data) and not self.is_broken:
             self.unsent += data[sent:]
             self.watch()
             if not self.is_full and len(self.unsent) > self.full:
@@ -83,11 +83,19 @@ class Plain:
         except (BlockingIOError, InterruptedError):
             return 0
         except OSError as error:
-            self.lose(error)
+            self.break_off(error)
             return 0
 
+    def break_off(self, error):
+        """Writes no more. What the other end wrote before it broke off is still read, and then the connection ends."""
+        self.is_broken = True
+        self.unsent.clear()
+        if self.closes:
+            self.lose(error)
+
     def write_rest(self):
-        del self.unsent[:self.send(self.unsent)]
+        sent = self.send(self.unsent)
+        del self.unsent[:sent]
         self.watch()
         if self.is_full and len(self.unsent) <= self.full // 4:
             self.is_full = False
@@ -102,7 +110,7 @@ class Plain:
             try:
                 self.sock.shutdown(socket.SHUT_WR)
             except OSError as error:
-                self.lose(error)
+                self.break_off(error)
 
     def get_write_buffer_size(self):
         return len(self.unsent)
