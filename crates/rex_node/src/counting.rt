@@ -160,8 +160,8 @@ impl<K: Keeper> Node<K> {
         }
     }
 
-    // What is made of an acceptance. It changes nothing.
-    fn acceptance_vote(&self, from: u8, ballot: u64, instance: u32) -> Vote
+    /// What the node would make of the acceptance of a ballot's proposal for an instance by a node. It changes nothing.
+    pub fn acceptance_vote(&self, from: u8, ballot: u64, instance: u32) -> Vote
         ensures { result ≡ acceptance_vote_on self.now.proposer ballot instance from }
     {
         match &self.proposer {

@@ -11,6 +11,7 @@ mod contents;
 mod counting;
 mod cutting;
 mod electing;
+mod flushing;
 mod going;
 mod leading;
 mod messages;

@@ -149,12 +149,12 @@ module _ (service : Declarations) (good : IsService service) (checked : IsChecke
   moments_are w [] ok = tt
   moments_are w (x ∷ xs) ok = step_moments_are (w.done + 1) w (steps_of w x) (moments service requests seed n (row service requests seed n w x).world xs) ok (moments_are (row service requests seed n w x).world xs (row_ok service requests seed n few w x ok).0)
 
-  one_at : (L : Logs Value StateValue) (ms : List Moment) (i : ℕ) (x : Moment) → AreMoments L ms → slice_get ms i ≡ Some x → IsMoment L x
+  pub one_at : (L : Logs Value StateValue) (ms : List Moment) (i : ℕ) (x : Moment) → AreMoments L ms → slice_get ms i ≡ Some x → IsMoment L x
   one_at L [] i x h e = absurd (cc)
   one_at L (y ∷ ys) zero x h e = subst (IsMoment L) (same_Some y x e) h.0
   one_at L (y ∷ ys) (suc i) x h e = weaker L (logs y.world) x h.0.grows (one_at (logs y.world) ys i x h.1 e)
 
-  two_at : (L : Logs Value StateValue) (ms : List Moment) (i j : ℕ) (x y : Moment) → AreMoments L ms → slice_get ms i ≡ Some x → slice_get ms j ≡ Some y → i ≤ j → Grows (logs x.world) (logs y.world)
+  pub two_at : (L : Logs Value StateValue) (ms : List Moment) (i j : ℕ) (x y : Moment) → AreMoments L ms → slice_get ms i ≡ Some x → slice_get ms j ≡ Some y → i ≤ j → Grows (logs x.world) (logs y.world)
   two_at L [] i j x y h e f l = absurd (cc)
   two_at L (z ∷ zs) zero zero x y h e f l = subst (λ (u : Moment). Grows (logs x.world) (logs u.world)) (sym (same_Some z x e) ∙ same_Some z y f) (grows_same (logs x.world))
   two_at L (z ∷ zs) zero (suc j) x y h e f l = subst (λ (u : Moment). Grows (logs u.world) (logs y.world)) (same_Some z x e) (one_at (logs z.world) zs j y h.1 f).grows
@@ -168,7 +168,7 @@ module _ (service : Declarations) (good : IsService service) (checked : IsChecke
   leads_of Follower e = absurd (false≢true e)
   leads_of (Leads l) e = (l, refl, e)
 
-  lead_ok : (w : World) → IsWorld n sv w → (m : ℕ) → IsNode n m → (l : Lead Value) → (node_at w.nodes m).role ≡ Leads l → LeadsRightly n (logs w) (logs w m) m l
+  pub lead_ok : (w : World) → IsWorld n sv w → (m : ℕ) → IsNode n m → (l : Lead Value) → (node_at w.nodes m).role ≡ Leads l → LeadsRightly n (logs w) (logs w m) m l
   lead_ok w ok m min l e = subst (λ r. IsRightRole n (logs w) (logs w m) m r) e (ok.cluster.roles m min)
 
   longer_stands : (w v : World) (a m c s : ℕ) (x : ℤ) → Begins (known_at w a) (known_at v m) → Stands (trace_of (known_at w a)) c s x → Stands (node_trace (node_at v.nodes m)) c s x

@@ -9,7 +9,7 @@ use Rattle.rex_event.specs.declared.event.TheConstants.{CLIENTS, SEQUENCES}
 use Rattle.rex_wire.specs.Ranges.{is_between}
 use Rattle.rex_snapshot.specs.declared.ahead.Ahead.{Ahead}
 use Rattle.rex_snapshot.specs.declared.parts.Seat.{Seat}
-use Rattle.rex_snapshot.specs.Allowed.{IsAhead, is_free, may_be_client, may_be_replied, may_be_sequence, has_sequence, is_beyond, is_served, is_skipped, serves}
+use Rattle.rex_snapshot.specs.Allowed.{IsAhead, is_unserved, may_be_client, may_be_replied, may_be_sequence, has_sequence, is_beyond, is_served, is_skipped, serves}
 use Rattle.rex_snapshot.proofs.Counting.{count_yes, count_no}
 
 -- ---- one lane
@@ -97,7 +97,7 @@ one_more above next now (x ∷ seats) s le e here =
 
 -- ---- a client that is read
 
-pub are_past : (above client : ℕ) (a : Ahead) (seats : List Seat) → IsAhead seats above a → is_free above a client ≡ true → ArePast client a.next above seats
+pub are_past : (above client : ℕ) (a : Ahead) (seats : List Seat) → IsAhead seats above a → is_unserved above a client ≡ true → ArePast client a.next above seats
 are_past above client a seats h free = by (nat_lt above client) (nat_lt client a.next) refl refl free
   where
     by : (x y : Bool) → nat_lt above client ≡ x → nat_lt client a.next ≡ y → (x && y) ≡ true → ArePast client a.next above seats
@@ -105,14 +105,14 @@ are_past above client a seats h free = by (nat_lt above client) (nat_lt client a
     by true false ex ey e = absurd (cc)
     by false y ex ey e = absurd (cc)
 
-low_of : (above client : ℕ) (a : Ahead) → is_free above a client ≡ true → above < client
+low_of : (above client : ℕ) (a : Ahead) → is_unserved above a client ≡ true → above < client
 low_of above client a free = by (nat_lt above client) refl free
   where
     by : (x : Bool) → nat_lt above client ≡ x → (x && nat_lt client a.next) ≡ true → above < client
     by true ex e = ltb-true above client ex
     by false ex e = absurd (cc)
 
-pub client_may : (above left client : ℕ) (a : Ahead) (seats : List Seat) → IsAhead seats above a → is_free above a client ≡ true → client ≤ CLIENTS
+pub client_may : (above left client : ℕ) (a : Ahead) (seats : List Seat) → IsAhead seats above a → is_unserved above a client ≡ true → client ≤ CLIENTS
     → nat_le a.count left ≡ may_be_client seats above left client
 client_may above left client a seats h free most =
     let p = are_past above client a seats h free in
@@ -120,19 +120,19 @@ client_may above left client a seats h free most =
     let high : nat_le client CLIENTS ≡ true = le-leb client CLIENTS most in
     sym (rw (low, high, p.skips, p.beyond, ← h.count_is) refl)
 
-pub sequence_may : (above client n : ℕ) (a : Ahead) (seats : List Seat) → IsAhead seats above a → is_free above a client ≡ true → 1 ≤ n
+pub sequence_may : (above client n : ℕ) (a : Ahead) (seats : List Seat) → IsAhead seats above a → is_unserved above a client ≡ true → 1 ≤ n
     → nat_le n SEQUENCES ≡ may_be_sequence seats client n
 sequence_may above client n a seats h free least =
     let p = are_past above client a seats h free in
     sym (rw (le-leb 1 n least, p.sequence n) (and-true (nat_le n SEQUENCES)))
 
-pub replied_may : (above client n : ℕ) (a : Ahead) (seats : List Seat) → IsAhead seats above a → is_free above a client ≡ true
+pub replied_may : (above client n : ℕ) (a : Ahead) (seats : List Seat) → IsAhead seats above a → is_unserved above a client ≡ true
     → (n == 1) ≡ may_be_replied seats client n
 replied_may above client n a seats h free =
     let p = are_past above client a seats h free in
     sym (ap (λ (b : Bool). if b then (n == 0) else (n == 1)) p.serves)
 
-pub still_ahead : (above client : ℕ) (a : Ahead) (seats : List Seat) → IsAhead seats above a → is_free above a client ≡ true → IsAhead seats client a
+pub still_ahead : (above client : ℕ) (a : Ahead) (seats : List Seat) → IsAhead seats above a → is_unserved above a client ≡ true → IsAhead seats client a
 still_ahead above client a seats h free =
     let p = are_past above client a seats h free in
     record { none_between = p.still; count_is = h.count_is ∙ sym p.beyond }

@@ -138,6 +138,6 @@ pub record IsAhead (seats : List Seat) (above : ℕ) (a : Ahead) : Type 0 where
   pub none_between : list_any (λ s. is_skipped above a.next s.lane.frame) seats ≡ false
   pub count_is : a.count ≡ count_by (λ s. is_beyond above s.lane.frame) seats
 
--- a client is between the two
-abbrev pub is_free : ℕ → Ahead → ℕ → Bool
-is_free above a client = nat_lt above client && nat_lt client a.next
+-- a client is above this one, and below the next one that a lane serves
+abbrev pub is_unserved : ℕ → Ahead → ℕ → Bool
+is_unserved above a client = nat_lt above client && nat_lt client a.next

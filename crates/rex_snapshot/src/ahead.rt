@@ -54,7 +54,7 @@ pub(crate) fn ahead_of(seats: &[Seat], above: u16) -> Ahead
 impl Ahead {
     // Whether a client is above the one before, and below all of the lanes that are above that.
     fn frees(self, above: u16, client: u16) -> bool
-        ensures { result ≡ spec.is_free above self client }
+        ensures { result ≡ spec.is_unserved above self client }
     {
         above < client && client < self.next
     }
