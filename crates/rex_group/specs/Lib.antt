@@ -1,0 +1,4 @@
+pub mod Groups
+pub mod Keeping
+pub mod Laws
+pub mod Places
