@@ -1,6 +1,6 @@
 -- Frames that are read, what they ask node 1 of three for, and frames that answer.
 use Rattle.std.proofs.Common.{◌≡◌, ℕ, List, [], ◌∷◌, ◌++◌, pos, negsuc, map, refl}
-use Rattle.std.specs.Prelude.{codes}
+use Rattle.std.specs.Prelude.{codes, drop}
 use Rattle.std.specs.Fmt.{digits}
 use Rattle.rex_syntax.specs.declared.service.LockKind.TheVariants.{Plain}
 use Rattle.rex_syntax.specs.declared.service.Declarations.{Declarations}
@@ -11,7 +11,7 @@ use Rattle.rex_wire.specs.Reading.{value_at, list_at}
 use Rattle.rex_report.specs.declared.effect.Effect.TheVariants.{Candidate, Queued, Released}
 use Rattle.rex_report.specs.declared.effect.Role.TheVariants.{Active}
 use Rattle.rex_frames.specs.declared.asking.Asked.{Asked}
-use Rattle.rex_frames.specs.declared.asking.Asked.TheVariants.{Elect, Submit, Run, Turn, Cut, Hear, Ask, Read, Look, Nothing}
+use Rattle.rex_frames.specs.declared.asking.Asked.TheVariants.{Elect, Submit, Run, Turn, Cut, Hear, Foretell, Ask, Read, Look, Nothing}
 use Rattle.rex_frames.specs.Frames.{joined_frames, front_of}
 use Rattle.rex_frames.specs.Frames.AtFront.{Whole, More, TooLong}
 use Rattle.rex_frames.specs.Asking.{asked_in}
@@ -93,6 +93,11 @@ messages : map asked (prepare 2 1 18 ∷ promise 2 1 17 ∷ prepare 2 3 18 ∷ p
     ∷ Nothing ∷ Nothing ∷ Nothing ∷ Nothing ∷ Nothing ∷ Nothing ∷ []
 unfolding asked asked_in service message_in message_at prepare_at promise_at snapshot_at value_at list_at
 messages = refl
+
+-- the same behind the letter that asks what it would release
+foretold : map asked ((87 ∷ drop 1 (promise 2 1 17)) ∷ (87 ∷ drop 1 (promise 2 1 18)) ∷ []) ≡ Foretell (record { from = 2; to = 1; content = content.Promise 17 [] }) ∷ Nothing ∷ []
+unfolding asked asked_in service message_in message_at promise_at list_at
+foretold = refl
 
 -- ---- answers
 

@@ -1,5 +1,5 @@
 -- What a frame asks for, by its letter and what follows it.
-use Rattle.std.specs.Prelude.{◌==◌, ℕ, ℤ, ◌-◌, ◌<◌, ◌≤◌, ◌≢◌, FitsSigned, List, [], ◌∷◌, length, take, drop, nat_le, Option, Some, None, if◌then◌else◌}
+use Rattle.std.specs.Prelude.{◌==◌, ◌||◌, Bool, false, ℕ, ℤ, ◌-◌, ◌<◌, ◌≤◌, ◌≢◌, FitsSigned, List, [], ◌∷◌, length, take, drop, nat_le, Option, Some, None, if◌then◌else◌}
 use Rattle.std.specs.Option.{option_map_or}
 use Rattle.std.specs.Int.{w16, w32, w64, from_be_bytes, cast_signed}
 use Rattle.rex_wire.specs.Ranges.{is_between}
@@ -7,9 +7,10 @@ use Rattle.rex_event.specs.declared.event.TheConstants.{CLIENTS}
 use Rattle.rex_syntax.specs.declared.service.Declarations.{Declarations}
 use Rattle.rex_syntax.specs.Typed.{RequestIsTyped}
 use Rattle.rex_schedule.specs.Fits.{IsNode, RequestFits}
+use Rattle.rex_msg.specs.declared.message.Message.{Message}
 use Rattle.rex_frames.specs.declared.asking.Asked.{Asked}
-use Rattle.rex_frames.specs.declared.asking.Asked.TheVariants.{Elect, Submit, Run, Turn, Cut, Hear, Ask, Read, Look, Nothing}
-use Rattle.rex_frames.specs.declared.letters.TheConstants.{ELECT, SUBMIT, RUN, TURN, CUT, HEAR, ASK, READ, LOOK}
+use Rattle.rex_frames.specs.declared.asking.Asked.TheVariants.{Elect, Submit, Run, Turn, Cut, Hear, Foretell, Ask, Read, Look, Nothing}
+use Rattle.rex_frames.specs.declared.letters.TheConstants.{ELECT, SUBMIT, RUN, TURN, CUT, HEAR, FORETELL, ASK, READ, LOOK}
 use Rattle.rex_frames.specs.Hearing.{HeardFits, heard_in, is_another}
 use Rattle.rex_frames.specs.Requests.{request_in, variable_named}
 
@@ -52,13 +53,25 @@ to_read service content =
     let rest : List ℕ = drop 2 content in
     if nat_le 6 (length content) then read_by service (from_be_bytes w16 (take 2 content)) (from_be_bytes w32 (take 4 rest)) (drop 4 rest) else Nothing
 
+-- what is asked for of a message, by the letter before it
+abbrev pub asked_with : ℕ → Message → Asked
+asked_with letter message = if letter == HEAR then Hear message else Foretell message
+
 -- a message that is for the node
-abbrev pub to_hear : ℕ → ℕ → List ℕ → Asked
-to_hear id nodes content = option_map_or Hear (heard_in id nodes content) Nothing
+abbrev pub to_hear : ℕ → ℕ → ℕ → List ℕ → Asked
+to_hear id nodes letter content = option_map_or (asked_with letter) (heard_in id nodes content) Nothing
+
+-- a message follows the letter
+abbrev pub is_before_message : ℕ → Bool
+is_before_message letter = letter == HEAR || letter == FORETELL
+
+abbrev pub has_message : Option ℕ → Bool
+has_message None = false
+has_message (Some letter) = is_before_message letter
 
 -- ---- by a whole frame
 
--- what a letter other than a message's asks for, with what follows it
+-- what a letter asks for that no message follows, with what follows it
 abbrev pub asked_by : Declarations → ℕ → ℕ → ℕ → List ℕ → Asked
 asked_by service id nodes letter content =
     if letter == SUBMIT then to_submit service content
@@ -71,7 +84,8 @@ asked_by service id nodes letter content =
 -- what a frame asks the node of a number for, of so many
 unfoldable pub asked_in : Declarations → ℕ → ℕ → List ℕ → Asked
 asked_in service id nodes [] = Nothing
-asked_in service id nodes (letter ∷ content) = if letter == HEAR then to_hear id nodes content else asked_by service id nodes letter content
+asked_in service id nodes (letter ∷ content) =
+    if is_before_message letter then to_hear id nodes letter content else asked_by service id nodes letter content
 
 -- ---- what is there
 
@@ -81,6 +95,7 @@ AskedFits service id nodes (Submit request) = RequestFits service request × Req
 AskedFits service id nodes (Run clock) = FitsSigned w64 clock
 AskedFits service id nodes (Turn lane clock) = (lane < service.lanes) × FitsSigned w64 clock
 AskedFits service id nodes (Hear message) = HeardFits id nodes message
+AskedFits service id nodes (Foretell message) = HeardFits id nodes message
 AskedFits service id nodes (Ask to) = IsNode nodes to × (to ≢ id)
 AskedFits service id nodes (Read client variable seen) = (0 < client) × (client ≤ CLIENTS) × (variable < length service.variables)
 AskedFits service id nodes _ = Unit {0}

@@ -1,15 +1,15 @@
 //! What a frame asks for.
 
-ghost use Rattle.std.specs.Prelude.{◌≡◌, ℕ, FitsSigned, IfOk, IfSome, OnErr, Some, slice_get};
+ghost use Rattle.std.specs.Prelude.{◌≡◌, ℕ, FitsSigned, IfOk, IfSome, OnErr, slice_get, true};
 ghost use Rattle.std.specs.Int.{w64};
 ghost use Rattle.rex_syntax.specs.declared.service.Declarations.{Declarations};
 ghost use Rattle.rex_syntax.specs.Service.{IsService};
 ghost use Rattle.rex_schedule.specs.Fits.{IsNode};
 ghost use Rattle.rex_frames.specs.Asking as spec;
-ghost use Rattle.rex_frames.specs.Asking.{AskedFits};
+ghost use Rattle.rex_frames.specs.Asking.{AskedFits, has_message};
 
 use crate::hearing::{heard_in, is_another};
-use crate::letters::{ASK, CUT, ELECT, HEAR, LOOK, READ, RUN, SUBMIT, TURN};
+use crate::letters::{ASK, CUT, ELECT, FORETELL, HEAR, LOOK, READ, RUN, SUBMIT, TURN};
 use crate::requests::{request_in, variable_named};
 use rex_event::CLIENTS;
 use rex_msg::Message;
@@ -42,6 +42,10 @@ pub enum Asked {
     Hear {
         message: Message,
     },
+    /// To tell which replies hearing a message of another node would release. Nothing is heard.
+    Foretell {
+        message: Message,
+    },
     /// To ask another node for what this one doesn't know.
     Ask {
         to: u8,
@@ -70,21 +74,32 @@ pub fn asked_in(
     requires { IsNode nodes id }
     ensures asked { IfOk result (λ asked. asked ≡ spec.asked_in svc.now id nodes frame.now) }
     ensures fits { IfOk result (AskedFits svc.now id nodes) }
-    ensures short { OnErr result (slice_get frame.now 0 ≡ Some HEAR) }
+    ensures short { OnErr result (has_message (slice_get frame.now 0) ≡ true) }
 {
     let Some((letter, content)) = frame.split_first() else {
         return Ok(Asked::Nothing);
     };
-    if *letter != HEAR {
+    if *letter != HEAR && *letter != FORETELL {
         return Ok(asked_by(svc.declarations(), id, nodes, *letter, content));
     }
     match heard_in(alloc, id, nodes, content)? {
-        Some(message) => Ok(Asked::Hear { message }),
+        Some(message) => Ok(asked_with(*letter, message)),
         None => Ok(Asked::Nothing),
     }
 }
 
-// What any letter but that of a message asks for, with what follows it.
+// What a letter asks for that a message follows.
+fn asked_with(letter: u8, message: Message) -> Asked
+    ensures { result ≡ spec.asked_with letter message }
+{
+    if letter == HEAR {
+        Asked::Hear { message }
+    } else {
+        Asked::Foretell { message }
+    }
+}
+
+// What any letter asks for that no message follows, with what follows it.
 fn asked_by(service: &Declarations, id: u8, nodes: u8, letter: u8, content: &[u8]) -> Asked
     requires { IsService service.now }
     ensures asked { result ≡ spec.asked_by service.now id nodes letter content.now }

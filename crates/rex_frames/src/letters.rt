@@ -18,6 +18,9 @@ pub const CUT: u8 = b'C';
 /// Hands over a message of another node.
 pub const HEAR: u8 = b'M';
 
+/// Asks which replies hearing a message of another node would release.
+pub const FORETELL: u8 = b'W';
+
 /// Asks another node for what this one doesn't know.
 pub const ASK: u8 = b'A';
 

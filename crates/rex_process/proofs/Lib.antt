@@ -6,7 +6,9 @@ pub mod Catching
 pub mod Coming
 pub mod Cutting
 pub mod Dating
+pub mod Flushed
 pub mod Following
+pub mod Foreseen
 pub mod Going
 pub mod Growing
 pub mod Leaving
@@ -26,4 +28,5 @@ pub mod Staying
 pub mod Submitting
 pub mod Trying
 pub mod Turning
+pub mod Waiting
 pub mod Working

@@ -1,4 +1,5 @@
 pub mod Coming
+pub mod Foretelling
 pub mod Going
 pub mod Hearing
 pub mod Process

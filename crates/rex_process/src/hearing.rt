@@ -17,6 +17,7 @@ use crate::answers::Answer;
 use crate::process::Process;
 use crate::telling::told;
 use rex_fits::Applied;
+use rex_flush::Flush;
 use rex_msg::{Content, Message};
 use rex_node::Step;
 use rex_replay::OneThread;
@@ -36,7 +37,7 @@ pub(crate) enum Test {
     Unfit,
 }
 
-impl<'a, K: Keeper> Process<'a, K> {
+impl<'a, K: Flush> Process<'a, K> {
     /// Does what a message of another node asks for. It goes to this one, and tells no state.
     pub fn hear(&mut self, message: &Message) -> Result<Answer, AllocError>
         requires process { IsProcess K.records K.faults self.old }
@@ -47,6 +48,7 @@ impl<'a, K: Keeper> Process<'a, K> {
         ensures process { OnOk result (IsProcess K.records K.faults self.new) }
         ensures same { IsSame self.old self.new }
         ensures left { OnErr result (IsLeft K.records self.old self.new (Hear (message_in [] message.now))) }
+        ensures waits { K.kept self.new.node.keeper ≡ K.kept self.old.node.keeper }
     {
         match self.test_of(&message.content)? {
             Test::Passed => Ok(Answer::Did(self.receive(message, None)?)),
@@ -55,6 +57,31 @@ impl<'a, K: Keeper> Process<'a, K> {
         }
     }
 
+    // Does what a message asks for that may be heard. If it tells the value of the next instance, that is what was tested.
+    fn receive(&mut self, message: &Message, test: Option<Applied>) -> Result<Step, AllocError>
+        requires process { IsProcess K.records K.faults self.old }
+        requires up { self.old.node.up ≡ true }
+        requires message { IsHeard self.old.node.id self.old.node.nodes message.now }
+        requires may { MayBeHeard self.old.service (here K.records self.old) (content_in [] message.now.content) }
+        requires test { IfSome test (IsTestOfChosen K.records self.old message.now.content) }
+        ensures comes { IfOk result (ComesTo K.records K.faults self.old self.new (Hear (message_in [] message.now))) }
+        ensures sends { IfOk result (λ step. All IsMessage step.sends) }
+        ensures process { OnOk result (IsProcess K.records K.faults self.new) }
+        ensures same { IsSame self.old self.new }
+        ensures left { OnErr result (IsLeft K.records self.old self.new (Hear (message_in [] message.now))) }
+        ensures waits { K.kept self.new.node.keeper ≡ K.kept self.old.node.keeper }
+    {
+        let _service = self.svc.declarations();
+        let known = self.node.known();
+        let outcome = self
+            .node
+            .on_message::<Brand, OneThread>(self.svc, &mut OneThread, message);
+        let step = told(self.alloc, self.node.id(), outcome)?;
+        self.settled(known, step, test)
+    }
+}
+
+impl<'a, K: Keeper> Process<'a, K> {
     // Tests the value that a message may make known.
     fn test_of(&self, content: &Content) -> Result<Test, AllocError>
         requires process { IsProcess K.records K.faults self.now }
@@ -109,28 +136,6 @@ impl<'a, K: Keeper> Process<'a, K> {
             Some(_) => Ok(Test::Passed),
             None => Ok(Test::Unfit),
         }
-    }
-
-    // Does what a message asks for that may be heard. If it tells the value of the next instance, that is what was tested.
-    fn receive(&mut self, message: &Message, test: Option<Applied>) -> Result<Step, AllocError>
-        requires process { IsProcess K.records K.faults self.old }
-        requires up { self.old.node.up ≡ true }
-        requires message { IsHeard self.old.node.id self.old.node.nodes message.now }
-        requires may { MayBeHeard self.old.service (here K.records self.old) (content_in [] message.now.content) }
-        requires test { IfSome test (IsTestOfChosen K.records self.old message.now.content) }
-        ensures comes { IfOk result (ComesTo K.records K.faults self.old self.new (Hear (message_in [] message.now))) }
-        ensures sends { IfOk result (λ step. All IsMessage step.sends) }
-        ensures process { OnOk result (IsProcess K.records K.faults self.new) }
-        ensures same { IsSame self.old self.new }
-        ensures left { OnErr result (IsLeft K.records self.old self.new (Hear (message_in [] message.now))) }
-    {
-        let _service = self.svc.declarations();
-        let known = self.node.known();
-        let outcome = self
-            .node
-            .on_message::<Brand, OneThread>(self.svc, &mut OneThread, message);
-        let step = told(self.alloc, self.node.id(), outcome)?;
-        self.settled(known, step, test)
     }
 }
 

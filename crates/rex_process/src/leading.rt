@@ -11,13 +11,14 @@ ghost use Rattle.rex_process.specs.Process.{Answers, ComesTo, IsLeft, IsProcess,
 use crate::answers::Answer;
 use crate::process::Process;
 use crate::telling::told;
+use rex_flush::Flush;
 use rex_node::Step;
 use rex_replay::OneThread;
 use rex_traits::Keeper;
 use std::alloc::AllocError;
 use std::marker::Brand;
 
-impl<'a, K: Keeper> Process<'a, K> {
+impl<'a, K: Flush> Process<'a, K> {
     /// Asks to lead.
     pub fn elect(&mut self) -> Result<Answer, AllocError>
         requires process { IsProcess K.records K.faults self.old }
@@ -27,27 +28,12 @@ impl<'a, K: Keeper> Process<'a, K> {
         ensures process { OnOk result (IsProcess K.records K.faults self.new) }
         ensures same { IsSame self.old self.new }
         ensures left { OnErr result (IsLeft K.records self.old self.new Elect) }
+        ensures waits { K.kept self.new.node.keeper ≡ K.kept self.old.node.keeper }
     {
         if self.node.nodes() > 1 || self.own_fits()? {
             Ok(Answer::Did(self.stand()?))
         } else {
             Ok(Answer::Unfit)
-        }
-    }
-
-    // Whether what the node accepted itself beyond what it knows fits: one that is alone knows that at once.
-    fn own_fits(&self) -> Result<bool, AllocError>
-        requires process { IsProcess K.records K.faults self.now }
-        requires up { self.now.node.up ≡ true }
-        ensures { IfOk result (λ fits. Tells fits (OwnReportsFit self.now.service (here K.records self.now))) }
-    {
-        let next = self.node.known() + 1;
-        if self.node.accepted_for(next + 1).is_some() {
-            return Ok(false);
-        }
-        match self.node.accepted_for(next) {
-            None => Ok(true),
-            Some(value) => Ok(self.tested(value)?.is_some()),
         }
     }
 
@@ -61,6 +47,7 @@ impl<'a, K: Keeper> Process<'a, K> {
         ensures process { OnOk result (IsProcess K.records K.faults self.new) }
         ensures same { IsSame self.old self.new }
         ensures left { OnErr result (IsLeft K.records self.old self.new Elect) }
+        ensures waits { K.kept self.new.node.keeper ≡ K.kept self.old.node.keeper }
     {
         let _service = self.svc.declarations();
         let known = self.node.known();
@@ -80,11 +67,30 @@ impl<'a, K: Keeper> Process<'a, K> {
         ensures process { OnOk result (IsProcess K.records K.faults self.new) }
         ensures same { IsSame self.old self.new }
         ensures left { OnErr result (IsLeft K.records self.old self.new Cut) }
+        ensures waits { K.kept self.new.node.keeper ≡ K.kept self.old.node.keeper }
     {
         let _service = self.svc.declarations();
         let known = self.node.known();
         let outcome = self.node.cut::<Brand>(self.svc, None);
         let step = told(self.alloc, self.node.id(), outcome)?;
         self.settled(known, step, None)
+    }
+}
+
+impl<'a, K: Keeper> Process<'a, K> {
+    // Whether what the node accepted itself beyond what it knows fits: one that is alone knows that at once.
+    fn own_fits(&self) -> Result<bool, AllocError>
+        requires process { IsProcess K.records K.faults self.now }
+        requires up { self.now.node.up ≡ true }
+        ensures { IfOk result (λ fits. Tells fits (OwnReportsFit self.now.service (here K.records self.now))) }
+    {
+        let next = self.node.known() + 1;
+        if self.node.accepted_for(next + 1).is_some() {
+            return Ok(false);
+        }
+        match self.node.accepted_for(next) {
+            None => Ok(true),
+            Some(value) => Ok(self.tested(value)?.is_some()),
+        }
     }
 }

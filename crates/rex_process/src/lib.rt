@@ -3,6 +3,8 @@
 #![tactic(auto)]
 
 mod answers;
+mod flushing;
+mod foretelling;
 mod hearing;
 mod leading;
 mod process;

@@ -105,6 +105,7 @@ impl<'a, K: Keeper> Process<'a, K> {
         ensures process { OnOk result (IsProcess K.records K.faults self.new) }
         ensures same { IsSame self.old self.new }
         ensures left { OnErr result (self.new ≡ self.old) }
+        ensures keeper { self.new.node.keeper ≡ self.old.node.keeper }
     {
         let outcome = self.node.ask::<Brand>(self.svc, to);
         told(self.alloc, self.node.id(), outcome)
@@ -120,6 +121,7 @@ impl<'a, K: Keeper> Process<'a, K> {
         ensures process { OnOk result (IsProcess K.records K.faults self.new) }
         ensures same { IsSame self.old self.new }
         ensures left { OnErr result (IsLeft K.records self.old self.new (Submit request.now)) }
+        ensures keeper { self.new.node.keeper ≡ self.old.node.keeper }
     {
         let _service = self.svc.declarations();
         let outcome = self.node.submit::<Brand>(self.svc, request);

@@ -42,6 +42,7 @@ impl<'a, K: Keeper> Process<'a, K> {
         ensures same { IsSame self.old self.new }
         ensures left { OnErr result ((here K.records self.new).log ≡ (here K.records self.old).log) }
         ensures clock { OnErr result (self.new.clock ≡ int_max self.old.clock clock) }
+        ensures keeper { self.new.node.keeper ≡ self.old.node.keeper }
     {
         let _service = self.svc.declarations();
         self.raise(clock);
@@ -63,6 +64,7 @@ impl<'a, K: Keeper> Process<'a, K> {
         ensures same { IsSame self.old self.new }
         ensures left { OnErr result ((here K.records self.new).log ≡ (here K.records self.old).log) }
         ensures clock { OnErr result (self.new.clock ≡ int_max self.old.clock clock) }
+        ensures keeper { self.new.node.keeper ≡ self.old.node.keeper }
     {
         self.raise(clock);
         match self.node.role() {

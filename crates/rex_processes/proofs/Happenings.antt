@@ -143,7 +143,7 @@ module _ (service : Declarations) (good : IsService service) (checked : IsChecke
   abbrev cluster : Service Value StateValue
   cluster = service_of service seed
 
-  none : All (RequestFits service) []
+  pub none : All (RequestFits service) []
   none = All-nil (RequestFits service)
 
   after_true : (w : World) → length w.nodes ≡ n → (m : ℕ) → IsNode n m → (d : CallHere) → SaysHere service good checked seed n m d → IsTrue service good checked n m (after w m d).world d.effects
@@ -197,7 +197,7 @@ module _ (service : Declarations) (good : IsService service) (checked : IsChecke
       )
 
   module _ (xs : List (ℕ × Happening)) (h : AreHonest service seed n (beginning n) xs) where
-    are : AreMoments service good checked [] none seed n few (logs (beginning n)) (moments_of_happenings service seed n (beginning n) xs)
+    pub are : AreMoments service good checked [] none seed n few (logs (beginning n)) (moments_of_happenings service seed n (beginning n) xs)
     are = moments_are (beginning n) xs h (beginning_ok service [] seed n few)
 
     pub processes_stand : ReleasesStand (moments_of_happenings service seed n (beginning n) xs)

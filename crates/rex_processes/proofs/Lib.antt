@@ -1,4 +1,5 @@
 pub mod Happenings
+pub mod EarlyReplies
 pub mod Testing
 pub mod Keeping
 pub mod Ranging

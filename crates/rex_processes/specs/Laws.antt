@@ -59,18 +59,18 @@ ProcessesHappenOnce = AfterAnyHappenings (λ service n w. IsService service → 
 -- ---- replies
 
 -- a fact of the moments of a run of at most nine processes with a checked service
-abbrev pub OfAllMoments : (List Moment → Type 0) → Type 0
+abbrev pub OfAllMoments : (Declarations → ℕ → List Moment → Type 0) → Type 0
 OfAllMoments P =
     (service : Declarations) (seed n : ℕ) (xs : List (ℕ × Happening)) → n ≤ most_nodes → IsService service → IsChecked service → AreHonest service seed n (beginning n) xs
-    → P (moments_of_happenings service seed n (beginning n) xs)
+    → P service n (moments_of_happenings service seed n (beginning n) xs)
 
 -- each released reply stands in the trace of every later leader, which is its known deltas and then its live events
 abbrev pub ProcessesKeepReplies : Type 0
-ProcessesKeepReplies = OfAllMoments ReleasesStand
+ProcessesKeepReplies = OfAllMoments (λ service n run. ReleasesStand run)
 
 -- and it stands in the agreed trace from then on
 abbrev pub ProcessesKeepAgreed : Type 0
-ProcessesKeepAgreed = OfAllMoments ReleasesAreAgreed
+ProcessesKeepAgreed = OfAllMoments (λ service n run. ReleasesAreAgreed run)
 
 -- ---- reads
 

@@ -1,5 +1,6 @@
 pub mod Processes
 pub mod Laws
+pub mod Early
 pub mod Tested
 pub mod Leading
 pub mod Plain

@@ -4,6 +4,7 @@
 
 ghost use Rattle.rex_processes.specs.Laws.{ProcessesAgree, ProcessesBeginAgreed, ProcessesOnlyGrow, ProcessesGivePrefixes, ProcessesRun};
 ghost use Rattle.rex_processes.specs.Laws.{ProcessesFitNext, ProcessesHappenOnce, ProcessesKeepReplies, ProcessesKeepAgreed, ProcessesTellAgreed};
+ghost use Rattle.rex_processes.specs.Early.{ProcessesKeepEarly};
 ghost use Rattle.rex_processes.specs.Tested.{TestedMessagesFit, TestedElectionsFit, AloneElectionsFit, NextFitsWhereItRuns};
 ghost use Rattle.rex_processes.specs.Leading.{ActiveOpensStayFit, ActivesStayActing, ActivesRunInRange, CutsOfOneAreSpelled, CountsOfOneHaveRoom};
 ghost use Rattle.rex_processes.specs.Plain.{RecordsStayPlain, PlainRecordsAreKept, PlainRecordsHoldAll, PlainRecordsTellNoState};
@@ -54,6 +55,12 @@ pub fn released_replies_stand_after_happenings()
 /// Each released reply stands in the agreed trace from then on.
 pub fn released_replies_are_agreed_after_happenings()
     ensures { ProcessesKeepAgreed }
+{}
+
+/// Each reply that a message would release which was sent stands in the trace of every leader of a greater ballot, whatever becomes of
+/// the process that would release it.
+pub fn early_replies_stand_after_happenings()
+    ensures { ProcessesKeepEarly }
 {}
 
 /// What a process tells a reader of a variable is its value after the first so many agreed deltas, which are at least as many as the

@@ -34,4 +34,5 @@ returns-in_default g c =
       same = subst (IsSame c.args.self.now) (sym raised) (record { service = refl; id = refl; nodes = refl; seed = refl });
       left = tt;
       clock = tt;
+      keeper = ap (λ (p : ProcessValue _). p.node.keeper) raised;
     }
