@@ -17,7 +17,7 @@ use Rattle.rex_processes.specs.Processes.Task.{Elect as ToElect, Submit as ToSub
 use Rattle.rex_processes.specs.Processes.Happening.{Does, DiesDoing, Dies}
 use Rattle.rex_processes.specs.Plain.{IsPlainTask, NamesAnother}
 use Rattle.rex_frames.specs.declared.asking.Asked.{Asked}
-use Rattle.rex_frames.specs.declared.asking.Asked.TheVariants.{Elect, Submit, Run, Turn, Cut, Hear, Ask, Read, Look, Nothing}
+use Rattle.rex_frames.specs.declared.asking.Asked.TheVariants.{Elect, Submit, Run, Turn, Cut, Hear, Foretell, Ask, Read, Look, Nothing}
 use Rattle.rex_process.specs.declared.answers.Answer.{Answer}
 use Rattle.rex_process.specs.declared.answers.Answer.TheVariants.{Did, Unfit}
 use Rattle.rex_process.specs.declared.running.Ran.{Ran}
@@ -113,6 +113,7 @@ module _ {K : Type 0} (records : K → List (List ℕ)) (faults : K → ℕ) (p 
   answered_gone service_is (Turn lane clock) out fits sent h = does_task (ToTurn lane h.came.reads) h.outcome tt tt tt h.came.comes
   answered_gone service_is Cut out fits sent h = does_task ToCut h.outcome tt tt tt h.came
   answered_gone service_is (Hear message) out fits sent h = answers_task (ToHear (message_in [] message)) h.outcome sent tt fits h.came
+  answered_gone service_is (Foretell message) out fits sent h = stays (ap (λ (r : ProcessValue K). r.node) h.same)
   answered_gone service_is (Ask to) out fits sent h = does_task (ToAsk to) h.outcome tt tt fits h.came
   answered_gone service_is (Read client variable seen) out fits sent h = stays (ap (λ (r : ProcessValue K). r.node) h.same)
   answered_gone service_is Look out fits sent h = stays (ap (λ (r : ProcessValue K). r.node) h.same)
@@ -184,6 +185,7 @@ module _ {K : Type 0} (records : K → List (List ℕ)) (faults : K → ℕ) (p 
     left_of (Turn lane clock) fits sent h = left_same h
     left_of Cut fits sent h = left_task ToCut tt tt tt h
     left_of (Hear message) fits sent h = left_task (ToHear (message_in [] message)) sent tt fits h
+    left_of (Foretell message) fits sent h = left_same h
     left_of (Ask to) fits sent h = left_same h
     left_of (Read client variable seen) fits sent h = left_same h
     left_of Look fits sent h = left_same h

@@ -1,15 +1,13 @@
 -- What is left where memory is short.
-use Rattle.std.proofs.Common.{◌≡◌, ℕ, true, List, [], Result, Ok, Err, inl, inr, refl, sym, subst}
+use Rattle.std.proofs.Common.{◌≡◌, ℕ, true, List, Result, Ok, Err, inl, inr, refl, subst}
 use Rattle.std.specs.Prelude.{OnErr}
-use Rattle.std.proofs.lemmas.List.{append-nil}
 use Rattle.rex_frames.specs.declared.asking.Asked.{Asked}
-use Rattle.rex_frames.specs.declared.asking.Asked.TheVariants.{Elect, Submit, Run, Turn, Cut, Hear, Ask, Read, Look, Nothing}
+use Rattle.rex_frames.specs.declared.asking.Asked.TheVariants.{Elect, Submit, Run, Turn, Cut, Hear, Foretell, Ask, Read, Look, Nothing}
 use Rattle.rex_frames.specs.Frames.{front_of}
 use Rattle.rex_frames.specs.Frames.AtFront.{Whole}
 use Rattle.rex_process.specs.Process.{ProcessValue, IsSame}
 use Rattle.rex_serve.specs.Answering.{Answered, BreaksOff, IsLeftOf, asked_of}
-use Rattle.rex_serve.specs.Serving.{GrowsBy, HasBroken, HasBrokenOff, HasServedSome, Serves}
-use Rattle.rex_serve.proofs.Grown.{serves_none}
+use Rattle.rex_serve.specs.Serving.{GrowsBy, HasBroken, Serves}
 
 -- what holds anyway holds where there is an error
 pub on_err : {T E : Type 0} (r : Result T E) (P : Type 0) → P → OnErr r P
@@ -25,6 +23,7 @@ module _ {K : Type 0} (records : K → List (List ℕ)) (faults : K → ℕ) whe
   left_as_is p (Turn lane clock) = refl
   left_as_is p Cut = inl refl
   left_as_is p (Hear message) = inl refl
+  left_as_is p (Foretell message) = refl
   left_as_is p (Ask to) = refl
   left_as_is p (Read client variable seen) = refl
   left_as_is p Look = refl
@@ -44,25 +43,3 @@ module _ {K : Type 0} (records : K → List (List ℕ)) (faults : K → ℕ) whe
     served = h.holds;
     broken = inr (record { frame = frame; rest = rest; front = front; up = up; broken = broken; same = same });
   }
-
-  -- nothing was taken of a piece in which memory was short
-  pub piece_broken : (p q : ProcessValue K) (bytes input before : List ℕ) → HasBroken records faults p q bytes → bytes ≡ input → HasBrokenOff records faults p q input before before
-  piece_broken p q bytes input before h is = record {
-    middle = h.middle;
-    left = h.left;
-    served = record { out = h.out; served = subst (λ b. Serves records faults p h.middle b h.left h.out) is h.served; taken = (0, sym (append-nil before)) };
-    broken = h.broken;
-  }
-
-  -- nor where there was no memory for the piece
-  pub nothing_broken : (p : ProcessValue K) (input before : List ℕ) → HasBrokenOff records faults p p input before before
-  nothing_broken p input before = record {
-    middle = p;
-    left = input;
-    served = record { out = []; served = serves_none records faults p input; taken = (0, sym (append-nil before)) };
-    broken = inl refl;
-  }
-
-  -- all was done, and a front of the answers was taken
-  pub taken_broken : (p q : ProcessValue K) (input left before now : List ℕ) → HasServedSome records faults p q input left before now → HasBrokenOff records faults p q input before now
-  taken_broken p q input left before now h = record { middle = q; left = left; served = h; broken = inl refl }

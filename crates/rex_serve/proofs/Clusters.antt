@@ -18,16 +18,17 @@ use Rattle.rex_processes.specs.Processes.{Happening, AreHonest, after_happenings
 use Rattle.rex_processes.specs.Processes.Happening.{Dies}
 use Rattle.rex_processes.specs.Plain.{ArePlain, EachTask, IsPlainTask, NamesAnother}
 use Rattle.rex_frames.specs.declared.asking.Asked.{Asked}
-use Rattle.rex_frames.specs.declared.asking.Asked.TheVariants.{Elect, Submit, Run, Turn, Cut, Hear, Ask, Read, Look, Nothing}
+use Rattle.rex_frames.specs.declared.asking.Asked.TheVariants.{Elect, Submit, Run, Turn, Cut, Hear, Foretell, Ask, Read, Look, Nothing}
 use Rattle.rex_process.specs.Process.{ProcessValue, here}
 use Rattle.rex_process.specs.Starting.{HasStarted}
-use Rattle.rex_serve.specs.Answering.{asked_of}
+use Rattle.rex_serve.specs.Answering.{IsFlushed, asked_of}
 use Rattle.rex_serve.specs.Standing.{HearsOneOf, HearsSent, IsNodeOf, OfHeard, each_at, step_to}
 use Rattle.rex_serve.specs.Cluster.{Member, Cluster, Transition, AllMayHappen, AnswersSo, BreaksOffSo, MayHappen, after_transitions, beginning, goes_on, member_after, records_in, step_at}
 use Rattle.rex_serve.specs.Cluster.Member.{Runs, Left}
-use Rattle.rex_serve.specs.Cluster.Transition.{ComesUp, Answers, BreaksOff, Ends}
+use Rattle.rex_serve.specs.Cluster.Transition.{ComesUp, Answers, Flushes, BreaksOff, Ends}
 use Rattle.rex_serve.specs.Laws.{ClusterStands, HasHappened, IsMember, MemberStands}
 use Rattle.rex_serve.proofs.Happened.{Happens, after_both, dies, each_both, happens_none, honest_both}
+use Rattle.rex_serve.proofs.Flushed.{flushed_here, flushed_same}
 use Rattle.rex_serve.proofs.Tasks.{HasGone}
 use Rattle.rex_serve.proofs.Asked.{HasLeft, answered_gone, broken_left}
 use Rattle.rex_serve.proofs.Started.{started_gone}
@@ -69,6 +70,7 @@ heard_weaker P Q weaker (Run clock) h = tt
 heard_weaker P Q weaker (Turn lane clock) h = tt
 heard_weaker P Q weaker Cut h = tt
 heard_weaker P Q weaker (Hear message) h = weaker message h
+heard_weaker P Q weaker (Foretell message) h = weaker message h
 heard_weaker P Q weaker (Ask to) h = tt
 heard_weaker P Q weaker (Read client variable seen) h = tt
 heard_weaker P Q weaker Look h = tt
@@ -150,6 +152,20 @@ module _ {K : Type 0} (records : K → List (List ℕ)) (faults : K → ℕ) (se
             tells = λ x i. absurd i;
           }
 
+    -- nothing happens in the model where its keeper flushes
+    step_flushes : (p q : ProcessValue K) → c.members m ≡ Runs p → IsFlushed records p q → Steps c w m (Flushes q)
+    step_flushes p q e f = record {
+      happened = [];
+      node = node_at w.nodes m;
+      sends = [];
+      goes = happens_none service seed n m w (node_at w.nodes m) refl;
+      stands = (
+        same_member service seed n m p q (flushed_same records p q f) (runs_as p e).0,
+        subst (λ (x : Here). IsNodeOf x (node_at w.nodes m)) (sym (flushed_here records p q f)) (runs_as p e).1,
+      );
+      tells = λ x i. absurd i;
+    }
+
     -- it ends between two frames
     step_ends : Steps c w m Ends
     step_ends = by (c.members m) refl
@@ -188,6 +204,7 @@ module _ {K : Type 0} (records : K → List (List ℕ)) (faults : K → ℕ) (se
     pub step_of_cluster : (t : Transition K) → MayHappen records faults service seed n c m t → Steps c w m t
     step_of_cluster (ComesUp keeper p) h = step_up keeper p h.0 h.1
     step_of_cluster (Answers frame q step) h = step_answers h.0 h.1 h.2.up q frame step h.2
+    step_of_cluster (Flushes q) h = step_flushes h.0 q h.1 h.2
     step_of_cluster (BreaksOff frame q) h = step_breaks h.0 h.1 h.2.up q frame h.2
     step_of_cluster Ends h = step_ends
 

@@ -1,5 +1,6 @@
 pub mod Broken
 pub mod Fronts
+pub mod Flushed
 pub mod Grown
 pub mod Sent
 pub mod Happened

@@ -28,13 +28,18 @@ use Rattle.rex_node.specs.declared.step.Step.{Step}
 use Rattle.rex_node.specs.Parts.{here_of}
 use Rattle.rex_processes.specs.Processes.{Happening, AreHonest, after_happenings, happens}
 use Rattle.rex_processes.proofs.Happenings.{happens_ok, processes_ok}
+use Rattle.rex_log.specs.Messages.{message_in}
+use Rattle.rex_processes.specs.Early as model
+use Rattle.rex_processes.specs.Early.{early_replies}
+use Rattle.rex_processes.proofs.EarlyReplies.{early_stand}
 use Rattle.rex_process.specs.Process.{ProcessValue, here}
 use Rattle.rex_serve.specs.Answering.{asked_of}
 use Rattle.rex_serve.specs.Standing.{IsNodeOf, each_at, step_to}
 use Rattle.rex_serve.specs.Cluster.{Member, Cluster, Transition, Instant, AllMayHappen, AnswersSo, MayHappen, beginning, goes_on, instants, step_at}
 use Rattle.rex_serve.specs.Cluster.Member.{Runs}
-use Rattle.rex_serve.specs.Cluster.Transition.{ComesUp, Answers, BreaksOff, Ends}
-use Rattle.rex_serve.specs.Laws.{ClusterStands, IsMember, MemberStands, RepliesStand, RepliesStay}
+use Rattle.rex_serve.specs.Cluster.Transition.{ComesUp, Answers, Flushes, BreaksOff, Ends}
+use Rattle.rex_serve.specs.Early.{EarlyRepliesStand}
+use Rattle.rex_serve.specs.Laws.{ClusterStands, IsMember, MemberStands, RepliesStand, RepliesStay, known_in}
 use Rattle.rex_serve.proofs.Clusters.{Follows, Steps, begins, stands_then, step_of_cluster}
 use Rattle.rex_serve.proofs.Known.{knows}
 use Rattle.rex_serve.proofs.Telling.{answered_true}
@@ -132,6 +137,7 @@ module _ {K : Type 0} (records : K → List (List ℕ)) (faults : K → ℕ) (se
         → IsTrue service good checked n m (after_happenings service seed n w (each_at m g.happened)) (step_at t).effects
     transition_true (ComesUp keeper p) h g = quiet_true _
     transition_true (Answers frame q step) h g = answer_true h.0 q frame step h.1 h.2 g
+    transition_true (Flushes q) h g = quiet_true _
     transition_true (BreaksOff frame q) h g = quiet_true _
     transition_true Ends h g = quiet_true _
 
@@ -249,3 +255,43 @@ module _ {K : Type 0} (records : K → List (List ℕ)) (faults : K → ℕ) (se
 
         best : (m : ℕ) × IsNode n m × (agreed ml.moment.world ≡ known_at ml.moment.world m)
         best = agreed_is n ml.moment.world ml.stands.many (omega (arith, mr.member_in.0, mr.member_in.1))
+
+    -- ---- early replies
+
+    pub cluster_early_stand : EarlyRepliesStand records faults service n run
+    cluster_early_stand i j first later ei ej m p min client sequence value would = record {
+      leaders = λ q above l qin runs leading less.
+          let there : node_at ml.moment.world.nodes q ≡ here records l =
+          (subst (λ (x : Member K). MemberStands records faults service seed n q x (node_at ml.moment.world.nodes q)) runs (ml.stands.each q qin)).1.up leading.up in
+          subst (λ (y : Here). Stands (node_trace y) client sequence value) there
+          (stands.leaders q above (record { lead = leading.lead; role = ap (λ (y : Here). y.role) there ∙ leading.role; active = leading.active; ballot_is = leading.ballot_is })
+          (subst (λ (k : ℕ). k < above) (ap (λ (y : Here). own_ballot y.role) (sym own)) less));
+      known = λ q qin more.
+          let same : known_at ml.moment.world q ≡ known_in records faults service later.cluster q = knows records faults service seed n later.cluster ml.moment.world ml.stands q qin in
+          subst (λ (vs : List Value). Stands (trace_of vs) client sequence value) same
+          (stands.known q qin (subst (λ (vs : List Value). length (known_at mr.moment.world m) < length vs) (sym same)
+          (subst (λ (y : Here). length (known y.log) < length (known_in records faults service later.cluster q)) (sym own) more)));
+    }
+      where
+        mr : IsMomentOf all.ms i first
+        mr = all.each i first ei
+
+        ml : IsMomentOf all.ms j later
+        ml = all.each j later ej
+
+        member : IsMember service seed n m p × IsNodeOf (here records p) (node_at mr.moment.world.nodes m)
+        member = subst (λ (x : Member K). MemberStands records faults service seed n m x (node_at mr.moment.world.nodes m)) would.runs (mr.stands.each m min)
+
+        own : node_at mr.moment.world.nodes m ≡ here records p
+        own = member.1.up would.up
+
+        among : IsAmong (effect.Released client sequence value) (early_replies service n (node_at mr.moment.world.nodes m) (message_in [] would.message))
+        among =
+            subst (λ (y : Here). IsAmong (effect.Released client sequence value) (early_replies service n y (message_in [] would.message))) (sym own)
+            (subst (λ (k : ℕ). IsAmong (effect.Released client sequence value) (early_replies service k (here records p) (message_in [] would.message))) member.0.nodes_are
+            (subst (λ (d : Declarations). IsAmong (effect.Released client sequence value) (early_replies d p.node.nodes (here records p) (message_in [] would.message))) member.0.service_is would.among))
+
+        stands : model.StandsFrom (own_ballot (node_at mr.moment.world.nodes m).role) (length (known_at mr.moment.world m)) n ml.moment client sequence value
+        stands =
+            early_stand service good checked (All-nil (RequestFits service)) seed n few (logs (after_happenings service seed n (world_beginning n) before.happened)) all.ms all.are i j mr.moment ml.moment mr.there ml.there
+            m (message_in [] would.message) min (mr.stands.told would.message would.told) client sequence value among

@@ -1,26 +1,33 @@
 -- What a process comes to that is served, among what may happen in a cluster.
-use Rattle.std.proofs.Common.{◌≡◌, ◌⊎◌, ℕ, suc, Bool, List, [], ◌∷◌, ◌++◌, length, inl, inr, refl, sym, ◌∙◌, ap, subst, arith, eq-eqb, length-append}
-use Rattle.std.proofs.lemmas.Grind.{flat_map-append}
+use Rattle.std.proofs.Common.{◌≡◌, ℕ, Bool, List, [], ◌∷◌, ◌++◌, length, inl, inr, refl, sym, ◌∙◌, ap, subst, eq-eqb, append-nil}
+use Rattle.std.proofs.Math.Seq.{take-length}
+use Rattle.std.proofs.lemmas.List.Elements.{All-cons, All-nil}
 use Rattle.std.specs.Prelude.{if◌then◌else◌}
+use Rattle.std.specs.List.{All}
+use Rattle.rex_traits.specs.Growth.{GrowsByFront}
 use Rattle.rex_syntax.specs.declared.service.Declarations.{Declarations}
 use Rattle.rex_msg.specs.declared.message.Message.{Message}
 use Rattle.rex_cluster.specs.Quorum.{IsNode}
 use Rattle.rex_cluster.specs.Invariant.{IsIn}
 use Rattle.rex_frames.specs.declared.asking.Asked.{Asked}
 use Rattle.rex_frames.specs.Asking.{asked_in}
+use Rattle.rex_frames.specs.Frames.{AtFront}
+use Rattle.rex_frames.specs.Frames.AtFront.{More, TooLong}
+use Rattle.rex_node.specs.declared.step.Step.{Step}
 use Rattle.rex_process.specs.Process.{ProcessValue, IsSame}
 use Rattle.rex_serve.specs.declared.serving.Ended.{Ended}
 use Rattle.rex_serve.specs.declared.serving.Ended.TheVariants as ended
 use Rattle.rex_serve.specs.Answering.{asked_of}
-use Rattle.rex_serve.specs.Serving.{AnswersFrames, BeginsWith, BreaksOffAt, EndsAs, HasBrokenOff, Serves}
+use Rattle.rex_serve.specs.Serving.{AnswersFrames, AnswersNext, BeginsWith, EndsAs, HasServed, HasServedSome, HasServedTo, IsClean, Serves}
 use Rattle.rex_serve.specs.Standing.{HearsOneOf, step_to}
-use Rattle.rex_serve.specs.Cluster.{Cluster, Transition, AllMayHappen, AnswersSo, BreaksOffSo, after_transitions, goes_on, member_after, step_at}
+use Rattle.rex_serve.specs.Cluster.{Cluster, Transition, AllMayHappen, AnswersSo, after_transitions, goes_on, member_after}
 use Rattle.rex_serve.specs.Cluster.Member.{Runs}
-use Rattle.rex_serve.specs.Cluster.Transition.{Answers, BreaksOff}
-use Rattle.rex_serve.specs.Laws.{Moves, all_to, frame_in, frames_in}
-use Rattle.rex_serve.proofs.Clusters.{heard_weaker, in_back, in_front}
-use Rattle.rex_serve.proofs.Fronts.{begins_join}
-use Rattle.rex_serve.proofs.Grown.{same_join}
+use Rattle.rex_serve.specs.Cluster.Transition.{Answers, Flushes}
+use Rattle.rex_serve.specs.Laws.{IsServing, MayBeFound, Moves, all_to, frames_in}
+use Rattle.rex_serve.proofs.Clusters.{heard_weaker, in_front}
+use Rattle.rex_serve.proofs.Flushed.{flushed_same}
+use Rattle.rex_serve.proofs.Grown.{same_join, serves_flushed, serves_on}
+use Rattle.rex_serve.proofs.Sent.{grows_by_more}
 
 -- what is heard is among more messages, too
 hears_more : (told more : List Message) → ((x : Message) → IsIn x told → IsIn x more) → (asked : Asked) → HearsOneOf told asked → HearsOneOf more asked
@@ -35,7 +42,7 @@ same_asked p q frame s =
 
 module _ {K : Type 0} (records : K → List (List ℕ)) (faults : K → ℕ) (service : Declarations) (seed n m : ℕ) (min : IsNode n m) where
   abbrev to_it : List (Transition K) → List (ℕ × Transition K)
-  to_it ts = all_to records faults m ts
+  to_it ts = all_to m ts
 
   abbrev after : Cluster K → List (Transition K) → Cluster K
   after c ts = after_transitions records faults c (to_it ts)
@@ -43,15 +50,13 @@ module _ {K : Type 0} (records : K → List (List ℕ)) (faults : K → ℕ) (se
   abbrev May : Cluster K → List (Transition K) → Type 0
   May c ts = AllMayHappen records faults service seed n c (to_it ts)
 
-  -- what happens to the process: it answers these frames, and runs as this one then; what was told stays so
+  -- what happens to the process: it answers these frames, flushing now and then, and runs as this one in the end
   record RunsOn (frames : List (List ℕ)) (c : Cluster K) (p q : ProcessValue K) : Type 0 where
     moves : List (Transition K)
     answered : frames_in moves ≡ frames
-    each : length (frames_in moves) ≡ length moves
+    each : All IsServing moves
     may : May c moves
     runs : (after c moves).members m ≡ Runs q
-    told : (x : Message) → IsIn x c.told → IsIn x (after c moves).told
-    same : IsSame p q
 
   -- it is what it comes to by one thing
   comes_to : (c : Cluster K) (t : Transition K) → (goes_on records faults c m t).members m ≡ member_after records (c.members m) t
@@ -61,111 +66,99 @@ module _ {K : Type 0} (records : K → List (List ℕ)) (faults : K → ℕ) (se
       → ((frame : List ℕ) → IsIn frame frames → HearsOneOf c.told (asked_of p frame))
       → AnswersFrames records faults p q frames out → RunsOn frames c p q
   frames_move [] c p q out e hears h = record {
-    moves = [];
+    moves = Flushes q ∷ [];
     answered = refl;
-    each = refl;
-    may = tt;
-    runs = e ∙ ap (λ (r : ProcessValue K). Runs r) (sym h.0);
-    told = λ x i. i;
-    same = subst (λ (r : ProcessValue K). IsSame p r) (sym h.0) (record { service = refl; id = refl; nodes = refl; seed = refl });
+    each = All-cons IsServing (Flushes q) [] tt (All-nil IsServing);
+    may = (min, (p, e, h.0), tt);
+    runs = comes_to c (Flushes q);
   }
   frames_move (frame ∷ frames) c p q out e hears h =
-      let t : Transition K = Answers frame h.1 (step_to records faults p h.1 frame h.2 h.4) in
-      let so : AnswersSo records faults c.told p h.1 frame (step_to records faults p h.1 frame h.2 h.4) = record { up = h.0; hears = hears frame (inl refl); out = h.2; answers = h.4; step_is = refl } in
-      let rest : RunsOn frames (goes_on records faults c m t) h.1 q =
-      frames_move frames (goes_on records faults c m t) h.1 q h.3 (comes_to c t)
-      (λ f i. subst (λ (a : Asked). HearsOneOf (c.told ++ (step_at t).sends) a) (same_asked p h.1 f h.4.same) (hears_more c.told (c.told ++ (step_at t).sends) (λ x k. in_front x c.told (step_at t).sends k) (asked_of p f) (hears f (inr i)))) h.5 in
+      let next : AnswersNext records faults p h.0 frame h.1 = h.3 in
+      let flush : Transition K = Flushes next.first in
+      let d : Cluster K = goes_on records faults c m flush in
+      let step : Step = step_to records faults next.first h.0 frame h.1 next.answers in
+      let t : Transition K = Answers frame h.0 step in
+      let heard : (r : ProcessValue K) (f : List ℕ) (more : List Message) → IsSame p r → IsIn f (frame ∷ frames) → ((x : Message) → IsIn x c.told → IsIn x more) → HearsOneOf more (asked_of r f) =
+      λ r f more s i k. subst (λ (a : Asked). HearsOneOf more a) (same_asked p r f s) (hears_more c.told more k (asked_of p f) (hears f i)) in
+      let so : AnswersSo records faults d.told next.first h.0 frame step = record {
+        up = next.up;
+        hears = heard next.first frame d.told (flushed_same records p next.first next.flushed) (inl refl) (λ x k. in_front x c.told [] k);
+        out = h.1;
+        answers = next.answers;
+        step_is = refl;
+      } in
+      let rest : RunsOn frames (goes_on records faults d m t) h.0 q =
+      frames_move frames (goes_on records faults d m t) h.0 q h.2 (comes_to d t)
+      (λ f i. heard h.0 f (d.told ++ step.sends) (same_join p next.first h.0 (flushed_same records p next.first next.flushed) next.answers.same) (inr i)
+      (λ x k. in_front x d.told step.sends (in_front x c.told [] k))) h.4 in
       record {
-        moves = t ∷ rest.moves;
+        moves = flush ∷ t ∷ rest.moves;
         answered = ap (λ (fs : List (List ℕ)). frame ∷ fs) rest.answered;
-        each = ap suc rest.each;
-        may = (min, (p, e, so), rest.may);
+        each = All-cons IsServing flush (t ∷ rest.moves) tt (All-cons IsServing t rest.moves tt rest.each);
+        may = (min, (p, e, next.flushed), (min, (next.first, comes_to c flush, so), rest.may));
         runs = rest.runs;
-        told = λ x i. rest.told x (in_front x c.told (step_at t).sends i);
-        same = same_join p h.1 q h.4.same rest.same;
       }
 
-  -- ---- one more
+module _ {K : Type 0} (records kept : K → List (List ℕ)) (faults : K → ℕ) (service : Declarations) (seed n m : ℕ) (min : IsNode n m) (c : Cluster K) (p q : ProcessValue K)
+    (e : c.members m ≡ Runs p) (input : List ℕ)
+    (hears : (frames : List (List ℕ)) (left : List ℕ) → BeginsWith input frames left → (frame : List ℕ) → IsIn frame frames → HearsOneOf c.told (asked_of p frame)) where
+  abbrev Goal : Ended → List ℕ → List ℕ → List (List ℕ) → Type 0
+  Goal end before now found = Moves records kept faults service seed n c m p q end input before now found
 
-  may_both : (c : Cluster K) (ts us : List (Transition K)) → May c ts → May (after c ts) us → May c (ts ++ us)
-  may_both c [] us h k = k
-  may_both c (t ∷ ts) us h k = (h.0, h.1, may_both (goes_on records faults c m t) ts us h.2 k)
+  -- frames were answered, by which it came to one with these records; a front of the answers was taken
+  served_moves : (end : Ended) (r : ProcessValue K) (left out before now : List ℕ) (found : List (List ℕ)) → Serves records faults p r input left out
+      → found ≡ records r.node.keeper → (IsClean end → r ≡ q) → GrowsByFront before now out → Goal end before now found
+  served_moves end r left out before now found s found_are clean taken =
+      let g : RunsOn records faults service seed n m min s.frames c p r = frames_move records faults service seed n m min s.frames c p r out e (hears s.frames left s.read) s.answered in
+      record {
+        moves = g.moves;
+        left = left;
+        begins = subst (λ (fs : List (List ℕ)). BeginsWith input fs left) (sym g.answered) s.read;
+        each = g.each;
+        may = g.may;
+        last = r;
+        comes = g.runs;
+        found_are = sym found_are;
+        clean = clean;
+        out = out;
+        answers = subst (λ (fs : List (List ℕ)). AnswersFrames records faults p r fs out) (sym g.answered) s.answered;
+        taken = taken;
+      }
 
-  after_both : (c : Cluster K) (ts us : List (Transition K)) → after c (ts ++ us) ≡ after (after c ts) us
-  after_both c [] us = refl
-  after_both c (t ∷ ts) us = after_both (goes_on records faults c m t) ts us
+  all_moves : (end : Ended) (r : ProcessValue K) (left before now : List ℕ) (found : List (List ℕ)) → HasServed records kept faults p r input left before now
+      → found ≡ records r.node.keeper → (IsClean end → r ≡ q) → Goal end before now found
+  all_moves end r left before now found h found_are clean =
+      served_moves end r left h.out before now found h.served found_are clean (length h.out, h.taken ∙ ap (λ (t : List ℕ). before ++ t) (sym (take-length h.out)))
 
-  -- the frames of these, and of one more that breaks off
-  frames_broken : (ts : List (Transition K)) (frame : List ℕ) (q : ProcessValue K) → frames_in (ts ++ BreaksOff frame q ∷ []) ≡ frames_in ts ++ frame ∷ []
-  frames_broken ts frame q = flat_map-append frame_in ts (BreaksOff frame q ∷ [])
+  to_moves : (end : Ended) (front : AtFront) (before now : List ℕ) (found : List (List ℕ)) → HasServedTo records kept faults front p q input before now → found ≡ kept q.node.keeper
+      → Goal end before now found
+  to_moves end front before now found h may = all_moves end q h.left before now found h.served (may ∙ h.served.settled) (λ clean. refl)
 
-  each_broken : (ts : List (Transition K)) (frame : List ℕ) (q : ProcessValue K) → length (frames_in ts) ≡ length ts
-      → length (frames_in (ts ++ BreaksOff frame q ∷ [])) ≡ length (ts ++ BreaksOff frame q ∷ [])
-  each_broken ts frame q e = ap length (frames_broken ts frame q) ∙ omega (arith, length-append (frames_in ts) (frame ∷ []), length-append ts (BreaksOff frame q ∷ []), e)
+  some_moves : (end : Ended) (left before now : List ℕ) (found : List (List ℕ)) → HasServedSome records kept faults p q input left before now → found ≡ kept q.node.keeper
+      → Goal end before now found
+  some_moves end left before now found h may = served_moves end q left h.out before now found h.served (may ∙ h.settled) (λ clean. refl) h.taken
 
-  module _ (c : Cluster K) (p q : ProcessValue K) (e : c.members m ≡ Runs p) (input : List ℕ)
-      (hears : (frames : List (List ℕ)) (left : List ℕ) → BeginsWith input frames left → (frame : List ℕ) → IsIn frame frames → HearsOneOf c.told (asked_of p frame)) where
-    abbrev Goal : Type 0
-    Goal = Moves records faults service seed n c m input q
+  down_moves : (before now : List ℕ) (found : List (List ℕ)) (h : EndsAs records kept faults ended.Down p q input before now)
+      → MayBeFound records kept faults ended.Down p q input before now h found → Goal ended.Down before now found
+  down_moves before now found h (inl lost) = all_moves ended.Down h.middle h.left before now found h.told lost (λ clean. absurd clean)
+  down_moves before now found h (inr settled) =
+      served_moves ended.Down q h.after.left (h.told.out ++ h.after.out) before now found
+      (serves_on records faults p h.middle q input h.left h.told.out h.after.left h.after.out h.told.served
+      (serves_flushed records faults h.middle h.after.last q h.left h.after.left h.after.out h.after.served h.after.flushed)) settled (λ clean. absurd clean)
+      (grows_by_more before now now h.told.out h.after.out h.told.taken (0, sym (append-nil now)))
 
-    served_runs : (r : ProcessValue K) (left out : List ℕ) (s : Serves records faults p r input left out) → RunsOn s.frames c p r
-    served_runs r left out s = frames_move s.frames c p r out e (hears s.frames left s.read) s.answered
+  short_moves : (before now : List ℕ) (found : List (List ℕ)) → EndsAs records kept faults ended.OutOfMemory p q input before now → found ≡ kept q.node.keeper
+      → Goal ended.OutOfMemory before now found
+  short_moves before now found (inl h) may = all_moves ended.OutOfMemory h.middle h.left before now found h.told (may ∙ h.after.kept_are) (λ clean. absurd clean)
+  short_moves before now found (inr h) may = some_moves ended.OutOfMemory h.0 before now found h.1 may
 
-    -- the input begins with the frames of what happened, up to what is left
-    served_begins : (r : ProcessValue K) (left out : List ℕ) (s : Serves records faults p r input left out) (g : RunsOn s.frames c p r)
-        → BeginsWith input (frames_in g.moves) left
-    served_begins r left out s g = subst (λ (fs : List (List ℕ)). BeginsWith input fs left) (sym g.answered) s.read
-
-    -- after frames that were answered it runs as a process that is this one
-    served_moves : (r : ProcessValue K) (left out : List ℕ) → Serves records faults p r input left out → q ≡ r → Goal
-    served_moves r left out s same =
-        let g : RunsOn s.frames c p r = served_runs r left out s in
-        record {
-          moves = g.moves;
-          left = left;
-          begins = served_begins r left out s g;
-          each = g.each;
-          may = g.may;
-          comes = inl (g.runs ∙ ap (λ (x : ProcessValue K). Runs x) (sym same));
-        }
-
-    broken_moves : (r : ProcessValue K) (left out : List ℕ) → Serves records faults p r input left out → BreaksOffAt records faults r q left → Goal
-    broken_moves r left out s b =
-        let g : RunsOn s.frames c p r = served_runs r left out s in
-        let begun : BeginsWith input (s.frames ++ b.frame ∷ []) b.rest = begins_join input s.frames (b.frame ∷ []) left b.rest s.read (b.rest, b.front, refl) in
-        let heard : HearsOneOf c.told (asked_of p b.frame) = hears (s.frames ++ b.frame ∷ []) b.rest begun b.frame (in_back b.frame s.frames (b.frame ∷ []) (inl refl)) in
-        let so : BreaksOffSo records faults (after c g.moves).told r q b.frame =
-        record {
-          up = b.up;
-          hears = subst (λ (a : Asked). HearsOneOf (after c g.moves).told a) (same_asked p r b.frame g.same) (hears_more c.told (after c g.moves).told g.told (asked_of p b.frame) heard);
-          broken = b.broken;
-          same = b.same;
-        } in
-        record {
-          moves = g.moves ++ BreaksOff b.frame q ∷ [];
-          left = b.rest;
-          begins =
-              subst (λ (fs : List (List ℕ)). BeginsWith input fs b.rest)
-              (sym (frames_broken g.moves b.frame q ∙ ap (λ (fs : List (List ℕ)). fs ++ b.frame ∷ []) g.answered)) begun;
-          each = each_broken g.moves b.frame q g.each;
-          may = may_both c g.moves (BreaksOff b.frame q ∷ []) g.may (min, (r, g.runs, so), tt);
-          comes = inr (ap (λ (d : Cluster K). d.members m) (after_both c g.moves (BreaksOff b.frame q ∷ [])) ∙ comes_to (after c g.moves) (BreaksOff b.frame q));
-        }
-
-    -- where memory was short
-    short_moves : (before now : List ℕ) → HasBrokenOff records faults p q input before now → Goal
-    short_moves before now h = by h.broken
-      where
-        by : (q ≡ h.middle) ⊎ BreaksOffAt records faults h.middle q h.left → Goal
-        by (inl same) = served_moves h.middle h.left h.served.out h.served.served same
-        by (inr b) = broken_moves h.middle h.left h.served.out h.served.served b
-
-    -- however serving ended
-    pub serving_moves : (end : Ended) (before now : List ℕ) → EndsAs records faults end p q input before now → Goal
-    serving_moves ended.Over before now h = served_moves q h.left h.served.out h.served.served refl
-    serving_moves ended.TooOften before now h = served_moves q h.left h.served.out h.served.served refl
-    serving_moves ended.Unread before now h = served_moves q h.left h.served.out h.served.served refl
-    serving_moves ended.TooLong before now h = served_moves q h.left h.served.out h.served.served refl
-    serving_moves ended.Down before now h = served_moves q h.left h.served.out h.served.served refl
-    serving_moves ended.Unwritten before now h = served_moves q h.0 h.1.out h.1.served refl
-    serving_moves ended.OutOfMemory before now h = short_moves before now h
+  -- however serving ended
+  pub serving_moves : (end : Ended) (before now : List ℕ) (h : EndsAs records kept faults end p q input before now) (found : List (List ℕ))
+      → MayBeFound records kept faults end p q input before now h found → Goal end before now found
+  serving_moves ended.Over before now h found may = to_moves ended.Over More before now found h may
+  serving_moves ended.TooOften before now h found may = to_moves ended.TooOften More before now found h may
+  serving_moves ended.Unread before now h found may = to_moves ended.Unread More before now found h may
+  serving_moves ended.TooLong before now h found may = to_moves ended.TooLong TooLong before now found h may
+  serving_moves ended.Down before now h found may = down_moves before now found h may
+  serving_moves ended.Unwritten before now h found may = some_moves ended.Unwritten h.0 before now found h.1 may
+  serving_moves ended.OutOfMemory before now h found may = short_moves before now found h may

@@ -27,7 +27,7 @@ use Rattle.rex_node.specs.Parts.{here_of}
 use Rattle.rex_processes.specs.Processes.{Task, armed_after, call_for}
 use Rattle.rex_processes.specs.Processes.Task.{Elect as ToElect, Submit as ToSubmit, Turn as ToTurn, Cut as ToCut, Hear as ToHear, Ask as ToAsk}
 use Rattle.rex_frames.specs.declared.asking.Asked.{Asked}
-use Rattle.rex_frames.specs.declared.asking.Asked.TheVariants.{Elect, Submit, Run, Turn, Cut, Hear, Ask, Read, Look, Nothing}
+use Rattle.rex_frames.specs.declared.asking.Asked.TheVariants.{Elect, Submit, Run, Turn, Cut, Hear, Foretell, Ask, Read, Look, Nothing}
 use Rattle.rex_process.specs.declared.answers.Answer.{Answer}
 use Rattle.rex_process.specs.declared.answers.Answer.TheVariants.{Did, Unfit}
 use Rattle.rex_process.specs.Coming.{Comes}
@@ -139,6 +139,7 @@ module _ {K : Type 0} (records : K → List (List ℕ)) (faults : K → ℕ) (p 
   answered_true Cut out fits h = task_true ToCut h.outcome (λ d k u. cut_right p.service good checked p.node.seed p.node.nodes p.node.id d k u) h.came
   answered_true (Hear message) out fits h =
       answers_true (ToHear (message_in [] message)) h.outcome (λ d k u. hear_right p.service good checked p.node.seed p.node.nodes p.node.id d k u (message_in [] message)) h.came
+  answered_true (Foretell message) out fits h = λ c s x among. absurd among
   answered_true (Ask to) out fits h = task_true (ToAsk to) h.outcome (λ d k u. ask_right p.service good checked p.node.seed p.node.nodes p.node.id d k u to) h.came
   answered_true (Read client variable seen) out fits h = λ c s x among. absurd among
   answered_true Look out fits h = λ c s x among. absurd among

@@ -1,5 +1,5 @@
 -- What a frame asks for is there.
-use Rattle.std.proofs.Common.{eqb-true, ◌≡◌, ◌<◌, ◌≤◌, ℕ, Bool, true, false, not, List, [], ◌∷◌, length, Option, Some, None, refl, sym, ap, ◌-◌, ◌∙◌, subst, arith}
+use Rattle.std.proofs.Common.{◌≡◌, ◌<◌, ◌≤◌, ℕ, Bool, true, false, not, List, [], ◌∷◌, length, Option, Some, None, refl, sym, ap, ◌-◌, ◌∙◌, subst, arith}
 use Rattle.std.specs.Prelude.{◌≢◌, ◌==◌, ◌&&◌, ℤ, IfSome, Result, Ok, Err, drop, nat_le, take, if◌then◌else◌}
 use Rattle.std.specs.Int.{w16, w32, from_be_bytes}
 use Rattle.std.specs.Option.{option_map_or}
@@ -23,9 +23,9 @@ use Rattle.rex_msg.proofs.MessageAgain.{message_read}
 use Rattle.rex_cluster.specs.Quorum.{IsNode}
 use Rattle.rex_cluster.specs.Invariant.{IsIn}
 use Rattle.rex_frames.specs.declared.asking.Asked.{Asked}
-use Rattle.rex_frames.specs.declared.asking.Asked.TheVariants.{Elect, Submit, Run, Turn, Cut, Hear, Ask, Read, Look, Nothing}
+use Rattle.rex_frames.specs.declared.asking.Asked.TheVariants.{Elect, Submit, Run, Turn, Cut, Hear, Foretell, Ask, Read, Look, Nothing}
 use Rattle.rex_frames.specs.declared.letters.TheConstants.{ELECT, SUBMIT, RUN, TURN, CUT, HEAR, ASK, READ, LOOK}
-use Rattle.rex_frames.specs.Asking.{asked_in, asked_alone, asked_by, clock_in, read_by, to_ask, to_hear, to_read, to_run, to_submit, to_turn}
+use Rattle.rex_frames.specs.Asking.{asked_in, asked_alone, asked_by, asked_with, clock_in, is_before_message, read_by, to_ask, to_hear, to_read, to_run, to_submit, to_turn}
 use Rattle.rex_frames.specs.Hearing.{has_askers_ballot, heard_of, is_another, is_for, tells_state}
 use Rattle.rex_frames.specs.Requests.{request_in, ◌>>=◌, arguments_of, client_of, count_of, handler_taking, is_taking, request_of, sequence_of, variable_named}
 use Rattle.rex_serve.specs.Standing.{CarriesOneOf, HearsOneOf, SpellsOneOf}
@@ -34,6 +34,7 @@ use Rattle.rex_serve.specs.Standing.{CarriesOneOf, HearsOneOf, SpellsOneOf}
 abbrev pub IsThere : Declarations → ℕ → ℕ → Asked → Type 0
 IsThere service id nodes (Submit request) = RequestFits service request
 IsThere service id nodes (Hear message) = id ≢ message.from
+IsThere service id nodes (Foretell message) = id ≢ message.from
 IsThere service id nodes (Ask to) = IsNode nodes to × (id ≢ to)
 IsThere service id nodes _ = Unit {0}
 
@@ -163,12 +164,12 @@ module _ (service : Declarations) (id nodes : ℕ) (P : Asked → Type 0) (h : H
       (if_holds (letter == ASK) (to_ask id nodes content) _ (ask_holds content) (read_on letter content))))
 
   -- so it does of whatever a frame asks for, if it holds of a message
-  pub asked_holds : (letter : ℕ) (content : List ℕ) → (letter ≡ HEAR → P (to_hear id nodes content)) → P (asked_in service id nodes (letter ∷ content))
+  pub asked_holds : (letter : ℕ) (content : List ℕ) → (is_before_message letter ≡ true → P (to_hear id nodes letter content)) → P (asked_in service id nodes (letter ∷ content))
   unfolding asked_in
-  asked_holds letter content heard = by (letter == HEAR) refl
+  asked_holds letter content heard = by (is_before_message letter) refl
     where
-      by : (t : Bool) → (letter == HEAR) ≡ t → P (if t then to_hear id nodes content else asked_by service id nodes letter content)
-      by true e = heard (eqb-true letter HEAR e)
+      by : (t : Bool) → is_before_message letter ≡ t → P (if t then to_hear id nodes letter content else asked_by service id nodes letter content)
+      by true e = heard e
       by false e = other_holds letter content
 
   pub nothing_holds : P (asked_in service id nodes [])
@@ -184,22 +185,26 @@ module _ (service : Declarations) (id nodes : ℕ) where
   others_fit : HoldsOfOthers service id nodes (λ asked. IsThere service id nodes asked)
   others_fit = record { elect = tt; submit = λ r fits. fits; run = λ z. tt; turn = λ lane z. tt; cut = tt; ask = λ to there. there; read = λ client variable seen. tt; look = tt; nothing = tt }
 
-  heard_fits : (o : Result Message ℕ) → Fits (option_map_or Hear (heard_of id nodes o) Nothing)
-  heard_fits (Err at) = tt
-  heard_fits (Ok m) = by (is_for id nodes m) refl
+  heard_fits : (letter : ℕ) (o : Result Message ℕ) → Fits (option_map_or (asked_with letter) (heard_of id nodes o) Nothing)
+  heard_fits letter (Err at) = tt
+  heard_fits letter (Ok m) = by (is_for id nodes m) refl
     where
-      by : (t : Bool) → is_for id nodes m ≡ t → Fits (option_map_or Hear (if t then Some m else None) Nothing)
+      either : (t : Bool) → (id ≢ m.from) → Fits (if t then Hear m else Foretell m)
+      either true h = h
+      either false h = h
+
+      by : (t : Bool) → is_for id nodes m ≡ t → Fits (option_map_or (asked_with letter) (if t then Some m else None) Nothing)
       by false e = tt
       by true e =
           let last = and_parts (m.to == id && is_another id nodes m.from && not (tells_state m.content)) (has_askers_ballot m.from m.to m.content) e in
           let state = and_parts (m.to == id && is_another id nodes m.from) (not (tells_state m.content)) last.0 in
           let first = and_parts (m.to == id) (is_another id nodes m.from) state.0 in
-          (another id nodes m.from first.1).1
+          either (letter == HEAR) (another id nodes m.from first.1).1
 
   -- whatever a frame asks for
   pub all_there : (frame : List ℕ) → Fits (asked_in service id nodes frame)
   all_there [] = nothing_holds service id nodes (λ asked. IsThere service id nodes asked) others_fit
-  all_there (letter ∷ content) = asked_holds service id nodes (λ asked. IsThere service id nodes asked) others_fit letter content (λ e. heard_fits (bytes.message_in content))
+  all_there (letter ∷ content) = asked_holds service id nodes (λ asked. IsThere service id nodes asked) others_fit letter content (λ e. heard_fits letter (bytes.message_in content))
 
 -- ---- what was told
 
@@ -213,11 +218,15 @@ pub carried_told : (service : Declarations) (id nodes : ℕ) (told : List Messag
 carried_told service id nodes told [] h = nothing_holds service id nodes (λ asked. HearsOneOf told asked) (others_told service id nodes told)
 carried_told service id nodes told (letter ∷ content) h = asked_holds service id nodes (λ asked. HearsOneOf told asked) (others_told service id nodes told) letter content (λ e. by (h e))
   where
-    heard : (m : Message) → IsIn m told → (t : Bool) → HearsOneOf told (option_map_or Hear (if t then Some m else None) Nothing)
-    heard m there true = there
+    either : (m : Message) → IsIn m told → (t : Bool) → HearsOneOf told (if t then Hear m else Foretell m)
+    either m there true = there
+    either m there false = there
+
+    heard : (m : Message) → IsIn m told → (t : Bool) → HearsOneOf told (option_map_or (asked_with letter) (if t then Some m else None) Nothing)
+    heard m there true = either m there (letter == HEAR)
     heard m there false = tt
 
-    by : SpellsOneOf told content → HearsOneOf told (option_map_or Hear (heard_of id nodes (bytes.message_in content)) Nothing)
+    by : SpellsOneOf told content → HearsOneOf told (option_map_or (asked_with letter) (heard_of id nodes (bytes.message_in content)) Nothing)
     by c =
-        subst (λ (o : Result Message ℕ). HearsOneOf told (option_map_or Hear (heard_of id nodes o) Nothing)) (sym (ap bytes.message_in c.bytes ∙ message_read c.message c.spelling))
+        subst (λ (o : Result Message ℕ). HearsOneOf told (option_map_or (asked_with letter) (heard_of id nodes o) Nothing)) (sym (ap bytes.message_in c.bytes ∙ message_read c.message c.spelling))
         (heard c.message c.among (is_for id nodes c.message))

@@ -4,11 +4,13 @@ use Rattle.std.specs.List.{flat_map}
 use Rattle.rex_syntax.specs.declared.service.Declarations.{Declarations}
 use Rattle.rex_cluster.specs.Reading as reading
 use Rattle.rex_cluster.specs.Reading.{read_at}
+use Rattle.rex_msg.specs.declared.message.Message.{Message}
 use Rattle.rex_log.specs.Messages.{message_in}
 use Rattle.rex_node.specs.declared.step.Step.{Step}
 use Rattle.rex_processes.specs.Processes.Task.{Elect as ToElect, Submit as ToSubmit, Cut as ToCut, Hear as ToHear, Ask as ToAsk}
+use Rattle.rex_processes.specs.Early.{early_replies}
 use Rattle.rex_frames.specs.declared.asking.Asked.{Asked}
-use Rattle.rex_frames.specs.declared.asking.Asked.TheVariants.{Elect, Submit, Run, Turn, Cut, Hear, Ask, Read, Look, Nothing}
+use Rattle.rex_frames.specs.declared.asking.Asked.TheVariants.{Elect, Submit, Run, Turn, Cut, Hear, Foretell, Ask, Read, Look, Nothing}
 use Rattle.rex_frames.specs.declared.letters.TheConstants.{NOTHING, UNFIT}
 use Rattle.rex_frames.specs.Asking.{asked_in}
 use Rattle.rex_frames.specs.Answering.{count_frame, effect_frame, letter_frame, message_frame, status_frame}
@@ -40,6 +42,10 @@ ran_frames service (Refused effect) = effect_frame service effect
 abbrev pub read_frame : {K : Type 0} → (K → List (List ℕ)) → ProcessValue K → ℕ → ℕ → ℕ → List ℕ
 read_frame records p client variable seen = effect_frame p.service (reading.read_effect p.node.id client variable (read_at p.service (here records p) variable seen))
 
+-- the replies that hearing a message would release
+abbrev pub early_frames : {K : Type 0} → (K → List (List ℕ)) → ProcessValue K → Message → List ℕ
+early_frames records p message = flat_map (effect_frame p.service) (early_replies p.service p.node.nodes (here records p) (message_in [] message))
+
 -- what the node is, while it is up
 abbrev pub standing_frame : {K : Type 0} → (K → List (List ℕ)) → ProcessValue K → List ℕ
 standing_frame records p = if p.node.up then status_frame (status_of (here records p)) else []
@@ -65,6 +71,7 @@ Answered records faults p q (Run clock) out = Tells (HasRun records p q clock) (
 Answered records faults p q (Turn lane clock) out = Tells (HasTurn records faults p q lane clock) (step_frames p.service) out
 Answered records faults p q Cut out = Tells (ComesTo records faults p q ToCut) (step_frames p.service) out
 Answered records faults p q (Hear message) out = Tells (Answers records faults p q (ToHear (message_in [] message))) (answer_frames p.service) out
+Answered records faults p q (Foretell message) out = Stays p q (early_frames records p message) out
 Answered records faults p q (Ask to) out = Tells (ComesTo records faults p q (ToAsk to)) (step_frames p.service) out
 Answered records faults p q (Read client variable seen) out = Stays p q (read_frame records p client variable seen) out
 Answered records faults p q Look out = Stays p q [] out
@@ -80,6 +87,13 @@ pub record AnswersFrame {K : Type 0} (records : K → List (List ℕ)) (faults :
   pub answered : Answered records faults p q (asked_of p frame) answer
   pub same : IsSame p q
   pub told : out ≡ answer ++ standing_frame records q
+
+-- ---- between frames
+
+-- a process is this one after flushes of its keeper, if any: nothing else has changed, and the records are the same
+pub record IsFlushed {K : Type 0} (records : K → List (List ℕ)) (p q : ProcessValue K) : Type 0 where
+  pub only : q ≡ record p { node = record p.node { keeper = q.node.keeper } }
+  pub alike : records q.node.keeper ≡ records p.node.keeper
 
 -- ---- where memory is short
 

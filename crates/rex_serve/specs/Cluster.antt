@@ -7,7 +7,7 @@ use Rattle.rex_cluster.specs.Quorum.{IsNode}
 use Rattle.rex_node.specs.declared.step.Step.{Step}
 use Rattle.rex_process.specs.Process.{ProcessValue, IsSame}
 use Rattle.rex_process.specs.Starting.{HasStarted}
-use Rattle.rex_serve.specs.Answering.{AnswersFrame, asked_of}
+use Rattle.rex_serve.specs.Answering.{AnswersFrame, IsFlushed, asked_of}
 use Rattle.rex_serve.specs.Answering as answering
 use Rattle.rex_serve.specs.Standing.{HearsOneOf, no_step, step_to}
 
@@ -34,11 +34,12 @@ beginning = record { members = λ m. Left []; told = [] }
 
 -- ---- what happens to one of them
 
--- a process comes up with a keeper, as this one; it answers a frame, comes to this one, and its node reports and sends this step; it breaks off while it
--- answers a frame, and leaves the records of this one; or it ends between two frames
+-- a process comes up with a keeper, as this one; it answers a frame, comes to this one, and its node reports and sends this step; its keeper flushes, and
+-- it is this one then; it breaks off while it answers a frame, and leaves the records of this one; or it ends between two frames
 pub data Transition (K : Type 0) : Type 0 where
   ComesUp : K → ProcessValue K → Transition K
   Answers : List ℕ → ProcessValue K → Step → Transition K
+  Flushes : ProcessValue K → Transition K
   BreaksOff : List ℕ → ProcessValue K → Transition K
   Ends : Transition K
 
@@ -61,6 +62,7 @@ pub record BreaksOffSo {K : Type 0} (records : K → List (List ℕ)) (faults : 
 abbrev pub member_after : {K : Type 0} → (K → List (List ℕ)) → Member K → Transition K → Member K
 member_after records before (ComesUp keeper p) = Runs p
 member_after records before (Answers frame q step) = Runs q
+member_after records before (Flushes q) = Runs q
 member_after records before (BreaksOff frame q) = Left (records q.node.keeper)
 member_after records before Ends = Left (records_in records before)
 
@@ -68,6 +70,7 @@ member_after records before Ends = Left (records_in records before)
 abbrev pub step_at : {K : Type 0} → Transition K → Step
 step_at (ComesUp keeper p) = no_step
 step_at (Answers frame q step) = step
+step_at (Flushes q) = no_step
 step_at (BreaksOff frame q) = no_step
 step_at Ends = no_step
 
@@ -82,11 +85,12 @@ module _ {K : Type 0} (records : K → List (List ℕ)) (faults : K → ℕ) whe
   abbrev pub goes_on : Cluster K → ℕ → Transition K → Cluster K
   goes_on c m t = record { members = λ k. if k == m then member_after records (c.members m) t else c.members k; told = c.told ++ (step_at t).sends }
 
-  -- it may happen to the process of this number, of so many with this service: one that runs answers frames, and one that doesn't comes up with the
-  -- records that it left
+  -- it may happen to the process of this number, of so many with this service: one that runs answers frames and flushes, and one that doesn't comes up
+  -- with the records that it left
   abbrev pub MayHappen : Declarations → ℕ → ℕ → Cluster K → ℕ → Transition K → Type 0
   MayHappen service seed n c m (ComesUp keeper p) = (c.members m ≡ Left (records keeper)) × HasStarted records service m n seed keeper p
   MayHappen service seed n c m (Answers frame q step) = (p : ProcessValue K) × (c.members m ≡ Runs p) × AnswersSo records faults c.told p q frame step
+  MayHappen service seed n c m (Flushes q) = (p : ProcessValue K) × (c.members m ≡ Runs p) × IsFlushed records p q
   MayHappen service seed n c m (BreaksOff frame q) = (p : ProcessValue K) × (c.members m ≡ Runs p) × BreaksOffSo records faults c.told p q frame
   MayHappen service seed n c m Ends = Unit {0}
 

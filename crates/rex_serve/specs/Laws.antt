@@ -1,6 +1,7 @@
 -- What holds of all processes that answer frames, and of all clusters of them.
 use Rattle.std.specs.Prelude.{◌≡◌, ◌⊎◌, ℕ, ℤ, ◌≤◌, true, List, [], ◌∷◌, ◌++◌, length, map, take, None, Some, slice_get}
-use Rattle.std.specs.List.{flat_map}
+use Rattle.std.specs.List.{All, flat_map}
+use Rattle.rex_traits.specs.Growth.{GrowsByFront}
 use Rattle.rex_ballot.specs.Limits.{most_nodes}
 use Rattle.rex_syntax.specs.declared.service.Declarations.{Declarations}
 use Rattle.rex_syntax.specs.Service.{IsService}
@@ -31,7 +32,8 @@ use Rattle.rex_process.specs.Starting.{HasStarted}
 use Rattle.rex_serve.specs.Answering.{AnswersFrame, BreaksOff, asked_of}
 use Rattle.rex_frames.specs.Asking.{asked_in}
 use Rattle.rex_serve.specs.declared.serving.Ended.{Ended}
-use Rattle.rex_serve.specs.Serving.{BeginsWith, EndsAs}
+use Rattle.rex_serve.specs.declared.serving.Ended.TheVariants as ended
+use Rattle.rex_serve.specs.Serving.{AnswersFrames, BeginsWith, EndsAs, IsClean}
 use Rattle.rex_serve.specs.Standing.{IsNodeOf, StandsIn, AreHonestBy, CarriesOneOf, HearsOneOf, HearsSent, step_to, world_after}
 use Rattle.rex_serve.specs.Cluster.{Member, Cluster, Transition, Instant, AllMayHappen, after_transitions, beginning, cluster_after, instants, records_in}
 use Rattle.rex_serve.specs.Cluster.Member.{Runs, Left}
@@ -81,6 +83,7 @@ CarriedBytesAreHeard =
 abbrev pub frame_in : {K : Type 0} → Transition K → List (List ℕ)
 frame_in (Transition.ComesUp keeper p) = []
 frame_in (Transition.Answers frame q step) = frame ∷ []
+frame_in (Transition.Flushes q) = []
 frame_in (Transition.BreaksOff frame q) = frame ∷ []
 frame_in Transition.Ends = []
 
@@ -234,27 +237,49 @@ module _ {K : Type 0} (records : K → List (List ℕ)) (faults : K → ℕ) whe
       (service : Declarations) (seed n : ℕ) (ts : List (ℕ × Transition K)) → n ≤ most_nodes → IsService service → IsChecked service
       → AllMayHappen records faults service seed n beginning ts → RepliesStay service n (instants records faults beginning ts)
 
-  -- ---- serving
+-- ---- serving
 
-  -- all of this happens to the process of this number
-  abbrev pub all_to : ℕ → List (Transition K) → List (ℕ × Transition K)
-  all_to m ts = map (λ (t : Transition K). (m, t)) ts
+-- all of this happens to the process of this number
+abbrev pub all_to : {K : Type 0} → ℕ → List (Transition K) → List (ℕ × Transition K)
+all_to {K} m ts = map (λ (t : Transition K). (m, t)) ts
 
-  -- what may happen to one process of a cluster, after which it runs as this one, or has left the records of this one; each of it is of a frame, and an
-  -- input begins with these frames, in their order
-  pub record Moves (service : Declarations) (seed n : ℕ) (c : Cluster K) (m : ℕ) (input : List ℕ) (q : ProcessValue K) : Type 0 where
+-- it happens while a process is served: it answers a frame, or its keeper flushes
+abbrev pub IsServing : {K : Type 0} → Transition K → Type 0
+IsServing (Transition.ComesUp keeper p) = ⊥
+IsServing (Transition.Answers frame q step) = Unit {0}
+IsServing (Transition.Flushes q) = Unit {0}
+IsServing (Transition.BreaksOff frame q) = ⊥
+IsServing Transition.Ends = ⊥
+
+module _ {K : Type 0} (records kept : K → List (List ℕ)) (faults : K → ℕ) where
+  -- these records may be found once serving has ended: those that are kept for good; or, where a flush failed, those before the frames whose answers weren't
+  -- written, or all, whatever the keeper tells
+  abbrev pub MayBeFound : (ended : Ended) (p q : ProcessValue K) (input before now : List ℕ) → EndsAs records kept faults ended p q input before now → List (List ℕ) → Type 0
+  MayBeFound ended.Down p q input before now h found = (found ≡ records h.middle.node.keeper) ⊎ (found ≡ records q.node.keeper)
+  MayBeFound end p q input before now h found = found ≡ kept q.node.keeper
+
+  -- what may happen to one process of a cluster while it is served: it answers the frames that an input begins with, in their order, and runs then with just
+  -- these records; a sink takes a front of these answers, and no others
+  pub record Moves (service : Declarations) (seed n : ℕ) (c : Cluster K) (m : ℕ) (p q : ProcessValue K) (ended : Ended) (input before now : List ℕ) (found : List (List ℕ)) : Type 0 where
     pub moves : List (Transition K)
     pub left : List ℕ
     pub begins : BeginsWith input (frames_in moves) left
-    pub each : length (frames_in moves) ≡ length moves
+    pub each : All IsServing moves
     pub may : AllMayHappen records faults service seed n c (all_to m moves)
-    pub comes : ((after_transitions records faults c (all_to m moves)).members m ≡ Runs q)
-        ⊎ ((after_transitions records faults c (all_to m moves)).members m ≡ Left (records q.node.keeper))
+    pub last : ProcessValue K
+    pub comes : (after_transitions records faults c (all_to m moves)).members m ≡ Runs last
+    pub found_are : records last.node.keeper ≡ found
+    pub clean : IsClean ended → last ≡ q
+    pub out : List ℕ
+    pub answers : AnswersFrames records faults p last (frames_in moves) out
+    pub taken : GrowsByFront before now out
 
-  -- so it is of what a process comes to that is served, however that ends, where each message in a frame of the input was told before
+  -- so it is of what a process comes to that is served, however that ends, and whichever records are found then, where each message in a frame of the input
+  -- was told before
   abbrev pub ServingIsTransitions : Type 0
   ServingIsTransitions =
       (service : Declarations) (seed n : ℕ) (c : Cluster K) (m : ℕ) (p q : ProcessValue K) (ended : Ended) (input before now : List ℕ)
       → IsNode n m → c.members m ≡ Runs p
       → ((frames : List (List ℕ)) (left : List ℕ) → BeginsWith input frames left → (frame : List ℕ) → IsIn frame frames → HearsOneOf c.told (asked_of p frame))
-      → EndsAs records faults ended p q input before now → Moves service seed n c m input q
+      → (ends : EndsAs records kept faults ended p q input before now) → (found : List (List ℕ)) → MayBeFound ended p q input before now ends found
+      → Moves service seed n c m p q ended input before now found

@@ -2,4 +2,5 @@ pub mod Answering
 pub mod Serving
 pub mod Standing
 pub mod Cluster
+pub mod Early
 pub mod Laws

@@ -14,8 +14,8 @@ use Rattle.rex_node.specs.declared.step.Step.{Step}
 use Rattle.rex_processes.specs.Processes.{Happening, AreHonest, after_happenings}
 use Rattle.rex_processes.specs.Plain.{ArePlain, EachTask, NamesAnother}
 use Rattle.rex_frames.specs.declared.asking.Asked.{Asked}
-use Rattle.rex_frames.specs.declared.asking.Asked.TheVariants.{Elect, Submit, Run, Turn, Cut, Hear, Ask, Read, Look, Nothing}
-use Rattle.rex_frames.specs.declared.letters.TheConstants.{HEAR}
+use Rattle.rex_frames.specs.declared.asking.Asked.TheVariants.{Elect, Submit, Run, Turn, Cut, Hear, Foretell, Ask, Read, Look, Nothing}
+use Rattle.rex_frames.specs.Asking.{is_before_message}
 use Rattle.rex_process.specs.declared.answers.Answer.{Answer}
 use Rattle.rex_process.specs.declared.answers.Answer.TheVariants.{Did, Unfit}
 use Rattle.rex_process.specs.Process.{ProcessValue, here}
@@ -68,7 +68,7 @@ abbrev pub step_of : Answer → Step
 step_of (Did step) = step
 step_of Unfit = no_step
 
--- what a process' node reports and sends, where it did what it was asked for; lanes that go on, a read and a look have it send nothing
+-- what a process' node reports and sends, where it did what it was asked for; lanes that go on, what a message would release, a read and a look have it send nothing
 abbrev pub step_in : {K : Type 0} (records : K → List (List ℕ)) (faults : K → ℕ) (p q : ProcessValue K) (asked : Asked) (out : List ℕ)
     → Answered records faults p q asked out → Step
 step_in records faults p q Elect out h = step_of h.outcome
@@ -77,6 +77,7 @@ step_in records faults p q (Run clock) out h = no_step
 step_in records faults p q (Turn lane clock) out h = h.outcome
 step_in records faults p q Cut out h = h.outcome
 step_in records faults p q (Hear message) out h = step_of h.outcome
+step_in records faults p q (Foretell message) out h = no_step
 step_in records faults p q (Ask to) out h = h.outcome
 step_in records faults p q (Read client variable seen) out h = no_step
 step_in records faults p q Look out h = no_step
@@ -87,9 +88,10 @@ abbrev pub step_to : {K : Type 0} (records : K → List (List ℕ)) (faults : K 
     → AnswersFrame records faults p q frame out → Step
 step_to records faults p q frame out h = step_in records faults p q (asked_of p frame) h.answer h.answered
 
--- this holds of the message that is to be heard, if one is
+-- this holds of the message that is to be heard, or would be, if one is
 abbrev pub OfHeard : (Message → Type 0) → Asked → Type 0
 OfHeard P (Hear message) = P message
+OfHeard P (Foretell message) = P message
 OfHeard P _ = Unit {0}
 
 -- it is among these
@@ -107,7 +109,7 @@ pub record SpellsOneOf (told : List Message) (content : List ℕ) : Type 0 where
   pub spelling : HasSpelling message
   pub bytes : content ≡ spelling_of message
 
--- a frame of a message's letter has the bytes of one of these
+-- a frame of a letter that a message follows has the bytes of one of these
 abbrev pub CarriesOneOf : List Message → List ℕ → Type 0
 CarriesOneOf told [] = Unit {0}
-CarriesOneOf told (letter ∷ content) = letter ≡ HEAR → SpellsOneOf told content
+CarriesOneOf told (letter ∷ content) = is_before_message letter ≡ true → SpellsOneOf told content

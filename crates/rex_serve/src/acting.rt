@@ -3,14 +3,15 @@
 ghost use Rattle.std.specs.Prelude.{◌≡◌, ◌<◌, true, OnErr, OnOk};
 ghost use Rattle.rex_schedule.specs.Fits.{RequestFits};
 ghost use Rattle.rex_processes.specs.Processes.Task.{Ask as ToAsk};
-ghost use Rattle.rex_frames.specs.declared.asking.Asked.TheVariants.{Ask, Cut, Elect, Hear, Read, Run, Submit, Turn};
+ghost use Rattle.rex_frames.specs.declared.asking.Asked.TheVariants.{Ask, Cut, Elect, Foretell, Hear, Read, Run, Submit, Turn};
 ghost use Rattle.rex_process.specs.Hearing.{IsHeard};
 ghost use Rattle.rex_process.specs.Process.{IsProcess, IsSame};
 ghost use Rattle.rex_process.specs.Sending.{MayBeTold};
 ghost use Rattle.rex_serve.specs.Answering.{Answered, BreaksOff};
 ghost use Rattle.rex_serve.specs.Serving.{GrowsBy};
 
-use crate::answering::{push_answer, push_ran, push_step};
+use crate::answering::{push_answer, push_effects, push_ran, push_step};
+use rex_flush::Flush;
 use rex_frames::push_effect;
 use rex_msg::Message;
 use rex_process::Process;
@@ -18,7 +19,7 @@ use rex_syntax::request::Request;
 use rex_traits::Keeper;
 use std::alloc::AllocError;
 
-pub(crate) fn elect<K: Keeper>(
+pub(crate) fn elect<K: Flush>(
     process: &mut Process<'_, K>,
     out: &mut Vec<u8>,
 ) -> Result<(), AllocError>
@@ -28,12 +29,13 @@ pub(crate) fn elect<K: Keeper>(
     ensures left { OnErr result (BreaksOff K.records K.faults process.old process.new Elect) }
     ensures process { OnOk result (IsProcess K.records K.faults process.new) }
     ensures same { IsSame process.old process.new }
+    ensures waits { K.kept process.new.node.keeper ≡ K.kept process.old.node.keeper }
 {
     let answer = process.elect()?;
     push_answer(out, process.service().declarations(), &answer)
 }
 
-pub(crate) fn submit<K: Keeper>(
+pub(crate) fn submit<K: Flush>(
     process: &mut Process<'_, K>,
     request: &Request,
     out: &mut Vec<u8>,
@@ -45,12 +47,13 @@ pub(crate) fn submit<K: Keeper>(
     ensures left { OnErr result (BreaksOff K.records K.faults process.old process.new (Submit request.now)) }
     ensures process { OnOk result (IsProcess K.records K.faults process.new) }
     ensures same { IsSame process.old process.new }
+    ensures waits { K.kept process.new.node.keeper ≡ K.kept process.old.node.keeper }
 {
     let step = process.submit(request)?;
     push_step(out, process.service().declarations(), &step)
 }
 
-pub(crate) fn run<K: Keeper>(
+pub(crate) fn run<K: Flush>(
     process: &mut Process<'_, K>,
     clock: i64,
     out: &mut Vec<u8>,
@@ -61,12 +64,13 @@ pub(crate) fn run<K: Keeper>(
     ensures left { OnErr result (BreaksOff K.records K.faults process.old process.new (Run clock)) }
     ensures process { OnOk result (IsProcess K.records K.faults process.new) }
     ensures same { IsSame process.old process.new }
+    ensures waits { K.kept process.new.node.keeper ≡ K.kept process.old.node.keeper }
 {
     let ran = process.run(clock)?;
     push_ran(out, process.service().declarations(), &ran)
 }
 
-pub(crate) fn turn<K: Keeper>(
+pub(crate) fn turn<K: Flush>(
     process: &mut Process<'_, K>,
     lane: u8,
     clock: i64,
@@ -79,12 +83,13 @@ pub(crate) fn turn<K: Keeper>(
     ensures left { OnErr result (BreaksOff K.records K.faults process.old process.new (Turn lane clock)) }
     ensures process { OnOk result (IsProcess K.records K.faults process.new) }
     ensures same { IsSame process.old process.new }
+    ensures waits { K.kept process.new.node.keeper ≡ K.kept process.old.node.keeper }
 {
     let step = process.turn(lane, clock)?;
     push_step(out, process.service().declarations(), &step)
 }
 
-pub(crate) fn cut<K: Keeper>(
+pub(crate) fn cut<K: Flush>(
     process: &mut Process<'_, K>,
     out: &mut Vec<u8>,
 ) -> Result<(), AllocError>
@@ -94,12 +99,13 @@ pub(crate) fn cut<K: Keeper>(
     ensures left { OnErr result (BreaksOff K.records K.faults process.old process.new Cut) }
     ensures process { OnOk result (IsProcess K.records K.faults process.new) }
     ensures same { IsSame process.old process.new }
+    ensures waits { K.kept process.new.node.keeper ≡ K.kept process.old.node.keeper }
 {
     let step = process.cut()?;
     push_step(out, process.service().declarations(), &step)
 }
 
-pub(crate) fn hear<K: Keeper>(
+pub(crate) fn hear<K: Flush>(
     process: &mut Process<'_, K>,
     message: &Message,
     out: &mut Vec<u8>,
@@ -111,12 +117,27 @@ pub(crate) fn hear<K: Keeper>(
     ensures left { OnErr result (BreaksOff K.records K.faults process.old process.new (Hear message.now)) }
     ensures process { OnOk result (IsProcess K.records K.faults process.new) }
     ensures same { IsSame process.old process.new }
+    ensures waits { K.kept process.new.node.keeper ≡ K.kept process.old.node.keeper }
 {
     let answer = process.hear(message)?;
     push_answer(out, process.service().declarations(), &answer)
 }
 
-pub(crate) fn ask<K: Keeper>(
+pub(crate) fn foretell<K: Keeper>(
+    process: &Process<'_, K>,
+    message: &Message,
+    out: &mut Vec<u8>,
+) -> Result<(), AllocError>
+    requires process { IsProcess K.records K.faults process.now }
+    requires up { process.now.node.up ≡ true }
+    requires message { IsHeard process.now.node.id process.now.node.nodes message.now }
+    ensures { OnOk result (GrowsBy (Answered K.records K.faults process.now process.now (Foretell message.now)) out.old.items out.new.items) }
+{
+    let effects = process.early_replies(message)?;
+    push_effects(out, process.service().declarations(), effects.as_slice())
+}
+
+pub(crate) fn ask<K: Flush>(
     process: &mut Process<'_, K>,
     to: u8,
     out: &mut Vec<u8>,
@@ -128,6 +149,7 @@ pub(crate) fn ask<K: Keeper>(
     ensures left { OnErr result (BreaksOff K.records K.faults process.old process.new (Ask to)) }
     ensures process { OnOk result (IsProcess K.records K.faults process.new) }
     ensures same { IsSame process.old process.new }
+    ensures waits { K.kept process.new.node.keeper ≡ K.kept process.old.node.keeper }
 {
     let step = process.ask(to)?;
     push_step(out, process.service().declarations(), &step)

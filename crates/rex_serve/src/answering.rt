@@ -19,7 +19,8 @@ use rex_syntax::service::Declarations;
 use rex_traits::Keeper;
 use std::alloc::AllocError;
 
-fn push_effects(
+/// Appends effects.
+pub(crate) fn push_effects(
     out: &mut Vec<u8>,
     service: &Declarations,
     effects: &[Effect],

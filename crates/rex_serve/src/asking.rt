@@ -6,16 +6,16 @@ ghost use Rattle.rex_process.specs.Process.{IsProcess, IsSame};
 ghost use Rattle.rex_serve.specs.Answering.{Answered, AnswersFrame, BreaksOff, asked_of};
 ghost use Rattle.rex_serve.specs.Serving.{GrowsBy};
 
-use crate::acting::{ask, cut, elect, hear, read, run, submit, turn};
+use crate::acting::{ask, cut, elect, foretell, hear, read, run, submit, turn};
 use crate::answering::push_standing;
+use rex_flush::Flush;
 use rex_frames::letters::NOTHING;
 use rex_frames::{Asked, asked_in, push_letter};
 use rex_process::Process;
-use rex_traits::Keeper;
 use std::alloc::{AllocError, Global};
 
 // Does what is asked for, and appends what came of it.
-fn act<K: Keeper>(
+fn act<K: Flush>(
     process: &mut Process<'_, K>,
     asked: &Asked,
     out: &mut Vec<u8>,
@@ -27,6 +27,7 @@ fn act<K: Keeper>(
     ensures left { OnErr result (BreaksOff K.records K.faults process.old process.new asked.now) }
     ensures process { OnOk result (IsProcess K.records K.faults process.new) }
     ensures same { IsSame process.old process.new }
+    ensures waits { K.kept process.new.node.keeper ≡ K.kept process.old.node.keeper }
 {
     match asked {
         Asked::Elect => elect(process, out),
@@ -35,6 +36,7 @@ fn act<K: Keeper>(
         Asked::Turn { lane, clock } => turn(process, *lane, *clock, out),
         Asked::Cut => cut(process, out),
         Asked::Hear { message } => hear(process, message, out),
+        Asked::Foretell { message } => foretell(process, message, out),
         Asked::Ask { to } => ask(process, *to, out),
         Asked::Read {
             client,
@@ -47,7 +49,7 @@ fn act<K: Keeper>(
 }
 
 /// Answers a frame: appends what came of what it asks for, and then what the node is, while it is up.
-pub(crate) fn answer<K: Keeper>(
+pub(crate) fn answer<K: Flush>(
     alloc: Global,
     process: &mut Process<'_, K>,
     frame: &[u8],
@@ -59,6 +61,7 @@ pub(crate) fn answer<K: Keeper>(
     ensures left { OnErr result (BreaksOff K.records K.faults process.old process.new (asked_of process.old frame.now)) }
     ensures process { OnOk result (IsProcess K.records K.faults process.new) }
     ensures same { IsSame process.old process.new }
+    ensures waits { K.kept process.new.node.keeper ≡ K.kept process.old.node.keeper }
 {
     let asked = asked_in(
         alloc,

@@ -5,7 +5,9 @@
 ghost use Rattle.rex_serve.specs.Laws.{AnswersAreHappenings, StartsAreHappenings, BreakingOffIsHappenings, CarriedBytesAreHeard, ServingIsTransitions};
 ghost use Rattle.rex_serve.specs.Laws.{ClustersAreProcesses, ClustersKnowOneList, ClustersRun, ClustersHappenOnce, ClustersTellKnown};
 ghost use Rattle.rex_serve.specs.Laws.{ClustersRefuseNone, ClustersKeepReplies, ClustersKeepAgreed};
+ghost use Rattle.rex_serve.specs.Early.{ClustersKeepEarly};
 
+use rex_flush::Flush;
 use rex_traits::Keeper;
 
 // ---- one process
@@ -32,9 +34,10 @@ pub fn told_bytes_are_heard()
     ensures { CarriedBytesAreHeard }
 {}
 
-/// What a process comes to that is served, however that ends, is what may happen to it in a cluster, frame by frame of its input.
-pub fn serving_is_transitions<K: Keeper>()
-    ensures { ServingIsTransitions K.records K.faults }
+/// What is kept for good of a process that is served, however that ends, is what it comes to by what may happen to it in a cluster, frame
+/// by frame of its input; and whatever it told are answers to these frames.
+pub fn serving_is_transitions<K: Flush>()
+    ensures { ServingIsTransitions K.records K.kept K.faults }
 {}
 
 // ---- all processes of a cluster
@@ -79,4 +82,10 @@ pub fn clusters_keep_replies<K: Keeper>()
 /// It stands in the trace of what some process knows, from then on.
 pub fn clusters_keep_agreed_replies<K: Keeper>()
     ensures { ClustersKeepAgreed K.records K.faults }
+{}
+
+/// Each reply that a process would release if it heard a message that was told stands in the trace of every leader of a greater ballot,
+/// whatever becomes of the process.
+pub fn clusters_keep_early_replies<K: Keeper>()
+    ensures { ClustersKeepEarly K.records K.faults }
 {}

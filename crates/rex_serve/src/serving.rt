@@ -1,16 +1,18 @@
 //! A process that is served.
 
-ghost use Rattle.std.specs.Prelude.{◌≡◌, ◌≢◌, ◌≤◌, ◌-◌, ◌^◌, ◌++◌, true, false, drop, length, IfErr, IfOk, IsErrOf, OnErr, OnOk};
+ghost use Rattle.std.specs.Prelude.{◌≡◌, ◌≤◌, ◌-◌, ◌^◌, ◌++◌, true, false, drop, length, IfErr, IfOk, IsErrOf, OnErr, OnOk};
 ghost use Rattle.rex_traits.specs.Causes.{Rose};
 ghost use Rattle.rex_frames.specs.Frames.{front_of as at_front_of, has_frame};
 ghost use Rattle.rex_process.specs.Process.{IsProcess, IsSame};
 ghost use Rattle.rex_serve.specs.declared.serving.Ended.TheVariants as ended;
-ghost use Rattle.rex_serve.specs.Serving.{EndsAs, GrowsBy, HasBroken, IsServed, Serves, StandsAs};
+ghost use Rattle.rex_serve.specs.Answering.{IsFlushed};
+ghost use Rattle.rex_serve.specs.Serving.{EndsAs, GrowsBy, HasBroken, IsClean, IsServed, IsSettled, Serves, StandsAs, TellsAs};
 
 use crate::asking::answer;
+use rex_flush::Flush;
 use rex_frames::{Front, front_of};
 use rex_process::Process;
-use rex_traits::{Keeper, Sink, SinkFault, Source, write_all};
+use rex_traits::{KeepFault, Sink, SinkFault, Source, write_all};
 use std::alloc::{AllocError, Global};
 
 /// How serving ended.
@@ -24,7 +26,7 @@ pub enum Ended {
     Unread,
     /// A frame is longer than any may be.
     TooLong,
-    /// The node is down: a record was not kept.
+    /// A record was not kept, and so the node is down; or records were not kept for good.
     Down,
     /// A write failed.
     Unwritten,
@@ -36,7 +38,7 @@ pub enum Ended {
 const PIECE: usize = 65_536;
 
 // Answers the whole frames that bytes begin with, while the node is up; what is left of the bytes.
-fn answer_all<'b, K: Keeper>(
+fn answer_all<'b, K: Flush>(
     alloc: Global,
     process: &mut Process<'_, K>,
     bytes: &'b [u8],
@@ -48,6 +50,7 @@ fn answer_all<'b, K: Keeper>(
     ensures all { IfOk result (λ left. process.new.node.up ≡ true → has_frame (at_front_of left.now) ≡ false) }
     ensures process { OnOk result (IsProcess K.records K.faults process.new) }
     ensures same { IsSame process.old process.new }
+    ensures waits { K.kept process.new.node.keeper ≡ K.kept process.old.node.keeper }
 {
     let mut left = bytes;
     while process.is_up() {
@@ -71,21 +74,47 @@ fn keep_last(held: &mut Vec<u8>, count: usize)
     held.drain(..at);
 }
 
-// Why no more is answered, if so.
-fn standing<K: Keeper>(process: &Process<'_, K>, held: &[u8]) -> Result<(), Ended>
-    ensures { StandsAs process.now held.now result }
+// Has all records kept for good that answers rest on, and then writes these.
+fn tell<W: Sink, K: Flush>(
+    process: &mut Process<'_, K>,
+    out: &[u8],
+    sink: &mut W,
+) -> Result<(), Ended>
+    requires process { IsProcess K.records K.faults process.old }
+    ensures flushed { IsFlushed K.records process.old process.new }
+    ensures tells { TellsAs K.records K.kept K.faults process.old process.new out.now (W.taken sink.old) (W.taken sink.new) result }
+    ensures ok { OnOk result (IsProcess K.records K.faults process.new) }
+    ensures err { IfErr result (λ e. IsClean e → IsProcess K.records K.faults process.new) }
+    ensures unwritten { IsErrOf result ended.Unwritten → Rose (W.faults sink.old) (W.faults sink.new) }
+    ensures later { W.faults sink.old ≤ W.faults sink.new }
 {
     if !process.is_up() {
         return Err(Ended::Down);
     }
+    match process.flush() {
+        Ok(()) => {}
+        Err(KeepFault::Failed) => return Err(Ended::Down),
+        Err(KeepFault::OutOfMemory) => return Err(Ended::OutOfMemory),
+    }
+    match write_all(sink, out) {
+        Ok(()) => Ok(()),
+        Err(SinkFault::Failed) => Err(Ended::Unwritten),
+        Err(SinkFault::OutOfMemory) => Err(Ended::OutOfMemory),
+    }
+}
+
+// Whether more may be answered.
+fn standing(held: &[u8]) -> Result<(), Ended>
+    ensures { StandsAs held.now result }
+{
     match front_of(held) {
         Front::TooLong => Err(Ended::TooLong),
         _ => Ok(()),
     }
 }
 
-// Answers the whole frames of what is held and of a piece that was read behind it, and writes the answers; what is left is held.
-fn serve_piece<W: Sink, K: Keeper>(
+// Answers the whole frames of what is held and of a piece that was read behind it, and tells the answers; what is left is held.
+fn serve_piece<W: Sink, K: Flush>(
     alloc: Global,
     process: &mut Process<'_, K>,
     held: &mut Vec<u8>,
@@ -94,9 +123,10 @@ fn serve_piece<W: Sink, K: Keeper>(
 ) -> Result<(), Ended>
     requires process { IsProcess K.records K.faults process.old }
     requires up { process.old.node.up ≡ true }
-    ensures served { IsServed K.records K.faults process.old process.new (held.old.items ++ piece.now) held.new.items (W.taken sink.old) (W.taken sink.new) result }
+    requires settled { IsSettled K.records K.kept process.old }
+    ensures served { IsServed K.records K.kept K.faults process.old process.new (held.old.items ++ piece.now) held.new.items (W.taken sink.old) (W.taken sink.new) result }
     ensures ok { OnOk result (IsProcess K.records K.faults process.new) }
-    ensures err { IfErr result (λ e. e ≢ ended.OutOfMemory → IsProcess K.records K.faults process.new) }
+    ensures err { IfErr result (λ e. IsClean e → IsProcess K.records K.faults process.new) }
     ensures unwritten { IsErrOf result ended.Unwritten → Rose (W.faults sink.old) (W.faults sink.new) }
     ensures later { W.faults sink.old ≤ W.faults sink.new }
     ensures same { IsSame process.old process.new }
@@ -109,19 +139,15 @@ fn serve_piece<W: Sink, K: Keeper>(
         Ok(left) => left.len(),
         Err(_) => return Err(Ended::OutOfMemory),
     };
-    match write_all(sink, &out) {
-        Ok(()) => {}
-        Err(SinkFault::Failed) => return Err(Ended::Unwritten),
-        Err(SinkFault::OutOfMemory) => return Err(Ended::OutOfMemory),
-    }
+    tell(process, &out, sink)?;
     keep_last(held, left);
-    standing(process, held)
+    standing(held)
 }
 
-/// Answers frames as a source gives them, until it ends. What is answered to frames that were read together is written together, before
-/// more is read. Each frame is answered in turn: what came of what it asks for, and then what the node is. Once the node is down no frame
-/// is answered.
-pub fn serve<S: Source, W: Sink, K: Keeper>(
+/// Answers frames as a source gives them, until it ends. Frames that were read together are answered together, before more is read: once
+/// all records are kept for good that the answers rest on, these are written. Each frame is answered in turn: what came of what it asks
+/// for, and then what the node is. Once the node is down no frame is answered.
+pub fn serve<S: Source, W: Sink, K: Flush>(
     alloc: Global,
     process: &mut Process<'_, K>,
     source: &mut S,
@@ -129,14 +155,15 @@ pub fn serve<S: Source, W: Sink, K: Keeper>(
 ) -> Ended
     requires process { IsProcess K.records K.faults process.old }
     requires up { process.old.node.up ≡ true }
+    requires settled { IsSettled K.records K.kept process.old }
 
-    // Which of the frames that the source gave in this call were answered, to what the process came thereby, and which of the answers the
-    // sink took.
-    ensures served { GrowsBy (λ input. EndsAs K.records K.faults result process.old process.new input (W.taken sink.old) (W.taken sink.new))
+    // Which of the frames that the source gave in this call were answered, to what the process came thereby, which of its records are kept
+    // for good, and which of the answers the sink took: none that rest on others.
+    ensures served { GrowsBy (λ input. EndsAs K.records K.kept K.faults result process.old process.new input (W.taken sink.old) (W.taken sink.new))
         (S.given source.old) (S.given source.new) }
 
-    // Where memory wasn't short the process goes on, and is the same one.
-    ensures process { result ≢ ended.OutOfMemory → IsProcess K.records K.faults process.new }
+    // After a clean end the process may be served again; it is the same one anyway.
+    ensures process { IsClean result → IsProcess K.records K.faults process.new }
     ensures same { IsSame process.old process.new }
 
     // It is over only where the source ended, and each other way to end has its cause.

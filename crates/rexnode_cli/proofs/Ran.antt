@@ -1,6 +1,6 @@
 -- Nodes that ran, and what was refused before they did.
-use Rattle.std.proofs.Common.{◌≡◌, ℕ, Bool, IsTrue, List, [], ◌+◌, inl, inr, refl, sym}
-use Rattle.std.specs.Prelude.{None, drop}
+use Rattle.std.proofs.Common.{◌≡◌, ℕ, Bool, IsTrue, List, [], ◌++◌, ◌+◌, inl, inr, refl, sym}
+use Rattle.std.specs.Prelude.{None}
 use Rattle.rex_traits.specs.Chains.{Answer}
 use Rattle.rex_disk.specs.Calls.{Call}
 use Rattle.std.proofs.lemmas.List.{append-nil}
@@ -14,6 +14,7 @@ use Rattle.rex_wal.specs.Opening as opening
 use Rattle.rex_journal.specs.declared.fault.OpenFault.{OpenFault}
 use Rattle.rex_identity.specs.Identity.{IdentityValue}
 use Rattle.rex_identity.specs.Claims.{OwnedValue}
+use Rattle.rex_group.specs.Keeping.{GroupValue}
 use Rattle.rex_process.specs.Process.{IsProcess, ProcessValue}
 use Rattle.rex_process.specs.Starting.{HasStarted, IsStartFault}
 use Rattle.rex_process.specs.declared.starting.StartFault.{StartFault}
@@ -35,25 +36,26 @@ pub untouched : (before : List ℕ) → IsUntouched [] before before
 untouched before = record { unread = refl; unwritten = refl }
 
 -- frames were served
-pub has_served : {K : Type 0} (records : K → List (List ℕ)) (faults : K → ℕ) (service : Declarations) (id nodes seed : ℕ) (keeper : K) (first last : ProcessValue K) (ended : Ended) (status : ℕ) (before now given taken : List ℕ) → IsProcess records faults first
-    → HasStarted records service id nodes seed keeper first → status ≡ ended_status ended → GrowsBy (λ input. EndsAs records faults ended first last input before now) given taken
-    → GrowsBy (λ input. Runs records faults service id nodes seed keeper input before now status) given taken
-has_served records faults service id nodes seed keeper first last ended status before now given taken process started told served =
+pub has_served : {K : Type 0} (records kept : K → List (List ℕ)) (faults : K → ℕ) (service : Declarations) (id nodes seed : ℕ) (keeper : K) (first last : ProcessValue K) (ended : Ended) (status : ℕ) (before now given taken : List ℕ) → IsProcess records faults first
+    → HasStarted records service id nodes seed keeper first → status ≡ ended_status ended → GrowsBy (λ input. EndsAs records kept faults ended first last input before now) given taken
+    → GrowsBy (λ input. Runs records kept faults service id nodes seed keeper input before now status) given taken
+has_served records kept faults service id nodes seed keeper first last ended status before now given taken process started told served =
     grows_as (λ input ends. inl (record { first = first; process = process; started = started; does = record { last = last; ended = ended; served = ends; told = told } })) served
 
 -- the process didn't come up
-pub not_started : {K : Type 0} (records : K → List (List ℕ)) (faults : K → ℕ) (service : Declarations) (id nodes seed : ℕ) (keeper : K) (fault : StartFault) (status : ℕ) (before given : List ℕ) → IsStartFault service (records keeper) fault → status ≡ start_status fault
-    → GrowsBy (λ input. Runs records faults service id nodes seed keeper input before before status) given given
-not_started records faults service id nodes seed keeper fault status before given cause told =
-    still (λ input. Runs records faults service id nodes seed keeper input before before status) given (inr (record { fault = fault; cause = cause; told = told }, untouched before))
+pub not_started : {K : Type 0} (records kept : K → List (List ℕ)) (faults : K → ℕ) (service : Declarations) (id nodes seed : ℕ) (keeper : K) (fault : StartFault) (status : ℕ) (before given : List ℕ) → IsStartFault service (records keeper) fault → status ≡ start_status fault
+    → GrowsBy (λ input. Runs records kept faults service id nodes seed keeper input before before status) given given
+not_started records kept faults service id nodes seed keeper fault status before given cause told =
+    still (λ input. Runs records kept faults service id nodes seed keeper input before before status) given (inr (record { fault = fault; cause = cause; told = told }, untouched before))
 
 -- the node ran with a keeper of its own
-pub has_owned : {K : Type 0} (records : K → List (List ℕ)) (gives : K → List ℕ → Answer → K → Type 0) (faults : K → ℕ) (service : Declarations) (identity : IdentityValue) (keeper : K) (owned : OwnedValue K) (status : ℕ) (before now given taken : List ℕ)
-    → IsOwnedAs records gives identity keeper owned
-    → GrowsBy (λ input. Runs (λ (o : OwnedValue K). drop 1 (records o.keeper)) (λ (o : OwnedValue K). faults o.keeper) service identity.id identity.nodes identity.seed owned input before now status) given taken
+pub has_owned : {K : Type 0} (records : K → List (List ℕ)) (gives : K → List ℕ → Answer → K → Type 0) (faults : K → ℕ) (service : Declarations) (identity : IdentityValue) (keeper : K) (grouped : GroupValue (OwnedValue K)) (status : ℕ) (before now given taken : List ℕ)
+    → IsOwnedAs records gives identity keeper grouped
+    → GrowsBy (λ input. Runs (λ (g : GroupValue (OwnedValue K)). g.kept ++ g.waits) (λ (g : GroupValue (OwnedValue K)). g.kept) (λ (g : GroupValue (OwnedValue K)). faults g.keeper.keeper)
+    service identity.id identity.nodes identity.seed grouped input before now status) given taken
     → GrowsBy (λ input. RunsOwned records gives faults service identity keeper input before now status) given taken
-has_owned records gives faults service identity keeper owned status before now given taken own runs =
-    grows_as (λ input r. inl (record { owned = owned; own = own; runs = r })) runs
+has_owned records gives faults service identity keeper grouped status before now given taken own runs =
+    grows_as (λ input r. inl (record { grouped = grouped; own = own; runs = r })) runs
 
 -- the keeper is another's, or wasn't claimed
 pub not_owned : {K : Type 0} (records : K → List (List ℕ)) (gives : K → List ℕ → Answer → K → Type 0) (faults : K → ℕ) (service : Declarations) (identity : IdentityValue) (keeper : K) (status : ℕ) (before given : List ℕ)

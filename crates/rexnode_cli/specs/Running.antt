@@ -1,5 +1,5 @@
 -- How a node comes up on a disk: with which records, and what it does then, as which frames it answers; or why it doesn't.
-use Rattle.std.specs.Prelude.{◌≡◌, ◌≢◌, ◌⊎◌, ◌∷◌, ◌+◌, [], ℕ, Bool, IsTrue, List, None, Ok, drop}
+use Rattle.std.specs.Prelude.{◌≡◌, ◌≢◌, ◌⊎◌, ◌∷◌, ◌++◌, ◌+◌, [], ℕ, Bool, IsTrue, List, None, Ok, drop}
 use Rattle.rex_traits.specs.Chains.{Answer}
 use Rattle.rex_disk.specs.Calls.{Call}
 use Rattle.rex_syntax.specs.declared.service.Declarations.{Declarations}
@@ -14,6 +14,8 @@ use Rattle.rex_identity.specs.Identity.{IdentityValue, identity_bytes}
 use Rattle.rex_identity.specs.Claims as claims
 use Rattle.rex_identity.specs.Claims.{IsCause, OwnedValue}
 use Rattle.rex_identity.specs.declared.fault.ClaimFault.{ClaimFault}
+use Rattle.rex_group.specs.Groups.{HoldAll}
+use Rattle.rex_group.specs.Keeping.{GroupValue}
 use Rattle.rex_process.specs.Process.{IsProcess, ProcessValue}
 use Rattle.rex_process.specs.Starting.{HasStarted, IsStartFault}
 use Rattle.rex_process.specs.declared.starting.StartFault.{StartFault}
@@ -46,13 +48,19 @@ module _ {K : Type 0} (records : K → List (List ℕ)) (faults : K → ℕ) (se
   abbrev pub Starts : (ProcessValue K → Type 0) → Type 0 → ℕ → Type 0
   Starts Does Untouched status = HasProcess Does ⊎ (HasNotStarted status × Untouched)
 
--- ---- a keeper whose first record says whose it is
+-- ---- a keeper whose first record says whose it is, and whose others are read as groups
 
 -- it has the identity's record first, or had none, and that one was appended
-pub record IsOwnedAs {K : Type 0} (records : K → List (List ℕ)) (gives : K → List ℕ → Answer → K → Type 0) (identity : IdentityValue) (keeper : K) (owned : OwnedValue K) : Type 0 where
+pub record IsClaimedAs {K : Type 0} (records : K → List (List ℕ)) (gives : K → List ℕ → Answer → K → Type 0) (identity : IdentityValue) (keeper : K) (owned : OwnedValue K) : Type 0 where
   pub claimed : records owned.keeper ≡ identity_bytes identity ∷ drop 1 (records keeper)
   pub same : records keeper ≢ [] → owned.keeper ≡ keeper
   pub appended : records keeper ≡ [] → gives keeper (identity_bytes identity) (Ok tt) owned.keeper
+
+-- so it was claimed, and the records behind the first one are read as groups: those that they hold are kept for good, and none waits
+pub record IsOwnedAs {K : Type 0} (records : K → List (List ℕ)) (gives : K → List ℕ → Answer → K → Type 0) (identity : IdentityValue) (keeper : K) (grouped : GroupValue (OwnedValue K)) : Type 0 where
+  pub claim : IsClaimedAs records gives identity keeper grouped.keeper
+  pub holds : HoldAll (drop 1 (records keeper)) grouped.kept
+  pub none : grouped.waits ≡ []
 
 -- it isn't the identity's, or failed as it was given that record, which it counted
 pub record IsNotOwned {K : Type 0} (records : K → List (List ℕ)) (faults : K → ℕ) (identity : IdentityValue) (keeper : K) (status : ℕ) : Type 0 where
@@ -63,14 +71,18 @@ pub record IsNotOwned {K : Type 0} (records : K → List (List ℕ)) (faults : K
   pub told : status ≡ claim_status fault
 
 module _ {K : Type 0} (records : K → List (List ℕ)) (gives : K → List ℕ → Answer → K → Type 0) (faults : K → ℕ) (identity : IdentityValue) (keeper : K) where
-  -- it is the identity's, and this was run with the records behind the first one
-  pub record HasOwned (Runs : (OwnedValue K → List (List ℕ)) → (OwnedValue K → ℕ) → OwnedValue K → Type 0) : Type 0 where
-    pub owned : OwnedValue K
-    pub own : IsOwnedAs records gives identity keeper owned
-    pub runs : Runs (λ o. drop 1 (records o.keeper)) (λ o. faults o.keeper) owned
+  -- what is run with such a keeper, by its records, those of them that are kept for good, and the count of its faults
+  abbrev pub Run : Type 1
+  Run = (GroupValue (OwnedValue K) → List (List ℕ)) → (GroupValue (OwnedValue K) → List (List ℕ)) → (GroupValue (OwnedValue K) → ℕ) → GroupValue (OwnedValue K) → Type 0
+
+  -- it is the identity's, and this was run with the records that those behind the first one hold
+  pub record HasOwned (Runs : Run) : Type 0 where
+    pub grouped : GroupValue (OwnedValue K)
+    pub own : IsOwnedAs records gives identity keeper grouped
+    pub runs : Runs (λ g. g.kept ++ g.waits) (λ g. g.kept) (λ g. faults g.keeper.keeper) grouped
 
   -- this was run; or it isn't the identity's, and this was left untouched
-  abbrev pub Claims : ((OwnedValue K → List (List ℕ)) → (OwnedValue K → ℕ) → OwnedValue K → Type 0) → Type 0 → ℕ → Type 0
+  abbrev pub Claims : Run → Type 0 → ℕ → Type 0
   Claims Runs Untouched status = HasOwned Runs ⊎ (IsNotOwned records faults identity keeper status × Untouched)
 
 -- ---- a disk
@@ -107,23 +119,23 @@ pub record IsUntouched (input before now : List ℕ) : Type 0 where
   pub unread : input ≡ []
   pub unwritten : now ≡ before
 
--- a process answered the frames of the input, until that ended as the status says
-pub record HasServed {K : Type 0} (records : K → List (List ℕ)) (faults : K → ℕ) (first : ProcessValue K) (input before now : List ℕ) (status : ℕ) : Type 0 where
+-- a process answered the frames of the input, until that ended as the status says; its records are kept for good as that end leaves them
+pub record HasServed {K : Type 0} (records kept : K → List (List ℕ)) (faults : K → ℕ) (first : ProcessValue K) (input before now : List ℕ) (status : ℕ) : Type 0 where
   pub last : ProcessValue K
   pub ended : Ended
-  pub served : EndsAs records faults ended first last input before now
+  pub served : EndsAs records kept faults ended first last input before now
   pub told : status ≡ ended_status ended
 
 -- one that came up with a keeper's records did so, if any did
-abbrev pub Runs : {K : Type 0} → (K → List (List ℕ)) → (K → ℕ) → Declarations → ℕ → ℕ → ℕ → K → List ℕ → List ℕ → List ℕ → ℕ → Type 0
-Runs records faults service id nodes seed keeper input before now status =
-    Starts records faults service id nodes seed keeper (λ first. HasServed records faults first input before now status) (IsUntouched input before now) status
+abbrev pub Runs : {K : Type 0} → (K → List (List ℕ)) → (K → List (List ℕ)) → (K → ℕ) → Declarations → ℕ → ℕ → ℕ → K → List ℕ → List ℕ → List ℕ → ℕ → Type 0
+Runs records kept faults service id nodes seed keeper input before now status =
+    Starts records faults service id nodes seed keeper (λ first. HasServed records kept faults first input before now status) (IsUntouched input before now) status
 
--- one that came up with the records behind the identity's did so
+-- one that came up with the records that those behind the identity's hold did so
 abbrev pub RunsOwned : {K : Type 0} → (K → List (List ℕ)) → (K → List ℕ → Answer → K → Type 0) → (K → ℕ) → Declarations → IdentityValue → K → List ℕ → List ℕ → List ℕ → ℕ → Type 0
 RunsOwned records gives faults service identity keeper input before now status =
     Claims records gives faults identity keeper
-    (λ behind failed owned. Runs behind failed service identity.id identity.nodes identity.seed owned input before now status) (IsUntouched input before now) status
+    (λ all kept failed grouped. Runs all kept failed service identity.id identity.nodes identity.seed grouped input before now status) (IsUntouched input before now) status
 
 -- one that came up with the journal on a disk did so
 abbrev pub RunsOn : {D : Type 0} → (D → Bool) → (D → List ℕ) → (D → List ℕ → Type 0) → (D → Call → Bool → D → Type 0) → (D → ℕ) → Declarations → IdentityValue → D

@@ -27,12 +27,12 @@ pub record HasNoRecords {K : Type 0} (records : K → List (List ℕ)) (keeper :
   pub unwritten : now ≡ before
   pub told : status ≡ 0
 
--- it has records: the first one is the identity's, and the trace is that of those behind it; or it isn't
+-- it has records: the first one is the identity's, and the trace is that of those that the others hold; or it isn't
 pub record HasRecords {K : Type 0} (records : K → List (List ℕ)) (gives : K → List ℕ → Answer → K → Type 0) (faults : K → ℕ) (service : Declarations) (identity : IdentityValue) (keeper : K)
     (before now : List ℕ) (status : ℕ) : Type 0 where
   pub some : records keeper ≢ []
   pub claims : Claims records gives faults identity keeper
-      (λ behind failed owned. Traces behind failed service identity.id identity.nodes identity.seed owned before now status) (now ≡ before) status
+      (λ all kept failed grouped. Traces all failed service identity.id identity.nodes identity.seed grouped before now status) (now ≡ before) status
 
 abbrev pub TracesOwned : {K : Type 0} → (K → List (List ℕ)) → (K → List ℕ → Answer → K → Type 0) → (K → ℕ) → Declarations → IdentityValue → K → List ℕ → List ℕ → ℕ → Type 0
 TracesOwned records gives faults service identity keeper before now status =

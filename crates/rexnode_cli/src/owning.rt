@@ -7,12 +7,14 @@ ghost use Rattle.rexnode_cli.specs.declared.statuses.TheConstants.{WRITE_FAILED}
 
 use crate::loading::Loaded;
 use crate::statuses::{OUT_OF_MEMORY, claim_status};
+use rex_group::GroupKeeper;
 use rex_identity::{Identity, Owned};
 use rex_traits::Keeper;
 use rexnode_command::Command;
 use std::alloc::Global;
 
-/// Sees to it that a keeper is the node's that a command asks for: one without records becomes it.
+/// Sees to it that a keeper is the node's that a command asks for: one without records becomes it. The records behind the one that says so
+/// are read as groups.
 ///
 /// # Errors
 /// The status with which the program ends: the keeper is another's, it failed in this call, or memory was short.
@@ -21,11 +23,11 @@ pub(crate) fn own<K: Keeper + Drop>(
     command: &Command<'_>,
     loaded: &Loaded,
     keeper: K,
-) -> Result<Owned<K>, u8>
+) -> Result<GroupKeeper<Owned<K>>, u8>
     requires fits { Fits command.now }
     requires count { K.faults keeper < 2 ^ 64 - 1 }
     ensures owned { IfOk result (IsOwnedAs K.records K.append_gives (identity_of command.now loaded.now.digest) keeper) }
-    ensures count { IfOk result (λ o. K.faults o.keeper ≡ K.faults keeper) }
+    ensures count { IfOk result (λ g. K.faults g.keeper.keeper ≡ K.faults keeper) }
     ensures refused { IfErr result (IsNotOwned K.records K.faults (identity_of command.now loaded.now.digest) keeper) }
     // It is none of those that a source and a sink tell.
     ensures above { IfErr result (λ status. WRITE_FAILED < status) }
@@ -41,7 +43,10 @@ pub(crate) fn own<K: Keeper + Drop>(
         return Err(OUT_OF_MEMORY);
     };
     match Owned::claim(alloc, keeper, identity) {
-        Ok(owned) => Ok(owned),
+        Ok(owned) => match GroupKeeper::read(alloc, owned) {
+            Ok(grouped) => Ok(grouped),
+            Err(_) => Err(OUT_OF_MEMORY),
+        },
         Err(not_owned) => Err(claim_status(not_owned.fault)),
     }
 }

@@ -12,6 +12,7 @@ use crate::loading::Loaded;
 use crate::owning::own;
 use crate::statuses::{ended_status, open_status, start_status};
 use rex_file::ByteAtomic;
+use rex_flush::Flush;
 use rex_process::Process;
 use rex_serve::serve;
 use rex_syntax::checked::Checked;
@@ -20,8 +21,8 @@ use rex_wal::WalKeeper;
 use rexnode_command::Command;
 use std::alloc::Global;
 
-// Runs a node with the records of a keeper.
-fn run_process<K: Keeper + Drop, S: Source, W: Sink>(
+// Runs a node with the records of a keeper, which are all kept for good.
+fn run_process<K: Flush + Drop, S: Source, W: Sink>(
     alloc: Global,
     command: &Command<'_>,
     svc: &Checked,
@@ -31,7 +32,8 @@ fn run_process<K: Keeper + Drop, S: Source, W: Sink>(
 ) -> u8
     requires fits { Fits command.now }
     requires count { K.faults keeper < 2 ^ 64 - 1 }
-    ensures runs { GrowsBy (λ input. Runs K.records K.faults svc.now command.now.id command.now.nodes command.now.seed keeper input
+    requires settled { K.kept keeper ≡ K.records keeper }
+    ensures runs { GrowsBy (λ input. Runs K.records K.kept K.faults svc.now command.now.id command.now.nodes command.now.seed keeper input
         (W.taken sink.old) (W.taken sink.new) result) (S.given source.old) (S.given source.new) }
     ensures over { result ≡ 0 → S.ended source.new ≡ true }
     ensures unread { result ≡ READ_FAILED → Rose (S.faults source.old) (S.faults source.new) ⊎ (2 ^ 64 - 1 ≤ S.calls source.new) }
@@ -82,7 +84,7 @@ pub fn node_main<D: ByteAtomic + Drop, S: Source, W: Sink>(
     requires count { D.faults disk < 2 ^ 64 - 1 }
 
     // With which records of the disk the node came up, which of the frames that the source gave in this call it answered, to what it came
-    // thereby, and which of the answers the sink took; or why it read and wrote nothing.
+    // thereby, which of its records are kept for good, and which of the answers the sink took; or why it read and wrote nothing.
     ensures runs { GrowsBy (λ input. RunsOn D.meets D.seen D.may_leave D.gives D.faults loaded.now.service (identity_of command.now loaded.now.digest) disk
         input (W.taken sink.old) (W.taken sink.new) result) (S.given source.old) (S.given source.new) }
 

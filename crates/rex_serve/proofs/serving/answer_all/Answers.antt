@@ -1,4 +1,4 @@
-use Rattle.std.proofs.Common.{◌≡◌, true, sym}
+use Rattle.std.proofs.Common.{◌≡◌, true, sym, ◌∙◌}
 use Rattle.rex_serve.proofs.Broken.{broken_at, on_err}
 use Rattle.rex_serve.proofs.Grown.{grows_more, same_join}
 use Rattle.rex_serve.proofs.serving.answer_all.Goals as goal
@@ -11,6 +11,7 @@ loop-alloc-preserved g c =
           c.args.out.now.items c.loop-alloc.out.items c.answer.new.out.items c.loop-alloc.invariant.served (sym c.in-Whole.ensures) up c.in_ok-answer-in-Whole.ensures.answers;
       process = c.in_ok-answer-in-Whole.ensures.process;
       same = same_join c.args.process.now c.loop-alloc.process c.answer.new.process c.loop-alloc.invariant.same c.in_ok-answer-in-Whole.ensures.same;
+      waits = c.answer.ensures.waits ∙ c.loop-alloc.invariant.waits;
     }
 
 pub returns-in_err-answer-in-Whole-clause-broken : goal.returns-in_err-answer-in-Whole-clause-broken

@@ -1,4 +1,4 @@
-use Rattle.std.proofs.Common.{length}
+use Rattle.std.proofs.Common.{◌≡◌, length}
 use Rattle.rex_process.specs.Process.{IsProcess, IsSame}
 use Rattle.rex_serve.specs.Serving.{GrowsBy, Serves}
 use Rattle.rex_serve.proofs.serving.answer_all.Given as goal
@@ -8,6 +8,7 @@ invariant-loop-alloc g l = record {
   served : GrowsBy (Serves g.K.Keeper.records g.K.Keeper.faults l.fn.process l.process l.fn.bytes l.left) l.fn.out.items l.out.items;
   process : IsProcess g.K.Keeper.records g.K.Keeper.faults l.process;
   same : IsSame l.fn.process l.process;
+  waits : g.K.Flush.kept l.process.node.keeper ≡ g.K.Flush.kept l.fn.process.node.keeper;
 }
 
 abbrev pub decreases-loop-alloc : goal.decreases-loop-alloc

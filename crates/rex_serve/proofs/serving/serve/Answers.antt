@@ -5,13 +5,13 @@ use Rattle.rex_serve.proofs.serving.serve.Goals as goal
 
 pub returns-in-Err-serve_piece-clause-served : goal.returns-in-Err-serve_piece-clause-served
 returns-in-Err-serve_piece-clause-served g c =
-    ends_so g.K.Keeper.records g.K.Keeper.faults c.in-Err-serve_piece.ended c.args.process.now c.loop.process c.serve_piece.new.process c.loop.held.items (take c.in-Ok.count c.read.new.buf)
+    ends_so g.K.Keeper.records g.K.Flush.kept g.K.Keeper.faults c.in-Err-serve_piece.ended c.args.process.now c.loop.process c.serve_piece.new.process c.loop.held.items (take c.in-Ok.count c.read.new.buf)
     (g.S.Source.given c.args.source.now) (g.S.Source.given c.loop.source) (g.S.Source.given c.read.new.self) (g.W.Sink.taken c.args.sink.now) (g.W.Sink.taken c.loop.sink) (g.W.Sink.taken c.serve_piece.new.sink)
     c.loop.invariant.served c.in-Err-serve_piece.ensures.served.0 c.in-Err-serve_piece.ensures.served.1 c.in-Ok.ensures.given
 
 pub loop-preserved : goal.loop-preserved
 loop-preserved g c = record {
-  served = goes_on g.K.Keeper.records g.K.Keeper.faults c.args.process.now c.loop.process c.serve_piece.new.process c.loop.held.items (take c.in-Ok.count c.read.new.buf) c.serve_piece.new.held.items
+  served = goes_on g.K.Keeper.records g.K.Flush.kept g.K.Keeper.faults c.args.process.now c.loop.process c.serve_piece.new.process c.loop.held.items (take c.in-Ok.count c.read.new.buf) c.serve_piece.new.held.items
       (g.S.Source.given c.args.source.now) (g.S.Source.given c.loop.source) (g.S.Source.given c.read.new.self) (g.W.Sink.taken c.args.sink.now) (g.W.Sink.taken c.loop.sink) (g.W.Sink.taken c.serve_piece.new.sink)
       c.loop.invariant.served c.in_default.ensures.served.0 c.in-Ok.ensures.given;
   rest = c.in_default.ensures.served.1;

@@ -7,7 +7,7 @@ use Rattle.rex_serve.proofs.serving.serve.Given as goal
 
 abbrev pub invariant-loop : goal.invariant-loop
 invariant-loop g l = record {
-  served : GrowsBy (λ input. HasServed g.K.Keeper.records g.K.Keeper.faults l.fn.process l.process input l.held.items (g.W.Sink.taken l.fn.sink) (g.W.Sink.taken l.sink))
+  served : GrowsBy (λ input. HasServed g.K.Keeper.records g.K.Flush.kept g.K.Keeper.faults l.fn.process l.process input l.held.items (g.W.Sink.taken l.fn.sink) (g.W.Sink.taken l.sink))
       (g.S.Source.given l.fn.source) (g.S.Source.given l.source);
   rest : front_of l.held.items ≡ More;
   up : l.process.node.up ≡ true;

@@ -5,7 +5,7 @@ pub returns-in-Ok-clause-traces : goal.returns-in-Ok-clause-traces
 returns-in-Ok-clause-traces g c =
     inr (record {
       some = λ e. c.if-len-eq0.false (c.len.ensures ∙ ap length e);
-      claims = inl (record { owned = c.in-Ok.owned; own = c.in-Ok.ensures.owned; runs = c.trace_process.ensures.traces });
+      claims = inl (record { grouped = c.in-Ok.owned; own = c.in-Ok.ensures.owned; runs = c.trace_process.ensures.traces });
     })
 
 pub returns-in-Err-clause-traces : goal.returns-in-Err-clause-traces
