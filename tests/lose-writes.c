@@ -12,8 +12,8 @@
    to know: how many writes and how many syncs failed so, and how many syncs took longer by a hundredth of a second or more. What wasn't synced when a
    sync failed so is written to FILE.stale. A program reads this clock whether it has FILE or not.
 
-   LEFT_OUT names what is left out, to try whether a test finds that: "syncs"; "failures", so that what is to fail is called done; or "rewrite",
-   the writes before the first sync. */
+   LEFT_OUT names what is left out, to try whether a test finds that: "syncs"; "failures", so that what is to fail is called done; "rewrite", the writes
+   before the first sync; or "wait", so that a write of FILE and its sync come only behind what is told next on the standard output. */
 #define _GNU_SOURCE
 #include <dlfcn.h>
 #include <errno.h>
@@ -32,7 +32,14 @@ enum { NOTHING, KILLED_BEFORE, KILLED_AFTER, FAILS };
 enum { FULL, UNSYNCED, SLOWER, AHEAD, WERE_FULL, WERE_UNSYNCED, WERE_SLOWER, NUMBERS };
 enum { SLOW = 10000 };
 
-static int file = -1, undo = -1, is_synced;
+static int file = -1, undo = -1, is_synced, has_told;
+
+/* A write that is put off. */
+static struct {
+    void *bytes;
+    size_t count;
+    off_t at;
+} later;
 
 static int opened(const char *suffix, int flags)
 {
@@ -181,6 +188,15 @@ ssize_t pwrite(int fd, const void *bytes, size_t count, off_t at)
         real = dlsym(RTLD_NEXT, "pwrite");
     if (!is_ours(fd))
         return real(fd, bytes, count, at);
+    if (has_told && leaves_out("wait")) {
+        later.bytes = malloc(count);
+        if (!later.bytes)
+            abort();
+        memcpy(later.bytes, bytes, count);
+        later.count = count;
+        later.at = at;
+        return count;
+    }
     int fate = fate_of_call();
     if (fate == FAILS || is_failing(FULL, WERE_FULL)) {
         errno = ENOSPC;
@@ -206,6 +222,8 @@ static int synced(int fd, const char *name)
     int (*real)(int) = dlsym(RTLD_NEXT, name);
     if (!is_ours(fd))
         return real(fd);
+    if (later.bytes)
+        return 0;
     int fate = fate_of_call();
     int64_t *told = machine(), slower = told ? told[SLOWER] : 0;
     if (slower) {
@@ -237,6 +255,24 @@ int fdatasync(int fd)
 int fsync(int fd)
 {
     return synced(fd, "fsync");
+}
+
+ssize_t write(int fd, const void *bytes, size_t count)
+{
+    static ssize_t (*real)(int, const void *, size_t);
+    if (!real)
+        real = dlsym(RTLD_NEXT, "write");
+    ssize_t result = real(fd, bytes, count);
+    if (fd == STDOUT_FILENO) {
+        void *written = later.bytes;
+        later.bytes = NULL;
+        has_told = 0;
+        if (written && pwrite(file, written, later.count, later.at) >= 0)
+            fdatasync(file);
+        free(written);
+        has_told = 1;
+    }
+    return result;
 }
 
 int clock_gettime(clockid_t clock, struct timespec *now)

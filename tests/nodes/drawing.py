@@ -5,16 +5,17 @@ import struct
 from model.services import read_service
 from scenarios import NUMBERS, make_service
 
-from .processes import FAILS, KILLED_AFTER, KILLED_BEFORE, Process
+from .processes import FAILS, KILLED_AFTER, KILLED_BEFORE, PIPE, Process
 from .spelling import MESSAGES, chosen_bytes, framed, identity_bytes
 from .twins import Room
 
 WEIGHTS = {
     "turn": 40, "run": 8, "submit": 16, "cut": 7, "deliver": 34, "again": 2, "bad": 1.5, "unfit": 0.7, "lose": 1.5, "elect": 0.8, "ask": 1.2, "read": 3,
-    "status": 1, "kill": 0.5, "die": 0.8, "fail": 0.5, "blackout": 0.1, "start": 6, "start badly": 0.3, "start wrongly": 0.3, "start twice": 0.1,
+    "foretell": 4, "status": 1, "kill": 0.5, "die": 0.8, "fail": 0.5, "blackout": 0.1, "start": 6, "start badly": 0.3, "start wrongly": 0.3, "start twice": 0.1,
 }
 TROUBLE = ("elect", "again", "lose", "kill", "die", "fail", "blackout", "start badly")
 FOR_LEADERS = ("turn", "run", "submit", "cut")
+BESIDE = ("deliver", "deliver", "deliver", "deliver", "submit", "run", "cut", "again", "elect", "ask", "read", "foretell", "status", "bad")  # in a piece with others
 WRONG = ("id", "nodes", "seed", "cluster", "service")
 
 
@@ -99,20 +100,38 @@ class Drawing:
 
     # -- what is drawn
 
-    def drawn(self, kind):
-        """Something that a process is asked, or None."""
+    def drawn_piece(self, drawn):
+        """What a process is asked at once: this, and nothing else or something."""
+        it, piece, size = self.all[drawn[1] - 1], [drawn], len(self.made(*drawn)[1])
+        for _ in range(0 if self.plant.is_one_by_one else self.dice.choice([0, 0, 1, 2, 5])):
+            other = self.drawn(self.dice.choice(BESIDE), it)
+            more = len(self.made(*other)[1]) if other else PIPE
+            if size + more < PIPE:
+                piece.insert(self.dice.randrange(len(piece) + 1), other)
+                size += more
+        return piece
+
+    def drawn(self, kind, it=None):
+        """Something that a process is asked, this one where one is given, or None."""
         dice = self.dice
         if kind == "deliver":
-            return self.drawn_delivery()
+            return self.drawn_delivery(it)
         if kind == "again":
             if not self.sent:
                 return None
             bytes_ = dice.choice(self.sent[-200:] if dice.random() < 0.7 else self.sent)
-            return ("hear", bytes_[3], bytes_) if self.all[bytes_[3] - 1].running else None
-        it = self.leader() if kind in FOR_LEADERS else self.any_up()
-        if kind == "ask":
-            behind = [it for it in self.up() if any(other.twin.known() > it.twin.known() for other in self.up())]
-            it = dice.choice(behind) if behind and dice.random() < 0.8 else it
+            hears = self.all[bytes_[3] - 1]
+            return ("hear", bytes_[3], bytes_) if hears.running and it in (None, hears) else None
+        if kind == "foretell":
+            # mostly of one that may be heard next
+            messages = [bytes_ for bytes_ in (self.waiting if self.waiting and dice.random() < 0.9 else self.sent[-200:]) if it in (None, self.all[bytes_[3] - 1])]
+            bytes_ = dice.choice(messages) if messages else None
+            return ("foretell", bytes_[3], bytes_) if bytes_ and self.all[bytes_[3] - 1].running else None
+        if not it:
+            it = self.leader() if kind in FOR_LEADERS else self.any_up()
+            if kind == "ask":
+                behind = [it for it in self.up() if any(other.twin.known() > it.twin.known() for other in self.up())]
+                it = dice.choice(behind) if behind and dice.random() < 0.8 else it
         if not it or kind in ("ask", "unfit") and self.nodes == 1:
             return None
         twin, number = it.twin, it.number
@@ -137,16 +156,15 @@ class Drawing:
             return "read", number, dice.choice(list(self.clients)), seen, dice.choice(list(self.service.variables))
         return kind, number
 
-    def drawn_delivery(self):
-        """A message that nobody was handed yet."""
-        dice, waiting = self.dice, self.waiting
+    def drawn_delivery(self, it):
+        """A message that nobody was handed yet, to this process where one is given."""
+        dice, waiting = self.dice, [bytes_ for bytes_ in self.waiting if it in (None, self.all[bytes_[3] - 1])]
         if not waiting:
             return None
-        place = dice.choice([0, 0, 0, min(1, len(waiting) - 1), dice.randrange(len(waiting)), len(waiting) - 1])
-        bytes_ = waiting[place]
+        bytes_ = waiting[dice.choice([0, 0, 0, min(1, len(waiting) - 1), dice.randrange(len(waiting)), len(waiting) - 1])]
         is_up = self.all[bytes_[3] - 1].running
         if is_up or dice.random() < 0.3:
-            waiting.pop(place)
+            self.waiting.remove(bytes_)
         return ("hear", bytes_[3], bytes_) if is_up else None
 
     def drawn_clock(self):
@@ -160,7 +178,7 @@ class Drawing:
         """A frame that asks for nothing that there is."""
         dice, lanes = self.dice, self.service.lanes
         if self.sent and dice.random() < 0.6:
-            return framed(b"M", self.bad_message(dice.choice(self.sent), it.number))
+            return framed(dice.choice([b"M", b"M", b"W"]) + self.bad_message(dice.choice(self.sent), it.number))
         name, count = dice.choice(sorted(self.handlers.items()))
         good = " ".join([name, *["1"] * count])
         lines = ["", "1", "1 1", "0 1 " + good, "257 1 " + good, "1 0 " + good, "1 1000001 " + good, "01 1 " + good, "-1 1 " + good]
@@ -168,7 +186,7 @@ class Drawing:
         if count:
             lines += ["1 1 %s%s" % (name, " 9223372036854775808" * count), "1 1 %s%s" % (name, " +1" * count)]
         others = [
-            b"", b"X", b"z", b"P", b"K", b"D", b"M", b"E1", b"T1", b"C" + bytes(4), b"E" + bytes(70000), b"L", b"L\1" + bytes(7), b"L" + bytes(9),
+            b"", b"X", b"z", b"P", b"K", b"D", b"M", b"W", b"E1", b"T1", b"C" + bytes(4), b"E" + bytes(70000), b"L", b"L\1" + bytes(7), b"L" + bytes(9),
             b"L\1" + bytes(9), b"L" + bytes([lanes + 1]) + bytes(8), b"R", b"R" + bytes(7), b"R" + bytes(9), b"A", b"A\0", b"A" + bytes([it.number]),
             b"A" + bytes([self.nodes + 1]), b"A\1\1", b"Q", b"Q" + bytes(6), b"Q" + bytes(6) + b"nothing",
         ]

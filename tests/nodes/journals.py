@@ -5,11 +5,13 @@ import re
 import struct
 import subprocess
 
+from .spelling import frames_in, joined
+
 TESTS = os.path.dirname(os.path.dirname(os.path.abspath(__file__)))
 SECTOR = 512
 HEAD, END = b"rexnode\n", b"\xff\1"
 LATER = re.compile(END + b"[^\\0]")  # where no whole record stands before it a later one does
-PROMISED, ACCEPTED, KNOWN, IDENTITY = 1, 2, 3, 7
+PROMISED, ACCEPTED, KNOWN, IDENTITY, GROUP = 1, 2, 3, 7, 8
 
 # the numbers of a machine, as tests/lose-writes.c has them
 FULL, UNSYNCED, SLOWER, AHEAD, WERE_FULL, WERE_UNSYNCED, WERE_SLOWER, NUMBERS = range(8)
@@ -56,8 +58,23 @@ def spelled(record):
     return b"".join(marks) + END
 
 
+def group(records):
+    """The record that holds these, each behind its length, as frames are: a stop leaves all of them or none."""
+    return bytes([GROUP]) + joined(records)
+
+
+def held_in(records):
+    """Whose a journal is, and what a node wrote down, by the journal's records: those that each group holds, and each other one itself."""
+    return records[:1] + [it for record in records[1:] for it in members(record)]
+
+
+def members(record):
+    held, end = frames_in(record[1:])
+    return held if record[:1] == bytes([GROUP]) and end == len(record) - 1 else [record]
+
+
 def records_and_end(bytes_):
-    """The records of a journal, and where the next one goes."""
+    """The records of a journal, groups as they stand, and where the next one goes."""
     if not bytes_.startswith(HEAD):
         if any(byte not in (0, *HEAD[at:at + 1]) for at, byte in enumerate(bytes_)):
             raise BadJournal("a journal begins with %s" % bytes_[:len(HEAD)].hex())
@@ -91,7 +108,8 @@ def read(path):
 
 
 def records_at(path):
-    return records_and_end(read(path))[0]
+    """Whose a journal is, and what a node wrote down there."""
+    return held_in(records_and_end(read(path))[0])
 
 
 def write_records(path, records):

@@ -113,6 +113,11 @@ class Unsynced(Plant):
     left_out = "syncs"
 
 
+class Early(Plant):
+    """Answers are told before the records are written that they rest on."""
+    left_out = "wait"
+
+
 class Unfailed(Plant):
     """A write or a sync that fails is taken for done."""
     left_out = "failures"
@@ -240,7 +245,7 @@ class Unasked(BetweenPlant):
 CONTROLS = {"no bug between": BetweenPlant, "no bug in the journal": JournalPlant, "no bug in whose it is": Disowned}
 
 PLANTS = {
-    "unaccepted": Unaccepted, "unpromised": Unpromised, "unknown": Unknown, "unsynced": Unsynced, "unfailed": Unfailed, "unrefreshed": Unrefreshed,
-    "foreign": Foreign, "unlocked": Unlocked, "nack": Nack, "ballots": Ballots, "untested": Untested, "minority": Minority, "again": Again,
-    "clock": Clock, "unasked": Unasked,
+    "unaccepted": Unaccepted, "unpromised": Unpromised, "unknown": Unknown, "unsynced": Unsynced, "early": Early, "unfailed": Unfailed,
+    "unrefreshed": Unrefreshed, "foreign": Foreign, "unlocked": Unlocked, "nack": Nack, "ballots": Ballots, "untested": Untested, "minority": Minority,
+    "again": Again, "clock": Clock, "unasked": Unasked,
 }

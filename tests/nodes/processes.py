@@ -91,8 +91,8 @@ class Process:
         """Writes frames, and reads until as many are answered, or so many bytes are there, or the process ends."""
         try:
             if self.splits.random() < 0.2:
-                # a read may end anywhere
-                at = self.splits.randrange(len(bytes_))
+                # a read may end anywhere. Where the process may end by this, all of it has to be one piece: no frame is whole until all are there
+                at = self.splits.randrange(len(bytes_) if length is not None else 4 + int.from_bytes(bytes_[:4], "big"))
                 os.write(self.into, bytes_[:at])
                 bytes_ = bytes_[at:]
             if len(bytes_) < PIPE:

@@ -11,14 +11,15 @@ from model.live import trace_of
 from . import journals
 from .drawing import FOR_LEADERS, Drawing
 from .processes import FAILS, KILLED_AFTER, KILLED_BEFORE, Difference
-from .spelling import framed, frames_in, message_shown, shown
+from .spelling import framed, message_shown, shown
 from .twins import different
 
 ENDINGS = ("die", "fail", "raw")
 OF_DOWN = ("start", "start badly", "start wrongly")
 NAMES = (
-    "kills", "blackouts", "deaths", "raw kills", "failed calls", "undisturbed", "starts", "bad starts", "wrong starts", "second starts", "forks left",
-    "lost writes", "torn", "stale", "leaders", "adopted", "unfit", "faulty", "full", "longest frame", "answers", "known", "values", "events", "released", "traces",
+    "kills", "blackouts", "deaths", "raw kills", "failed flushes", "undisturbed", "kept groups", "lost groups", "starts", "bad starts", "wrong starts",
+    "second starts", "forks left", "lost writes", "torn", "stale", "leaders", "adopted", "unfit", "faulty", "full", "longest frame", "answers", "known",
+    "values", "events", "foretold", "released", "traces",
 )
 
 
@@ -33,16 +34,18 @@ class Schedule(Drawing):
     def ask(self, it, what, frame, call):
         """Asks a process for what its twin does. Where it may be one of several twins the answer decides."""
         if len(it.twins) == 1:
-            bytes_, sends, report = it.twin.answer(call)
-            it.put(what, frame, bytes_ + it.twin.status())
+            bytes_, sends, report = it.twin.answers([call])
+            it.put(what, frame, bytes_)
             return self.note(sends, report)
-        found = [(twin, *twin.answer(call)) for twin in it.twins]
+        found = [(twin, *twin.answers([call])) for twin in it.twins]
         it.flush()
-        got = it.answers_to(frame, 1)
-        left = [one for one in found if one[1] + one[0].status() == got]
+        self.take_answers(it, what, found, it.answers_to(frame, 1))
+
+    def take_answers(self, it, what, found, got):
+        """What twins answer is found, and what the process answered is got: of these twins it may be those that answer so."""
+        left = [one for one in found if one[1] == got]
         if not left:
-            due = "] [".join(shown(one[1] + one[0].status()) for one in found)
-            raise self.fault(it, ", %s: it answers [%s] and has to answer one of [%s]", what, shown(got), due)
+            raise self.fault(it, ", %s: it answers [%s] and has to answer one of [%s]", what, shown(got), "] [".join(shown(one[1]) for one in found))
         self.note(*left[0][2:])
         it.twins = [one[0] for one in left]
 
@@ -70,12 +73,14 @@ class Schedule(Drawing):
 
     def made(self, kind, number, *parts):
         """What a process is asked, in words, as a frame, and as a call of its twin."""
-        raw = self.room.raw
         if kind == "hear":
             message = self.messages[parts[0]]
             return "hears %s" % message_shown(parts[0]), framed(b"M", parts[0]), lambda twin: twin.receive(message)
+        if kind == "foretell":
+            message = self.messages[parts[0]]
+            return "would hear %s" % message_shown(parts[0]), framed(b"W", parts[0]), lambda twin: self.foretell(twin, message)
         if kind == "bad":
-            return "gets %s" % parts[0][:60].hex(), parts[0], lambda twin: twin.world.raw.append(framed(b"f"))
+            return "gets %s" % parts[0][:60].hex(), parts[0], lambda twin: twin.nothing()
         if kind == "unfit":
             instance = int.from_bytes(parts[0][4:8], "big")
             return "hears of an unfit value %d" % instance, framed(b"M", parts[0]), lambda twin: twin.hear_unfit(instance)
@@ -93,6 +98,10 @@ class Schedule(Drawing):
             return "read %d %d %s" % parts, framed(b"Q", struct.pack(">HI", *parts[:2]) + parts[2].encode()), lambda twin: twin.read_at(*parts)
         calls = {"elect": (b"E", lambda twin: twin.elect()), "cut": (b"C", lambda twin: twin.cut(None)), "status": (b"T", lambda twin: None)}
         return kind, framed(calls[kind][0]), calls[kind][1]
+
+    def foretell(self, twin, message):
+        twin.foretell(message)
+        self.counts["foretold"] += len(twin.world.report)
 
     # -- steps
 
@@ -112,7 +121,7 @@ class Schedule(Drawing):
             if down:
                 self.do(kind, dice.choice(down).number, *self.drawn_start(kind))
         elif kind in ENDINGS:
-            self.end_in_call(kind)
+            self.end_in_piece(kind)
         else:
             if kind in FOR_LEADERS and dice.random() < 0.9 and not self.leaders():
                 # mostly nobody is asked for what only a leader does
@@ -124,21 +133,22 @@ class Schedule(Drawing):
                 for it in self.up():
                     it.flush()
 
-    def end_in_call(self, kind):
-        """Draws a call that writes, in which the process ends."""
+    def end_in_piece(self, kind):
+        """Draws a piece that has something written, in which the process ends."""
         dice = self.dice
         for _ in range(20):
             drawn = self.drawn(dice.choice(["deliver", "deliver", "deliver", "deliver", "cut", "cut", "elect", "again"]))
-            most = drawn and self.writes(drawn)
-            if drawn and (most or kind == "raw"):
+            piece = drawn and self.drawn_piece(drawn)
+            if piece and (kind == "raw" or self.writes(piece)):
                 fate = FAILS if kind == "fail" else dice.choice([KILLED_BEFORE, KILLED_AFTER])
-                return self.do(kind, drawn[1], drawn, dice.randint(1, 4 * max(1, most)), fate, dice.random())
+                # it is one write and one sync
+                return self.do(kind, drawn[1], piece, dice.randint(1, 3), fate, dice.random())
         return None
 
-    def writes(self, drawn):
-        """How many records a call writes."""
-        fork = self.all[drawn[1] - 1].twin.copy()
-        fork.answer(self.made(*drawn)[2])
+    def writes(self, piece):
+        """How many records are written by a piece."""
+        fork = self.all[piece[0][1] - 1].twin.copy()
+        fork.answers([self.made(*drawn)[2] for drawn in piece])
         return fork.appends
 
     def do(self, kind, number, *parts):
@@ -146,9 +156,11 @@ class Schedule(Drawing):
         it = self.all[number - 1]
         if bool(it.running) == (kind in OF_DOWN):
             return
-        within = parts[0] if kind in ENDINGS else (kind, number, *parts)
-        if within[0] == "hear" and within[2] not in self.messages:
+        piece = [one for one in (parts[0] if kind in ENDINGS else [(kind, number, *parts)]) if one[0] not in ("hear", "foretell") or one[2] in self.messages]
+        if not piece:
             return
+        if kind in ENDINGS:
+            parts = piece, *parts[1:]
         self.log.append((kind, number, *parts))
         calls = {"stop": self.stop, "start": self.start, "start badly": self.start_badly, "start wrongly": self.start_wrongly, "start twice": self.start_twice}
         if kind in calls:
@@ -184,61 +196,55 @@ class Schedule(Drawing):
         self.after(it, seed)
         it.twins = [twin.restarted() for twin in it.twins]
 
-    def trouble(self, it, kind, drawn, calls, fate, seed):
-        """A process ends inside of a call that writes, or is killed while it works on one: each of the call's records may be there, or not."""
-        what, frame, call = self.made(*drawn)
+    def trouble(self, it, kind, piece, calls, fate, seed):
+        """A process ends as it keeps what a piece has it write, or is killed while it works on one. Then nothing of the piece is told, and its records are all
+        there, or none."""
+        whats, frames, asked = zip(*(self.made(*drawn) for drawn in piece))
+        what, bytes_ = ", ".join(whats), b"".join(frames)
         it.flush()
         forks, whole = [], []
         for twin in it.twins:
             other = twin.copy()
-            bytes_, sends, report = other.answer(call)
-            whole.append((other, bytes_ + other.status(), sends, report))
-            for stop_at in range(other.appends):
-                fork = twin.copy()
-                fork.answer(call, stop_at)
-                forks.append(fork.restarted())
-            forks.append(other.restarted())
-        got, has_failed = self.killed_at_work(it, frame) if kind == "raw" else self.ended_by_file(it, what, call, frame, kind, calls, fate)
+            whole.append((other, *other.answers(asked)))
+            forks += self.forks(twin, other)
+        got, has_failed = self.killed_at_work(it, bytes_) if kind == "raw" else self.ended_by_file(it, what, bytes_, len(piece), kind, calls, fate)
         if not got:
             it.twins = different(forks)
             return self.after(it, seed, has_failed)
-        left = [one for one in whole if one[1] == got]
-        if not left:
-            raise self.fault(it, ", %s: it answers [%s] and has to answer [%s]", what, shown(got), shown(whole[0][1]))
-        self.note(*left[0][2:])
-        it.twins = [one[0] for one in left]
+        self.take_answers(it, what, whole, got)
         if not it.running:
             it.twins = [one.restarted() for one in it.twins]
             self.after(it, seed)
 
-    def killed_at_work(self, it, frame):
-        os.write(it.into, frame)
+    def forks(self, twin, other):
+        """The twins of a process that comes up without the records of a piece, or with them."""
+        forks = twin.restarted(), other.restarted()
+        if other.appends > 1:
+            forks[0].came_with, forks[1].came_with = "lost groups", "kept groups"
+        return forks
+
+    def killed_at_work(self, it, bytes_):
+        os.write(it.into, bytes_)
         time.sleep(random.random() * 0.0003)
         got, _ = it.kill()
         self.counts["raw kills"] += 1
         return got, False
 
-    def ended_by_file(self, it, what, call, frame, kind, calls, fate):
-        """What is answered where the file fails at a write or sync, or the process is killed there: nothing that counts, or, if the call makes fewer
-        of them, all."""
-        twins = it.twins
+    def ended_by_file(self, it, what, bytes_, count, kind, calls, fate):
+        """What is answered to a piece of so many frames where the file fails at a write or sync, or the process is killed there: nothing, or, if there are
+        fewer of them, all."""
         it.befall(calls, fate)
-        got = it.answers_to(frame, 1)
-        is_down = framed(b"e", b"node %d down" % it.number) in got
-        if not (is_down if kind == "fail" else not frames_in(got)[0]):
+        got = it.answers_to(bytes_, count)
+        if got:
             if it.fate_is_over():
-                raise self.fault(it, ", %s: its file failed and it answers [%s]", what, shown(got))
+                raise self.fault(it, ", %s: its file %s, and it answers [%s]", what, "failed" if kind == "fail" else "stopped it", shown(got))
             it.befall(0, 0)
             self.counts["undisturbed"] += 1
             return got, False
         rest, status = it.end()
-        self.counts["failed calls" if kind == "fail" else "deaths"] += 1
+        self.counts["failed flushes" if kind == "fail" else "deaths"] += 1
         if status != (8 if kind == "fail" else -signal.SIGKILL) or rest:
             raise self.fault(it, ", %s: it ends with %d where its file %s", what, status, "failed" if kind == "fail" else "stopped it")
-        if kind == "fail":
-            found = [bytes_ for twin in twins for bytes_ in twin.answers_at_falls(call)]
-            if got not in found:
-                raise self.fault(it, ", %s: its file failed and it answers [%s], and not one of [%s]", what, shown(got), "] [".join(map(shown, found)))
         return b"", kind == "fail"
 
     # -- starts
@@ -252,6 +258,8 @@ class Schedule(Drawing):
             due = "] [".join(shown(twin.status()) for twin in it.twins)
             raise self.fault(it, ": it comes up as [%s]%s, and not as one of [%s]", shown(got), it.end_in_words(), due)
         self.counts["forks left"] += len(left) > 1
+        if len(left) == 1 < len(it.twins) and left[0].came_with:
+            self.counts[left[0].came_with] += 1
         it.twins = left
 
     def start_badly(self, it, calls, fate, seed):
@@ -375,8 +383,9 @@ class Schedule(Drawing):
         kind, number, *parts = one
         if kind in ENDINGS:
             does = {"die": "dies", "fail": "its file fails", "raw": "is killed"}[kind]
+            piece = ", ".join(self.worded(one).split(" ", 2)[2] for one in parts[0])
             return "node %d %s: %s, at call %d of its file (%s)" % (
-                number, does, self.worded(parts[0]).split(" ", 2)[2], parts[1], {KILLED_BEFORE: "before", KILLED_AFTER: "after", FAILS: "instead"}[parts[2]])
+                number, does, piece, parts[1], {KILLED_BEFORE: "before", KILLED_AFTER: "after", FAILS: "instead"}[parts[2]])
         if kind == "stop" or kind.startswith("start"):
             return " ".join(["node", str(number), kind, *(part for part in parts if isinstance(part, str))])
         if kind == "hear":

@@ -1,7 +1,7 @@
 """A process' twin: the node of tests/model that does the same, and says what the process has to answer."""
 import struct
 
-from model.cluster import Fallen, Node
+from model.cluster import Node
 from model.values import Dice
 
 from .spelling import ROLES, Value, delta_bytes, framed, message_bytes
@@ -25,7 +25,9 @@ class Twin(Node):
     """The model's node of a process. Its clock is the greatest that it was handed, or that what it knows shows; what it knows it replays."""
 
     def __init__(self, room, number):
-        self.memory, self.stop_at, self.appends, self.clock = None, None, 0, 0
+        self.memory, self.appends, self.clock = None, 0, 0
+        # for who tells whether the last records before a stop are there
+        self.came_with = None
         super().__init__(room, number)
 
     def copy(self):
@@ -55,9 +57,7 @@ class Twin(Node):
     # -- what the model's node does otherwise
 
     def append(self, write, *parts):
-        """Writes a record down, or ends the call where it is to stop."""
-        if self.appends == self.stop_at:
-            raise Fallen()
+        """Writes a record down, which waits for those of the same piece."""
         self.appends += 1
         write(*parts)
 
@@ -115,6 +115,13 @@ class Twin(Node):
         else:
             self.say("ignored instance %d %d", instance, self.known() + 1)
 
+    def foretell(self, message):
+        """Tells which replies hearing a message would release: of an acceptance those that a copy releases that hears it."""
+        if message.kind == "accepted":
+            room = self.world
+            self.copy().receive(message)
+            room.report, room.outgoing = [text for text in room.report if text.startswith("released ")], []
+
     def ask_other(self, to):
         self.send("ask", to, first=self.known() + 1)
 
@@ -122,37 +129,37 @@ class Twin(Node):
         self.world.seen = {client: seen}
         self.read(client, name)
 
+    def nothing(self):
+        """What is asked for isn't there."""
+        self.world.raw.append(framed(b"f"))
+
     def status(self):
         return framed(b"z", struct.pack(">BQII", ROLES[self.role], self.promised, self.known(), len(self.live)))
 
-    def answer(self, call, stop_at=None):
-        """What a call is answered with, without the status: its bytes, the messages with theirs, and what is reported. Where it is to stop at an
-        append the node is down after it."""
-        room = self.world
+    def answers(self, calls):
+        """What the calls of a piece, which is what one read gives, are answered with: the bytes, the messages with theirs, and what is reported. What they
+        write down waits. It is kept together before any of this is told; where that fails nothing is told, and all of it may be there or nothing."""
+        told, sends, reports = [], [], []
+        self.appends = 0
+        for call in calls:
+            bytes_, sent, report = self.answer(call)
+            told += [bytes_, self.status()]
+            sends += sent
+            reports += report
+        return b"".join(told), sends, reports
+
+    def answer(self, call):
+        """The same of one call, without the status."""
+        room, known = self.world, self.known()
         room.report, room.outgoing, room.raw = [], [], []
-        self.appends, self.stop_at, known = 0, stop_at, self.known()
-        try:
-            call(self)
-            self.clock = clock_of(self.held[known:], self.clock)
-            if self.role != "active" and self.replayed < self.known():
-                self.replay()
-        except Fallen:
-            room.outgoing = []
-            self.fall()
+        call(self)
+        self.clock = clock_of(self.held[known:], self.clock)
+        if self.role != "active" and self.replayed < self.known():
+            self.replay()
         sends = [(message, message_bytes(message)) for message in room.outgoing]
         reports = [framed(b"e", text.encode()) for text in room.report]
         told = [framed(b"t", struct.pack(">B", message.receiver) + bytes_) for message, bytes_ in sends]
         return b"".join([*reports, *room.raw, *told]), sends, room.report
-
-    def answers_at_falls(self, call):
-        """What is answered where the first append of the call fails, the second, and so on."""
-        found = []
-        while True:
-            fork = self.copy()
-            bytes_ = fork.answer(call, len(found))[0]
-            if fork.is_up:
-                return found
-            found.append(bytes_)
 
 
 def clock_of(values, clock):
