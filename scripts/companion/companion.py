@@ -12,7 +12,7 @@ from companion.frames import ACCEPT, ACTIVE, ADOPTING, CANDIDATE, CHOSEN, FOLLOW
 from companion.lines import Lines
 from companion.links import Turns
 from companion.looking import Looking
-from companion.messages import Messages
+from companion.messages import RELEASED, Messages
 from companion.node import Node
 from companion.options import node_words
 from companion.peers import Hearing, Peer, hello
@@ -37,7 +37,7 @@ class Companion:
                       for number, where in enumerate(options.peers, 1) if number != options.id}
         self.leads, self.is_cut_off, self.last_role, self.began = False, False, FOLLOWER, time.monotonic()
         self.elections, self.requests, self.calls = Elections(self), Requests(self), Calls(self)
-        self.messages = Messages(self.node, len(options.peers) // 2)
+        self.messages = Messages(self.node, self.requests, len(options.peers) // 2)
         # the last prepare or accept to each peer, for as long as it may have to be sent again
         self.last_sent, self.sent_at, self.asked_at, self.beaten_at = {}, 0.0, 0.0, 0.0
         tell_faults(options.tls, self.on_bad_handshake)
@@ -60,8 +60,8 @@ class Companion:
     def on_answer(self, reports, sends):
         has_learned = False
         for report in reports:
-            if report.startswith(b"released "):
-                self.requests.on_released(report[len(b"released "):])
+            if report.startswith(RELEASED):
+                self.requests.on_released(report[len(RELEASED):])
             elif report.startswith(b"node "):
                 what = report.split(b" ")[2]
                 self.on_step(what)
@@ -85,7 +85,7 @@ class Companion:
         elif what == b"known":
             self.requests.on_known()
         elif what == b"candidate":
-            self.requests.is_open = False
+            self.requests.nothing_is_open()
 
     def on_role(self, was):
         role = self.last_role = self.node.role

@@ -10,7 +10,7 @@ LENGTH = struct.Struct(">I")
 
 
 class TooLong(Exception):
-    """A frame is longer than any may be. The bytes from there on are its argument."""
+    """A frame is longer than any may be. Its arguments are the bytes from there on, and the frames before it."""
 
 
 def framed(bytes_):
@@ -36,7 +36,7 @@ class Frames:
         while end - at >= due:
             due = 4 + LENGTH.unpack_from(data, at)[0]
             if due - 4 > self.most:
-                raise TooLong(data[at:])
+                raise TooLong(data[at:], frames)
             if end - at >= due:
                 frames.append(data[at + 4:at + due])
                 self.most, at, due = self.others, at + due, 4

@@ -95,9 +95,9 @@ class Node:
 
     # ---- calls
 
-    def call(self, letter, content=b"", then=None, can_wait=False):
-        """Calls the node. What it reports is handed to `then` once it has answered, or None where it went down before, or is about to end. An answer that
-        can wait is left until the next one is read, or for a tick: it doesn't wake this process alone."""
+    def call(self, letter, content=b"", then=None, can_wait=False, is_asked=False):
+        """Calls the node. What it reports is handed to `then` once it has answered, or None where it went down before, or is about to end; what is only asked
+        of it is handed to nobody else. An answer that can wait is left until the next one is read, or for a tick: it doesn't wake this process alone."""
         if self.pipe is None or self.is_ending:
             if then:
                 then(None)
@@ -106,7 +106,7 @@ class Node:
             self.leave()
         else:
             self.look()
-        self.calls.append((then, time.monotonic() if letter in WRITING and not self.is_left else None))
+        self.calls.append((then, time.monotonic() if letter in WRITING and not self.is_left else None, is_asked))
         self.unsent.append(framed(letter + content))
         self.companion.turns.due()
 
@@ -169,8 +169,7 @@ class Node:
         queued, at = framed(b"e" + QUEUED) + framed(self.state), 0
         while data.startswith(queued, at):
             at += len(queued)
-            then, _ = self.calls.popleft()
-            then([QUEUED])
+            self.calls.popleft()[0]([QUEUED])
         return data[at:]
 
     def on_state(self, frame):
@@ -179,10 +178,11 @@ class Node:
             self.is_up = self.has_come_up = True
             self.state, (self.role, self.promised, self.known, self.live) = frame, STATUS.unpack(frame[1:])
         reports, sends, self.reports, self.sends = self.reports, self.sends, [], []
-        then, asked_at = self.calls.popleft()
+        then, asked_at, is_asked = self.calls.popleft()
         if asked_at is not None:
             self.times.add(time.monotonic() - asked_at)
-        self.companion.on_answer(reports, sends)
+        if not is_asked:
+            self.companion.on_answer(reports, sends)
         if then:
             then(reports)
 
@@ -200,7 +200,7 @@ class Node:
         self.companion.say("rexnode ended with status %d: %s%s" % (status, means, ": " + line if line else ""))
         self.companion.links_go_on()
         self.companion.on_down()
-        for then, _ in calls:
+        for then, _, _ in calls:
             if then:
                 then(None)
         # one that was killed is started again, also where it hadn't come up yet

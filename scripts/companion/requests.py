@@ -18,6 +18,8 @@ class Requests:
         self.is_open, self.is_cutting, self.is_new, self.is_told_end = False, False, False, False
         # requests since the last cut, how many are expected before the next one, until when it waits for them, and the timer for that
         self.uncut, self.expected, self.gathers_until, self.timer = 0, 0, 0.0, None
+        # a message by which the open proposal is known once the node hears it, and who is told when it has; the replies that were told before that
+        self.closing, self.early = None, set()
         # for who looks: replies, and how long it took from cuts until they were agreed on
         self.replies, self.cut_at, self.times = 0, None, Times()
 
@@ -78,16 +80,16 @@ class Requests:
         leader = self.companion.elections.leader
         return b"leader %b %d" % (key, leader if leader != self.companion.options.id else 0)
 
-    def reply(self, released):
-        """How it is told what was released: the words CLIENT SEQUENCE VALUE of the node."""
-        return b"ok %b %d" % (released, self.node.known)
+    def reply(self, released, number=None):
+        """How it is told what was released, by the value of this number or one that is known: the words CLIENT SEQUENCE VALUE of the node."""
+        return b"ok %b %d" % (released, number or self.node.known)
 
     def answer(self, key, answer):
         """Tells all who wait for a reply."""
         for tell in self.waiting.pop(key, {}).values():
             tell(answer)
 
-    def on_known(self):
+    def on_agreed(self):
         """A proposal is agreed on. Who is answered by that asks again soon, as a rule: for a moment the next cut waits for as many requests as there are
         answers, since one proposal for all of them is done sooner than two."""
         if self.is_open and self.cut_at is not None:
@@ -96,11 +98,26 @@ class Requests:
             self.times.add(took)
             self.cut_at = None
             self.expected, self.gathers_until = self.uncut, now + min(took / 2, GATHERING)
-        self.is_open, self.is_new = False, True
 
-    def on_released(self, released):
-        self.replies, self.expected = self.replies + 1, self.expected + 1
-        self.answer(released.rpartition(b" ")[0], self.reply(released))
+    def on_early(self, early, message, then):
+        """So it is of the open proposal, by a message that the node hears together with the next cut, or once nothing is waited for. These are its replies."""
+        self.closing = message, then
+        self.on_agreed()
+        for released in early:
+            self.on_released(released, self.node.known + 1)
+        self.early.update(early)
+
+    def on_known(self):
+        self.on_agreed()
+        # what was cut along with the message by which this is known leaves nothing
+        self.is_open, self.is_new = False, self.is_new or not self.is_cutting
+
+    def on_released(self, released, number=None):
+        if released in self.early:
+            self.early.remove(released)
+        else:
+            self.replies, self.expected = self.replies + 1, self.expected + 1
+        self.answer(released.rpartition(b" ")[0], self.reply(released, number))
 
     def send_away(self):
         """This node leads no more: who waits has to ask another."""
@@ -111,7 +128,7 @@ class Requests:
 
     def cut(self):
         """Lets the lanes go on, and has what they did proposed, one proposal after another; what comes meanwhile is in the next one."""
-        if not self.is_new or self.is_open or self.is_cutting:
+        if self.is_cutting or self.is_open and not self.closing or not (self.is_new or self.closing):
             return
         now = time.monotonic()
         if self.uncut < self.expected and now < self.gathers_until:
@@ -119,6 +136,11 @@ class Requests:
                 self.timer = asyncio.get_running_loop().call_later(self.gathers_until - now, self.on_timer)
             return
         self.stop_timer()
+        if self.closing:
+            self.node.call(b"M", *self.closing)
+            self.closing, self.is_open = None, False
+        if not self.is_new:
+            return
         self.is_new, self.is_cutting, self.cut_at, self.uncut, self.expected = False, True, now, 0, 0
         self.node.call(b"R", struct.pack(">q", time.time_ns() // 1000000))
         self.node.call(b"C", then=self.on_cut)
@@ -142,7 +164,12 @@ class Requests:
                 self.answer(key, b"ended " + key)
 
     def nothing_is_open(self):
+        closing, self.closing = self.closing, None
         self.is_open, self.is_cutting, self.cut_at = False, False, None
+        self.early.clear()
+        if closing:
+            # its node leads no more
+            closing[1](None)
 
     # ---- reads
 
