@@ -17,13 +17,14 @@ const COUNTER: &str =
     "lanes 2\nlock L\nvar a on L = 0\nhandler add x\nacquire L\nset a = a + x\nlet r = a\nrelease L\nreply r\n";
 
 /// What frames have that call node 2 of three.
-const CALLS: [&[u8]; 10] = [
+const CALLS: [&[u8]; 11] = [
     b"E",
     b"S1 2 add 5",
     b"R\0\0\0\0\0\0\0\x05",
     b"L\x02\0\0\0\0\0\0\0\x05",
     b"C",
     b"M\x01\x01\x01\x02\0\0\0\0\0\0\0\x11\0\0\0\x01",
+    b"W\x01\x01\x01\x02\0\0\0\0\0\0\0\x11\0\0\0\x01",
     b"A\x01",
     b"Q\0\x01\0\0\0\0a",
     b"T",
@@ -45,6 +46,7 @@ fn letter_of(asked: &Asked) -> u8 {
         Asked::Turn { .. } => b'L',
         Asked::Cut => b'C',
         Asked::Hear { .. } => b'M',
+        Asked::Foretell { .. } => b'W',
         Asked::Ask { .. } => b'A',
         Asked::Read { .. } => b'Q',
         Asked::Look => b'T',
