@@ -117,7 +117,9 @@ class Requests:
             self.early.remove(released)
         else:
             self.replies, self.expected = self.replies + 1, self.expected + 1
-        self.answer(released.rpartition(b" ")[0], self.reply(released, number))
+        key = released.rpartition(b" ")[0]
+        if key in self.waiting:
+            self.answer(key, self.reply(released, number))
 
     def send_away(self):
         """This node leads no more: who waits has to ask another."""
