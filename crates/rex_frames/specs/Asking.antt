@@ -65,6 +65,7 @@ to_hear id nodes letter content = option_map_or (asked_with letter) (heard_in id
 abbrev pub is_before_message : ℕ → Bool
 is_before_message letter = letter == HEAR || letter == FORETELL
 
+-- what starts with a letter has a message, where that is such a letter
 abbrev pub has_message : Option ℕ → Bool
 has_message None = false
 has_message (Some letter) = is_before_message letter

@@ -176,7 +176,8 @@ impl Acting {
     }
 }
 
-fn release_effect(release: &Release) -> Effect
+/// What is reported of a reply that is released.
+pub fn release_effect(release: &Release) -> Effect
     ensures { result ≡ values.release_effect release.now }
 {
     Effect::Released {

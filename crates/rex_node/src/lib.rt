@@ -28,8 +28,9 @@ mod transferring;
 mod values;
 mod writing;
 
+pub use acting::release_effect;
 pub use node::Node;
 pub use refusal::Refusal;
 pub use restart::{NotStarted, RestartFault};
 pub use step::Step;
-pub use values::replay_values;
+pub use values::{events_in, replay_values};

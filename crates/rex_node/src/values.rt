@@ -45,7 +45,7 @@ fn joined(alloc: Global, values: &[Value]) -> Result<Vec<Event>, AllocError>
 }
 
 /// The events of the delta that a value spells; none where it spells none.
-pub(crate) fn events_in(alloc: Global, value: &[u8]) -> Result<List<Event>, AllocError>
+pub fn events_in(alloc: Global, value: &[u8]) -> Result<List<Event>, AllocError>
     ensures events { IfOk result (λ es. es ≡ events_of value.now) }
     ensures counted { IfOk result AreCounted }
 {

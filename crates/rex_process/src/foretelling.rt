@@ -5,7 +5,7 @@ ghost use Rattle.std.specs.Option.{option_copied};
 ghost use Rattle.rex_cluster.specs.Quorum.{IsNode as IsNodeOf};
 ghost use Rattle.rex_cluster.specs.Node.Content.{Accepted as Voted};
 ghost use Rattle.rex_cluster.specs.Records.{known};
-ghost use Rattle.rex_cluster.specs.Values.{events_of, release_effect, replies_of};
+ghost use Rattle.rex_cluster.specs.Values.{release_effect, replies_of};
 ghost use Rattle.rex_log.specs.Messages.{content_in, message_in};
 ghost use Rattle.rex_processes.specs.Early.{early_replies, replies_to};
 ghost use Rattle.rex_process.specs.Foretelling as spec;
@@ -13,10 +13,10 @@ ghost use Rattle.rex_process.specs.Hearing.{IsHeard};
 ghost use Rattle.rex_process.specs.Process.{IsProcess, here};
 
 use crate::process::Process;
-use rex_delta::{DecodeError, decode_events};
 use rex_event::{Event, Kind};
 use rex_list::List;
 use rex_msg::{Content, Message};
+use rex_node::{events_in, release_effect};
 use rex_paxos::Vote;
 use rex_record::{Release, releases_of};
 use rex_report::{Effect, Role};
@@ -87,27 +87,6 @@ fn active_value<'v>(role: Role, value: Option<&'v [u8]>) -> Option<&'v [u8]>
     match role {
         Role::Active => value,
         _ => None,
-    }
-}
-
-// The events of the delta that a value spells; none where it spells none.
-fn events_in(alloc: Global, value: &[u8]) -> Result<List<Event>, AllocError>
-    ensures { IfOk result (λ events. events ≡ events_of value.now) }
-{
-    match decode_events(alloc, value) {
-        Ok(events) => Ok(events),
-        Err(DecodeError::OutOfMemory) => Err(AllocError),
-        Err(DecodeError::Bad { .. }) => Ok(List::new(alloc)),
-    }
-}
-
-fn release_effect(release: &Release) -> Effect
-    ensures { result ≡ release_effect release.now }
-{
-    Effect::Released {
-        client: release.client,
-        sequence: release.sequence,
-        value: release.value,
     }
 }
 
