@@ -108,12 +108,12 @@ impl<K: Keeper> GroupKeeper<K> {
         })
     }
 
-    /// The keeper below, with its records as they are.
-    pub fn keeper(&self) -> &K
-        ensures keeper { result.now ≡ self.now.keeper }
-        ensures holds { HoldAll (K.records self.now.keeper) self.now.kept }
+    /// The keeper below, with its records as they are; those that wait are lost.
+    pub fn into_keeper(self) -> K
+        ensures keeper { result ≡ self.keeper }
+        ensures holds { HoldAll (K.records self.keeper) self.kept }
     {
-        &self.keeper
+        self.keeper
     }
 }
 

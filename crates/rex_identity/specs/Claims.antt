@@ -44,3 +44,8 @@ abbrev pub GivesFault : {K : Type 0} → (K → List ℕ → Answer → K → Ty
 GivesFault gives old bytes Foreign new = ⊥
 GivesFault gives old bytes Failed new = gives old bytes (Err keep_fault.Failed) new
 GivesFault gives old bytes OutOfMemory new = gives old bytes (Err keep_fault.OutOfMemory) new
+
+-- An append by such a keeper is one by the keeper below; whose it is stays so.
+pub record AppendsBelow {K : Type 0} (gives : K → List ℕ → Answer → K → Type 0) (old : OwnedValue K) (bytes : List ℕ) (answer : Answer) (new : OwnedValue K) : Type 0 where
+  pub below : gives old.keeper bytes answer new.keeper
+  pub identity : new.identity ≡ old.identity

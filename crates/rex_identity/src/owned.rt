@@ -1,8 +1,8 @@
 //! A keeper whose first record says whose it is, as a keeper of the records behind it.
 
-ghost use Rattle.std.specs.Prelude.{◌≡◌, ◌≢◌, ◌<◌, ◌-◌, ◌^◌, ◌∷◌, [], Ok, OnOk, IfOk, IfErr, MatchResult, length, drop};
+ghost use Rattle.std.specs.Prelude.{◌≡◌, ◌≢◌, ◌<◌, ◌-◌, ◌^◌, ◌∷◌, [], refl, Ok, OnOk, IfOk, IfErr, MatchResult, length, drop};
 ghost use Rattle.rex_identity.specs.Identity.{identity_bytes};
-ghost use Rattle.rex_identity.specs.Claims.{CountsAs, GivesFault, IsCause, IsFirst, Leaves};
+ghost use Rattle.rex_identity.specs.Claims.{AppendsBelow, CountsAs, GivesFault, IsCause, IsFirst, Leaves};
 
 use crate::{ClaimFault, Identity, NotOwned};
 use rex_traits::{KeepFault, Keeper};
@@ -100,11 +100,11 @@ impl<K: Keeper> Owned<K> {
     }
 
     /// The keeper with all its records, of which the first is the identity's.
-    pub fn keeper(&self) -> &K
-        ensures keeper { result.now ≡ self.now.keeper }
-        ensures first { IsFirst (identity_bytes self.now.identity) (K.records self.now.keeper) }
+    pub fn into_keeper(self) -> K
+        ensures keeper { result ≡ self.keeper }
+        ensures first { IsFirst (identity_bytes self.identity) (K.records self.keeper) }
     {
-        &self.keeper
+        self.keeper
     }
 }
 
@@ -113,9 +113,9 @@ impl<K: Keeper> Keeper for Owned<K> {
 
     ghost faults = { λ o. K.faults o.keeper };
 
-    ghost append_gives = { λ old bytes result new. K.append_gives old.keeper bytes result new.keeper };
+    ghost append_gives = { λ old bytes result new. AppendsBelow K.append_gives old bytes result new };
 
-    ghost may_run_out = { λ o bytes. K.may_run_out o.keeper bytes };
+    ghost may_run_out = { λ o bytes. record { below = K.may_run_out o.keeper bytes; identity = refl } };
 
     fn append(&mut self, bytes: &[u8]) -> Result<(), KeepFault> {
         self.keeper.append(bytes)

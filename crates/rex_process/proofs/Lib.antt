@@ -1,4 +1,5 @@
 pub mod Adopting
+pub mod Appending
 pub mod Applying
 pub mod Asking
 pub mod Beginning
@@ -11,6 +12,7 @@ pub mod Following
 pub mod Foreseen
 pub mod Going
 pub mod Growing
+pub mod Keeping
 pub mod Leaving
 pub mod Led
 pub mod Living
@@ -28,5 +30,4 @@ pub mod Staying
 pub mod Submitting
 pub mod Trying
 pub mod Turning
-pub mod Waiting
 pub mod Working

@@ -2,6 +2,7 @@ pub mod Coming
 pub mod Foretelling
 pub mod Going
 pub mod Hearing
+pub mod Keeping
 pub mod Process
 pub mod Running
 pub mod Sending

@@ -9,6 +9,7 @@ ghost use Rattle.rex_processes.specs.Tested.{MayBeHeard};
 ghost use Rattle.std.specs.List.{All};
 ghost use Rattle.rex_msg.specs.Spelling.{IsMessage};
 ghost use Rattle.rex_process.specs.Sending.{AllSent};
+ghost use Rattle.rex_process.specs.Keeping.{ByAppends};
 ghost use Rattle.rex_process.specs.Process.{Answers, ComesTo, IsLeft, IsProcess, IsSame, here};
 ghost use Rattle.rex_process.specs.Hearing as spec;
 ghost use Rattle.rex_process.specs.Hearing.{IsHeard, IsTestOf, IsTestOfAdopted, IsTestOfChosen, IsTestOfNext, IsTestOfOpen};
@@ -17,7 +18,6 @@ use crate::answers::Answer;
 use crate::process::Process;
 use crate::telling::told;
 use rex_fits::Applied;
-use rex_flush::Flush;
 use rex_msg::{Content, Message};
 use rex_node::Step;
 use rex_replay::OneThread;
@@ -37,7 +37,7 @@ pub(crate) enum Test {
     Unfit,
 }
 
-impl<'a, K: Flush> Process<'a, K> {
+impl<'a, K: Keeper> Process<'a, K> {
     /// Does what a message of another node asks for. It goes to this one, and tells no state.
     pub fn hear(&mut self, message: &Message) -> Result<Answer, AllocError>
         requires process { IsProcess K.records K.faults self.old }
@@ -48,7 +48,7 @@ impl<'a, K: Flush> Process<'a, K> {
         ensures process { OnOk result (IsProcess K.records K.faults self.new) }
         ensures same { IsSame self.old self.new }
         ensures left { OnErr result (IsLeft K.records self.old self.new (Hear (message_in [] message.now))) }
-        ensures waits { K.kept self.new.node.keeper ≡ K.kept self.old.node.keeper }
+        ensures appends { ByAppends K.append_gives self.old.node.keeper self.new.node.keeper }
     {
         match self.test_of(&message.content)? {
             Test::Passed => Ok(Answer::Did(self.receive(message, None)?)),
@@ -69,7 +69,7 @@ impl<'a, K: Flush> Process<'a, K> {
         ensures process { OnOk result (IsProcess K.records K.faults self.new) }
         ensures same { IsSame self.old self.new }
         ensures left { OnErr result (IsLeft K.records self.old self.new (Hear (message_in [] message.now))) }
-        ensures waits { K.kept self.new.node.keeper ≡ K.kept self.old.node.keeper }
+        ensures appends { ByAppends K.append_gives self.old.node.keeper self.new.node.keeper }
     {
         let _service = self.svc.declarations();
         let known = self.node.known();
@@ -79,9 +79,7 @@ impl<'a, K: Flush> Process<'a, K> {
         let step = told(self.alloc, self.node.id(), outcome)?;
         self.settled(known, step, test)
     }
-}
 
-impl<'a, K: Keeper> Process<'a, K> {
     // Tests the value that a message may make known.
     fn test_of(&self, content: &Content) -> Result<Test, AllocError>
         requires process { IsProcess K.records K.faults self.now }

@@ -6,19 +6,19 @@ ghost use Rattle.rex_processes.specs.Tested.{OwnReportsFit};
 ghost use Rattle.std.specs.List.{All};
 ghost use Rattle.rex_msg.specs.Spelling.{IsMessage};
 ghost use Rattle.rex_process.specs.Sending.{AllSent};
+ghost use Rattle.rex_process.specs.Keeping.{ByAppends};
 ghost use Rattle.rex_process.specs.Process.{Answers, ComesTo, IsLeft, IsProcess, IsSame, Tells, here};
 
 use crate::answers::Answer;
 use crate::process::Process;
 use crate::telling::told;
-use rex_flush::Flush;
 use rex_node::Step;
 use rex_replay::OneThread;
 use rex_traits::Keeper;
 use std::alloc::AllocError;
 use std::marker::Brand;
 
-impl<'a, K: Flush> Process<'a, K> {
+impl<'a, K: Keeper> Process<'a, K> {
     /// Asks to lead.
     pub fn elect(&mut self) -> Result<Answer, AllocError>
         requires process { IsProcess K.records K.faults self.old }
@@ -28,7 +28,7 @@ impl<'a, K: Flush> Process<'a, K> {
         ensures process { OnOk result (IsProcess K.records K.faults self.new) }
         ensures same { IsSame self.old self.new }
         ensures left { OnErr result (IsLeft K.records self.old self.new Elect) }
-        ensures waits { K.kept self.new.node.keeper ≡ K.kept self.old.node.keeper }
+        ensures appends { ByAppends K.append_gives self.old.node.keeper self.new.node.keeper }
     {
         if self.node.nodes() > 1 || self.own_fits()? {
             Ok(Answer::Did(self.stand()?))
@@ -47,7 +47,7 @@ impl<'a, K: Flush> Process<'a, K> {
         ensures process { OnOk result (IsProcess K.records K.faults self.new) }
         ensures same { IsSame self.old self.new }
         ensures left { OnErr result (IsLeft K.records self.old self.new Elect) }
-        ensures waits { K.kept self.new.node.keeper ≡ K.kept self.old.node.keeper }
+        ensures appends { ByAppends K.append_gives self.old.node.keeper self.new.node.keeper }
     {
         let _service = self.svc.declarations();
         let known = self.node.known();
@@ -67,7 +67,7 @@ impl<'a, K: Flush> Process<'a, K> {
         ensures process { OnOk result (IsProcess K.records K.faults self.new) }
         ensures same { IsSame self.old self.new }
         ensures left { OnErr result (IsLeft K.records self.old self.new Cut) }
-        ensures waits { K.kept self.new.node.keeper ≡ K.kept self.old.node.keeper }
+        ensures appends { ByAppends K.append_gives self.old.node.keeper self.new.node.keeper }
     {
         let _service = self.svc.declarations();
         let known = self.node.known();
@@ -75,9 +75,7 @@ impl<'a, K: Flush> Process<'a, K> {
         let step = told(self.alloc, self.node.id(), outcome)?;
         self.settled(known, step, None)
     }
-}
 
-impl<'a, K: Keeper> Process<'a, K> {
     // Whether what the node accepted itself beyond what it knows fits: one that is alone knows that at once.
     fn own_fits(&self) -> Result<bool, AllocError>
         requires process { IsProcess K.records K.faults self.now }

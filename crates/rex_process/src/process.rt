@@ -56,6 +56,13 @@ impl<'a, K: Keeper> Process<'a, K> {
         self.node.is_up()
     }
 
+    /// Stops the process, and gives its keeper back.
+    pub fn stop(self) -> K
+        ensures { result ≡ self.entry.node.keeper }
+    {
+        self.node.stop()
+    }
+
     /// The service.
     pub fn service(&self) -> &'a Checked
         ensures { result.now ≡ self.now.service }

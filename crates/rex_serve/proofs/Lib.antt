@@ -15,3 +15,4 @@ pub mod Clusters
 pub mod Known
 pub mod Replied
 pub mod Served
+pub mod Counting

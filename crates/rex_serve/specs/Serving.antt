@@ -1,5 +1,5 @@
 -- What a process comes to by the frames of bytes, one after the other, what a sink takes of the answers, and what is kept for good.
-use Rattle.std.specs.Prelude.{◌≡◌, ◌⊎◌, ℕ, ◌≢◌, true, false, List, [], ◌∷◌, ◌++◌, Result, Ok, Err}
+use Rattle.std.specs.Prelude.{◌≡◌, ◌⊎◌, ◌<◌, ◌≤◌, ℕ, ◌≢◌, true, false, List, [], ◌∷◌, ◌++◌, Result, Ok, Err}
 use Rattle.rex_traits.specs.Causes.{Rose}
 use Rattle.rex_traits.specs.Growth.{GrowsByFront}
 use Rattle.rex_frames.specs.Frames.{AtFront, front_of}
@@ -81,6 +81,13 @@ module _ {K : Type 0} (records : K → List (List ℕ)) (faults : K → ℕ) whe
     pub out : List ℕ
     pub served : Serves p middle bytes left out
     pub broken : (q ≡ middle) ⊎ BreaksOffAt middle q left
+
+-- ---- faults
+
+-- a process that was up is so still, or its keeper failed, and counted that; the count doesn't fall
+pub record IsUpOrFailed {K : Type 0} (faults : K → ℕ) (p q : ProcessValue K) : Type 0 where
+  pub later : faults p.node.keeper ≤ faults q.node.keeper
+  pub failed : q.node.up ≡ false → faults p.node.keeper < faults q.node.keeper
 
 -- ---- what is kept for good
 

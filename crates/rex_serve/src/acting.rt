@@ -5,13 +5,13 @@ ghost use Rattle.rex_schedule.specs.Fits.{RequestFits};
 ghost use Rattle.rex_processes.specs.Processes.Task.{Ask as ToAsk};
 ghost use Rattle.rex_frames.specs.declared.asking.Asked.TheVariants.{Ask, Cut, Elect, Foretell, Hear, Read, Run, Submit, Turn};
 ghost use Rattle.rex_process.specs.Hearing.{IsHeard};
+ghost use Rattle.rex_process.specs.Keeping.{ByAppends};
 ghost use Rattle.rex_process.specs.Process.{IsProcess, IsSame};
 ghost use Rattle.rex_process.specs.Sending.{MayBeTold};
 ghost use Rattle.rex_serve.specs.Answering.{Answered, BreaksOff};
-ghost use Rattle.rex_serve.specs.Serving.{GrowsBy};
+ghost use Rattle.rex_serve.specs.Serving.{GrowsBy, IsUpOrFailed};
 
 use crate::answering::{push_answer, push_effects, push_ran, push_step};
-use rex_flush::Flush;
 use rex_frames::push_effect;
 use rex_msg::Message;
 use rex_process::Process;
@@ -19,7 +19,7 @@ use rex_syntax::request::Request;
 use rex_traits::Keeper;
 use std::alloc::AllocError;
 
-pub(crate) fn elect<K: Flush>(
+pub(crate) fn elect<K: Keeper>(
     process: &mut Process<'_, K>,
     out: &mut Vec<u8>,
 ) -> Result<(), AllocError>
@@ -29,13 +29,14 @@ pub(crate) fn elect<K: Flush>(
     ensures left { OnErr result (BreaksOff K.records K.faults process.old process.new Elect) }
     ensures process { OnOk result (IsProcess K.records K.faults process.new) }
     ensures same { IsSame process.old process.new }
-    ensures waits { K.kept process.new.node.keeper ≡ K.kept process.old.node.keeper }
+    ensures appends { ByAppends K.append_gives process.old.node.keeper process.new.node.keeper }
+    ensures counts { OnOk result (IsUpOrFailed K.faults process.old process.new) }
 {
     let answer = process.elect()?;
     push_answer(out, process.service().declarations(), &answer)
 }
 
-pub(crate) fn submit<K: Flush>(
+pub(crate) fn submit<K: Keeper>(
     process: &mut Process<'_, K>,
     request: &Request,
     out: &mut Vec<u8>,
@@ -47,13 +48,14 @@ pub(crate) fn submit<K: Flush>(
     ensures left { OnErr result (BreaksOff K.records K.faults process.old process.new (Submit request.now)) }
     ensures process { OnOk result (IsProcess K.records K.faults process.new) }
     ensures same { IsSame process.old process.new }
-    ensures waits { K.kept process.new.node.keeper ≡ K.kept process.old.node.keeper }
+    ensures appends { ByAppends K.append_gives process.old.node.keeper process.new.node.keeper }
+    ensures counts { OnOk result (IsUpOrFailed K.faults process.old process.new) }
 {
     let step = process.submit(request)?;
     push_step(out, process.service().declarations(), &step)
 }
 
-pub(crate) fn run<K: Flush>(
+pub(crate) fn run<K: Keeper>(
     process: &mut Process<'_, K>,
     clock: i64,
     out: &mut Vec<u8>,
@@ -64,13 +66,14 @@ pub(crate) fn run<K: Flush>(
     ensures left { OnErr result (BreaksOff K.records K.faults process.old process.new (Run clock)) }
     ensures process { OnOk result (IsProcess K.records K.faults process.new) }
     ensures same { IsSame process.old process.new }
-    ensures waits { K.kept process.new.node.keeper ≡ K.kept process.old.node.keeper }
+    ensures appends { ByAppends K.append_gives process.old.node.keeper process.new.node.keeper }
+    ensures counts { OnOk result (IsUpOrFailed K.faults process.old process.new) }
 {
     let ran = process.run(clock)?;
     push_ran(out, process.service().declarations(), &ran)
 }
 
-pub(crate) fn turn<K: Flush>(
+pub(crate) fn turn<K: Keeper>(
     process: &mut Process<'_, K>,
     lane: u8,
     clock: i64,
@@ -83,13 +86,14 @@ pub(crate) fn turn<K: Flush>(
     ensures left { OnErr result (BreaksOff K.records K.faults process.old process.new (Turn lane clock)) }
     ensures process { OnOk result (IsProcess K.records K.faults process.new) }
     ensures same { IsSame process.old process.new }
-    ensures waits { K.kept process.new.node.keeper ≡ K.kept process.old.node.keeper }
+    ensures appends { ByAppends K.append_gives process.old.node.keeper process.new.node.keeper }
+    ensures counts { OnOk result (IsUpOrFailed K.faults process.old process.new) }
 {
     let step = process.turn(lane, clock)?;
     push_step(out, process.service().declarations(), &step)
 }
 
-pub(crate) fn cut<K: Flush>(
+pub(crate) fn cut<K: Keeper>(
     process: &mut Process<'_, K>,
     out: &mut Vec<u8>,
 ) -> Result<(), AllocError>
@@ -99,13 +103,14 @@ pub(crate) fn cut<K: Flush>(
     ensures left { OnErr result (BreaksOff K.records K.faults process.old process.new Cut) }
     ensures process { OnOk result (IsProcess K.records K.faults process.new) }
     ensures same { IsSame process.old process.new }
-    ensures waits { K.kept process.new.node.keeper ≡ K.kept process.old.node.keeper }
+    ensures appends { ByAppends K.append_gives process.old.node.keeper process.new.node.keeper }
+    ensures counts { OnOk result (IsUpOrFailed K.faults process.old process.new) }
 {
     let step = process.cut()?;
     push_step(out, process.service().declarations(), &step)
 }
 
-pub(crate) fn hear<K: Flush>(
+pub(crate) fn hear<K: Keeper>(
     process: &mut Process<'_, K>,
     message: &Message,
     out: &mut Vec<u8>,
@@ -117,7 +122,8 @@ pub(crate) fn hear<K: Flush>(
     ensures left { OnErr result (BreaksOff K.records K.faults process.old process.new (Hear message.now)) }
     ensures process { OnOk result (IsProcess K.records K.faults process.new) }
     ensures same { IsSame process.old process.new }
-    ensures waits { K.kept process.new.node.keeper ≡ K.kept process.old.node.keeper }
+    ensures appends { ByAppends K.append_gives process.old.node.keeper process.new.node.keeper }
+    ensures counts { OnOk result (IsUpOrFailed K.faults process.old process.new) }
 {
     let answer = process.hear(message)?;
     push_answer(out, process.service().declarations(), &answer)
@@ -137,7 +143,7 @@ pub(crate) fn foretell<K: Keeper>(
     push_effects(out, process.service().declarations(), effects.as_slice())
 }
 
-pub(crate) fn ask<K: Flush>(
+pub(crate) fn ask<K: Keeper>(
     process: &mut Process<'_, K>,
     to: u8,
     out: &mut Vec<u8>,
@@ -149,7 +155,8 @@ pub(crate) fn ask<K: Flush>(
     ensures left { OnErr result (BreaksOff K.records K.faults process.old process.new (Ask to)) }
     ensures process { OnOk result (IsProcess K.records K.faults process.new) }
     ensures same { IsSame process.old process.new }
-    ensures waits { K.kept process.new.node.keeper ≡ K.kept process.old.node.keeper }
+    ensures appends { ByAppends K.append_gives process.old.node.keeper process.new.node.keeper }
+    ensures counts { OnOk result (IsUpOrFailed K.faults process.old process.new) }
 {
     let step = process.ask(to)?;
     push_step(out, process.service().declarations(), &step)

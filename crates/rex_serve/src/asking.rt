@@ -2,20 +2,21 @@
 
 ghost use Rattle.std.specs.Prelude.{◌≡◌, true, OnErr, OnOk};
 ghost use Rattle.rex_frames.specs.Asking.{AskedFits};
+ghost use Rattle.rex_process.specs.Keeping.{ByAppends};
 ghost use Rattle.rex_process.specs.Process.{IsProcess, IsSame};
 ghost use Rattle.rex_serve.specs.Answering.{Answered, AnswersFrame, BreaksOff, asked_of};
-ghost use Rattle.rex_serve.specs.Serving.{GrowsBy};
+ghost use Rattle.rex_serve.specs.Serving.{GrowsBy, IsUpOrFailed};
 
 use crate::acting::{ask, cut, elect, foretell, hear, read, run, submit, turn};
 use crate::answering::push_standing;
-use rex_flush::Flush;
 use rex_frames::letters::NOTHING;
 use rex_frames::{Asked, asked_in, push_letter};
 use rex_process::Process;
+use rex_traits::Keeper;
 use std::alloc::{AllocError, Global};
 
 // Does what is asked for, and appends what came of it.
-fn act<K: Flush>(
+fn act<K: Keeper>(
     process: &mut Process<'_, K>,
     asked: &Asked,
     out: &mut Vec<u8>,
@@ -27,7 +28,8 @@ fn act<K: Flush>(
     ensures left { OnErr result (BreaksOff K.records K.faults process.old process.new asked.now) }
     ensures process { OnOk result (IsProcess K.records K.faults process.new) }
     ensures same { IsSame process.old process.new }
-    ensures waits { K.kept process.new.node.keeper ≡ K.kept process.old.node.keeper }
+    ensures appends { ByAppends K.append_gives process.old.node.keeper process.new.node.keeper }
+    ensures counts { OnOk result (IsUpOrFailed K.faults process.old process.new) }
 {
     match asked {
         Asked::Elect => elect(process, out),
@@ -49,7 +51,7 @@ fn act<K: Flush>(
 }
 
 /// Answers a frame: appends what came of what it asks for, and then what the node is, while it is up.
-pub(crate) fn answer<K: Flush>(
+pub(crate) fn answer<K: Keeper>(
     alloc: Global,
     process: &mut Process<'_, K>,
     frame: &[u8],
@@ -61,7 +63,8 @@ pub(crate) fn answer<K: Flush>(
     ensures left { OnErr result (BreaksOff K.records K.faults process.old process.new (asked_of process.old frame.now)) }
     ensures process { OnOk result (IsProcess K.records K.faults process.new) }
     ensures same { IsSame process.old process.new }
-    ensures waits { K.kept process.new.node.keeper ≡ K.kept process.old.node.keeper }
+    ensures appends { ByAppends K.append_gives process.old.node.keeper process.new.node.keeper }
+    ensures counts { OnOk result (IsUpOrFailed K.faults process.old process.new) }
 {
     let asked = asked_in(
         alloc,

@@ -3,16 +3,17 @@
 ghost use Rattle.std.specs.Prelude.{◌≡◌, ◌≤◌, ◌-◌, ◌^◌, ◌++◌, true, false, drop, length, IfErr, IfOk, IsErrOf, OnErr, OnOk};
 ghost use Rattle.rex_traits.specs.Causes.{Rose};
 ghost use Rattle.rex_frames.specs.Frames.{front_of as at_front_of, has_frame};
+ghost use Rattle.rex_process.specs.Keeping.{ByAppends, ByAppendsAndFlushes};
 ghost use Rattle.rex_process.specs.Process.{IsProcess, IsSame};
 ghost use Rattle.rex_serve.specs.declared.serving.Ended.TheVariants as ended;
 ghost use Rattle.rex_serve.specs.Answering.{IsFlushed};
-ghost use Rattle.rex_serve.specs.Serving.{EndsAs, GrowsBy, HasBroken, IsClean, IsServed, IsSettled, Serves, StandsAs, TellsAs};
+ghost use Rattle.rex_serve.specs.Serving.{EndsAs, GrowsBy, HasBroken, IsClean, IsServed, IsSettled, IsUpOrFailed, Serves, StandsAs, TellsAs};
 
 use crate::asking::answer;
 use rex_flush::Flush;
 use rex_frames::{Front, front_of};
 use rex_process::Process;
-use rex_traits::{KeepFault, Sink, SinkFault, Source, write_all};
+use rex_traits::{KeepFault, Keeper, Sink, SinkFault, Source, write_all};
 use std::alloc::{AllocError, Global};
 
 /// How serving ended.
@@ -38,19 +39,21 @@ pub enum Ended {
 const PIECE: usize = 65_536;
 
 // Answers the whole frames that bytes begin with, while the node is up; what is left of the bytes.
-fn answer_all<'b, K: Flush>(
+fn answer_all<'b, K: Keeper>(
     alloc: Global,
     process: &mut Process<'_, K>,
     bytes: &'b [u8],
     out: &mut Vec<u8>,
 ) -> Result<&'b [u8], AllocError>
     requires process { IsProcess K.records K.faults process.old }
+    requires up { process.old.node.up ≡ true }
     ensures served { IfOk result (λ left. GrowsBy (Serves K.records K.faults process.old process.new bytes.now left.now) out.old.items out.new.items) }
     ensures broken { OnErr result (HasBroken K.records K.faults process.old process.new bytes.now) }
     ensures all { IfOk result (λ left. process.new.node.up ≡ true → has_frame (at_front_of left.now) ≡ false) }
     ensures process { OnOk result (IsProcess K.records K.faults process.new) }
     ensures same { IsSame process.old process.new }
-    ensures waits { K.kept process.new.node.keeper ≡ K.kept process.old.node.keeper }
+    ensures appends { ByAppends K.append_gives process.old.node.keeper process.new.node.keeper }
+    ensures counts { OnOk result (IsUpOrFailed K.faults process.old process.new) }
 {
     let mut left = bytes;
     while process.is_up() {
@@ -81,7 +84,9 @@ fn tell<W: Sink, K: Flush>(
     sink: &mut W,
 ) -> Result<(), Ended>
     requires process { IsProcess K.records K.faults process.old }
+    ensures counts { K.faults process.old.node.keeper ≤ K.faults process.new.node.keeper }
     ensures flushed { IsFlushed K.records process.old process.new }
+    ensures keeper { ByAppendsAndFlushes K.append_gives K.flush_gives process.old.node.keeper process.new.node.keeper }
     ensures tells { TellsAs K.records K.kept K.faults process.old process.new out.now (W.taken sink.old) (W.taken sink.new) result }
     ensures ok { OnOk result (IsProcess K.records K.faults process.new) }
     ensures err { IfErr result (λ e. IsClean e → IsProcess K.records K.faults process.new) }
@@ -129,7 +134,10 @@ fn serve_piece<W: Sink, K: Flush>(
     ensures err { IfErr result (λ e. IsClean e → IsProcess K.records K.faults process.new) }
     ensures unwritten { IsErrOf result ended.Unwritten → Rose (W.faults sink.old) (W.faults sink.new) }
     ensures later { W.faults sink.old ≤ W.faults sink.new }
+    ensures down { IsErrOf result ended.Down → Rose (K.faults process.old.node.keeper) (K.faults process.new.node.keeper) }
+    ensures counts { OnOk result (K.faults process.old.node.keeper ≤ K.faults process.new.node.keeper) }
     ensures same { IsSame process.old process.new }
+    ensures keeper { ByAppendsAndFlushes K.append_gives K.flush_gives process.old.node.keeper process.new.node.keeper }
 {
     if held.extend_from_slice(piece).is_err() {
         return Err(Ended::OutOfMemory);
@@ -166,11 +174,15 @@ pub fn serve<S: Source, W: Sink, K: Flush>(
     ensures process { IsClean result → IsProcess K.records K.faults process.new }
     ensures same { IsSame process.old process.new }
 
+    // Its keeper appended and flushed, and did nothing else.
+    ensures keeper { ByAppendsAndFlushes K.append_gives K.flush_gives process.old.node.keeper process.new.node.keeper }
+
     // It is over only where the source ended, and each other way to end has its cause.
     ensures over { result ≡ ended.Over → S.ended source.new ≡ true }
     ensures often { result ≡ ended.TooOften → 2 ^ 64 - 1 ≤ S.calls source.new }
     ensures unread { result ≡ ended.Unread → Rose (S.faults source.old) (S.faults source.new) }
     ensures unwritten { result ≡ ended.Unwritten → Rose (W.faults sink.old) (W.faults sink.new) }
+    ensures down { result ≡ ended.Down → Rose (K.faults process.old.node.keeper) (K.faults process.new.node.keeper) }
 {
     let mut held = Vec::new(alloc);
     let mut buf = [0; PIECE];

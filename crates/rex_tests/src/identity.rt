@@ -75,8 +75,9 @@ fn a_keeper_without_records_gets_the_identity(rt: HostRuntime) -> Result<(), Fai
     let mut owned = claimed(rt.alloc(), MemKeeper::new(rt.alloc()))?;
     assert_eq!(rt; owned.len(), 0);
     assert_eq!(rt; owned.append(&[9]), Ok(()));
-    assert_eq!(rt; owned.keeper().len(), 2);
-    assert_eq!(rt; owned.keeper().get(0), RECORD.as_slice());
+    let keeper = owned.into_keeper();
+    assert_eq!(rt; keeper.len(), 2);
+    assert_eq!(rt; keeper.get(0), RECORD.as_slice());
     Ok(())
 }
 

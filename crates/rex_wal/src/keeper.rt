@@ -8,7 +8,7 @@ ghost use Rattle.rex_disk.specs.Calls.Call.{Reserves};
 ghost use Rattle.rex_disk.specs.Stops.{LeavesOnly, Rests};
 ghost use Rattle.rex_journal.specs.Keeping.{Breaks, CountsAppend, KeepsRecords};
 ghost use Rattle.rex_wal.specs.Appending.{Appends, IsWritten, MayReserve};
-ghost use Rattle.rex_wal.specs.Keeping.{AllStandFor};
+ghost use Rattle.rex_wal.specs.Keeping.{AllStandFor, AllStandForThose};
 ghost use Rattle.rex_wal.specs.Journal.{Holds, IsBad, StandsFor, entry};
 ghost use Rattle.rex_journal.specs.Giving.{Goes};
 ghost use Rattle.rex_journal.specs.Opening.{CountsAs, IsCauseIn, Leaves};
@@ -78,6 +78,14 @@ impl<D: ByteAtomic> WalKeeper<D> {
             }),
             Err(fault) => Err(Refused { disk, fault }),
         }
+    }
+
+    /// The disk. What a stop leaves of it holds the keeper's records and no others; that of a broken keeper maybe one more.
+    pub fn into_disk(self) -> D
+        ensures disk { result ≡ self.disk }
+        ensures safe { IsTrue (D.meets self.disk) → AllStandForThose (D.may_leave self.disk) self.records self.broken }
+    {
+        self.disk
     }
 }
 

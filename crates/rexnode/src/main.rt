@@ -74,7 +74,7 @@ fn run(rt: &HostRuntime, command: &Command<'_>) -> u8
     };
     let mut source = StdSource::new(rt.reader());
     let mut sink = StdSink::new(io::writer(rt));
-    node_main(rt.alloc(), command, &loaded, disk, &mut source, &mut sink)
+    node_main(rt.alloc(), command, &loaded, disk, &mut source, &mut sink).status
 }
 
 // Writes the trace of the journal that a command names.
@@ -97,7 +97,7 @@ fn trace(rt: &HostRuntime, command: &Command<'_>) -> u8
         Err(fault) => return file_status(fault),
     };
     let mut sink = StdSink::new(io::writer(rt));
-    trace_main(rt.alloc(), command, &loaded, disk, &mut sink)
+    trace_main(rt.alloc(), command, &loaded, disk, &mut sink).status
 }
 
 // The words from `--trace` on, where it is the first one behind the program's name.

@@ -1,5 +1,5 @@
 -- Nodes that ran, and what was refused before they did.
-use Rattle.std.proofs.Common.{◌≡◌, ℕ, Bool, IsTrue, List, [], ◌++◌, ◌+◌, inl, inr, refl, sym}
+use Rattle.std.proofs.Common.{◌≡◌, ◌<◌, ℕ, Bool, true, IsTrue, List, [], drop, ◌++◌, ◌+◌, inl, inr, refl, sym}
 use Rattle.std.specs.Prelude.{None}
 use Rattle.rex_traits.specs.Chains.{Answer}
 use Rattle.rex_disk.specs.Calls.{Call}
@@ -9,11 +9,12 @@ use Rattle.rex_journal.specs.Giving.{Goes}
 use Rattle.rex_journal.specs.Opening.{CountsAs, IsCauseIn, Leaves}
 use Rattle.rex_wal.specs.Journal.{Holds, IsBad}
 use Rattle.rex_wal.specs.Appending.{Appends}
-use Rattle.rex_wal.specs.Keeping.{AllStandFor, WalValue}
+use Rattle.rex_wal.specs.Keeping.{AllStandFor, AllStandForThose, WalValue}
 use Rattle.rex_wal.specs.Opening as opening
 use Rattle.rex_journal.specs.declared.fault.OpenFault.{OpenFault}
-use Rattle.rex_identity.specs.Identity.{IdentityValue}
-use Rattle.rex_identity.specs.Claims.{OwnedValue}
+use Rattle.rex_identity.specs.Identity.{IdentityValue, identity_bytes}
+use Rattle.rex_identity.specs.Claims.{IsFirst, OwnedValue}
+use Rattle.rex_group.specs.Groups.{HoldAll}
 use Rattle.rex_group.specs.Keeping.{GroupValue}
 use Rattle.rex_process.specs.Process.{IsProcess, ProcessValue}
 use Rattle.rex_process.specs.Starting.{HasStarted, IsStartFault}
@@ -36,48 +37,49 @@ pub untouched : (before : List ℕ) → IsUntouched [] before before
 untouched before = record { unread = refl; unwritten = refl }
 
 -- frames were served
-pub has_served : {K : Type 0} (records kept : K → List (List ℕ)) (faults : K → ℕ) (service : Declarations) (id nodes seed : ℕ) (keeper : K) (first last : ProcessValue K) (ended : Ended) (status : ℕ) (before now given taken : List ℕ) → IsProcess records faults first
-    → HasStarted records service id nodes seed keeper first → status ≡ ended_status ended → GrowsBy (λ input. EndsAs records kept faults ended first last input before now) given taken
-    → GrowsBy (λ input. Runs records kept faults service id nodes seed keeper input before now status) given taken
-has_served records kept faults service id nodes seed keeper first last ended status before now given taken process started told served =
-    grows_as (λ input ends. inl (record { first = first; process = process; started = started; does = record { last = last; ended = ended; served = ends; told = told } })) served
+pub has_served : {K : Type 0} (records kept : K → List (List ℕ)) (faults : K → ℕ) (service : Declarations) (id nodes seed : ℕ) (keeper : K) (first last : ProcessValue K) (ended : Ended) (status : ℕ) (back : K) (before now given taken : List ℕ) → IsProcess records faults first
+    → HasStarted records service id nodes seed keeper first → status ≡ ended_status ended → back ≡ last.node.keeper → GrowsBy (λ input. EndsAs records kept faults ended first last input before now) given taken
+    → GrowsBy (λ input. Runs records kept faults service id nodes seed keeper input before now status back) given taken
+has_served records kept faults service id nodes seed keeper first last ended status back before now given taken process started told is served =
+    grows_as (λ input ends. inl (record { first = first; process = process; started = started; does = record { last = last; ended = ended; served = ends; told = told; keeper_is = is } })) served
 
 -- the process didn't come up
-pub not_started : {K : Type 0} (records kept : K → List (List ℕ)) (faults : K → ℕ) (service : Declarations) (id nodes seed : ℕ) (keeper : K) (fault : StartFault) (status : ℕ) (before given : List ℕ) → IsStartFault service (records keeper) fault → status ≡ start_status fault
-    → GrowsBy (λ input. Runs records kept faults service id nodes seed keeper input before before status) given given
-not_started records kept faults service id nodes seed keeper fault status before given cause told =
-    still (λ input. Runs records kept faults service id nodes seed keeper input before before status) given (inr (record { fault = fault; cause = cause; told = told }, untouched before))
+pub not_started : {K : Type 0} (records kept : K → List (List ℕ)) (faults : K → ℕ) (service : Declarations) (id nodes seed : ℕ) (keeper : K) (fault : StartFault) (status : ℕ) (back : K) (before given : List ℕ) → IsStartFault service (records keeper) fault → status ≡ start_status fault → back ≡ keeper
+    → GrowsBy (λ input. Runs records kept faults service id nodes seed keeper input before before status back) given given
+not_started records kept faults service id nodes seed keeper fault status back before given cause told same =
+    still (λ input. Runs records kept faults service id nodes seed keeper input before before status back) given (inr (record { fault = fault; cause = cause; told = told }, (untouched before, same)))
 
 -- the node ran with a keeper of its own
-pub has_owned : {K : Type 0} (records : K → List (List ℕ)) (gives : K → List ℕ → Answer → K → Type 0) (faults : K → ℕ) (service : Declarations) (identity : IdentityValue) (keeper : K) (grouped : GroupValue (OwnedValue K)) (status : ℕ) (before now given taken : List ℕ)
-    → IsOwnedAs records gives identity keeper grouped
+pub has_owned : {K : Type 0} (records : K → List (List ℕ)) (gives : K → List ℕ → Answer → K → Type 0) (faults : K → ℕ) (service : Declarations) (identity : IdentityValue) (keeper : K) (grouped last : GroupValue (OwnedValue K)) (status : ℕ) (back : K) (before now given taken : List ℕ)
+    → IsOwnedAs records gives identity keeper grouped → back ≡ last.keeper.keeper → IsFirst (identity_bytes identity) (records back) → HoldAll (drop 1 (records back)) last.kept
     → GrowsBy (λ input. Runs (λ (g : GroupValue (OwnedValue K)). g.kept ++ g.waits) (λ (g : GroupValue (OwnedValue K)). g.kept) (λ (g : GroupValue (OwnedValue K)). faults g.keeper.keeper)
-    service identity.id identity.nodes identity.seed grouped input before now status) given taken
-    → GrowsBy (λ input. RunsOwned records gives faults service identity keeper input before now status) given taken
-has_owned records gives faults service identity keeper grouped status before now given taken own runs =
-    grows_as (λ input r. inl (record { grouped = grouped; own = own; runs = r })) runs
+    service identity.id identity.nodes identity.seed grouped input before now status last) given taken
+    → GrowsBy (λ input. RunsOwned records gives faults service identity keeper input before now status back) given taken
+has_owned records gives faults service identity keeper grouped last status back before now given taken own is first holds runs =
+    grows_as (λ input r. inl (record { grouped = grouped; own = own; runs = record { last = last; done = r; keeper_is = is; first = first; holds = holds } })) runs
 
 -- the keeper is another's, or wasn't claimed
-pub not_owned : {K : Type 0} (records : K → List (List ℕ)) (gives : K → List ℕ → Answer → K → Type 0) (faults : K → ℕ) (service : Declarations) (identity : IdentityValue) (keeper : K) (status : ℕ) (before given : List ℕ)
-    → IsNotOwned records faults identity keeper status → GrowsBy (λ input. RunsOwned records gives faults service identity keeper input before before status) given given
-not_owned records gives faults service identity keeper status before given refused =
-    still (λ input. RunsOwned records gives faults service identity keeper input before before status) given (inr (refused, untouched before))
+pub not_owned : {K : Type 0} (records : K → List (List ℕ)) (gives : K → List ℕ → Answer → K → Type 0) (faults : K → ℕ) (service : Declarations) (identity : IdentityValue) (keeper : K) (status : ℕ) (back : K) (before given : List ℕ)
+    → IsNotOwned records faults identity keeper status back → GrowsBy (λ input. RunsOwned records gives faults service identity keeper input before before status back) given given
+not_owned records gives faults service identity keeper status back before given refused =
+    still (λ input. RunsOwned records gives faults service identity keeper input before before status back) given (inr (refused, untouched before))
 
 module _ {D : Type 0} (meets : D → Bool) (seen : D → List ℕ) (may_leave : D → List ℕ → Type 0) (gives : D → Call → Bool → D → Type 0) (faults : D → ℕ)
     (service : Declarations) (identity : IdentityValue) (disk : D) where
   -- the node ran on the journal of a disk
-  pub has_opened : (journal : WalValue D) (status : ℕ) (before now given taken : List ℕ) → (IsTrue (meets disk) → Holds (seen disk) journal.records)
+  pub has_opened : (journal last : WalValue D) (status : ℕ) (back : D) (before now given taken : List ℕ) → (IsTrue (meets disk) → Holds (seen disk) journal.records)
       → (IsTrue (meets journal.disk) → AllStandFor (may_leave journal.disk) journal.records None) → meets journal.disk ≡ meets disk → Goes gives disk journal.disk
+      → back ≡ last.disk → (IsTrue (meets back) → AllStandForThose (may_leave back) last.records last.broken) → (last.broken ≡ true → faults disk < faults back)
       → GrowsBy (λ input. RunsOwned (λ (j : WalValue D). j.records) (λ old bytes result new. Appends gives meets faults old bytes result new)
-      (λ (j : WalValue D). faults j.disk + j.refused) service identity journal input before now status) given taken
-      → GrowsBy (λ input. RunsOn meets seen may_leave gives faults service identity disk input before now status) given taken
-  has_opened journal status before now given taken holds safe met opened runs =
-      grows_as (λ input r. inl (record { journal = journal; holds = holds; safe = safe; met = met; opened = opened; runs = r })) runs
+      (λ (j : WalValue D). faults j.disk + j.refused) service identity journal input before now status last) given taken
+      → GrowsBy (λ input. RunsOn meets seen may_leave gives faults service identity disk input before now status back) given taken
+  has_opened journal last status back before now given taken holds safe met opened is stand failed runs =
+      grows_as (λ input r. inl (record { journal = journal; holds = holds; safe = safe; met = met; opened = opened; runs = record { last = last; done = r; disk_is = is; stand = stand; failed = failed } })) runs
 
   -- the journal wasn't opened
-  pub not_opened : (fault : OpenFault) (left : D) (status : ℕ) (before given : List ℕ) → (IsTrue (meets disk) → IsCauseIn IsBad (seen disk) fault) → (IsTrue (meets disk) → Leaves IsBad (seen disk) (seen left) fault) → CountsAs fault (faults disk) (faults left)
-      → opening.EndsAs gives disk left fault → status ≡ open_status fault
-      → GrowsBy (λ input. RunsOn meets seen may_leave gives faults service identity disk input before before status) given given
-  not_opened fault left status before given cause kept counted ended told =
-      still (λ input. RunsOn meets seen may_leave gives faults service identity disk input before before status) given
-      (inr (record { fault = fault; left = left; cause = cause; kept = kept; counted = counted; ended = ended; told = told }, untouched before))
+  pub not_opened : (fault : OpenFault) (status : ℕ) (back : D) (before given : List ℕ) → (IsTrue (meets disk) → IsCauseIn IsBad (seen disk) fault) → (IsTrue (meets disk) → Leaves IsBad (seen disk) (seen back) fault) → CountsAs fault (faults disk) (faults back)
+      → opening.EndsAs gives disk back fault → status ≡ open_status fault
+      → GrowsBy (λ input. RunsOn meets seen may_leave gives faults service identity disk input before before status back) given given
+  not_opened fault status back before given cause kept counted ended told =
+      still (λ input. RunsOn meets seen may_leave gives faults service identity disk input before before status back) given
+      (inr (record { fault = fault; cause = cause; kept = kept; counted = counted; ended = ended; told = told }, untouched before))

@@ -32,7 +32,7 @@ pub record HasRecords {K : Type 0} (records : K → List (List ℕ)) (gives : K 
     (before now : List ℕ) (status : ℕ) : Type 0 where
   pub some : records keeper ≢ []
   pub claims : Claims records gives faults identity keeper
-      (λ all kept failed grouped. Traces all failed service identity.id identity.nodes identity.seed grouped before now status) (now ≡ before) status
+      (λ all kept failed grouped. Traces all failed service identity.id identity.nodes identity.seed grouped before now status) (now ≡ before) status keeper
 
 abbrev pub TracesOwned : {K : Type 0} → (K → List (List ℕ)) → (K → List ℕ → Answer → K → Type 0) → (K → ℕ) → Declarations → IdentityValue → K → List ℕ → List ℕ → ℕ → Type 0
 TracesOwned records gives faults service identity keeper before now status =
@@ -40,9 +40,9 @@ TracesOwned records gives faults service identity keeper before now status =
 
 -- ---- a disk
 
--- that of the journal on a disk; or none, where it wasn't opened
+-- that of the journal on a disk, which is handed back as opening left it; or none, where it wasn't opened
 abbrev pub TracesOn : {D : Type 0} → (D → Bool) → (D → List ℕ) → (D → List ℕ → Type 0) → (D → Call → Bool → D → Type 0) → (D → ℕ) → Declarations → IdentityValue → D
-    → List ℕ → List ℕ → ℕ → Type 0
-TracesOn meets seen may_leave gives faults service identity disk before now status =
+    → List ℕ → List ℕ → ℕ → D → Type 0
+TracesOn meets seen may_leave gives faults service identity disk before now status back =
     Opens meets seen may_leave gives faults disk
-    (λ records appends failed journal. TracesOwned records appends failed service identity journal before now status) (now ≡ before) status
+    (λ records appends failed journal. TracesOwned records appends failed service identity journal before now status × (back ≡ journal.disk)) (now ≡ before) status back

@@ -3,6 +3,7 @@
 #![tactic(auto)]
 
 mod answers;
+mod handed_back;
 mod loading;
 mod owning;
 mod running;
@@ -10,6 +11,7 @@ mod statuses;
 mod tracing;
 
 pub use answers::usage;
+pub use handed_back::HandedBack;
 pub use loading::{Loaded, NotLoaded, load_service};
 pub use running::node_main;
 pub use statuses::{DISK_FAILED, JOURNAL_LOCKED, OUT_OF_MEMORY, READ_FAILED};

@@ -3,6 +3,7 @@ use Rattle.std.proofs.lemmas.Int.{to_z-of_z}
 use Rattle.rex_process.specs.Running.{HasRun}
 use Rattle.rex_serve.specs.Answering.{ran_frames}
 use Rattle.rex_serve.proofs.Broken.{on_err}
+use Rattle.rex_serve.proofs.Counting.{on_ok, run_counts}
 use Rattle.rex_serve.proofs.acting.run.Goals as goal
 
 pub returns-clause-left : goal.returns-clause-left
@@ -17,3 +18,7 @@ returns-clause-left g c =
         told = refl;
       },
     ))
+
+pub returns-clause-counts : goal.returns-clause-counts
+returns-clause-counts g c =
+    on_ok c.push_ran.result _ (run_counts g.K.Keeper.records g.K.Keeper.faults c.args.process.now c.run.new.self c.requires.up _ c.in_ok-ran.ran c.in_ok-ran.ensures.ran c.run.ensures.keeper)

@@ -1,12 +1,9 @@
-use Rattle.std.proofs.Common.{inl, inr, refl, ap, length, ◌∙◌}
+use Rattle.std.proofs.Common.{inl, inr, ap, length, ◌∙◌}
 use Rattle.rexnode_cli.proofs.tracing.trace_owned.Goals as goal
 
 pub returns-in-Ok-clause-traces : goal.returns-in-Ok-clause-traces
 returns-in-Ok-clause-traces g c =
     inr (record {
       some = λ e. c.if-len-eq0.false (c.len.ensures ∙ ap length e);
-      claims = inl (record { grouped = c.in-Ok.owned; own = c.in-Ok.ensures.owned; runs = c.trace_process.ensures.traces });
+      claims = inl (record { grouped = c.in-Ok.owned; own = c.in-Ok.ensures.owned; runs = c.trace_process-traced.ensures.traces });
     })
-
-pub returns-in-Err-clause-traces : goal.returns-in-Err-clause-traces
-returns-in-Err-clause-traces g c = inr (record { some = λ e. c.if-len-eq0.false (c.len.ensures ∙ ap length e); claims = inr (c.in-Err.ensures.refused, refl) })

@@ -1,4 +1,4 @@
-use Rattle.std.proofs.Common.{[], IfSome, sym, ap, subst, ◌∙◌}
+use Rattle.std.proofs.Common.{[], IfSome, refl, sym, ap, subst, ◌∙◌}
 use Rattle.rex_log.specs.Messages.{content_in, message_in}
 use Rattle.rex_processes.specs.Processes.Task.{Hear}
 use Rattle.rex_processes.specs.Tested.{MayBeHeard}
@@ -8,7 +8,7 @@ use Rattle.rex_process.proofs.Leaving.{HasSettled, left_heard, on_err}
 use Rattle.rex_process.proofs.Received.{heard_comes, heard_settles}
 use Rattle.rex_process.proofs.Receiving.{past_begins, past_node, past_runs}
 use Rattle.rex_process.proofs.Outgoing.{heard_good, sends_in}
-use Rattle.rex_process.proofs.Waiting.{call_waits}
+use Rattle.rex_process.proofs.Appending.{call_appends}
 use Rattle.rex_process.proofs.process.Process.receive.Given as given
 use Rattle.rex_process.proofs.process.Process.receive.Goals as goal
 
@@ -91,13 +91,10 @@ pub returns-clause-sends : goal.returns-clause-sends
 returns-clause-sends g c =
     sends_in g.K.Keeper.records g.K.Keeper.faults c.args.self.now c.settled.new.self c.requires.process c.requires.up (Hear (message_in [] c.args.message.now)) (heard_good c.args.self.now.node.id c.args.self.now.node.nodes c.args.message.now c.requires.message) c.settled.result (outcome g c).comes
 
-pub returns-in_err-step-clause-waits : goal.returns-in_err-step-clause-waits
-returns-in_err-step-clause-waits g c =
-    call_waits g.K.Keeper.records g.K.Keeper.append_gives g.K.Keeper.faults g.K.Flush.kept g.met.K.Flush.appends_wait _ _ _ _ _ c.on_message-outcome.result c.on_message-outcome.ensures.told c.on_message-outcome.ensures.left c.on_message-outcome.ensures.same
-    ∙ ap (λ (q : ProcessValue g.row.K.Denot). g.K.Flush.kept q.node.keeper) c.self.view_is
+pub returns-in_err-step-clause-appends : goal.returns-in_err-step-clause-appends
+returns-in_err-step-clause-appends g c =
+    call_appends g.K.Keeper.records g.K.Keeper.append_gives g.K.Keeper.faults _ _ _ _ _ _ _ c.self.view_is refl c.on_message-outcome.result c.on_message-outcome.ensures.told c.on_message-outcome.ensures.left c.on_message-outcome.ensures.same
 
-pub returns-clause-waits : goal.returns-clause-waits
-returns-clause-waits g c =
-    ap g.K.Flush.kept c.settled.ensures.keeper
-    ∙ (call_waits g.K.Keeper.records g.K.Keeper.append_gives g.K.Keeper.faults g.K.Flush.kept g.met.K.Flush.appends_wait _ _ _ _ _ c.on_message-outcome.result c.on_message-outcome.ensures.told c.on_message-outcome.ensures.left c.on_message-outcome.ensures.same
-    ∙ ap (λ (q : ProcessValue g.row.K.Denot). g.K.Flush.kept q.node.keeper) c.self.view_is)
+pub returns-clause-appends : goal.returns-clause-appends
+returns-clause-appends g c =
+    call_appends g.K.Keeper.records g.K.Keeper.append_gives g.K.Keeper.faults _ _ _ _ _ _ _ c.self.view_is c.settled.ensures.keeper c.on_message-outcome.result c.on_message-outcome.ensures.told c.on_message-outcome.ensures.left c.on_message-outcome.ensures.same

@@ -16,7 +16,7 @@ use Rattle.rex_process.proofs.Leaving.{HasSettled, left_plainly, on_err}
 use Rattle.rex_process.proofs.Led.{led_comes, led_settles}
 use Rattle.rex_process.proofs.Living.{elect_live}
 use Rattle.rex_process.proofs.Outgoing.{sends_in}
-use Rattle.rex_process.proofs.Waiting.{call_waits}
+use Rattle.rex_process.proofs.Appending.{call_appends}
 use Rattle.rex_process.proofs.process.Process.stand.Given as given
 use Rattle.rex_process.proofs.process.Process.stand.Goals as goal
 
@@ -76,13 +76,10 @@ returns-clause-left g c = (outcome g c).left
 pub returns-clause-sends : goal.returns-clause-sends
 returns-clause-sends g c = sends_in g.K.Keeper.records g.K.Keeper.faults c.args.self.now c.settled.new.self c.requires.process c.requires.up Elect tt c.settled.result (outcome g c).comes
 
-pub returns-in_err-step-clause-waits : goal.returns-in_err-step-clause-waits
-returns-in_err-step-clause-waits g c =
-    call_waits g.K.Keeper.records g.K.Keeper.append_gives g.K.Keeper.faults g.K.Flush.kept g.met.K.Flush.appends_wait _ _ _ _ _ c.elect-outcome.result c.elect-outcome.ensures.told c.elect-outcome.ensures.left c.elect-outcome.ensures.same
-    ∙ ap (λ (q : ProcessValue g.row.K.Denot). g.K.Flush.kept q.node.keeper) c.self.view_is
+pub returns-in_err-step-clause-appends : goal.returns-in_err-step-clause-appends
+returns-in_err-step-clause-appends g c =
+    call_appends g.K.Keeper.records g.K.Keeper.append_gives g.K.Keeper.faults _ _ _ _ _ _ _ c.self.view_is refl c.elect-outcome.result c.elect-outcome.ensures.told c.elect-outcome.ensures.left c.elect-outcome.ensures.same
 
-pub returns-clause-waits : goal.returns-clause-waits
-returns-clause-waits g c =
-    ap g.K.Flush.kept c.settled.ensures.keeper
-    ∙ (call_waits g.K.Keeper.records g.K.Keeper.append_gives g.K.Keeper.faults g.K.Flush.kept g.met.K.Flush.appends_wait _ _ _ _ _ c.elect-outcome.result c.elect-outcome.ensures.told c.elect-outcome.ensures.left c.elect-outcome.ensures.same
-    ∙ ap (λ (q : ProcessValue g.row.K.Denot). g.K.Flush.kept q.node.keeper) c.self.view_is)
+pub returns-clause-appends : goal.returns-clause-appends
+returns-clause-appends g c =
+    call_appends g.K.Keeper.records g.K.Keeper.append_gives g.K.Keeper.faults _ _ _ _ _ _ _ c.self.view_is c.settled.ensures.keeper c.elect-outcome.result c.elect-outcome.ensures.told c.elect-outcome.ensures.left c.elect-outcome.ensures.same
