@@ -99,14 +99,15 @@ class Leases(Service):
 
     async def turn(self, client):
         dice = client.dice
-        token = await client.request("take %d %d" % (client.number, dice.choice([50, 200, 500, self.most + 1])))
+        # a long one can be renewed and given back on a slow machine, too; now and then that is tried with the token before
+        token = await client.request("take %d %d" % (client.number, dice.choice([50, 200, 500, 1000, self.most + 1])))
         if not token:
             await asyncio.sleep(0.05 * dice.random())
             return
-        for _ in range(dice.choice([0, 1, 2])):
+        for _ in range(dice.choice([0, 1, 2, 2])):
             await asyncio.sleep(0.1 * dice.random())
-            await client.request("renew %d %d" % (token, dice.choice([50, 200, self.most + 1])))
-        # some never give it back, and some an older one
+            await client.request("renew %d %d" % (token - dice.choice([0, 0, 1]), dice.choice([50, 200, 1000, self.most + 1])))
+        # some never give it back
         if dice.random() < 0.7:
             await client.request("give %d" % (token - dice.choice([0, 0, 0, 1])))
 
