@@ -1,10 +1,10 @@
 -- What a stop may leave of a disk with a settled journal.
-use Rattle.std.proofs.Common.{◌≡◌, ◌≤◌, inl, ℕ, ◌+◌, max, Bool, true, false, IsTrue, List, [], ◌∷◌, ◌++◌, length, Option, None, Some, refl, sym, ◌∙◌, ap, subst, arith}
+use Rattle.std.proofs.Common.{◌≡◌, ◌≤◌, inl, ℕ, ◌+◌, max, Bool, IsTrue, List, [], ◌∷◌, ◌++◌, length, Option, Some, sym, ◌∙◌, ap, subst, arith}
 use Rattle.std.proofs.lemmas.List.Elements.{All-push}
 use Rattle.rex_disk.specs.Stops.{LeavesOnly, Only, Rests, overwritten}
 use Rattle.rex_file.specs.Mixing.{Mixed}
 use Rattle.rex_wal.specs.Appending.{IsWritten}
-use Rattle.rex_wal.specs.Keeping.{AllStandFor, AllStandForThose, IsClean, IsKept, IsSettled}
+use Rattle.rex_wal.specs.Keeping.{AllStandFor, IsClean, IsSettled}
 use Rattle.rex_wal.specs.Journal.{Holds, IsRecord, StandsFor, entry}
 use Rattle.rex_wal.specs.Opening.{IsCleaning, IsFound}
 use Rattle.rex_wal.proofs.Making.{append_clean, append_place, append_stands, clean_holds, found_holds, stands_on, written_long}
@@ -14,16 +14,10 @@ module _ {D : Type 0} (meets : D → Bool) (seen : D → List ℕ) (may_leave : 
   pub settled_stands : (disk : D) (records : List (List ℕ)) (end : ℕ) (pending : Option (List ℕ)) → IsSettled meets seen may_leave disk records end → IsTrue (meets disk) → AllStandFor (may_leave disk) records pending
   settled_stands disk records end pending s met image left = subst (StandsFor records pending) (sym (s.durable met image left)) (inl (clean_holds records (seen disk) (s.clean met) end s.place s.each))
 
-  -- what is kept of a keeper's parts says for what each image stands that a stop may leave
-  pub kept_stands : (disk : D) (records : List (List ℕ)) (end : ℕ) (broken : Bool) → IsKept meets seen may_leave disk records end broken → IsTrue (meets disk) → AllStandForThose (may_leave disk) records broken
-  kept_stands disk records end true k met = k.torn refl met
-  kept_stands disk records end false k met = record { pending = None; none = λ whole. refl; stand = settled_stands disk records end None (k.settled refl) met }
-
-  -- after an append in which the disk failed each one stands for the records, with the new one or without
+  -- what a stop may leave now it might have left at some moment since an earlier one
   pub torn_stands : (old new : D) (records : List (List ℕ)) (bytes : List ℕ) (moment : D → ℕ) (left_since : D → ℕ → List ℕ → Type 0) → ((t : ℕ) (image : List ℕ) → t ≤ moment new → may_leave new image → left_since new t image)
-      → LeavesOnly moment left_since old new (StandsFor records (Some bytes)) → AllStandForThose (may_leave new) records true
-  torn_stands old new records bytes moment left_since counts leaves =
-      record { pending = Some bytes; none = λ whole. absurd cc; stand = λ image left. leaves.each image (counts (moment old) image leaves.later left) }
+      → LeavesOnly moment left_since old new (StandsFor records (Some bytes)) → AllStandFor (may_leave new) records (Some bytes)
+  torn_stands old new records bytes moment left_since counts leaves image left = leaves.each image (counts (moment old) image leaves.later left)
 
   -- time stands still, and it stays settled
   pub settled_rests : (old mid : D) (records : List (List ℕ)) (end : ℕ) (moment : D → ℕ) (left_since : D → ℕ → List ℕ → Type 0) → IsSettled meets seen may_leave old records end → meets mid ≡ meets old → length (seen mid) ≡ length (seen old) → (IsTrue (meets old) → seen mid ≡ seen old)

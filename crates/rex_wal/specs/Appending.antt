@@ -1,11 +1,11 @@
 -- What an append does to a keeper.
-use Rattle.std.specs.Prelude.{◌≡◌, ◌⊎◌, ◌+◌, ◌++◌, ◌∷◌, [], ℕ, Bool, true, false, List, Result, Ok, Err, length, replicate}
+use Rattle.std.specs.Prelude.{◌≡◌, ◌⊎◌, ◌+◌, ◌++◌, ◌∷◌, [], ℕ, Bool, true, false, IsTrue, List, Some, Result, Ok, Err, length, replicate}
 use Rattle.rex_disk.specs.Calls.{Call}
 use Rattle.rex_disk.specs.Calls.Call.{Reserves}
 use Rattle.rex_journal.specs.Giving.{WritesThrough}
 use Rattle.rex_traits.specs.declared.keeper.KeepFault.{KeepFault}
 use Rattle.rex_traits.specs.declared.keeper.KeepFault.TheVariants.{Failed, OutOfMemory}
-use Rattle.rex_wal.specs.Keeping.{WalValue}
+use Rattle.rex_wal.specs.Keeping.{AllStandFor, WalValue}
 use Rattle.rex_wal.specs.Journal.{entry}
 
 -- what is written for a record: its entry, and maybe bytes 0 behind it
@@ -24,7 +24,7 @@ last_failed = Err Failed
 abbrev pub MayReserve : {D : Type 0} → (D → Call → Bool → D → Type 0) → D → D → Type 0
 MayReserve gives old new = (new ≡ old) ⊎ ((bytes : ℕ) × (failed : Bool) × gives old (Reserves 2 bytes) failed new)
 
-module _ {D : Type 0} (gives : D → Call → Bool → D → Type 0) (meets : D → Bool) (faults : D → ℕ) where
+module _ {D : Type 0} (gives : D → Call → Bool → D → Type 0) (meets : D → Bool) (may_leave : D → List ℕ → Type 0) (faults : D → ℕ) where
   -- room was reserved for what is written for a record, and that was written and synced; or the one or the other failed
   pub record WritesRecord (old new : D) (bytes : List ℕ) (result : Result (Unit {0}) KeepFault) : Type 0 where
     pub mid : D
@@ -42,15 +42,17 @@ module _ {D : Type 0} (gives : D → Call → Bool → D → Type 0) (meets : D 
     pub value : new ≡ record old { disk = new.disk; records = old.records ++ bytes ∷ [] }
     pub counted : faults new.disk ≡ faults old.disk
 
-  -- one in which the disk failed
+  -- one in which the disk failed: each image that a stop may leave stands for the records, with the new one or without
   pub record Breaks (old new : WalValue D) (bytes : List ℕ) : Type 0 where
     pub whole : old.broken ≡ false
     pub wrote : WritesRecord old.disk new.disk bytes last_failed
     pub value : new ≡ record old { disk = new.disk; broken = true }
     pub counted : faults new.disk ≡ faults old.disk + 1
+    pub torn : IsTrue (meets new.disk) → AllStandFor (may_leave new.disk) old.records (Some bytes)
 
   -- one that found no memory
   pub record GivesUp (old new : WalValue D) : Type 0 where
+    pub whole : old.broken ≡ false
     pub room : MayReserve gives old.disk new.disk
     pub value : new ≡ record old { disk = new.disk }
     pub model : meets new.disk ≡ meets old.disk

@@ -1,5 +1,5 @@
 -- What a keeper on a disk is, and what a stop may leave of it.
-use Rattle.std.specs.Prelude.{◌≡◌, ◌≤◌, ◌+◌, ◌++◌, ℕ, Bool, false, IsTrue, IsFalse, List, Option, None, length, replicate, All}
+use Rattle.std.specs.Prelude.{◌≡◌, ◌≤◌, ◌+◌, ◌++◌, ℕ, Bool, IsTrue, IsFalse, List, Option, length, replicate, All}
 use Rattle.rex_disk.specs.Stops.{Only}
 use Rattle.rex_wal.specs.Journal.{IsRecord, StandsFor, entries, head}
 
@@ -23,17 +23,10 @@ pub record IsSettled {D : Type 0} (meets : D → Bool) (seen : D → List ℕ) (
   pub clean : IsTrue (meets disk) → IsClean (seen disk) records
   pub durable : IsTrue (meets disk) → Only (seen disk) (may_leave disk)
 
+-- What is kept of a keeper's parts, unless it is broken.
+abbrev pub IsKept : {D : Type 0} → (D → Bool) → (D → List ℕ) → (D → List ℕ → Type 0) → D → List (List ℕ) → ℕ → Bool → Type 0
+IsKept meets seen may_leave disk records end broken = IsFalse broken → IsSettled meets seen may_leave disk records end
+
 -- each image that a stop may leave now stands for these records, with the pending one or without
 abbrev pub AllStandFor : (List ℕ → Type 0) → List (List ℕ) → Option (List ℕ) → Type 0
 AllStandFor may_leave records pending = (image : List ℕ) → may_leave image → StandsFor records pending image
-
--- so each one stands for the records of a keeper, and for no others unless that is broken; then maybe for these with one more, whose append failed
-pub record AllStandForThose (may_leave : List ℕ → Type 0) (records : List (List ℕ)) (broken : Bool) : Type 0 where
-  pub pending : Option (List ℕ)
-  pub none : broken ≡ false → pending ≡ None
-  pub stand : AllStandFor may_leave records pending
-
--- What is kept of a keeper's parts.
-pub record IsKept {D : Type 0} (meets : D → Bool) (seen : D → List ℕ) (may_leave : D → List ℕ → Type 0) (disk : D) (records : List (List ℕ)) (end : ℕ) (broken : Bool) : Type 0 where
-  pub settled : IsFalse broken → IsSettled meets seen may_leave disk records end
-  pub torn : IsTrue broken → IsTrue (meets disk) → AllStandForThose (may_leave disk) records broken

@@ -8,7 +8,7 @@ ghost use Rattle.rex_disk.specs.Calls.Call.{Reserves};
 ghost use Rattle.rex_disk.specs.Stops.{LeavesOnly, Rests};
 ghost use Rattle.rex_journal.specs.Keeping.{Breaks, CountsAppend, KeepsRecords};
 ghost use Rattle.rex_wal.specs.Appending.{Appends, IsWritten, MayReserve};
-ghost use Rattle.rex_wal.specs.Keeping.{AllStandFor, AllStandForThose};
+ghost use Rattle.rex_wal.specs.Keeping.{AllStandFor};
 ghost use Rattle.rex_wal.specs.Journal.{Holds, IsBad, StandsFor, entry};
 ghost use Rattle.rex_journal.specs.Giving.{Goes};
 ghost use Rattle.rex_journal.specs.Opening.{CountsAs, IsCauseIn, Leaves};
@@ -80,10 +80,10 @@ impl<D: ByteAtomic> WalKeeper<D> {
         }
     }
 
-    /// The disk. What a stop leaves of it holds the keeper's records and no others; that of a broken keeper maybe one more.
+    /// The disk. Unless the keeper is broken, what a stop leaves of it holds the keeper's records and no others.
     pub fn into_disk(self) -> D
         ensures disk { result ≡ self.disk }
-        ensures safe { IsTrue (D.meets self.disk) → AllStandForThose (D.may_leave self.disk) self.records self.broken }
+        ensures safe { IsTrue (D.meets self.disk) → self.broken ≡ false → AllStandFor (D.may_leave self.disk) self.records None }
     {
         self.disk
     }
@@ -94,7 +94,7 @@ impl<D: ByteAtomic> Keeper for WalKeeper<D> {
 
     ghost faults = { λ k. D.faults k.disk + k.refused };
 
-    ghost append_gives = { λ old bytes result new. Appends D.gives D.meets D.faults old bytes result new };
+    ghost append_gives = { λ old bytes result new. Appends D.gives D.meets D.may_leave D.faults old bytes result new };
 
     ghost may_run_out = { λ k bytes. inl refl };
 
@@ -102,7 +102,7 @@ impl<D: ByteAtomic> Keeper for WalKeeper<D> {
         requires count { D.faults self.old.disk + self.old.refused < 2 ^ 64 - 1 }
         requires short { length bytes.now < 2 ^ 32 }
         ensures kept { KeepsRecords self.old.records self.new.records bytes.now result }
-        ensures gives { Appends D.gives D.meets D.faults self.old bytes.now result self.new }
+        ensures gives { Appends D.gives D.meets D.may_leave D.faults self.old bytes.now result self.new }
         ensures broken { Breaks self.old.broken self.new.broken result }
         ensures cause { CountsAppend self.old.broken (D.faults self.old.disk) (D.faults self.new.disk) self.old.refused self.new.refused result }
         ensures safe { IsTrue (D.meets self.new.disk) → self.new.broken ≡ false → AllStandFor (D.may_leave self.new.disk) self.new.records None }

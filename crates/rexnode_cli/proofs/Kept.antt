@@ -1,12 +1,12 @@
 -- What becomes of a keeper below, by what becomes of the one above it.
-use Rattle.std.proofs.Common.{◌≡◌, ◌⊎◌, ◌≢◌, ◌<◌, ◌≤◌, ◌+◌, ℕ, Bool, true, false, List, [], ◌∷◌, Ok, Err, inl, inr, refl, sym, ap, subst, arith, ◌∙◌}
+use Rattle.std.proofs.Common.{◌≡◌, ◌⊎◌, ◌≢◌, ◌<◌, ◌≤◌, ◌+◌, ℕ, Bool, true, false, IsTrue, Some, List, [], ◌∷◌, Ok, Err, inl, inr, refl, sym, ap, subst, arith, ◌∙◌}
 use Rattle.std.proofs.lemmas.Bool.{false≢true}
 use Rattle.rex_traits.specs.Causes.{Rose}
 use Rattle.rex_traits.specs.Chains.{Answer}
 use Rattle.rex_traits.specs.declared.keeper.KeepFault.TheVariants.{Failed, OutOfMemory}
 use Rattle.rex_disk.specs.Calls.{Call}
 use Rattle.rex_wal.specs.Appending.{Appends}
-use Rattle.rex_wal.specs.Keeping.{WalValue}
+use Rattle.rex_wal.specs.Keeping.{AllStandFor, WalValue}
 use Rattle.rex_identity.specs.Identity.{IdentityValue, identity_bytes}
 use Rattle.rex_identity.specs.Claims.{AppendsBelow, GivesFault, IsFirst, OwnedValue}
 use Rattle.rex_identity.specs.declared.fault.ClaimFault.{ClaimFault}
@@ -90,8 +90,8 @@ module _ {K : Type 0} (records : K → List (List ℕ)) (gives : K → List ℕ 
 
 -- ---- a journal
 
-module _ {D : Type 0} (gives : D → Call → Bool → D → Type 0) (meets : D → Bool) (faults : D → ℕ) where
-  one_model : (old new : WalValue D) (bytes : List ℕ) (answer : Answer) → Appends gives meets faults old bytes answer new → meets new.disk ≡ meets old.disk
+module _ {D : Type 0} (gives : D → Call → Bool → D → Type 0) (meets : D → Bool) (may_leave : D → List ℕ → Type 0) (faults : D → ℕ) where
+  one_model : (old new : WalValue D) (bytes : List ℕ) (answer : Answer) → Appends gives meets may_leave faults old bytes answer new → meets new.disk ≡ meets old.disk
   one_model old new bytes (Ok x) h = h.wrote.model
   one_model old new bytes (Err Failed) (inl h) = ap (λ (j : WalValue D). meets j.disk) h.1
   one_model old new bytes (Err Failed) (inr h) = h.wrote.model
@@ -99,9 +99,9 @@ module _ {D : Type 0} (gives : D → Call → Bool → D → Type 0) (meets : D 
   one_model old new bytes (Err OutOfMemory) (inr h) = h.model
 
   -- appends don't change whether its disk does what is said of one
-  pub same_model : (old new : WalValue D) → ByAppends (λ old bytes answer new. Appends gives meets faults old bytes answer new) old new → meets new.disk ≡ meets old.disk
+  pub same_model : (old new : WalValue D) → ByAppends (λ old bytes answer new. Appends gives meets may_leave faults old bytes answer new) old new → meets new.disk ≡ meets old.disk
   same_model old new h =
-      leads_keep (IsAppend (λ old bytes answer new. Appends gives meets faults old bytes answer new)) (λ j. meets j.disk ≡ meets old.disk) (λ a b s p. one_model a b s.bytes s.answer s.appended ∙ p) old new h refl
+      leads_keep (IsAppend (λ old bytes answer new. Appends gives meets may_leave faults old bytes answer new)) (λ j. meets j.disk ≡ meets old.disk) (λ a b s p. one_model a b s.bytes s.answer s.appended ∙ p) old new h refl
 
   -- behind a journal that is whole: the disk counted no less, one that broke counted more, and only that one refuses appends
   record IsCounted (old new : WalValue D) : Type 0 where
@@ -117,7 +117,7 @@ module _ {D : Type 0} (gives : D → Call → Bool → D → Type 0) (meets : D 
     whole = λ e. refused ∙ p.whole (sym broken ∙ e);
   }
 
-  one_counted : (first old new : WalValue D) (bytes : List ℕ) (answer : Answer) → Appends gives meets faults old bytes answer new → IsCounted first old → IsCounted first new
+  one_counted : (first old new : WalValue D) (bytes : List ℕ) (answer : Answer) → Appends gives meets may_leave faults old bytes answer new → IsCounted first old → IsCounted first new
   one_counted first old new bytes (Ok x) h p = stays_counted first old new (ap (λ (j : WalValue D). j.broken) h.value) (ap (λ (j : WalValue D). j.refused) h.value) h.counted p
   one_counted first old new bytes (Err Failed) (inl h) p = record {
     later = subst (λ (j : WalValue D). faults first.disk ≤ faults j.disk) (sym h.1) p.later;
@@ -132,17 +132,37 @@ module _ {D : Type 0} (gives : D → Call → Bool → D → Type 0) (meets : D 
   one_counted first old new bytes (Err OutOfMemory) (inl same) p = stays_counted first old new (ap (λ (j : WalValue D). j.broken) same) (ap (λ (j : WalValue D). j.refused) same) (ap (λ (j : WalValue D). faults j.disk) same) p
   one_counted first old new bytes (Err OutOfMemory) (inr h) p = stays_counted first old new (ap (λ (j : WalValue D). j.broken) h.value) (ap (λ (j : WalValue D). j.refused) h.value) h.counted p
 
-  counted : (old new : WalValue D) → (old.broken ≡ false) × (old.refused ≡ 0) → ByAppends (λ old bytes answer new. Appends gives meets faults old bytes answer new) old new → IsCounted old new
+  counted : (old new : WalValue D) → (old.broken ≡ false) × (old.refused ≡ 0) → ByAppends (λ old bytes answer new. Appends gives meets may_leave faults old bytes answer new) old new → IsCounted old new
   counted old new was h =
-      leads_keep (IsAppend (λ old bytes answer new. Appends gives meets faults old bytes answer new)) (IsCounted old) (λ a b s p. one_counted old a b s.bytes s.answer s.appended p) old new h
+      leads_keep (IsAppend (λ old bytes answer new. Appends gives meets may_leave faults old bytes answer new)) (IsCounted old) (λ a b s p. one_counted old a b s.bytes s.answer s.appended p) old new h
       (record { later = omega arith; broken = λ e. absurd (false≢true (sym was.0 ∙ e)); whole = λ e. was.1 })
 
+  -- of a journal that broke each image that a stop may leave stands for its records, with one more or without
+  abbrev pub IsTorn : WalValue D → Type 0
+  IsTorn j = j.broken ≡ true → IsTrue (meets j.disk) → (lost : List ℕ) × AllStandFor (may_leave j.disk) j.records (Some lost)
+
+  -- it stays so where it isn't broken
+  unbroken : (j : WalValue D) → j.broken ≡ false → IsTorn j
+  unbroken j whole broken = absurd (false≢true (sym whole ∙ broken))
+
+  one_torn : (old new : WalValue D) (bytes : List ℕ) (answer : Answer) → Appends gives meets may_leave faults old bytes answer new → IsTorn old → IsTorn new
+  one_torn old new bytes (Ok x) h p = unbroken new (ap (λ (j : WalValue D). j.broken) h.value ∙ h.whole)
+  one_torn old new bytes (Err Failed) (inl h) p = subst IsTorn (sym h.1) p
+  one_torn old new bytes (Err Failed) (inr h) p = λ broken met.
+      (bytes, subst (λ (records : List (List ℕ)). AllStandFor (may_leave new.disk) records (Some bytes)) (sym (ap (λ (j : WalValue D). j.records) h.value)) (h.torn met))
+  one_torn old new bytes (Err OutOfMemory) (inl same) p = subst IsTorn (sym same) p
+  one_torn old new bytes (Err OutOfMemory) (inr h) p = unbroken new (ap (λ (j : WalValue D). j.broken) h.value ∙ h.whole)
+
+  pub torn_by : (old new : WalValue D) → (old.broken ≡ false) × (old.refused ≡ 0) → ByAppends (λ old bytes answer new. Appends gives meets may_leave faults old bytes answer new) old new → IsTorn new
+  torn_by old new was h =
+      leads_keep (IsAppend (λ old bytes answer new. Appends gives meets may_leave faults old bytes answer new)) IsTorn (λ a b s p. one_torn a b s.bytes s.answer s.appended p) old new h (unbroken old was.0)
+
   -- where a journal that was whole is broken, its disk failed
-  pub broken_rose : (old new : WalValue D) → (old.broken ≡ false) × (old.refused ≡ 0) → ByAppends (λ old bytes answer new. Appends gives meets faults old bytes answer new) old new → new.broken ≡ true → faults old.disk < faults new.disk
+  pub broken_rose : (old new : WalValue D) → (old.broken ≡ false) × (old.refused ≡ 0) → ByAppends (λ old bytes answer new. Appends gives meets may_leave faults old bytes answer new) old new → new.broken ≡ true → faults old.disk < faults new.disk
   broken_rose old new was h = (counted old new was h).broken
 
   -- and so it did where it failed
-  pub disk_rose : (old new : WalValue D) → (old.broken ≡ false) × (old.refused ≡ 0) → ByAppends (λ old bytes answer new. Appends gives meets faults old bytes answer new) old new
+  pub disk_rose : (old new : WalValue D) → (old.broken ≡ false) × (old.refused ≡ 0) → ByAppends (λ old bytes answer new. Appends gives meets may_leave faults old bytes answer new) old new
       → Rose (faults old.disk + old.refused) (faults new.disk + new.refused) → Rose (faults old.disk) (faults new.disk)
   disk_rose old new was h rose = by new.broken refl
     where

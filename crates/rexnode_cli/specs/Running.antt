@@ -1,5 +1,5 @@
 -- How a node comes up on a disk: with which records, and what it does then, as which frames it answers; or why it doesn't.
-use Rattle.std.specs.Prelude.{◌≡◌, ◌≢◌, ◌⊎◌, ◌<◌, ◌∷◌, ◌++◌, ◌+◌, [], ℕ, Bool, true, IsTrue, List, None, Ok, drop}
+use Rattle.std.specs.Prelude.{◌≡◌, ◌≢◌, ◌⊎◌, ◌<◌, ◌∷◌, ◌++◌, ◌+◌, [], ℕ, Bool, true, false, IsTrue, List, None, Some, Ok, drop}
 use Rattle.rex_traits.specs.Chains.{Answer}
 use Rattle.rex_disk.specs.Calls.{Call}
 use Rattle.rex_syntax.specs.declared.service.Declarations.{Declarations}
@@ -7,15 +7,16 @@ use Rattle.rex_journal.specs.Giving.{Goes}
 use Rattle.rex_journal.specs.Opening.{CountsAs, IsCauseIn, Leaves}
 use Rattle.rex_wal.specs.Journal.{Holds, IsBad}
 use Rattle.rex_wal.specs.Appending.{Appends}
-use Rattle.rex_wal.specs.Keeping.{AllStandFor, AllStandForThose, WalValue}
+use Rattle.rex_wal.specs.Keeping.{AllStandFor, WalValue}
 use Rattle.rex_wal.specs.Opening as opening
 use Rattle.rex_journal.specs.declared.fault.OpenFault.{OpenFault}
 use Rattle.rex_identity.specs.Identity.{IdentityValue, identity_bytes}
 use Rattle.rex_identity.specs.Claims as claims
-use Rattle.rex_identity.specs.Claims.{IsCause, IsFirst, OwnedValue}
+use Rattle.rex_identity.specs.Claims.{AppendsBelow, IsCause, IsFirst, OwnedValue}
 use Rattle.rex_identity.specs.declared.fault.ClaimFault.{ClaimFault}
 use Rattle.rex_group.specs.Groups.{HoldAll}
-use Rattle.rex_group.specs.Keeping.{GroupValue}
+use Rattle.rex_group.specs.Keeping.{FlushesGroup, GroupValue, Waits}
+use Rattle.rex_process.specs.Keeping.{ByAppendsAndFlushes}
 use Rattle.rex_process.specs.Process.{IsProcess, ProcessValue}
 use Rattle.rex_process.specs.Starting.{HasStarted, IsStartFault}
 use Rattle.rex_process.specs.declared.starting.StartFault.{StartFault}
@@ -71,10 +72,13 @@ pub record IsNotOwned {K : Type 0} (records : K → List (List ℕ)) (faults : K
   pub same : records keeper ≢ [] → back ≡ keeper
   pub told : status ≡ claim_status fault
 
--- once something was done to it, it is handed back: its first record is the identity's, and the others hold those that are kept for good
-pub record IsHandedBack {K : Type 0} (records : K → List (List ℕ)) (identity : IdentityValue) (Done : GroupValue (OwnedValue K) → Type 0) (back : K) : Type 0 where
+-- once something was done to it, by appends that wait and flushes of groups, it is handed back: its first record is the identity's, and the others hold
+-- those that are kept for good
+pub record IsHandedBack {K : Type 0} (records : K → List (List ℕ)) (gives : K → List ℕ → Answer → K → Type 0) (identity : IdentityValue) (grouped : GroupValue (OwnedValue K))
+    (Done : GroupValue (OwnedValue K) → Type 0) (back : K) : Type 0 where
   pub last : GroupValue (OwnedValue K)
   pub done : Done last
+  pub moved : ByAppendsAndFlushes Waits (FlushesGroup (AppendsBelow gives)) grouped last
   pub keeper_is : back ≡ last.keeper.keeper
   pub first : IsFirst (identity_bytes identity) (records back)
   pub holds : HoldAll (drop 1 (records back)) last.kept
@@ -105,7 +109,7 @@ module _ {D : Type 0} (meets : D → Bool) (seen : D → List ℕ) (may_leave : 
     pub safe : IsTrue (meets journal.disk) → AllStandFor (may_leave journal.disk) journal.records None
     pub met : meets journal.disk ≡ meets disk
     pub opened : Goes gives disk journal.disk
-    pub runs : Runs (λ j. j.records) (λ old bytes result new. Appends gives meets faults old bytes result new) (λ j. faults j.disk + j.refused) journal
+    pub runs : Runs (λ j. j.records) (λ old bytes result new. Appends gives meets may_leave faults old bytes result new) (λ j. faults j.disk + j.refused) journal
 
   -- it was not: it is bad, or memory was short, and then nothing was written; or the disk failed. So the disk is handed back
   pub record IsNotOpened (status : ℕ) (back : D) : Type 0 where
@@ -120,13 +124,14 @@ module _ {D : Type 0} (meets : D → Bool) (seen : D → List ℕ) (may_leave : 
   abbrev pub Opens : ((WalValue D → List (List ℕ)) → (WalValue D → List ℕ → Answer → WalValue D → Type 0) → (WalValue D → ℕ) → WalValue D → Type 0) → Type 0 → ℕ → D → Type 0
   Opens Runs Untouched status back = HasOpened Runs ⊎ (IsNotOpened status back × Untouched)
 
--- once something was done to the journal on a disk, the disk is handed back: what a stop leaves of it holds the journal's records, or one more where that is
--- broken, and then the disk failed, which it counted
+-- once something was done to the journal on a disk, the disk is handed back: what a stop leaves of it holds the journal's records, or one more where an
+-- append broke that, and then the disk failed, which it counted
 pub record IsClosed {D : Type 0} (meets : D → Bool) (may_leave : D → List ℕ → Type 0) (faults : D → ℕ) (disk : D) (Done : WalValue D → Type 0) (back : D) : Type 0 where
   pub last : WalValue D
   pub done : Done last
   pub disk_is : back ≡ last.disk
-  pub stand : IsTrue (meets back) → AllStandForThose (may_leave back) last.records last.broken
+  pub stand : IsTrue (meets back) → last.broken ≡ false → AllStandFor (may_leave back) last.records None
+  pub torn : IsTrue (meets back) → last.broken ≡ true → (lost : List ℕ) × AllStandFor (may_leave back) last.records (Some lost)
   pub failed : last.broken ≡ true → faults disk < faults back
 
 -- ---- frames: the bytes that the source gave, and those that the sink had taken before and has taken now
@@ -156,7 +161,7 @@ abbrev pub RunsOwned : {K : Type 0} → (K → List (List ℕ)) → (K → List 
 RunsOwned records gives faults service identity keeper input before now status back =
     Claims records gives faults identity keeper
     (λ all kept failed grouped.
-    IsHandedBack records identity (λ last. Runs all kept failed service identity.id identity.nodes identity.seed grouped input before now status last) back)
+    IsHandedBack records gives identity grouped (λ last. Runs all kept failed service identity.id identity.nodes identity.seed grouped input before now status last) back)
     (IsUntouched input before now) status back
 
 -- one that came up with the journal on a disk did so

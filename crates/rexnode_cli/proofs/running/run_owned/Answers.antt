@@ -21,7 +21,7 @@ returns-in-Ok-clause-runs g c =
     has_owned g.K.Keeper.records g.K.Keeper.append_gives g.K.Keeper.faults c.args.loaded.now.service identity
     c.args.keeper c.in-Ok.owned c.run_process-ran.result.back c.run_process-ran.result.status c.into_keeper-in-Ok.result
     (g.W.Sink.taken c.args.sink.now) (g.W.Sink.taken c.run_process-ran.new.sink) (g.S.Source.given c.args.source.now) (g.S.Source.given c.run_process-ran.new.source)
-    c.in-Ok.ensures.owned back_is
+    c.in-Ok.ensures.owned c.run_process-ran.ensures.keeper back_is
     (first_of g.K.Keeper.records g.K.Keeper.append_gives identity c.in-Ok.owned c.run_process-ran.result.back c.into_keeper.result c.into_keeper-in-Ok.result c.in-Ok.ensures.owned.claim.identity_is
     c.run_process-ran.ensures.keeper c.into_keeper.ensures.keeper c.into_keeper-in-Ok.ensures.keeper c.into_keeper-in-Ok.ensures.first)
     (subst (λ (k : g.row.K.Denot). HoldAll (drop 1 (g.K.Keeper.records k)) c.run_process-ran.result.back.kept) (sym back_is) c.into_keeper.ensures.holds) c.run_process-ran.ensures.runs
