@@ -3,6 +3,7 @@
 ACCEPTED, CHOSEN = b"\4", b"\5"  # kinds of messages, by which a node says that it accepted a value, and that one is agreed on
 KIND, INSTANCE = slice(1, 2), slice(12, 16)  # where a message has its kind, and an accepted its instance
 RELEASED = b"released "
+READING = 1e-5  # seconds for which reading a reply once more keeps others waiting, about
 
 
 class Messages:
@@ -27,10 +28,15 @@ class Messages:
             self.held.append(message)
             return
         self.count += 1
-        if self.requests.is_open:
+        if self.requests.is_open and self.is_slower():
             self.node.call(b"W", message, lambda reports: self.on_foretold(message, reports), is_asked=True)
         else:
             self.node.call(b"M", message, self.on_answer)
+
+    def is_slower(self):
+        """Whether the node takes longer to keep a record than it takes to read all replies once more, which comes of telling them before."""
+        last = self.node.times.last
+        return not last or last[-1] > READING * len(self.requests.waiting)
 
     def on_foretold(self, message, reports):
         """Where the node would release replies if it heard the message these are told now, and it hears that together with the next cut: what it writes down
