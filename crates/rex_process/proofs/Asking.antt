@@ -8,7 +8,8 @@ use Rattle.rex_node.specs.declared.refusal.Refusal.{Refusal}
 use Rattle.rex_node.specs.declared.step.Step.{Step}
 use Rattle.rex_node.specs.Calls.{Does, Refuses, if_up, refusal_up}
 use Rattle.rex_processes.specs.Processes.Task.{Ask}
-use Rattle.rex_process.specs.Coming.{Comes, IsTold}
+use Rattle.rex_steps.specs.Steps.{IsStepOf}
+use Rattle.rex_process.specs.Coming.{Comes}
 use Rattle.rex_process.specs.Process.{ProcessValue, IsProcess, ComesTo, call_in, task_in, here}
 use Rattle.rex_process.proofs.Cutting.{refuses_then}
 use Rattle.rex_process.proofs.Growing.{same_clock}
@@ -31,7 +32,7 @@ module _ {K : Type 0} (records : K → List (List ℕ)) (gives : K → List ℕ 
   asked step (inr h) =
       absurd (let e : faults q.node.keeper ≡ faults p.node.keeper = ap (λ (x : ProcessValue K). faults x.node.keeper) same in let c : faults p.node.keeper < faults q.node.keeper = h.counted in omega (arith, e, c))
 
-  pub ask_comes : (id : ℕ) (outcome : Result Step Refusal) → Refuses (refusal_up before) outcome → IfOk outcome HasAsked → (result : Result Step AllocError) → IsTold id outcome result → IfOk result (ComesTo records faults p q (Ask to))
+  pub ask_comes : (id : ℕ) (outcome : Result Step Refusal) → Refuses (refusal_up before) outcome → IfOk outcome HasAsked → (result : Result Step AllocError) → IsStepOf id outcome result → IfOk result (ComesTo records faults p q (Ask to))
   ask_comes id outcome refused did (Err e) tells = tt
   ask_comes id outcome refused did (Ok step) tells = record {
     came = asked step (subst (λ (o : Result Step Refusal). IfOk o HasAsked) done did);

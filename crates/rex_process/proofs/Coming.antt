@@ -12,23 +12,10 @@ use Rattle.rex_node.specs.declared.refusal.Refusal.TheVariants as why
 use Rattle.rex_node.specs.declared.step.Step.{Step}
 use Rattle.rex_node.specs.Calls.{Does, EndsDown, IsSpared, RefusesThen, call_of, if_up}
 use Rattle.rex_node.specs.Parts.{NodeValue, failed_records, here_of}
-use Rattle.rex_steps.specs.Steps.{Acts, IsRefused, IsTelling, WasDown, effect_of}
+use Rattle.rex_steps.specs.Steps.{Acts, IsRefused, IsStepOf, IsTelling, WasDown, effect_of}
 use Rattle.rex_steps.proofs.Refusing.{Excused, acts_then}
-use Rattle.rex_process.specs.Coming.{Comes, GoesOn, IsTold}
-
--- what refuses leaves as it was, and so whatever is made of it
-pub spared_of : {A B C : Type 0} → (f : B → C) (result : Result A Refusal) (b c : B) → IsSpared result b c → IsSpared result (f b) (f c)
-spared_of f (Ok x) b c same = tt
-spared_of f (Err why.OutOfMemory) b c same = tt
-spared_of f (Err why.Down) b c same = ap f same
-spared_of f (Err (why.NotActive role)) b c same = ap f same
-spared_of f (Err (why.Open i)) b c same = ap f same
-spared_of f (Err why.Ended) b c same = ap f same
-spared_of f (Err why.Nothing) b c same = ap f same
-spared_of f (Err (why.Live many)) b c same = ap f same
-spared_of f (Err why.UpToDate) b c same = ap f same
-spared_of f (Err why.Spent) b c same = ap f same
-spared_of f (Err (why.BadSnapshot at)) b c same = ap f same
+use Rattle.rex_steps.proofs.Served.{spared_of}
+use Rattle.rex_process.specs.Coming.{Comes, GoesOn}
 
 abbrev err_of : Refusal → Result Step Refusal
 err_of refusal = Err refusal
@@ -77,7 +64,7 @@ module _ {K : Type 0} (records : K → List (List ℕ)) (gives : K → List ℕ 
     not_down h = absurd (let no : true ≡ false = sym up ∙ h.down in cc)
 
     -- a step that is told of what the node answered is one that the call comes to
-    pub comes_then : (result : Result Step Refusal) → RefusesThen (if_up old.up due) late result → IsSpared result old new → IfOk result (Does records gives faults service [] call old new) → IfOk result (EndsDown id (faults old.keeper) (faults new.keeper) new.up) → IsTold number result (Ok step) → Comes records faults service call old new step
+    pub comes_then : (result : Result Step Refusal) → RefusesThen (if_up old.up due) late result → IsSpared result old new → IfOk result (Does records gives faults service [] call old new) → IfOk result (EndsDown id (faults old.keeper) (faults new.keeper) new.up) → IsStepOf number result (Ok step) → Comes records faults service call old new step
     comes_then (Ok done) is left does ends tells = subst (Comes records faults service call old new) (sym tells) (went id done does ends)
     comes_then (Err why.OutOfMemory) is left does ends tells = absurd tells
     comes_then (Err why.Down) is left does ends tells = not_down (acted why.Down is left)

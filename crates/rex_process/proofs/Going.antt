@@ -22,12 +22,12 @@ use Rattle.rex_node.specs.declared.refusal.Refusal.{Refusal}
 use Rattle.rex_node.specs.declared.step.Step.{Step}
 use Rattle.rex_node.specs.Calls.{LeadsTo, Refuses, refusal_active, turn_at}
 use Rattle.rex_node.specs.Parts.{IsUp, NodeValue, StaysNode, here_of}
-use Rattle.rex_steps.specs.Steps.{TellsOf}
+use Rattle.rex_steps.specs.Steps.{IsStepOf, TellsOf}
 use Rattle.rex_processes.specs.Processes.Task.{Turn as TurnOf}
 use Rattle.rex_processes.specs.Tested.{KnownFits}
 use Rattle.rex_processes.proofs.Ranging.{actives_in_range, one_has_room}
 use Rattle.rex_fits.specs.Applied.{ShowNoLater}
-use Rattle.rex_process.specs.Coming.{Comes, HasDone, IsTold}
+use Rattle.rex_process.specs.Coming.{Comes, HasDone}
 use Rattle.rex_process.specs.Process.{ProcessValue, IsProcess, IsUpProcess, IsSame, ComesTo, HasTurn, call_in, task_in, here, is_behind}
 use Rattle.rex_process.specs.Going.{HasGone, HasMade, IsStill, events_in}
 use Rattle.rex_process.proofs.Dating.{raised_first, raised_reads, raised_shows}
@@ -192,7 +192,7 @@ module _ {K : Type 0} (records : K → List (List ℕ)) (faults : K → ℕ) (p 
 
       -- the node has done the turn, or refused it
       done : (id : ℕ) (result : Result Turn Refusal) (outcome : Result Step Refusal) (step : Step) → Refuses (refusal_active before) result → IfOk result (HasGone records p q lane) → OnErr result (q ≡ p)
-          → TellsOf (turn_effect lane) result outcome → IsTold id outcome (Ok step) → HasDone records faults p.service (call_in p (TurnOf lane is_up.reads)) p.node q.node step
+          → TellsOf (turn_effect lane) result outcome → IsStepOf id outcome (Ok step) → HasDone records faults p.service (call_in p (TurnOf lane is_up.reads)) p.node q.node step
       done id result outcome step refused went spared told tell =
           works records faults p.service p.node q.node id up (ap faults keeper) step (turn_effect lane) work refl result outcome refused (tells result went) (leads_to result went) (same_parts result spared) told tell
 
@@ -209,7 +209,7 @@ module _ {K : Type 0} (records : K → List (List ℕ)) (faults : K → ℕ) (p 
       -- the step that is told of it is the turn's, whatever the clock was before it was raised
       pub has_turn : (first : ProcessValue K) (clock : ℤ) → p ≡ record first { clock = int_max first.clock clock } → (id : ℕ) (result : Result Turn Refusal) (outcome : Result Step Refusal)
           → Refuses (refusal_active before) result → IfOk result (HasGone records p q lane) → OnErr result (q ≡ p) → TellsOf (turn_effect lane) result outcome
-          → (told : Result Step AllocError) → IsTold id outcome told → IfOk told (HasTurn records faults first q lane clock)
+          → (told : Result Step AllocError) → IsStepOf id outcome told → IfOk told (HasTurn records faults first q lane clock)
       has_turn first clock raised id result outcome refused went spared told (Err e) tell = tt
       has_turn first clock raised id result outcome refused went spared told (Ok step) tell =
           let clocks : p.clock ≡ int_max first.clock clock = ap (λ (x : ProcessValue K). x.clock) raised in

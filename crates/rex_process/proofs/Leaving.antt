@@ -21,7 +21,8 @@ use Rattle.rex_processes.specs.Processes.Task.{Hear}
 use Rattle.rex_processes.specs.Plain.{IsPlain}
 use Rattle.rex_processes.specs.Tested.{MayBeHeard}
 use Rattle.rex_processes.proofs.Stateless.{plain_stays}
-use Rattle.rex_process.specs.Coming.{Comes, IsTold}
+use Rattle.rex_steps.specs.Steps.{IsStepOf}
+use Rattle.rex_process.specs.Coming.{Comes}
 use Rattle.rex_process.specs.Hearing.{IsHeard}
 use Rattle.rex_process.specs.Process.{ProcessValue, ComesTo, IsLeft, IsProcess, call_in, here}
 use Rattle.rex_process.proofs.Pasts.{same_log}
@@ -64,7 +65,7 @@ module _ {K : Type 0} (records : K → List (List ℕ)) (gives : K → List ℕ 
     spared same = left_same q refl (ap (λ (x : NodeValue K). records x.keeper) same)
 
     -- the node's call itself was short of memory, or what it refused couldn't be told
-    pub left_by : (result : Result Step Refusal) → Leaves records gives faults p.service past call result p.node mid → IsSpared result p.node mid → IsTold number result (Err e) → IsLeft records p q task
+    pub left_by : (result : Result Step Refusal) → Leaves records gives faults p.service past call result p.node mid → IsSpared result p.node mid → IsStepOf number result (Err e) → IsLeft records p q task
     left_by (Ok step) left same told = absurd told
     left_by (Err why.OutOfMemory) (inl h) same told = left_same q refl h.records
     left_by (Err why.OutOfMemory) (inr h) same told = inr (inr (length h.stops.written, false, given (length h.stops.written) h.stops.is))
@@ -80,13 +81,13 @@ module _ {K : Type 0} (records : K → List (List ℕ)) (gives : K → List ℕ 
 
 -- of a call beside no past
 pub left_plainly : {K : Type 0} (records : K → List (List ℕ)) (gives : K → List ℕ → Answer → K → Type 0) (faults : K → ℕ) (p : ProcessValue K) (task : Task) (mid : NodeValue K) (number : ℕ) (e : AllocError) (result : Result Step Refusal)
-    → Leaves records gives faults p.service [] (call_in p task) result p.node mid → IsSpared result p.node mid → IsTold number result (Err e) → IsLeft records p (record p { node = mid }) task
+    → Leaves records gives faults p.service [] (call_in p task) result p.node mid → IsSpared result p.node mid → IsStepOf number result (Err e) → IsLeft records p (record p { node = mid }) task
 left_plainly records gives faults p task mid number e result left same told = left_by records gives faults p task [] (call_in p task) mid number e (λ before h. sym h) result left same told
 
 -- of a message that is heard beside what the node knows
 pub left_heard : {K : Type 0} (records : K → List (List ℕ)) (gives : K → List ℕ → Answer → K → Type 0) (faults : K → ℕ) (p : ProcessValue K) (process : IsProcess records faults p) (up : p.node.up ≡ true) (m : Message) (heard : IsHeard p.node.id p.node.nodes m)
     (may : MayBeHeard p.service (here records p) (content_in [] m.content)) (mid : NodeValue K) (number : ℕ) (e : AllocError) (result : Result Step Refusal)
-    → Leaves records gives faults p.service p.node.known (λ d. receive p.node.nodes (service_of p.service p.node.seed) p.node.id m.from (content_in p.node.known m.content) d) result p.node mid → IsSpared result p.node mid → IsTold number result (Err e)
+    → Leaves records gives faults p.service p.node.known (λ d. receive p.node.nodes (service_of p.service p.node.seed) p.node.id m.from (content_in p.node.known m.content) d) result p.node mid → IsSpared result p.node mid → IsStepOf number result (Err e)
     → IsLeft records p (record p { node = mid }) (Hear (message_in [] m))
 left_heard {K} records gives faults p process up m heard may mid number e result left same told =
     left_by records gives faults p (Hear (message_in [] m)) p.node.known heard_call mid number e given result left same told

@@ -15,7 +15,8 @@ use Rattle.rex_processes.specs.Processes.{Task}
 use Rattle.rex_processes.specs.Plain.{IsPlainTask, HearsNoState}
 use Rattle.rex_processes.specs.Leading.{TaskFits}
 use Rattle.rex_fits.specs.Applied.{clock_after}
-use Rattle.rex_process.specs.Coming.{Comes, IsTold}
+use Rattle.rex_steps.specs.Steps.{IsStepOf}
+use Rattle.rex_process.specs.Coming.{Comes}
 use Rattle.rex_process.specs.Process.{ProcessValue, IsProcess, call_in, clock_then, here, learned}
 use Rattle.rex_process.specs.Settling.{IsCaught, IsSettling, noted_clock}
 use Rattle.rex_process.proofs.Coming.{comes_then}
@@ -28,7 +29,7 @@ module _ {K : Type 0} (records : K → List (List ℕ)) (gives : K → List ℕ 
     (mid : NodeValue K) (due late : Option Refusal) (says : Excused (call_in p task (begin (here records p))) p.node.id (here records p) due) (later : due ≡ None → Excused (call_in p task (begin (here records p))) p.node.id (here records p) late)
     (result : Result Step Refusal) (refused : RefusesThen (if_up p.node.up due) late result) (spared : IsSpared result p.node mid)
     (did : IfOk result (Does records gives faults p.service [] (call_in p task) p.node mid)) (ends : IfOk result (EndsDown p.node.id (faults p.node.keeper) (faults mid.keeper) mid.up)) (kept : StaysNode records p.service [] p.node mid)
-    (step : Step) (told : IsTold p.node.id result (Ok step)) where
+    (step : Step) (told : IsStepOf p.node.id result (Ok step)) where
   comes : Comes records faults p.service (call_in p task) p.node mid step
   comes = comes_then records gives faults p.service (call_in p task) p.node mid p.node.id p.node.id up due late says later step result refused spared did ends told
 

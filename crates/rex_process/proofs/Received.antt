@@ -31,7 +31,8 @@ use Rattle.rex_processes.specs.Processes.Task.{Hear}
 use Rattle.rex_processes.specs.Plain.{IsPlain}
 use Rattle.rex_processes.specs.Tested.{MayBeHeard}
 use Rattle.rex_fits.specs.Applied.{AppliedValue, ShowNoLater, clock_after, greatest_clock}
-use Rattle.rex_process.specs.Coming.{Comes, HasDone, IsTold}
+use Rattle.rex_steps.specs.Steps.{IsStepOf}
+use Rattle.rex_process.specs.Coming.{Comes, HasDone}
 use Rattle.rex_process.specs.Hearing.{IsHeard, IsTestOfChosen}
 use Rattle.rex_process.specs.Process.{ProcessValue, HasTest, IsProcess, call_in, here}
 use Rattle.rex_process.specs.Settling.{IsCaught, IsReady, IsSettling, noted_clock}
@@ -52,7 +53,7 @@ module _ {K : Type 0} (records : K → List (List ℕ)) (gives : K → List ℕ 
     (did : IfOk result (Does records gives faults p.service p.node.known (λ d. receive p.node.nodes (service_of p.service p.node.seed) p.node.id m.from (content_in p.node.known m.content) d) p.node mid))
     (ends : IfOk result (EndsDown p.node.id (faults p.node.keeper) (faults mid.keeper) mid.up))
     (kept : StaysNode records p.service p.node.known p.node mid)
-    (number : ℕ) (step : Step) (told : IsTold number result (Ok step)) where
+    (number : ℕ) (step : Step) (told : IsStepOf number result (Ok step)) where
   is_done : result ≡ Ok step
   is_done =
       only_done number result step

@@ -29,7 +29,8 @@ use Rattle.rex_processes.specs.Tested.{MayBeHeard}
 use Rattle.rex_processes.proofs.Calling.{plain_offset}
 use Rattle.rex_processes.proofs.Stateless.{plain_stays, plain_tells_none}
 use Rattle.rex_processes.proofs.Testing.{heard_fits}
-use Rattle.rex_process.specs.Coming.{Comes, IsTold}
+use Rattle.rex_steps.specs.Steps.{IsStepOf}
+use Rattle.rex_process.specs.Coming.{Comes}
 use Rattle.rex_process.specs.Hearing.{IsHeard}
 use Rattle.rex_process.specs.Process.{ProcessValue, IsProcess, call_in, here}
 use Rattle.rex_process.proofs.Coming.{failed_goes}
@@ -52,7 +53,7 @@ each_stateless [] none = All-nil (λ (m : ModelMessage Value). TellsNoState m.co
 each_stateless (m ∷ ms) none = All-cons (λ (x : ModelMessage Value). TellsNoState x.content) m ms none.0 (each_stateless ms none.1)
 
 -- what is told where no refusal is due is what was done
-pub only_done : (number : ℕ) (result : Result Step Refusal) (step : Step) → RefusesThen None None result → IsTold number result (Ok step) → result ≡ Ok step
+pub only_done : (number : ℕ) (result : Result Step Refusal) (step : Step) → RefusesThen None None result → IsStepOf number result (Ok step) → result ≡ Ok step
 only_done number (Ok done) step is told = ok told
   where
     ok : {a b : Step} → b ≡ a → ◌≡◌ {A = Result Step Refusal} (Ok a) (Ok b)

@@ -13,9 +13,9 @@ use Rattle.rex_node.specs.declared.refusal.Refusal.{Refusal}
 use Rattle.rex_node.specs.declared.step.Step.{Step}
 use Rattle.rex_node.specs.Calls.{LeadsTo, Refuses, refusal_active}
 use Rattle.rex_node.specs.Parts.{StaysNode, here_of}
-use Rattle.rex_steps.specs.Steps.{TellsOf}
+use Rattle.rex_steps.specs.Steps.{IsStepOf, TellsOf}
 use Rattle.rex_processes.specs.Processes.Task.{Submit}
-use Rattle.rex_process.specs.Coming.{HasDone, IsTold}
+use Rattle.rex_process.specs.Coming.{HasDone}
 use Rattle.rex_process.specs.Process.{ProcessValue, IsProcess, ComesTo, call_in, here, is_behind}
 use Rattle.rex_process.proofs.Growing.{same_clock}
 use Rattle.rex_process.proofs.Staying.{reads_of, stays_process, still_caught, still_reads}
@@ -50,10 +50,10 @@ module _ {K : Type 0} (records : K → List (List ℕ)) (faults : K → ℕ) (p 
     leads (Ok x) h = h
     leads (Err e) h = tt
 
-    done : (step : Step) → IsTold id outcome (Ok step) → HasDone records faults p.service (call_in p (Submit r)) p.node q.node step
+    done : (step : Step) → IsStepOf id outcome (Ok step) → HasDone records faults p.service (call_in p (Submit r)) p.node q.node step
     done step tells = works records faults p.service p.node q.node id up (ap faults keeper) step (effect_of r) work refl result outcome refused told (leads result node) same answered tells
 
-    comes : (step : Step) → IsTold id outcome (Ok step) → ComesTo records faults p q (Submit r) step
+    comes : (step : Step) → IsStepOf id outcome (Ok step) → ComesTo records faults p q (Submit r) step
     comes step tells =
         let h = done step tells in
         record {
@@ -64,15 +64,15 @@ module _ {K : Type 0} (records : K → List (List ℕ)) (faults : K → ℕ) (p 
           clock = λ u. same_clock records p q service_is keeper clock_is;
         }
 
-    stays_so : (step : Step) → IsTold id outcome (Ok step) → IsProcess records faults q
+    stays_so : (step : Step) → IsStepOf id outcome (Ok step) → IsProcess records faults q
     stays_so step tells =
         stays_process records faults p q good checked process up (Submit r) step (comes step tells).came service_is stays tt tt fits
         (λ u. still_reads records p (record q { service = p.service }) (reads_of records faults p (process.up up)) clock_is (ap (λ (d : CallHere). node_trace d.node) (done step tells).is ∙ same_trace))
 
-    pub submit_comes : (result : Result Step AllocError) → IsTold id outcome result → IfOk result (ComesTo records faults p q (Submit r))
+    pub submit_comes : (result : Result Step AllocError) → IsStepOf id outcome result → IfOk result (ComesTo records faults p q (Submit r))
     submit_comes (Ok step) tells = comes step tells
     submit_comes (Err e) tells = tt
 
-    pub submit_kept : (result : Result Step AllocError) → IsTold id outcome result → OnOk result (IsProcess records faults q)
+    pub submit_kept : (result : Result Step AllocError) → IsStepOf id outcome result → OnOk result (IsProcess records faults q)
     submit_kept (Ok step) tells = stays_so step tells
     submit_kept (Err e) tells = tt

@@ -15,9 +15,9 @@ use Rattle.rex_node.specs.declared.refusal.Refusal.TheVariants as why
 use Rattle.rex_node.specs.declared.step.Step.{Step}
 use Rattle.rex_node.specs.Calls.{Refuses, call_of, if_active, if_up, refusal_active}
 use Rattle.rex_node.specs.Parts.{NodeValue, here_of}
-use Rattle.rex_steps.specs.Steps.{IsTelling, TellsOf}
+use Rattle.rex_steps.specs.Steps.{IsStepOf, IsTelling, TellsOf}
 use Rattle.std.specs.Prelude.{if◌then◌else◌}
-use Rattle.rex_process.specs.Coming.{HasDone, IsTold}
+use Rattle.rex_process.specs.Coming.{HasDone}
 
 module _ {K : Type 0} (records : K → List (List ℕ)) (faults : K → ℕ) (service : Declarations) (old new : NodeValue K) (id : ℕ) (up : old.up ≡ true) (counted : faults new.keeper ≡ faults old.keeper) (step : Step) where
   abbrev before : Here
@@ -70,23 +70,23 @@ module _ {K : Type 0} (records : K → List (List ℕ)) (faults : K → ℕ) (se
   err refusal = Err refusal
 
   -- want of memory leaves no step
-  none_short : (refusal : Refusal) (outcome : Result Step Refusal) → refusal ≡ why.OutOfMemory → outcome ≡ err refusal → IsTold id outcome (Ok step) → ⊥
-  none_short refusal outcome short is told = subst (λ (r : Refusal). IsTold id (err r) (Ok step)) short (subst (λ (o : Result Step Refusal). IsTold id o (Ok step)) is told)
+  none_short : (refusal : Refusal) (outcome : Result Step Refusal) → refusal ≡ why.OutOfMemory → outcome ≡ err refusal → IsStepOf id outcome (Ok step) → ⊥
+  none_short refusal outcome short is told = subst (λ (r : Refusal). IsStepOf id (err r) (Ok step)) short (subst (λ (o : Result Step Refusal). IsStepOf id o (Ok step)) is told)
 
   module _ {A : Type 0} (f : A → Effect) (call : CallHere → CallHere) (sends : (call (begin before)).sends ≡ []) where
-    by_active : (t : Bool) → is_active before.role ≡ t → (result : Result A Refusal) (outcome : Result Step Refusal) → Refuses (if t then None else Some (why.NotActive (role_name before.role))) result → IfOk result (λ x. f x ∷ [] ≡ (call (begin before)).effects) → IfOk result (λ x. after ≡ (call (begin before)).node) → OnErr result (new ≡ old) → TellsOf f result outcome → IsTold id outcome (Ok step) → Works call
+    by_active : (t : Bool) → is_active before.role ≡ t → (result : Result A Refusal) (outcome : Result Step Refusal) → Refuses (if t then None else Some (why.NotActive (role_name before.role))) result → IfOk result (λ x. f x ∷ [] ≡ (call (begin before)).effects) → IfOk result (λ x. after ≡ (call (begin before)).node) → OnErr result (new ≡ old) → TellsOf f result outcome → IsStepOf id outcome (Ok step) → Works call
     by_active true a (Ok x) (Ok s) is effects node same tell told = does call (f x) a (subst (IsTelling (f x)) (sym told) tell) node effects sends
     by_active true a (Ok x) (Err refusal) is effects node same tell told = absurd (none_short refusal (err refusal) tell refl told)
     by_active true a (Err refusal) outcome is effects node same tell told = absurd (none_short refusal outcome is tell told)
     by_active false a (Ok x) outcome is effects node same tell told = absurd (cc)
     by_active false a (Err refusal) outcome is effects node same tell told =
         let due : refusal ≡ why.NotActive (role_name before.role) = same_err refusal (why.NotActive (role_name before.role)) is in
-        refuses call a same (subst (λ (r : Refusal). IsTold id (err r) (Ok step)) due (subst (λ (o : Result Step Refusal). IsTold id o (Ok step)) tell told))
+        refuses call a same (subst (λ (r : Refusal). IsStepOf id (err r) (Ok step)) due (subst (λ (o : Result Step Refusal). IsStepOf id o (Ok step)) tell told))
       where
         same_err : (a b : Refusal) → ◌≡◌ {A = Result A Refusal} (Err a) (Err b) → a ≡ b
         same_err a b e = cc
 
-    pub works : (result : Result A Refusal) (outcome : Result Step Refusal) → Refuses (refusal_active before) result → IfOk result (λ x. f x ∷ [] ≡ (call (begin before)).effects) → IfOk result (λ x. after ≡ (call (begin before)).node) → OnErr result (new ≡ old) → TellsOf f result outcome → IsTold id outcome (Ok step) → Works call
+    pub works : (result : Result A Refusal) (outcome : Result Step Refusal) → Refuses (refusal_active before) result → IfOk result (λ x. f x ∷ [] ≡ (call (begin before)).effects) → IfOk result (λ x. after ≡ (call (begin before)).node) → OnErr result (new ≡ old) → TellsOf f result outcome → IsStepOf id outcome (Ok step) → Works call
     works result outcome is =
         by_active (is_active before.role) refl result outcome
         (subst (λ (due : Option Refusal). Refuses due result) (ap (λ (u : Bool). if_up u (if_active before.role None)) up ∙ due_is before.role) is)

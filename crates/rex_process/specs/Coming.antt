@@ -1,16 +1,12 @@
 -- What comes of a call of a node, whose keeper may fail.
-use Rattle.std.specs.Prelude.{◌≡◌, ◌⊎◌, ◌<◌, ℕ, Bool, false, List, [], ◌++◌, Result, Ok, Err}
-use Rattle.std.specs.declared.alloc.AllocError.{AllocError}
+use Rattle.std.specs.Prelude.{◌≡◌, ◌⊎◌, ◌<◌, ℕ, Bool, false, List, [], ◌++◌}
 use Rattle.rex_syntax.specs.declared.service.Declarations.{Declarations}
 use Rattle.rex_cluster.specs.Calls.{begin}
 use Rattle.rex_cluster.specs.Lanes.{CallHere}
-use Rattle.rex_node.specs.declared.refusal.Refusal.{Refusal}
-use Rattle.rex_node.specs.declared.refusal.Refusal.TheVariants as why
 use Rattle.rex_node.specs.declared.step.Step.{Step}
 use Rattle.rex_node.specs.Calls.{call_of}
 use Rattle.rex_node.specs.Parts.{NodeValue, here_of}
 use Rattle.rex_processes.specs.Processes.{armed_after}
-use Rattle.rex_steps.specs.Steps.{IsTelling, effect_of}
 
 -- a node's records go on from those before
 pub record GoesOn {K : Type 0} (records : K → List (List ℕ)) (old new : K) : Type 0 where
@@ -34,14 +30,6 @@ module _ {K : Type 0} (records : K → List (List ℕ)) (faults : K → ℕ) (se
 
   abbrev pub Comes : Type 0
   Comes = GoesOn records old.keeper new.keeper × (HasDone ⊎ HasDied)
-
--- a step is what the call answered, or reports why it was refused; without it memory was short
-abbrev pub IsTold : ℕ → Result Step Refusal → Result Step AllocError → Type 0
-IsTold number (Ok step) (Ok told) = told ≡ step
-IsTold number (Ok step) (Err e) = ⊥
-IsTold number (Err why.OutOfMemory) (Ok told) = ⊥
-IsTold number (Err refusal) (Ok told) = IsTelling (effect_of number refusal) told
-IsTold number (Err refusal) (Err e) = Unit {0}
 
 -- what the node knew more was replayed, behind a step
 pub record CatchesUp {K : Type 0} (records : K → List (List ℕ)) (service : Declarations) (catch : CallHere → CallHere) (old new : NodeValue K) (before after : Step) : Type 0 where

@@ -16,12 +16,12 @@ ghost use Rattle.rex_process.specs.Hearing.{IsHeard, IsTestOf, IsTestOfAdopted, 
 
 use crate::answers::Answer;
 use crate::process::Process;
-use crate::telling::told;
 use rex_fits::Applied;
 use rex_msg::{Content, Message};
 use rex_node::Step;
 use rex_replay::OneThread;
 use rex_report::Role;
+use rex_steps::told;
 use rex_traits::Keeper;
 use std::alloc::AllocError;
 use std::marker::Brand;

@@ -11,9 +11,9 @@ ghost use Rattle.rex_process.specs.Process.{Answers, ComesTo, IsLeft, IsProcess,
 
 use crate::answers::Answer;
 use crate::process::Process;
-use crate::telling::told;
 use rex_node::Step;
 use rex_replay::OneThread;
+use rex_steps::told;
 use rex_traits::Keeper;
 use std::alloc::AllocError;
 use std::marker::Brand;

@@ -11,7 +11,6 @@ mod process;
 mod running;
 mod settling;
 mod starting;
-mod telling;
 mod testing;
 mod tracing;
 

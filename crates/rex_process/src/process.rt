@@ -11,12 +11,11 @@ ghost use Rattle.rex_msg.specs.Spelling.{IsMessage};
 ghost use Rattle.rex_process.specs.Sending.{MayBeTold};
 ghost use Rattle.rex_process.specs.Status.{status_of};
 
-use crate::telling::told;
 use rex_frames::Status;
 use rex_node::{Node, Step};
 use rex_reads::Seen;
 use rex_report::Effect;
-use rex_steps::{answered, read_effect};
+use rex_steps::{answered, read_effect, told};
 use rex_syntax::checked::Checked;
 use rex_syntax::request::Request;
 use rex_traits::Keeper;

@@ -12,11 +12,10 @@ ghost use Rattle.rex_process.specs.Process.{HasTurn, IsProcess, IsSame, here};
 ghost use Rattle.rex_process.specs.Running.{HasRun};
 
 use crate::process::Process;
-use crate::telling::told;
 use rex_node::{Refusal, Step};
 use rex_record::Turn;
 use rex_report::{Effect, Role};
-use rex_steps::turned;
+use rex_steps::{told, turned};
 use rex_traits::Keeper;
 use std::alloc::AllocError;
 use std::marker::Brand;

@@ -8,12 +8,11 @@ ghost use Rattle.rex_process.specs.Process.{here};
 ghost use Rattle.rex_process.specs.Settling.{IsCaught, IsJoined, IsReady, IsSettling, noted_clock};
 
 use crate::process::Process;
-use crate::telling::told;
 use rex_fits::{Applied, clock_after};
 use rex_node::{Refusal, Step};
 use rex_replay::OneThread;
 use rex_report::Role;
-use rex_steps::joined;
+use rex_steps::{joined, told};
 use rex_traits::Keeper;
 use std::alloc::AllocError;
 use std::marker::Brand;

@@ -1,2 +1,3 @@
 pub mod Refusing
+pub mod Served
 pub mod Traces

@@ -1,5 +1,6 @@
 -- What a call of a node comes to.
 use Rattle.std.specs.Prelude.{◌≡◌, ℕ, true, false, List, [], ◌∷◌, map, Result, Ok, Err}
+use Rattle.std.specs.declared.alloc.AllocError.{AllocError}
 use Rattle.rex_report.specs.declared.effect.Effect.{Effect}
 use Rattle.rex_report.specs.declared.effect.Effect.TheVariants as effect
 use Rattle.rex_cluster.specs.Calls.{begin, say}
@@ -57,3 +58,11 @@ abbrev pub TellsOf : {A : Type 0} → (A → Effect) → Result A Refusal → Re
 TellsOf f (Ok x) (Ok step) = IsTelling (f x) step
 TellsOf f (Ok x) (Err refusal) = refusal ≡ why.OutOfMemory
 TellsOf f (Err refusal) result = result ≡ Err refusal
+
+-- a step is what the call answered, or reports why it was refused; without it memory was short
+abbrev pub IsStepOf : ℕ → Result Step Refusal → Result Step AllocError → Type 0
+IsStepOf number (Ok step) (Ok told) = told ≡ step
+IsStepOf number (Ok step) (Err e) = ⊥
+IsStepOf number (Err why.OutOfMemory) (Ok told) = ⊥
+IsStepOf number (Err refusal) (Ok told) = IsTelling (effect_of number refusal) told
+IsStepOf number (Err refusal) (Err e) = Unit {0}

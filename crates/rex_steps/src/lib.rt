@@ -2,9 +2,11 @@
 #![tactic(auto)]
 
 mod effects;
+mod serving;
 mod steps;
 mod tracing;
 
 pub use effects::{effect_of, read_effect};
+pub use serving::{Call, serve, told};
 pub use steps::{answered, joined, step_of, turned};
 pub use tracing::push_values;

@@ -6,7 +6,7 @@ use Rattle.rex_cluster.specs.Lanes.{cut, no_limits}
 use Rattle.rex_node.specs.Calls.{RefusesThen, if_active, refusal_of_cut, refusal_of_lead, refusal_of_none}
 use Rattle.rex_steps.proofs.Refusing.{cut_excused}
 use Rattle.rex_processes.specs.Processes.Task.{Cut}
-use Rattle.rex_process.specs.Coming.{IsTold}
+use Rattle.rex_steps.specs.Steps.{IsStepOf}
 use Rattle.rex_process.specs.Process.{ProcessValue, IsLeft, IsProcess, call_in, here}
 use Rattle.rex_process.proofs.Cutting.{can_be_cut, cut_excused_late, same_does, same_leaves}
 use Rattle.rex_process.proofs.Leaving.{HasSettled, left_plainly, on_err}
@@ -36,7 +36,7 @@ settled-requires g c =
     let p : ProcessValue g.row.K.Denot = record { service = c.self.inside.svc.now; node = c.self.inside.node; clock = c.self.inside.clock } in
     let process = subst (IsProcess g.K.Keeper.records g.K.Keeper.faults) (sym c.self.view_is) c.requires.process in
     let up = ap (λ (q : ProcessValue g.row.K.Denot). q.node.up) c.self.view_is ∙ c.requires.up in
-    let told = subst (λ (k : ℕ). IsTold k c.cut-outcome.result (Ok c.in_ok-step.step)) (c.id.ensures ∙ c.cut-outcome.ensures.kept.same.id) c.in_ok-step.ensures in
+    let told = subst (λ (k : ℕ). IsStepOf k c.cut-outcome.result (Ok c.in_ok-step.step)) (c.id.ensures ∙ c.cut-outcome.ensures.kept.same.id) c.in_ok-step.ensures in
     record {
       settling = led_settles g.K.Keeper.records g.K.Keeper.append_gives g.K.Keeper.faults p c.declarations-service.ensures.sound c.declarations-service.ensures.checked process up Cut tt tt tt
           (λ z d. cut_live_dated z p.service c.declarations-service.ensures.sound c.declarations-service.ensures.checked p.node.seed p.node.nodes p.node.id d)
@@ -51,7 +51,7 @@ outcome g c =
     let p : ProcessValue g.row.K.Denot = record { service = c.self.inside.svc.now; node = c.self.inside.node; clock = c.self.inside.clock } in
     let process = subst (IsProcess g.K.Keeper.records g.K.Keeper.faults) (sym c.self.view_is) c.requires.process in
     let up = ap (λ (q : ProcessValue g.row.K.Denot). q.node.up) c.self.view_is ∙ c.requires.up in
-    let told = subst (λ (k : ℕ). IsTold k c.cut-outcome.result (Ok c.in_ok-step.step)) (c.id.ensures ∙ c.cut-outcome.ensures.kept.same.id) c.in_ok-step.ensures in
+    let told = subst (λ (k : ℕ). IsStepOf k c.cut-outcome.result (Ok c.in_ok-step.step)) (c.id.ensures ∙ c.cut-outcome.ensures.kept.same.id) c.in_ok-step.ensures in
     subst (λ (q : ProcessValue g.row.K.Denot). HasSettled g.K.Keeper.records g.K.Keeper.faults q c.settled.new.self Cut c.settled.result) c.self.view_is
     (led_comes g.K.Keeper.records g.K.Keeper.append_gives g.K.Keeper.faults p c.declarations-service.ensures.sound c.declarations-service.ensures.checked process up Cut tt tt tt
     (λ z d. cut_live_dated z p.service c.declarations-service.ensures.sound c.declarations-service.ensures.checked p.node.seed p.node.nodes p.node.id d)

@@ -9,7 +9,7 @@ use Rattle.rex_node.specs.Calls.{refusal_of_elect}
 use Rattle.rex_steps.proofs.Refusing.{elect_excused}
 use Rattle.rex_processes.specs.Processes.Task.{Elect}
 use Rattle.rex_processes.specs.Tested.{OwnReportsFit}
-use Rattle.rex_process.specs.Coming.{IsTold}
+use Rattle.rex_steps.specs.Steps.{IsStepOf}
 use Rattle.rex_process.specs.Process.{ProcessValue, IsLeft, IsProcess, here}
 use Rattle.rex_process.proofs.Cutting.{election_runs, refuses_then}
 use Rattle.rex_process.proofs.Leaving.{HasSettled, left_plainly, on_err}
@@ -40,7 +40,7 @@ settled-requires g c =
     let p : ProcessValue g.row.K.Denot = record { service = c.self.inside.svc.now; node = c.self.inside.node; clock = c.self.inside.clock } in
     let process = subst (IsProcess g.K.Keeper.records g.K.Keeper.faults) (sym c.self.view_is) c.requires.process in
     let up = ap (λ (q : ProcessValue g.row.K.Denot). q.node.up) c.self.view_is ∙ c.requires.up in
-    let told = subst (λ (k : ℕ). IsTold k c.elect-outcome.result (Ok c.in_ok-step.step)) (c.id.ensures ∙ c.elect-outcome.ensures.kept.same.id) c.in_ok-step.ensures in
+    let told = subst (λ (k : ℕ). IsStepOf k c.elect-outcome.result (Ok c.in_ok-step.step)) (c.id.ensures ∙ c.elect-outcome.ensures.kept.same.id) c.in_ok-step.ensures in
     record {
       settling = led_settles g.K.Keeper.records g.K.Keeper.append_gives g.K.Keeper.faults p c.declarations-service.ensures.sound c.declarations-service.ensures.checked process up Elect tt tt tt
           (λ z d. elect_live z p.service c.declarations-service.ensures.sound c.declarations-service.ensures.checked p.node.seed p.node.nodes p.node.id d)
@@ -55,7 +55,7 @@ outcome g c =
     let p : ProcessValue g.row.K.Denot = record { service = c.self.inside.svc.now; node = c.self.inside.node; clock = c.self.inside.clock } in
     let process = subst (IsProcess g.K.Keeper.records g.K.Keeper.faults) (sym c.self.view_is) c.requires.process in
     let up = ap (λ (q : ProcessValue g.row.K.Denot). q.node.up) c.self.view_is ∙ c.requires.up in
-    let told = subst (λ (k : ℕ). IsTold k c.elect-outcome.result (Ok c.in_ok-step.step)) (c.id.ensures ∙ c.elect-outcome.ensures.kept.same.id) c.in_ok-step.ensures in
+    let told = subst (λ (k : ℕ). IsStepOf k c.elect-outcome.result (Ok c.in_ok-step.step)) (c.id.ensures ∙ c.elect-outcome.ensures.kept.same.id) c.in_ok-step.ensures in
     subst (λ (q : ProcessValue g.row.K.Denot). HasSettled g.K.Keeper.records g.K.Keeper.faults q c.settled.new.self Elect c.settled.result) c.self.view_is
     (led_comes g.K.Keeper.records g.K.Keeper.append_gives g.K.Keeper.faults p c.declarations-service.ensures.sound c.declarations-service.ensures.checked process up Elect tt tt tt
     (λ z d. elect_live z p.service c.declarations-service.ensures.sound c.declarations-service.ensures.checked p.node.seed p.node.nodes p.node.id d)
