@@ -4,7 +4,7 @@ ghost use Rattle.std.specs.Prelude.{◌≡◌, IfOk, length};
 ghost use Rattle.std.specs.List.{All};
 ghost use Rattle.rex_journal.specs.Storing.{journal_value};
 ghost use Rattle.rex_schedule.specs.Fits.{ScenarioFits};
-ghost use Rattle.rex_world.specs.Seats.{IsFresh};
+ghost use Rattle.rex_world.specs.Members.{IsFresh};
 ghost use Rattle.rex_cli.specs.Worlds.{IsBegun, is_in_journals};
 
 use crate::answers::Plan;

@@ -1,10 +1,10 @@
 -- How calls of a disk follow one another.
-use Rattle.std.proofs.Common.{◌≡◌, inl, inr, ℕ, Bool, true, false, List, [], ◌∷◌, ◌++◌, Result, refl}
+use Rattle.std.proofs.Common.{◌≡◌, inl, inr, ◌⊎◌, ℕ, Bool, true, false, List, [], ◌∷◌, ◌++◌, Result, refl}
 use Rattle.std.specs.Prelude.{IsErrAnd}
 use Rattle.std.proofs.lemmas.Result.{err_from_is_err_and}
 use Rattle.rex_disk.specs.Calls.{Call, CallsInTurn, FailsInTurn}
 use Rattle.rex_disk.specs.Calls.Call.{Writes, Syncs}
-use Rattle.rex_journal.specs.Giving.{AreLooks, Ends, Goes, IsLook, IsOfDevice, Looks, LooksInto, Opens, WriteFails}
+use Rattle.rex_journal.specs.Giving.{AreLooks, Ends, EndsAs, Goes, HasNoRoom, IsLook, IsOfDevice, Looks, LooksInto, Opens, WriteFails}
 use Rattle.rex_journal.specs.declared.fault.OpenFault.{OpenFault}
 use Rattle.rex_journal.specs.declared.fault.OpenFault.TheVariants as open_fault
 
@@ -46,3 +46,15 @@ module _ {D : Type 0} (gives : D → Call → Bool → D → Type 0) where
 
   pub opens_failed : {T : Type 0} (old new : D) (r : Result T OpenFault) → IsErrAnd r (λ e. e ≡ open_fault.Failed) → Ends gives old new → Opens gives old new r
   opens_failed old new r h ends = let p = err_from_is_err_and r h in rw (p.1, p.2) ends
+
+  pub looks_short : {T : Type 0} (old new : D) (r : Result T OpenFault) → IsErrAnd r (λ e. e ≡ open_fault.OutOfMemory) → Looks gives old new ⊎ HasNoRoom gives old new → LooksInto gives old new r
+  looks_short old new r h ends = let p = err_from_is_err_and r h in rw (p.1, p.2) ends
+
+  ends_unwritten : (old new : D) → Looks gives old new → (fault : OpenFault) → (fault ≡ open_fault.Failed → ⊥) → EndsAs gives old new fault
+  ends_unwritten old new looks open_fault.Failed whole = absurd (whole refl)
+  ends_unwritten old new looks (open_fault.BadJournal at) whole = looks
+  ends_unwritten old new looks open_fault.OutOfMemory whole = inl looks
+
+  -- where what was read isn't good, or there was no memory for it
+  pub opens_unwritten : {T : Type 0} (old new : D) (r : Result T OpenFault) (fault : OpenFault) → IsErrAnd r (λ e. e ≡ fault) → Looks gives old new → (fault ≡ open_fault.Failed → ⊥) → Opens gives old new r
+  opens_unwritten old new r fault h looks whole = let p = err_from_is_err_and r h in rw (p.1, p.2) (ends_unwritten old new looks fault whole)

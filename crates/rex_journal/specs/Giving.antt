@@ -55,11 +55,15 @@ abbrev pub Closes : {D T E : Type 0} → (D → Call → Bool → D → Type 0) 
 Closes gives gate old new (Ok x) = Goes gives old new
 Closes gives gate old new (Err e) = WriteFails gives gate (0 ∷ []) old new
 
--- how the calls of opening a journal end where it is refused: nothing was written where the journal is called bad
+-- a disk was asked for room and had none
+abbrev pub HasNoRoom : {D : Type 0} → (D → Call → Bool → D → Type 0) → D → D → Type 0
+HasNoRoom gives old new = (calls : ℕ) × (bytes : ℕ) × gives old (Reserves calls bytes) true new
+
+-- how the calls of opening a journal end where it is refused: nothing was written, unless the disk failed
 abbrev pub EndsAs : {D : Type 0} → (D → Call → Bool → D → Type 0) → D → D → OpenFault → Type 0
 EndsAs gives old new open_fault.Failed = Ends gives old new
 EndsAs gives old new (open_fault.BadJournal at) = Looks gives old new
-EndsAs gives old new open_fault.OutOfMemory = Unit {0}
+EndsAs gives old new open_fault.OutOfMemory = Looks gives old new ⊎ HasNoRoom gives old new
 
 abbrev pub Opens : {D T : Type 0} → (D → Call → Bool → D → Type 0) → D → D → Result T OpenFault → Type 0
 Opens gives old new (Ok x) = Goes gives old new

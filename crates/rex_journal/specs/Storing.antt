@@ -38,10 +38,9 @@ fails_as_armed k = is_empty k.disk.failing && (is_of_fate k.disk.plan && (are_wi
 abbrev pub journal_value : JournalValue DiskValue → StoreValue
 journal_value k = record { records = k.records; armed = armed_by k.disk.plan; faults = k.disk.faults + k.refused; broken = k.broken; as_armed = fails_as_armed k }
 
--- a journal that was reopened with nothing planned: its list is the same, it isn't broken, and no call of its disk is named
-pub record IsReopened (old new : JournalValue DiskValue) : Type 0 where
+-- a journal that was to be reopened with nothing planned: its list is the same, what its disk reads is known, and no call of its disk is named
+pub record IsSpared (old new : JournalValue DiskValue) : Type 0 where
   pub records : new.records ≡ old.records
-  pub whole : new.broken ≡ false
   pub sure : new.unsure ≡ false
   pub refused : new.refused ≡ old.refused
   pub faults : new.disk.faults ≡ old.disk.faults

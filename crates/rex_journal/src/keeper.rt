@@ -1,4 +1,4 @@
-//! A journal as a keeper. An append in which the disk fails breaks it, until it is reopened.
+//! A journal as a keeper. An append in which the disk fails breaks it, or a reopening that fails, until it is reopened.
 
 ghost use Rattle.std.specs.Prelude.{◌≡◌, ◌<◌, ◌≤◌, ◌+◌, ◌-◌, ◌^◌, ◌++◌, ◌∷◌, [], ℕ, List as Items, Option, Some, None};
 ghost use Rattle.std.specs.Prelude.{false, true, refl, Bool, IsTrue, IfErr, IfOk, OnErr, OnOk, MatchResult, length};
@@ -6,20 +6,21 @@ ghost use Rattle.std.proofs.Common.{inl};
 ghost use Rattle.rex_disk.specs.Calls.{HasRoom};
 ghost use Rattle.rex_disk.specs.Stops.{LeavesOnly, Rests};
 ghost use Rattle.rex_journal.specs.Journal.{AllShort, Holds, IsBad, StandsFor, entry};
-ghost use Rattle.rex_journal.specs.Giving.{Appends, EndsAs, Goes, gate_left, records_cut, unsure_left};
+ghost use Rattle.rex_journal.specs.Giving.{Appends, EndsAs, Goes, Opens, gate_left, records_cut, unsure_left};
 ghost use Rattle.rex_journal.specs.Keeping.{AllStandFor, Breaks, CountsAppend, KeepsRecords};
-ghost use Rattle.rex_journal.specs.Opening.{CountsAs, IsCauseIn, Leaves};
+ghost use Rattle.rex_journal.specs.Opening.{CountsAs, CountsFailed, IsCauseIn, Leaves, unsure_refused};
 ghost use Rattle.rex_disk.specs.Calls.Call.{Reserves};
 
-use crate::Refused;
 use crate::file::{GateLeft, commit, recover};
+use crate::{OpenFault, Refused};
 use rex_disk::Disk;
 use rex_list::List;
 use rex_traits::{KeepFault, Keeper};
 use std::alloc::{AllocError, Global};
 use std::marker::Model;
 
-/// A keeper of records on a disk. It is broken after an append in which the disk failed, until it is reopened.
+/// A keeper of records on a disk. It is broken after an append in which the disk failed, or a reopening that failed, until it is
+/// reopened.
 #[derive(Drop)]
 pub struct JournalKeeper<D: Disk> {
     pub(crate) disk: D,
@@ -61,65 +62,75 @@ impl<D: Disk> JournalKeeper<D> {
         ensures cause { MatchResult result (λ k. D.faults k.disk ≡ D.faults disk) (λ r. CountsAs r.fault (D.faults disk) (D.faults r.disk)) }
         ensures model { MatchResult result (λ k. D.meets k.disk ≡ D.meets disk) (λ r. D.meets r.disk ≡ D.meets disk) }
     {
-        JournalKeeper::start(alloc, disk, 0)
-    }
-
-    /// Opens the journal on a keeper's disk again, after which it is no longer broken. Its count of faults stays.
-    ///
-    /// A refusal hands the disk back. A journal that is called bad is left as it was.
-    pub fn reopen(self) -> Result<JournalKeeper<D>, Refused<D>>
-        requires count { D.faults self.disk < 2 ^ 64 - 1 }
-        ensures holds { IsTrue (D.meets self.disk) → IfOk result (λ k. Holds (D.seen self.disk) k.records) }
-        ensures whole { IfOk result (λ k. (k.broken ≡ false) × (k.unsure ≡ false) × (k.refused ≡ self.refused)) }
-        ensures safe { IfOk result (λ k. IsTrue (D.meets k.disk) → AllStandFor (D.may_leave k.disk) k.records None) }
-        ensures bad { IsTrue (D.meets self.disk) → IfErr result (λ r. IsCauseIn IsBad (D.seen self.disk) r.fault) }
-        ensures unread { IsTrue (D.meets self.disk) → IfErr result (λ r. Leaves IsBad (D.seen self.disk) (D.seen r.disk) r.fault) }
-        ensures any_moment { (records : Items (Items ℕ)) (pending : Option (Items ℕ)) → IsTrue (D.meets self.disk) → AllShort records
-            → AllStandFor (D.may_leave self.disk) records pending → MatchResult result
-            (λ k. LeavesOnly D.moment D.left_since self.disk k.disk (StandsFor records pending))
-            (λ r. LeavesOnly D.moment D.left_since self.disk r.disk (StandsFor records pending)) }
-        ensures calls { MatchResult result (λ k. Goes D.gives self.disk k.disk) (λ r. EndsAs D.gives self.disk r.disk r.fault) }
-        ensures cause { MatchResult result (λ k. D.faults k.disk ≡ D.faults self.disk) (λ r. CountsAs r.fault (D.faults self.disk) (D.faults r.disk)) }
-        ensures model { MatchResult result (λ k. D.meets k.disk ≡ D.meets self.disk) (λ r. D.meets r.disk ≡ D.meets self.disk) }
-    {
-        JournalKeeper::start(self.alloc, self.disk, self.refused)
-    }
-
-    // Opens the journal on a disk, where so many appends were made while a keeper of it was broken.
-    pub(crate) fn start(
-        alloc: Global,
-        mut disk: D,
-        refused: u64,
-    ) -> Result<JournalKeeper<D>, Refused<D>>
-        requires count { D.faults disk < 2 ^ 64 - 1 }
-        ensures holds { IsTrue (D.meets disk) → IfOk result (λ k. Holds (D.seen disk) k.records) }
-        ensures whole { IfOk result (λ k. (k.broken ≡ false) × (k.unsure ≡ false) × (k.refused ≡ refused)) }
-        ensures safe { IfOk result (λ k. IsTrue (D.meets k.disk) → AllStandFor (D.may_leave k.disk) k.records None) }
-        ensures bad { IsTrue (D.meets disk) → IfErr result (λ r. IsCauseIn IsBad (D.seen disk) r.fault) }
-        ensures unread { IsTrue (D.meets disk) → IfErr result (λ r. Leaves IsBad (D.seen disk) (D.seen r.disk) r.fault) }
-        ensures any_moment { (records : Items (Items ℕ)) (pending : Option (Items ℕ)) → IsTrue (D.meets disk) → AllShort records
-            → AllStandFor (D.may_leave disk) records pending → MatchResult result
-            (λ k. LeavesOnly D.moment D.left_since disk k.disk (StandsFor records pending))
-            (λ r. LeavesOnly D.moment D.left_since disk r.disk (StandsFor records pending)) }
-        ensures calls { MatchResult result (λ k. Goes D.gives disk k.disk) (λ r. EndsAs D.gives disk r.disk r.fault) }
-        ensures cause { MatchResult result (λ k. D.faults k.disk ≡ D.faults disk) (λ r. CountsAs r.fault (D.faults disk) (D.faults r.disk)) }
-        ensures model { MatchResult result (λ k. D.meets k.disk ≡ D.meets disk) (λ r. D.meets r.disk ≡ D.meets disk) }
-    {
-        match recover(alloc, &mut disk) {
-            Ok(found) => Ok(JournalKeeper {
-                disk,
-                records: found.records,
-                gate: found.gate as u64,
-                broken: false,
-                unsure: false,
-                refused,
-                alloc,
+        let mut keeper = JournalKeeper::unopened(alloc, disk);
+        match keeper.reopen() {
+            Ok(()) => Ok(keeper),
+            Err(fault) => Err(Refused {
+                disk: keeper.into_disk(),
+                fault,
             }),
-            Err(fault) => Err(Refused { disk, fault }),
         }
     }
 
-    /// Whether an append has broken the keeper. Then appends fail until it is reopened.
+    // A keeper of no records on a disk whose journal has still to be opened.
+    fn unopened(alloc: Global, disk: D) -> JournalKeeper<D>
+        ensures { result ≡ record { disk = disk; records = []; broken = true; unsure = true; refused = 0 } }
+    {
+        JournalKeeper {
+            disk,
+            records: Vec::new(alloc),
+            gate: 0,
+            broken: true,
+            unsure: true,
+            refused: 0,
+            alloc,
+        }
+    }
+
+    // The disk, handed back.
+    fn into_disk(self) -> D
+        ensures { result ≡ self.disk }
+    {
+        self.disk
+    }
+
+    /// Opens the journal on the keeper's disk again, as a stop may have left it. Then the keeper is no longer broken, and its
+    /// count of faults stays.
+    ///
+    /// After an error the keeper is broken, with the records that it had. A journal that is called bad is left as it was.
+    pub fn reopen(&mut self) -> Result<(), OpenFault>
+        requires count { D.faults self.old.disk < 2 ^ 64 - 1 }
+        ensures holds { IsTrue (D.meets self.old.disk) → OnOk result (Holds (D.seen self.old.disk) self.new.records) }
+        ensures whole { OnOk result ((self.new.broken ≡ false) × (self.new.unsure ≡ false) × (self.new.refused ≡ self.old.refused)) }
+        ensures safe { OnOk result (IsTrue (D.meets self.new.disk) → AllStandFor (D.may_leave self.new.disk) self.new.records None) }
+        ensures bad { IsTrue (D.meets self.old.disk) → IfErr result (IsCauseIn IsBad (D.seen self.old.disk)) }
+        ensures unread { IsTrue (D.meets self.old.disk) → IfErr result (Leaves IsBad (D.seen self.old.disk) (D.seen self.new.disk)) }
+        ensures any_moment { (records : Items (Items ℕ)) (pending : Option (Items ℕ)) → IsTrue (D.meets self.old.disk) → AllShort records
+            → AllStandFor (D.may_leave self.old.disk) records pending
+            → LeavesOnly D.moment D.left_since self.old.disk self.new.disk (StandsFor records pending) }
+        ensures calls { Opens D.gives self.old.disk self.new.disk result }
+        ensures cause { CountsFailed (D.faults self.old.disk) (D.faults self.new.disk) result }
+        ensures model { D.meets self.new.disk ≡ D.meets self.old.disk }
+        ensures left { OnErr result ((self.new.broken ≡ true) × (self.new.records ≡ self.old.records) × (self.new.refused ≡ self.old.refused)) }
+        ensures sure { IfErr result (λ e. self.new.unsure ≡ unsure_refused e self.old.unsure) }
+    {
+        match recover(self.alloc, &mut self.disk) {
+            Ok(found) => {
+                self.records = found.records;
+                self.gate = found.gate as u64;
+                self.broken = false;
+                self.unsure = false;
+                Ok(())
+            }
+            Err(fault) => {
+                self.broken = true;
+                self.unsure = is_unsure_after(fault, self.unsure);
+                Err(fault)
+            }
+        }
+    }
+
+    /// Whether an append or a reopening has broken the keeper. Then appends fail until it is reopened.
     pub fn is_broken(&self) -> bool
         ensures { result ≡ self.now.broken }
     {
@@ -192,6 +203,16 @@ impl<D: Disk> Keeper for JournalKeeper<D> {
     fn get(&self, index: usize) -> &[u8] {
         let bytes = &self.records[index];
         bytes.as_slice()
+    }
+}
+
+// Whether the disk may read another list than the keeper's once its journal was not opened.
+fn is_unsure_after(fault: OpenFault, unsure: bool) -> bool
+    ensures { result ≡ unsure_refused fault unsure }
+{
+    match fault {
+        OpenFault::Failed => true,
+        OpenFault::BadJournal { .. } | OpenFault::OutOfMemory => unsure,
     }
 }
 

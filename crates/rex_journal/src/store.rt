@@ -1,9 +1,9 @@
 //! A journal on a disk in memory, as a store whose failures are armed.
 
-ghost use Rattle.std.specs.Prelude.{◌≡◌, ◌≤◌, ◌<◌, ◌+◌, ◌-◌, ◌^◌, [], Some, IsTrue, IfErr, IfOk};
+ghost use Rattle.std.specs.Prelude.{◌≡◌, ◌≤◌, ◌<◌, ◌+◌, ◌-◌, ◌^◌, [], false, Some, IsTrue, IfErr, IfOk, OnErr, OnOk};
 ghost use Rattle.rex_disk.specs.Memory.{new_disk};
-ghost use Rattle.rex_traits.specs.Stores.{armed_to, fresh_store, reopened, value_by};
-ghost use Rattle.rex_journal.specs.Storing.{IsReopened, armed_by, fails_as_armed, plan_of};
+ghost use Rattle.rex_traits.specs.Stores.{armed_to, broken_as, fresh_store, reopened, value_by};
+ghost use Rattle.rex_journal.specs.Storing.{IsSpared, armed_by, fails_as_armed, plan_of};
 ghost use Rattle.rex_journal.specs.StoringLaws.{journal_counts, journal_obeys};
 ghost use Rattle.rex_traits.specs.declared.store.ReopenFault.TheVariants as reopen_fault;
 ghost use Rattle.rex_journal.specs.declared.fault.OpenFault.TheVariants as open_fault;
@@ -71,17 +71,14 @@ impl JournalKeeper<MemDisk> {
     }
 
     // Reopens the journal with nothing planned, so that no call of the disk fails unless it is named.
-    fn reopen_unplanned(self) -> Result<JournalKeeper<MemDisk>, OpenFault>
-        requires count { self.disk.faults < 2 ^ 64 - 1 }
-        ensures reopened { IsTrue (fails_as_armed self) → IfOk result (λ k. IsReopened self k) }
-        ensures memory { IsTrue (fails_as_armed self) → IfErr result (λ e. e ≡ open_fault.OutOfMemory) }
+    fn reopen_unplanned(&mut self) -> Result<(), OpenFault>
+        requires count { self.old.disk.faults < 2 ^ 64 - 1 }
+        ensures spared { IsTrue (fails_as_armed self.old) → IsSpared self.old self.new }
+        ensures whole { OnOk result (self.new.broken ≡ false) }
+        ensures memory { IsTrue (fails_as_armed self.old) → IfErr result (λ e. e ≡ open_fault.OutOfMemory) }
     {
-        let mut disk = self.disk;
-        disk.set_plan(None);
-        match JournalKeeper::start(self.alloc, disk, self.refused) {
-            Ok(keeper) => Ok(keeper),
-            Err(refused) => Err(refused.fault),
-        }
+        self.disk.set_plan(None);
+        JournalKeeper::reopen(self)
     }
 }
 
@@ -104,13 +101,12 @@ impl Store for JournalKeeper<MemDisk> {
         self.set_plan(Some(plan_of_fate(fate)));
     }
 
-    fn reopen(self) -> Result<Self, ReopenFault> {
+    fn reopen(&mut self) -> Result<(), ReopenFault> {
         let plan = self.disk().plan();
-        match self.reopen_unplanned() {
-            Ok(mut keeper) => {
-                keeper.set_plan(plan);
-                Ok(keeper)
-            }
+        let reopened = self.reopen_unplanned();
+        self.set_plan(plan);
+        match reopened {
+            Ok(()) => Ok(()),
             Err(fault) => Err(cause_of(fault)),
         }
     }

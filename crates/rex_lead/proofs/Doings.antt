@@ -20,7 +20,7 @@ use Rattle.rex_node.specs.declared.refusal.Refusal.{Refusal}
 use Rattle.rex_node.specs.declared.refusal.Refusal.TheVariants as why
 use Rattle.rex_steady.specs.Schedule.{takes, agreement, agreements, replays}
 use Rattle.rex_world.specs.declared.world.World.{World}
-use Rattle.rex_world.specs.Blocks.{takes_at}
+use Rattle.rex_world.specs.Taking.{takes_at}
 use Rattle.rex_world.specs.Calls.{IsWhole}
 use Rattle.rex_world.specs.World.{nodes_of, world_of}
 use Rattle.rex_world.specs.Kept.{IsRunning, IsSame}

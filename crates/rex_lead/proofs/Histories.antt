@@ -30,7 +30,7 @@ use Rattle.rex_steady.specs.Blocks.{values_of}
 use Rattle.rex_steady.specs.Settled.{IsSettled}
 use Rattle.rex_steady.specs.Steady.{IsSteady, LeadersAreSteady, live_world}
 use Rattle.rex_world.proofs.Beginning.{few_nodes}
-use Rattle.rex_world.proofs.Seated.{later_at}
+use Rattle.rex_world.proofs.Placed.{later_at}
 use Rattle.rex_lead.specs.Lead.{blocks_of, IsLed}
 use Rattle.rex_lead.proofs.Blocks.{few_blocks, joined_blocks, are_blocks}
 

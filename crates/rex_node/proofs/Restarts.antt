@@ -12,8 +12,6 @@ use Rattle.rex_state.specs.Value.{StateValue}
 use Rattle.rex_state.specs.Start.{start_of}
 use Rattle.rex_state.specs.Machine.{run}
 use Rattle.rex_snapshot.specs.Reading.{state_in}
-use Rattle.rex_paxos.specs.Acceptor.{AcceptorValue}
-use Rattle.rex_transfer.specs.Window.{WindowValue}
 use Rattle.rex_durable.specs.declared.recovery.Recovered.{Recovered}
 use Rattle.rex_durable.specs.Recovery.{recovered}
 use Rattle.rex_durable.specs.Laws.{HasSnapshot, MayBeAccepted}
@@ -24,7 +22,7 @@ use Rattle.rex_cluster.proofs.Replies.{state_is}
 use Rattle.rex_log.specs.Log.{first, log_of, read_state}
 use Rattle.rex_log.specs.Laws.{Says}
 use Rattle.rex_node.specs.Parts.{NodeValue, IsUp, IsNode, here_of, whole}
-use Rattle.rex_node.specs.Restarting.{CameUp, HasForgotten, HasRightBase, IsAsRecovered, IsRecalled, IsSaved}
+use Rattle.rex_node.specs.Restarting.{CameUp, HasForgotten, HasRightBase, IsAsRecovered, IsRecalled, IsSaved, risen}
 use Rattle.rex_node.proofs.Fronts.{front_runs}
 use Rattle.rex_node.proofs.Recalling.{old_base_is, recovered_says}
 
@@ -64,37 +62,42 @@ whole_is service past log x says forgotten =
 short_values : (promised : ℕ) (ps : List Kept) → All (MayBeAccepted promised) ps → All (λ (p : Kept). IsValue p.value) ps
 short_values promised ps h = All-weaker (MayBeAccepted promised) (λ (p : Kept). IsValue p.value) (λ p k. k.proposal.value) ps h
 
-module _ {K : Type 0} (records : K → List (List ℕ)) (service : Declarations) (past : List Value) (id nodes seed : ℕ) (keeper : K) (x : Recovered) (start : StateValue) (old : Bool) (h : IsRecalled service (records keeper) x start old) where
+module _ {K : Type 0} (records : K → List (List ℕ)) (service : Declarations) (past : List Value) (before : NodeValue K) (x : Recovered) (start : StateValue) (old : Bool) (h : IsRecalled service (records before.keeper) x start old) where
   abbrev log : List (Rec Value StateValue)
-  log = log_of service past (records keeper)
+  log = log_of service past (records before.keeper)
 
   said : Says service x log
-  said = recovered_says service past (records keeper) h.found.read.rs x h.found.read.spelled h.found.read.is
+  said = recovered_says service past (records before.keeper) h.found.read.rs x h.found.read.spelled h.found.read.is
 
-  abbrev node_with : AcceptorValue → WindowValue → NodeValue K
-  node_with acceptor window = record {
-    id = id;
-    nodes = nodes;
-    seed = seed;
-    keeper = keeper;
-    up = true;
-    acceptor = acceptor;
-    offset = window.offset;
-    known = window.values;
-    base = x.base;
-    old_base = old;
-    start = start;
-    replayed = x.base;
-    ahead = None;
-    proposer = None;
-    acting = None;
+  abbrev up_again : NodeValue K
+  up_again = risen before x start old
+
+  -- each part is what was read
+  as_recovered : IsAsRecovered service (recovered h.found.read.rs) up_again
+  as_recovered = record {
+    promised = ap (λ (y : Recovered). y.promised) h.found.read.is;
+    accepted = ap (λ (y : Recovered). y.accepted) h.found.read.is;
+    offset_is = ap (λ (y : Recovered). y.offset) h.found.read.is;
+    known_are = ap (λ (y : Recovered). y.known) h.found.read.is;
+    base_is = ap (λ (y : Recovered). y.base) h.found.read.is;
+    start = subst (λ (y : Recovered). IsSaved service y.snapshot start) h.found.read.is h.start_is;
+    replayed = ap (λ (y : Recovered). y.base) h.found.read.is;
+    ahead = refl;
+    proposer = refl;
+    acting = refl;
   }
 
-  abbrev acceptor_is : AcceptorValue
-  acceptor_is = record { promised = x.promised; accepted = x.accepted }
-
-  abbrev window_is : WindowValue
-  window_is = record { offset = x.offset; values = x.known }
+  pub came_up : CameUp records service past before.id before.nodes before.seed before.keeper up_again
+  came_up = record {
+    id_is = refl;
+    nodes_are = refl;
+    seed_is = refl;
+    keeper_is = refl;
+    good = record { rs = h.found.read.rs; spelled = h.found.read.spelled; first = h.found.good };
+    recovered_is = as_recovered;
+    old_is = h.old_is;
+    node = ap (λ (n : ℕ). record (here_of records service past up_again) { replayed = n }) said.base;
+  }
 
   module _ (fit : values_fit service (known log) ≡ true) (right : HasRightBase service log) (forgotten : HasForgotten past log) where
     all_known : first x.offset past ++ x.known ≡ known log
@@ -103,7 +106,7 @@ module _ {K : Type 0} (records : K → List (List ℕ)) (service : Declarations)
     runs_there : run service (start_of service) (trace_of (take x.base (first x.offset past ++ x.known))) ≡ Some start
     runs_there = subst (λ (vs : List Value). run service (start_of service) (trace_of (take x.base vs)) ≡ Some start) (sym all_known) (start_runs service log x start said fit right h.start_is h.found.read.fits.snapshot)
 
-    node_up : IsUp service (whole past (node_with acceptor_is window_is)) (here_of records service past (node_with acceptor_is window_is))
+    node_up : IsUp service (whole past up_again) (here_of records service past up_again)
     node_up = record {
       promised = said.promised;
       accepted = said.accepted;
@@ -111,7 +114,7 @@ module _ {K : Type 0} (records : K → List (List ℕ)) (service : Declarations)
       low = h.found.read.fits.dropped;
       known = all_known;
       base = said.base;
-      old_base = h.old_is ∙ old_base_is service past (records keeper) h.found.read.rs h.found.read.spelled;
+      old_base = h.old_is ∙ old_base_is service past (records before.keeper) h.found.read.rs h.found.read.spelled;
       start = runs_there;
       replayed = record {
         based = subst (λ (n : ℕ). n ≤ x.base) said.base (omega arith);
@@ -127,41 +130,5 @@ module _ {K : Type 0} (records : K → List (List ℕ)) (service : Declarations)
       numbers = record { log = said.fits; role = tt };
     }
 
-  module _ (acceptor : AcceptorValue) (accepted : List Kept) (window : WindowValue) (acceptor_of : acceptor ≡ record { promised = x.promised; accepted = accepted }) (accepted_are : accepted ≡ x.accepted) (window_of : window ≡ window_is) where
-    parts_are : node_with acceptor_is window_is ≡ node_with acceptor window
-    parts_are =
-        ap (λ (w : WindowValue). node_with acceptor_is w) (sym window_of)
-        ∙ ap (λ (ps : List Kept). node_with (record { promised = x.promised; accepted = ps }) window) (sym accepted_are)
-        ∙ ap (λ (a : AcceptorValue). node_with a window) (sym acceptor_of)
-
-    -- each part is what was read
-    as_recovered : IsAsRecovered service (recovered h.found.read.rs) (node_with acceptor window)
-    as_recovered = record {
-      promised = ap (λ (a : AcceptorValue). a.promised) acceptor_of ∙ ap (λ (y : Recovered). y.promised) h.found.read.is;
-      accepted = ap (λ (a : AcceptorValue). a.accepted) acceptor_of ∙ accepted_are ∙ ap (λ (y : Recovered). y.accepted) h.found.read.is;
-      offset_is = ap (λ (w : WindowValue). w.offset) window_of ∙ ap (λ (y : Recovered). y.offset) h.found.read.is;
-      known_are = ap (λ (w : WindowValue). w.values) window_of ∙ ap (λ (y : Recovered). y.known) h.found.read.is;
-      base_is = ap (λ (y : Recovered). y.base) h.found.read.is;
-      start = subst (λ (y : Recovered). IsSaved service y.snapshot start) h.found.read.is h.start_is;
-      replayed = ap (λ (y : Recovered). y.base) h.found.read.is;
-      ahead = refl;
-      proposer = refl;
-      acting = refl;
-    }
-
-    pub came_up : CameUp records service past id nodes seed keeper (node_with acceptor window)
-    came_up = record {
-      id_is = refl;
-      nodes_are = refl;
-      seed_is = refl;
-      keeper_is = refl;
-      good = record { rs = h.found.read.rs; spelled = h.found.read.spelled; first = h.found.good };
-      recovered_is = as_recovered;
-      old_is = h.old_is;
-      node = ap (λ (n : ℕ). record (here_of records service past (node_with acceptor window)) { replayed = n }) said.base;
-    }
-
-    pub is_node : (0 < id) × (id ≤ nodes) → nodes ≤ most_nodes → values_fit service (known log) ≡ true → HasRightBase service log → HasForgotten past log → IsNode records service past (node_with acceptor window)
-    is_node there few fit right forgotten =
-        subst (λ (y : NodeValue K). IsNode records service past y) parts_are
-        (record { id = there; few = few; up = λ _. node_up fit right forgotten; rests = λ _. tt })
+    pub is_node : (0 < before.id) × (before.id ≤ before.nodes) → before.nodes ≤ most_nodes → IsNode records service past up_again
+    is_node there few = record { id = there; few = few; up = λ _. node_up; rests = λ _. tt }

@@ -271,11 +271,13 @@ leaving x = record x {
   acting = None;
 }
 
--- ---- appending a record
+-- ---- going down
 
--- a node whose append failed has its keeper, and nothing else that counts
+-- a node that was stopped, or whose append failed, is down: it has its keeper, and nothing else that counts
 abbrev pub fallen : {K : Type 0} → NodeValue K → NodeValue K
 fallen x = record x { up = false; replayed = x.base; ahead = None; proposer = None; acting = None }
+
+-- ---- appending a record
 
 -- the record is kept, and nothing else has changed
 pub record Keeps {K : Type 0} (records_of : K → List (List ℕ)) (faults_of : K → ℕ) (gives : K → List ℕ → Answer → K → Type 0) (before after : NodeValue K) (bytes : List ℕ) : Type 0 where

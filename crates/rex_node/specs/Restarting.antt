@@ -130,6 +130,42 @@ HasRightBase service log = (s : StateValue) → base_state log ≡ Some s → (b
 abbrev pub HasForgotten : List Value → List (ModelRec Value StateValue) → Type 0
 HasForgotten past log = first (offset_of log) past ≡ take (offset_of log) (known log)
 
+-- a node of the keeper that is down, and has nothing else that counts
+abbrev pub down_with : {K : Type 0} → (id nodes seed : ℕ) → StateValue → K → NodeValue K
+down_with id nodes seed start keeper = record {
+  id = id;
+  nodes = nodes;
+  seed = seed;
+  keeper = keeper;
+  up = false;
+  acceptor = record { promised = 0; accepted = [] };
+  offset = 0;
+  known = [];
+  base = 0;
+  old_base = false;
+  start = start;
+  replayed = 0;
+  ahead = None;
+  proposer = None;
+  acting = None;
+}
+
+-- the node is up, and is a follower that has what its records say, and this state at its base
+abbrev pub risen : {K : Type 0} → NodeValue K → Recovered → StateValue → Bool → NodeValue K
+risen x said start old = record x {
+  up = true;
+  acceptor = record { promised = said.promised; accepted = said.accepted };
+  offset = said.offset;
+  known = said.known;
+  base = said.base;
+  old_base = old;
+  start = start;
+  replayed = said.base;
+  ahead = None;
+  proposer = None;
+  acting = None;
+}
+
 -- the node is what its records say: its acceptor, the values that it holds and of how many it holds none, its base and the state there; and it is a follower that has replayed the values up to its base, and no more
 pub record IsAsRecovered {K : Type 0} (service : Declarations) (said : Recovered) (x : NodeValue K) : Type 0 where
   pub promised : x.acceptor.promised ≡ said.promised

@@ -139,7 +139,7 @@ impl<K: Keeper> Node<K> {
                 if self.keeper.len() > before {
                     self.base = self.replayed;
                 }
-                self.fall::<P>();
+                self.halt();
             }
             Err(KeepFault::OutOfMemory) => {}
         }

@@ -10,7 +10,7 @@ ghost use Rattle.rex_cluster.specs.Calls.{begin};
 ghost use Rattle.rex_cluster.specs.Lanes.{effect_of, live_state, submit_request, turned};
 ghost use Rattle.rex_cluster.specs.Takes as takes;
 ghost use Rattle.rex_log.specs.Log.{proposal_in};
-ghost use Rattle.rex_node.specs.Parts.{here_of, role_of, open_of, IsNode, StaysNode, count_of, knows};
+ghost use Rattle.rex_node.specs.Parts.{fallen, here_of, role_of, open_of, IsNode, StaysNode, count_of, knows};
 ghost use Rattle.rex_node.specs.Blocks.{take_each};
 ghost use Rattle.rex_node.specs.Calls.{Refuses, LeadsTo, if_up, if_active, refusal_active, turn_at};
 
@@ -135,6 +135,17 @@ impl<K: Keeper> Node<K> {
             None => Role::Follower,
             Some(proposer) => lead_role(&self.acceptor, proposer, self.acting.is_some()),
         }
+    }
+
+    /// Stops the node where it stands: it is down from here on, and has its keeper, and nothing else that counts.
+    pub fn halt(&mut self)
+        ensures { self.new ≡ fallen self.old }
+    {
+        self.up = false;
+        self.replayed = self.base;
+        self.ahead = None;
+        self.proposer = None;
+        self.acting = None;
     }
 
     /// Stops the node, and gives its keeper back: with the keeper's records it starts again.

@@ -1,8 +1,9 @@
 //! How a node comes up.
 
-ghost use Rattle.std.specs.Prelude.{◌≡◌, ◌<◌, ◌≤◌, ℕ, List, true, Some, IfOk, IfErr, IsOk};
+ghost use Rattle.std.specs.Prelude.{◌≡◌, ◌<◌, ◌≤◌, ℕ, List, true, Some, IfOk, IfErr, IsOk, OnErr, OnOk};
 ghost use Rattle.std.specs.List.{list_all};
 ghost use Rattle.rex_ballot.specs.Limits.{most_nodes};
+ghost use Rattle.rex_durable.specs.Laws.{IsRecovered};
 ghost use Rattle.rex_snapshot.specs.Reading.{state_in};
 ghost use Rattle.rex_cluster.specs.Records.{known};
 ghost use Rattle.rex_cluster.specs.Values.{spells, values_fit};
@@ -10,7 +11,7 @@ ghost use Rattle.rex_log.specs.Log.{AreRead, log_of};
 ghost use Rattle.rex_node.specs.Parts.{IsNode};
 ghost use Rattle.rex_node.specs.Stated.{AreStated};
 ghost use Rattle.rex_node.specs.declared.restart.RestartFault.TheVariants.{OutOfMemory};
-ghost use Rattle.rex_node.specs.Restarting.{CameUp, HasForgotten, HasRightBase, IsRead, IsRecalled, IsRestartFault, state_at};
+ghost use Rattle.rex_node.specs.Restarting.{CameUp, HasForgotten, HasRightBase, IsRead, IsRecalled, IsRestartFault, down_with, risen, state_at};
 
 use crate::contents::{Place, bad_at, ends_old, first_bad};
 use crate::node::Node;
@@ -82,35 +83,87 @@ impl<K: Keeper> Node<K> {
         ensures read { AreRead svc.now P.past (K.records keeper) → AreStated svc.now (K.records keeper)
             → list_all (spells svc.now) (known (log_of svc.now P.past (K.records keeper))) ≡ true → IfErr result (λ e. e.fault ≡ OutOfMemory) }
     {
-        match recall(alloc, svc, &keeper) {
-            Err(fault) => Err(NotStarted { keeper, fault }),
-            Ok(
-                Recalled {
-                    recovered,
-                    start,
-                    old_base,
-                },
-            ) => Ok(Node {
-                alloc,
-                id,
-                nodes,
-                seed,
+        let Ok(start) = State::start(alloc, svc) else {
+            return Err(NotStarted {
                 keeper,
-                up: true,
-                acceptor: Acceptor::with_accepted(
-                    recovered.promised,
-                    Proposals::from_list(recovered.accepted),
-                ),
-                known: Window::from_list(recovered.offset, recovered.known),
-                base: recovered.base,
-                start,
-                old_base,
-                replayed: recovered.base,
-                ahead: None,
-                proposer: None,
-                acting: None,
+                fault: RestartFault::OutOfMemory,
+            });
+        };
+        let mut node = Node::down(alloc, id, nodes, seed, start, keeper);
+        match node.start::<P>(svc) {
+            Ok(()) => Ok(node),
+            Err(fault) => Err(NotStarted {
+                keeper: node.stop(),
+                fault,
             }),
         }
+    }
+
+    /// The node comes up again with what its keeper has, and with nothing else, as a restarted one does. After an error it is as
+    /// it was.
+    pub fn start<P: Past>(&mut self, svc: &Checked) -> Result<(), RestartFault>
+        requires there { (0 < self.old.id) × (self.old.id ≤ self.old.nodes) }
+        requires few { self.old.nodes ≤ most_nodes }
+        ensures up { OnOk result (CameUp K.records svc.now P.past self.old.id self.old.nodes self.old.seed self.old.keeper self.new) }
+        ensures kept { values_fit svc.now (known (log_of svc.now P.past (K.records self.old.keeper))) ≡ true
+            → HasRightBase svc.now (log_of svc.now P.past (K.records self.old.keeper)) → HasForgotten P.past (log_of svc.now P.past (K.records self.old.keeper))
+            → OnOk result (IsNode K.records svc.now P.past self.new) }
+        ensures back { OnErr result (self.new ≡ self.old) }
+        ensures fault { IfErr result (IsRestartFault svc.now (K.records self.old.keeper)) }
+        ensures read { AreRead svc.now P.past (K.records self.old.keeper) → AreStated svc.now (K.records self.old.keeper)
+            → list_all (spells svc.now) (known (log_of svc.now P.past (K.records self.old.keeper))) ≡ true → IfErr result (λ e. e ≡ OutOfMemory) }
+    {
+        let recalled = recall(self.alloc, svc, &self.keeper)?;
+        self.rise(recalled);
+        Ok(())
+    }
+
+    // A node that is down, and has the keeper and nothing else that counts.
+    fn down(alloc: Global, id: u8, nodes: u8, seed: u32, start: State, keeper: K) -> Node<K>
+        ensures { result ≡ down_with id nodes seed start keeper }
+    {
+        Node {
+            alloc,
+            id,
+            nodes,
+            seed,
+            keeper,
+            up: false,
+            acceptor: Acceptor::new(alloc, 0),
+            known: Window::new(alloc),
+            base: 0,
+            start,
+            old_base: false,
+            replayed: 0,
+            ahead: None,
+            proposer: None,
+            acting: None,
+        }
+    }
+
+    // The node is up, and is what its records say of it.
+    fn rise(&mut self, recalled: Recalled)
+        requires { IsRecovered recalled.recovered }
+        ensures { self.new ≡ risen self.old recalled.recovered recalled.start recalled.old_base }
+    {
+        let Recalled {
+            recovered,
+            start,
+            old_base,
+        } = recalled;
+        self.up = true;
+        self.acceptor = Acceptor::with_accepted(
+            recovered.promised,
+            Proposals::from_list(recovered.accepted),
+        );
+        self.known = Window::from_list(recovered.offset, recovered.known);
+        self.base = recovered.base;
+        self.start = start;
+        self.old_base = old_base;
+        self.replayed = recovered.base;
+        self.ahead = None;
+        self.proposer = None;
+        self.acting = None;
     }
 }
 

@@ -2,7 +2,7 @@
 
 ghost use Rattle.std.specs.Prelude.{◌≡◌, ◌<◌, ◌≤◌, ◌-◌, ◌^◌, length, IfOk, OnErr};
 ghost use Rattle.rex_durable.specs.Spelling.{HasSpelling, record_bytes};
-ghost use Rattle.rex_node.specs.Parts.{fallen, IsSame, Stands, Writes, whole};
+ghost use Rattle.rex_node.specs.Parts.{IsSame, Stands, Writes, whole};
 ghost use Rattle.rex_node.specs.Going.{Appends, Finishes};
 
 use crate::going::Going;
@@ -24,7 +24,7 @@ impl<K: Keeper> Node<K> {
     {
         let written = rex_durable::append(self.alloc, &mut self.keeper, rec);
         if let Err(KeepFault::Failed) = written {
-            self.fall::<P>();
+            self.halt();
         }
         written
     }
@@ -57,17 +57,6 @@ impl<K: Keeper> Node<K> {
         }
     }
 
-    /// The node is down from here on.
-    pub(crate) fn fall<P: Past>(&mut self)
-        ensures { whole P.past self.new ≡ fallen (whole P.past self.old) }
-    {
-        self.up = false;
-        self.replayed = self.base;
-        self.ahead = None;
-        self.proposer = None;
-        self.acting = None;
-    }
-
     /// Ends a call that came to this, where the keeper had so many records before it: where memory was short after an append
     /// the node is down.
     pub(crate) fn finish<P: Past>(
@@ -82,7 +71,7 @@ impl<K: Keeper> Node<K> {
             Ok(_) => Ok(draft.done()),
             Err(_) => {
                 if self.keeper.len() > before {
-                    self.fall::<P>();
+                    self.halt();
                 }
                 Err(Refusal::OutOfMemory)
             }

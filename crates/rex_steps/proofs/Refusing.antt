@@ -1,5 +1,5 @@
 -- What the model says of a call that a node refuses.
-use Rattle.std.proofs.Common.{◌≡◌, ◌-◌, ℕ, Bool, true, false, List, [], ◌∷◌, length, Result, Ok, Err, Option, Some, None, IfOk, OnErr, nat_lt, nat_le, refl, sym, ap, subst, ◌∙◌, if◌then◌else◌}
+use Rattle.std.proofs.Common.{◌≡◌, ℕ, Bool, true, false, List, [], ◌∷◌, length, Result, Ok, Err, Option, Some, None, IfOk, OnErr, nat_lt, nat_le, refl, sym, ap, subst, ◌∙◌, if◌then◌else◌}
 use Rattle.std.specs.Prelude.{◌==◌}
 use Rattle.rex_syntax.specs.declared.service.Declarations.{Declarations}
 use Rattle.rex_event.specs.declared.event.Event.{Event}
@@ -17,10 +17,6 @@ use Rattle.rex_node.specs.declared.refusal.Refusal.{Refusal}
 use Rattle.rex_node.specs.declared.refusal.Refusal.TheVariants as why
 use Rattle.rex_node.specs.declared.step.Step.{Step}
 use Rattle.rex_node.specs.Calls.{IsSpared, Refuses, RefusesThen, if_active, if_up, refusal_of_lead, refusal_of_none, refusal_of_open}
-use Rattle.rex_snapshot.specs.Reading.{state_in}
-use Rattle.rex_msg.specs.declared.message.Content.{Content as Says}
-use Rattle.rex_msg.specs.declared.message.Content.TheVariants as sent
-use Rattle.rex_node.specs.Telling.{IsRight, IsTold, LeadTo, bad_state, refusal_of_content}
 use Rattle.rex_steps.specs.Steps.{Acts, IsDone, effect_of}
 
 -- ---- refusals
@@ -184,17 +180,6 @@ module _ (number : ℕ) (h : Here) where
 
 -- ---- who is refused
 
--- only a node that is up does what it is asked
-pub was_up_then : {A : Type 0} → (up : Bool) (due late : Option Refusal) (result : Result A Refusal) → RefusesThen (if_up up due) late result → IfOk result (λ _. up ≡ true)
-was_up_then true due late (Ok x) h = refl
-was_up_then false due late (Ok x) h = absurd (cc)
-was_up_then up due late (Err refusal) h = tt
-
-pub was_up : {A : Type 0} → (up : Bool) (due : Option Refusal) (result : Result A Refusal) → Refuses (if_up up due) result → IfOk result (λ _. up ≡ true)
-was_up true due (Ok x) h = refl
-was_up false due (Ok x) h = absurd (cc)
-was_up up due (Err refusal) h = tt
-
 pub spared_if : {A B : Type 0} (result : Result A Refusal) (before after : B) → OnErr result (after ≡ before) → IsSpared result before after
 spared_if (Ok x) before after same = tt
 spared_if (Err why.OutOfMemory) before after same = tt
@@ -209,32 +194,3 @@ spared_if (Err why.Spent) before after same = same
 spared_if (Err (why.BadSnapshot at)) before after same = same
 
 -- ---- states that are told
-
--- a state that is told rightly isn't refused
-pub never_bad : (service : Declarations) (past : List Value) (h : Here) (content : Says) → IsTold service past content → refusal_of_content service h content ≡ None
-never_bad service past h (sent.Prepare b i) told = refl
-never_bad service past h (sent.Promise b ps) told = refl
-never_bad service past h (sent.Accept b i v) told = refl
-never_bad service past h (sent.Accepted b i) told = refl
-never_bad service past h (sent.Chosen i v) told = refl
-never_bad service past h (sent.Nack b p) told = refl
-never_bad service past h (sent.Ask i) told = refl
-never_bad service past h (sent.Snapshot k bytes) told = by (nat_le k (length (known h.log)))
-  where
-    by : (b : Bool) → (if b then None else bad_state (state_in service bytes)) ≡ None
-    by true = refl
-    by false = ap bad_state told.spelled
-
--- it is the one that the bytes spell
-same_state : (s t : StateValue) → ◌≡◌ {A = Result StateValue ℕ} (Ok s) (Ok t) → s ≡ t
-same_state s t e = cc
-
-pub is_right : (service : Declarations) (past : List Value) (content : Says) → IsTold service past content → IsRight service past content
-is_right service past (sent.Prepare b i) told = tt
-is_right service past (sent.Promise b ps) told = tt
-is_right service past (sent.Accept b i v) told = tt
-is_right service past (sent.Accepted b i) told = tt
-is_right service past (sent.Chosen i v) told = tt
-is_right service past (sent.Nack b p) told = tt
-is_right service past (sent.Ask i) told = tt
-is_right service past (sent.Snapshot k bytes) told = λ s e. subst (LeadTo service past k) (same_state told.state s (sym told.spelled ∙ e)) told.leads

@@ -135,9 +135,7 @@ fn a_broken_keeper_fails_until_it_is_reopened(rt: HostRuntime) -> Result<(), Fai
     assert_eq!(rt; keeper.append(&PROMISED), Err(KeepFault::Failed));
     assert_eq!(rt; keeper.append(&PROMISED), Err(KeepFault::Failed));
     assert!(rt; keeper.is_broken());
-    let Ok(keeper) = keeper.reopen() else {
-        return Err("not reopened")?;
-    };
+    assert_eq!(rt; keeper.reopen(), Ok(()));
     assert!(rt; !keeper.is_broken());
     assert_eq!(rt; keeper.len(), 0);
     Ok(())
@@ -148,7 +146,7 @@ fn an_armed_failure_keeps_the_record(rt: HostRuntime) -> Result<(), Fail> {
     let mut keeper = Obedient::new(JournalKeeper::in_memory(rt.alloc())?);
     keeper.arm(Fate::Kept);
     assert_eq!(rt; keeper.append(&PROMISED), Err(KeepFault::Failed));
-    let mut keeper = keeper.reopen()?;
+    keeper.reopen()?;
     assert_eq!(rt; keeper.append(&[7]), Ok(()));
     assert_eq!(rt; keeper.len(), 2);
     Ok(())
@@ -159,7 +157,7 @@ fn an_armed_failure_loses_the_record(rt: HostRuntime) -> Result<(), Fail> {
     let mut keeper = Obedient::new(JournalKeeper::in_memory(rt.alloc())?);
     keeper.arm(Fate::Lost);
     assert_eq!(rt; keeper.append(&PROMISED), Err(KeepFault::Failed));
-    let mut keeper = keeper.reopen()?;
+    keeper.reopen()?;
     assert_eq!(rt; keeper.append(&[7]), Ok(()));
     assert_eq!(rt; keeper.len(), 1);
     Ok(())

@@ -48,3 +48,7 @@ fresh_store = record { records = []; armed = None; faults = 0; broken = false; a
 -- Reopened, and nothing else.
 abbrev pub reopened : StoreValue → StoreValue
 reopened k = record k { broken = false }
+
+-- It has to be reopened or not, and nothing else has changed.
+abbrev pub broken_as : Bool → StoreValue → StoreValue
+broken_as broken k = record k { broken = broken }

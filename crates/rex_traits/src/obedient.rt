@@ -1,6 +1,6 @@
 //! A store that fails only as it is armed, used as a keeper in memory is.
 
-ghost use Rattle.std.specs.Prelude.{◌≡◌, ◌≤◌, ◌<◌, ◌+◌, ◌-◌, ◌^◌, false, length, refl, IsTrue, IfOk};
+ghost use Rattle.std.specs.Prelude.{◌≡◌, ◌≤◌, ◌<◌, ◌+◌, ◌-◌, ◌^◌, false, length, refl, IsTrue, OnErr, OnOk};
 ghost use Rattle.rex_traits.specs.Keeping.{armed_to};
 ghost use Rattle.rex_traits.specs.Stores.{value_by};
 ghost use Rattle.rex_traits.specs.Obeying.{ObeysArming, kept_value};
@@ -47,12 +47,15 @@ impl<K: Store> Obedient<K> {
     }
 
     /// Reopens the store as a stop of the machine may have left it. Then it needn't be reopened any more.
-    pub fn reopen(self) -> Result<Obedient<K>, AllocError>
-        requires { self.faults < 2 ^ 64 - 1 }
-        ensures { IfOk result (λ o. o ≡ record self { broken = false }) }
+    ///
+    /// After an error, which comes of want of memory, it may have to be. Nothing else has changed.
+    pub fn reopen(&mut self) -> Result<(), AllocError>
+        requires { self.old.faults < 2 ^ 64 - 1 }
+        ensures reopened { OnOk result (self.new ≡ record self.old { broken = false }) }
+        ensures spared { OnErr result (self.new ≡ record self.old { broken = self.new.broken }) }
     {
         match self.store.reopen() {
-            Ok(store) => Ok(Obedient { store }),
+            Ok(()) => Ok(()),
             Err(ReopenFault::OutOfMemory) | Err(ReopenFault::Unreadable) => Err(AllocError),
         }
     }

@@ -1,7 +1,7 @@
 //! What is said of any store: a keeper that can be armed, and reopened after a stop. `MemKeeper` is one.
 
-ghost use Rattle.std.specs.Prelude.{◌≡◌, ◌≤◌, ◌<◌, ◌+◌, ◌-◌, ◌^◌, List, ℕ, Bool, true, false, IsTrue, IfErr, IfOk, Option, Result};
-ghost use Rattle.rex_traits.specs.Stores.{Obeys, armed_to, reopened, value_by};
+ghost use Rattle.std.specs.Prelude.{◌≡◌, ◌≤◌, ◌<◌, ◌+◌, ◌-◌, ◌^◌, List, ℕ, Bool, true, false, IsTrue, IfErr, OnErr, OnOk, Option, Result};
+ghost use Rattle.rex_traits.specs.Stores.{Obeys, armed_to, broken_as, reopened, value_by};
 ghost use Rattle.rex_traits.specs.StoreLaws.{memory_counts, memory_obeys};
 ghost use Rattle.rex_traits.specs.declared.keeper.KeepFault.{KeepFault};
 ghost use Rattle.rex_traits.specs.declared.mem_keeper.Fate.{Fate as Arming};
@@ -23,7 +23,8 @@ pub trait Store: Keeper + Drop {
     /// Whether the next append is to fail, and what becomes of its record then.
     ghost armed: { Self → Option Arming };
 
-    /// Whether an append has failed since the store was made or last reopened, so that more may fail until it is reopened.
+    /// Whether an append or a reopening has failed since the store was made or last reopened, so that appends may fail until it
+    /// is reopened.
     /// A store that goes on by itself is never broken.
     ghost broken: { Self → Bool };
 
@@ -40,11 +41,15 @@ pub trait Store: Keeper + Drop {
             (value_by Self.records Self.faults armed broken as_armed self.old) };
 
     /// Reopens the store as a stop of the machine may have left it. The records, the arming and the count of faults stay.
-    fn reopen(self) -> Result<Self, ReopenFault>
-        requires count { Self.faults self < 2 ^ 64 - 1 }
-        ensures reopened { IsTrue (as_armed self) → IfOk result (λ s. value_by Self.records Self.faults armed broken as_armed s ≡ reopened
-            (value_by Self.records Self.faults armed broken as_armed self)) }
-        ensures memory { IsTrue (as_armed self) → IfErr result (λ e. e ≡ reopen_fault.OutOfMemory) };
+    ///
+    /// After an error it may have to be reopened before it keeps another record. Nothing else has changed.
+    fn reopen(&mut self) -> Result<(), ReopenFault>
+        requires count { Self.faults self.old < 2 ^ 64 - 1 }
+        ensures reopened { IsTrue (as_armed self.old) → OnOk result (value_by Self.records Self.faults armed broken as_armed self.new ≡ reopened
+            (value_by Self.records Self.faults armed broken as_armed self.old)) }
+        ensures spared { IsTrue (as_armed self.old) → OnErr result (value_by Self.records Self.faults armed broken as_armed self.new ≡ broken_as
+            (broken self.new) (value_by Self.records Self.faults armed broken as_armed self.old)) }
+        ensures memory { IsTrue (as_armed self.old) → IfErr result (λ e. e ≡ reopen_fault.OutOfMemory) };
 
     /// An append fails once at most.
     ghost counts: { (old new : Self) (bytes : List ℕ) (result : Result (Unit {0}) KeepFault) → Self.append_gives old bytes result new
@@ -75,7 +80,7 @@ impl Store for MemKeeper {
         MemKeeper::arm(self, fate);
     }
 
-    fn reopen(self) -> Result<Self, ReopenFault> {
-        Ok(self)
+    fn reopen(&mut self) -> Result<(), ReopenFault> {
+        Ok(())
     }
 }

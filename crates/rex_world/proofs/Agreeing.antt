@@ -12,7 +12,7 @@ use Rattle.rex_cluster.specs.World.{node_at, put}
 use Rattle.rex_world.specs.declared.world.World.{World}
 use Rattle.rex_world.specs.Kept.{IsRunning}
 use Rattle.rex_world.specs.World.{world_of}
-use Rattle.rex_world.proofs.Seated.{later_at}
+use Rattle.rex_world.proofs.Placed.{later_at}
 
 -- one with the same records changes nothing
 pub same_longest : (xs : List Here) (m : ℕ) (y : Here) → y.log ≡ (node_at xs m).log → longest (put xs m y) ≡ longest xs

@@ -10,13 +10,13 @@ use Rattle.rex_reads.specs.Reads.{seen_after}
 use Rattle.rex_report.specs.declared.effect.Effect.{Effect}
 use Rattle.rex_schedule.specs.declared.scenario.ScheduleLine.TheVariants.{ReadVariable}
 use Rattle.rex_cluster.specs.Node.{Message}
+use Rattle.rex_cluster.specs.Lanes.{Here}
 use Rattle.rex_cluster.specs.Values.{Value}
 use Rattle.rex_cluster.specs.Reading.{read_at, read_effect}
 use Rattle.rex_cluster.specs.World.{World as ModelWorld, node_at, sent_from}
-use Rattle.rex_world.specs.declared.seats.Seat.{Seat}
 use Rattle.rex_world.specs.declared.told.Told.{Told}
 use Rattle.rex_world.specs.declared.world.World.{World}
-use Rattle.rex_world.specs.Seats.{heres}
+use Rattle.rex_world.specs.Members.{Member, here_at, heres}
 use Rattle.rex_world.specs.World.{messages_of, world_of}
 use Rattle.rex_world.specs.Kept.{IsRunning}
 use Rattle.rex_world.specs.Calls.{ComesTo, step_in}
@@ -42,7 +42,7 @@ module _ {S : Type 0} (service : Declarations) (w : World S) (h : IsRunning serv
       handed = h.kept.handed;
     };
     agreed = h.agreed;
-    seats = h.seats;
+    members = h.members;
     within = h.within;
     spelled = h.spelled;
     told = h.told;
@@ -53,13 +53,13 @@ module _ {S : Type 0} (service : Declarations) (w : World S) (h : IsRunning serv
   }
 
   -- a read comes to its row of the model
-  pub read_came : (m client variable : ℕ) → client ≤ 256 → (xs : List (Seat S)) → xs ≡ w.seats.items → (now next : ℕ) → now ≡ slice_index_or w.seen.items client now → (answer : Read) → answer ≡ read_at service (node_at (heres service w.agreed xs) m) variable now → next ≡ seen_after now answer
+  pub read_came : (m client variable : ℕ) → client ≤ 256 → (x : Member) → node_at (heres service w.agreed w.nodes.items) m ≡ here_at service w.agreed x → (now next : ℕ) → now ≡ slice_index_or w.seen.items client now → (answer : Read) → answer ≡ read_at service (here_at service w.agreed x) variable now → next ≡ seen_after now answer
       → (seen : Vec ℕ) → seen.items ≡ slice_set w.seen.items client next → (told told2 : Told) (e : Effect) → e ≡ read_effect m client variable answer → told2.effects.items ≡ told.effects.items ++ e ∷ [] → told2.sent.items ≡ told.sent.items
       → ComesTo service w (record w { seen = seen }) told told2 (step_in service w (ReadVariable m client variable))
-  read_came m client variable few xs xs_are now next now_is answer answer_is next_is seen saw told told2 e e_is effects sent =
+  read_came m client variable few x x_is now next now_is answer answer_is next_is seen saw told told2 e e_is effects sent =
       let was : now ≡ get_or w.seen.items client 0 = now_is ∙ number_there w.seen.items client now 0 (let many = h.clients in omega (arith, few, many)) in
-      let is : answer ≡ read_at service (node_at (heres service w.agreed w.seats.items) m) variable (get_or w.seen.items client 0) =
-      answer_is ∙ ap (λ (ys : List (Seat S)). read_at service (node_at (heres service w.agreed ys) m) variable now) xs_are ∙ ap (read_at service (node_at (heres service w.agreed w.seats.items) m) variable) was in
+      let is : answer ≡ read_at service (node_at (heres service w.agreed w.nodes.items) m) variable (get_or w.seen.items client 0) =
+      answer_is ∙ ap (λ (y : Here). read_at service y variable now) (sym x_is) ∙ ap (read_at service (node_at (heres service w.agreed w.nodes.items) m) variable) was in
       record {
         did = record {
           world = ap (λ (ss : List ℕ). let v : ModelWorld = record (world_of service w) { seen = ss } in v)

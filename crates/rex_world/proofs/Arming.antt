@@ -1,9 +1,7 @@
 -- A line that arms the keeper of a node.
-use Rattle.std.proofs.Common.{◌≡◌, ℕ, ◌+◌, ◌-◌, ◌≤◌, ◌<◌, ◌^◌, Bool, true, false, List, [], ◌∷◌, ◌++◌, length, Some, refl, sym, ◌∙◌, ap, subst, arith, length-set}
-use Rattle.std.specs.Prelude.{if◌then◌else◌}
+use Rattle.std.proofs.Common.{◌≡◌, ℕ, ◌+◌, ◌-◌, ◌≤◌, ◌<◌, ◌^◌, Bool, true, false, List, [], ◌++◌, length, Some, refl, sym, ◌∙◌, ap, subst, arith}
+use Rattle.std.specs.Prelude.{if◌then◌else◌, slice_index_or, slice_set}
 use Rattle.std.specs.Global.{Vec}
-use Rattle.std.specs.Vec.{with_items}
-use Rattle.std.proofs.lemmas.List.{with_items_is}
 use Rattle.std.proofs.lemmas.List.{append-nil}
 use Rattle.rex_ballot.specs.Limits.{most_nodes}
 use Rattle.rex_syntax.specs.declared.service.Declarations.{Declarations}
@@ -21,35 +19,30 @@ use Rattle.rex_cluster.specs.Agreed.{agreed}
 use Rattle.rex_safety.specs.Kept.{IsKept}
 use Rattle.rex_safety.proofs.Keeps.{row_kept}
 use Rattle.rex_node.specs.Parts.{NodeValue, IsNode as IsKeptNode}
-use Rattle.rex_world.specs.declared.seats.Seat.{Seat}
-use Rattle.rex_world.specs.declared.seats.Seat.TheVariants.{Running, Stopped, Empty}
 use Rattle.rex_world.specs.declared.world.World.{World}
-use Rattle.rex_world.specs.Seats.{AreSeats, AreWithin, HasKeeper, IsKeeping, IsSeat, armed_in, faults_of, here_in, heres, keeper_in, records_of}
+use Rattle.rex_world.specs.Members.{Member, AreMembers, IsKeeping, IsMember, faults_of, here_at, heres, records_of}
 use Rattle.rex_world.specs.World.{nodes_of, world_of}
 use Rattle.rex_world.specs.Kept.{IsRunning}
-use Rattle.rex_world.specs.Places.{IsArmedAt}
-use Rattle.rex_world.proofs.Acted.{has_keeper}
 use Rattle.rex_world.proofs.Agreeing.{same_longest}
 use Rattle.rex_world.proofs.Coming.{same_world}
-use Rattle.rex_world.proofs.Seated.{here_is, put_is, seat_is, set_seats, set_within, within_is, within_more}
+use Rattle.rex_world.proofs.Placed.{at_old, many_are, new_members, new_within, now_put, old_member, old_within, within_more}
 
--- ---- the seat
+-- ---- the node
 
 -- what becomes of the record
 abbrev pub fate_if : Bool → Fate
 fate_if kept = if kept then fate.Kept else fate.Lost
 
-here_armed : {S : Type 0} → (service : Declarations) (past : List Value) (kept : Bool) (seat : Seat S) → HasKeeper seat → here_in service past (armed_in (fate_if kept) seat) ≡ record (here_in service past seat) { armed = Some (After 0 kept) }
-here_armed service past true (Running node) there = refl
-here_armed service past false (Running node) there = refl
-here_armed service past true (Stopped keeper) there = refl
-here_armed service past false (Stopped keeper) there = refl
-here_armed service past kept Empty none = absurd none
+-- its keeper is armed, and nothing else has changed
+abbrev pub armed_member : Fate → Member → Member
+armed_member f x = record x { keeper = armed_to f x.keeper }
 
-faults_armed : {S : Type 0} → (f : Fate) (seat : Seat S) → faults_of (keeper_in (armed_in f seat)) ≤ faults_of (keeper_in seat) + 1
-faults_armed f (Running node) = omega arith
-faults_armed f (Stopped keeper) = omega arith
-faults_armed f Empty = omega arith
+here_armed : (service : Declarations) (past : List Value) (kept : Bool) (x : Member) → here_at service past (armed_member (fate_if kept) x) ≡ record (here_at service past x) { armed = Some (After 0 kept) }
+here_armed service past true x = refl
+here_armed service past false x = refl
+
+faults_armed : (f : Fate) (x : Member) → faults_of (armed_to f x.keeper) ≤ faults_of x.keeper + 1
+faults_armed f x = omega arith
 
 keeping_armed : (service : Declarations) (past : List Value) (f : Fate) (k : KeeperValue) → IsKeeping service past k → faults_of k + 1 < 2 ^ 64 - 1 → IsKeeping service past (armed_to f k)
 keeping_armed service past f k h l = record { read = h.read; stated = h.stated; room = omega arith }
@@ -80,17 +73,15 @@ node_armed service past f x h = record {
   rests = h.rests;
 }
 
-seat_armed : {S : Type 0} → (service : Declarations) (past : List Value) (seed nodes number : ℕ) (f : Fate) (seat : Seat S) → IsSeat service past seed nodes number seat → faults_of (keeper_in seat) + 1 < 2 ^ 64 - 1 → IsSeat service past seed nodes number (armed_in f seat)
-seat_armed service past seed nodes number f (Running node) h l = record {
+member_armed : (service : Declarations) (past : List Value) (seed nodes number : ℕ) (f : Fate) (x : Member) → IsMember service past seed nodes number x → faults_of x.keeper + 1 < 2 ^ 64 - 1 → IsMember service past seed nodes number (armed_member f x)
+member_armed service past seed nodes number f x h l = record {
   id = h.id;
   nodes_are = h.nodes_are;
   seed_is = h.seed_is;
-  node = node_armed service past f node h.node;
-  keeping = keeping_armed service past f node.keeper h.keeping l;
+  node = node_armed service past f x h.node;
+  keeping = keeping_armed service past f x.keeper h.keeping l;
   whole = h.whole;
 }
-seat_armed service past seed nodes number f (Stopped keeper) h l = keeping_armed service past f keeper h l
-seat_armed service past seed nodes number f Empty none l = absurd none
 
 -- ---- the row
 
@@ -106,47 +97,31 @@ module _ (service : Declarations) (requests : List Request) (seed n : ℕ) (w : 
 
 -- ---- the world
 
--- what a slice of the seats came to, the seats came to
-pub armed_there : {S : Type 0} → (w : World S) (m : ℕ) (kept : Bool) (f : Fate) (xs ws : List (Seat S)) → xs ≡ w.seats.items → f ≡ fate_if kept → IsArmedAt f m xs ws → IsArmedAt (fate_if kept) m w.seats.items (with_items w.seats ws).items
-armed_there w m kept f xs ws e same armed =
-    let many : length ws ≡ nodes_of w = ap length armed.others ∙ length-set xs (m - 1) (armed_in f armed.seat) ∙ ap length e in
-    subst (IsArmedAt (fate_if kept) m w.seats.items) (sym (with_items_is w.seats ws (many ∙ sym w.seats.ok.0)))
-    (subst (λ (ys : List (Seat _)). IsArmedAt (fate_if kept) m ys ws) e (subst (λ (g : Fate). IsArmedAt g m xs ws) same armed))
-
-module _ {S : Type 0} (service : Declarations) (w : World S) (h : IsRunning service w) (m : ℕ) (there : IsNode (nodes_of w) m) (kept : Bool) (seats : Vec (Seat S)) (armed : IsArmedAt (fate_if kept) m w.seats.items seats.items) (room : w.done + 1 < 2 ^ 32) where
+module _ {S : Type 0} (service : Declarations) (w : World S) (h : IsRunning service w) (m : ℕ) (there : IsNode (nodes_of w) m) (kept : Bool) (nodes : Vec Member) (x : Member) (x_is : x ≡ slice_index_or w.nodes.items (m - 1) x) (f : Fate) (f_is : f ≡ fate_if kept) (nodes_are : nodes.items ≡ slice_set w.nodes.items (m - 1) (armed_member f x)) (room : w.done + 1 < 2 ^ 32) where
   abbrev after : World S
-  after = record w { seats = seats; done = w.done + 1 }
+  after = record w { nodes = nodes; done = w.done + 1 }
 
-  seat : Seat S
-  seat = armed.seat
+  nodes_so : nodes.items ≡ slice_set w.nodes.items (m - 1) (armed_member (fate_if kept) x)
+  nodes_so = nodes_are ∙ ap (λ (g : Fate). slice_set w.nodes.items (m - 1) (armed_member g x)) f_is
 
-  seat_was : IsSeat service w.agreed w.seed (nodes_of w) m armed.seat
-  seat_was = subst (IsSeat service w.agreed w.seed (nodes_of w) m) (sym armed.seat_is) (seat_is service w.agreed w.seats.items m there armed.seat w.seed (nodes_of w) h.seats)
-
-  heres_after : heres service w.agreed seats.items ≡ put (heres service w.agreed w.seats.items) m (record (node_at (heres service w.agreed w.seats.items) m) { armed = Some (After 0 kept) })
-  unfolding seat
+  heres_after : heres service w.agreed nodes.items ≡ put (heres service w.agreed w.nodes.items) m (record (node_at (heres service w.agreed w.nodes.items) m) { armed = Some (After 0 kept) })
   heres_after =
-      let here : node_at (heres service w.agreed w.seats.items) m ≡ here_in service w.agreed armed.seat = here_is service w.agreed w.seats.items m there armed.seat ∙ ap (here_in service w.agreed) (sym armed.seat_is) in
-      ap (heres service w.agreed) armed.others
-      ∙ put_is service w.agreed w.seats.items m there armed.seat (armed_in (fate_if kept) armed.seat)
-      ∙ ap (put (heres service w.agreed w.seats.items) m) (here_armed service w.agreed kept armed.seat (has_keeper service w.agreed w.seed (nodes_of w) m armed.seat seat_was) ∙ ap (λ (x : Here). let y : Here = record x { armed = Some (After 0 kept) } in y) (sym here))
+      now_put w.nodes.items nodes.items m there x (armed_member (fate_if kept) x) x_is nodes_so service w.agreed
+      ∙ ap (put (heres service w.agreed w.nodes.items) m) (here_armed service w.agreed kept x ∙ ap (λ (z : Here). let a : Here = record z { armed = Some (After 0 kept) } in a) (sym (at_old w.nodes.items nodes.items m there x (armed_member (fate_if kept) x) x_is nodes_so service w.agreed)))
 
   pub arming_world : world_of service after ≡ (row service w.requests w.seed (nodes_of w) (world_of service w) (KeepFail m kept)).world
-  arming_world = arming_row service w.requests w.seed (nodes_of w) (world_of service w) m kept (heres service w.agreed seats.items) heres_after
+  arming_world = arming_row service w.requests w.seed (nodes_of w) (world_of service w) m kept (heres service w.agreed nodes.items) heres_after
 
-  many : length seats.items ≡ nodes_of w
-  many = ap length armed.others ∙ length-set w.seats.items (m - 1) (armed_in (fate_if kept) armed.seat)
-
-  few : faults_of (keeper_in armed.seat) ≤ w.done
-  few = subst (λ (s : Seat S). faults_of (keeper_in s) ≤ w.done) (sym armed.seat_is) (within_is service w.agreed w.seats.items m there armed.seat w.done h.within)
+  pub many : length nodes.items ≡ nodes_of w
+  many = many_are w.nodes.items nodes.items m there x (armed_member (fate_if kept) x) x_is nodes_so
 
   pub arming_running : IsRunning service after
   arming_running =
-      let k = few in
-      let f = faults_armed (fate_if kept) armed.seat in
-      let all : AreSeats service w.agreed w.seed (nodes_of w) 1 seats.items =
-      subst (AreSeats service w.agreed w.seed (nodes_of w) 1) (sym armed.others)
-      (set_seats service w.agreed w.seats.items m there armed.seat w.seed (nodes_of w) (armed_in (fate_if kept) armed.seat) h.seats (seat_armed service w.agreed w.seed (nodes_of w) m (fate_if kept) armed.seat seat_was (omega arith))) in
+      let k = old_within w.nodes.items nodes.items m there x (armed_member (fate_if kept) x) x_is nodes_so w.done h.within in
+      let l = faults_armed (fate_if kept) x in
+      let was : IsMember service w.agreed w.seed (nodes_of w) m x = old_member w.nodes.items nodes.items m there x (armed_member (fate_if kept) x) x_is nodes_so service w.agreed w.seed (nodes_of w) h.members in
+      let all : AreMembers service w.agreed w.seed (nodes_of w) 1 nodes.items =
+      new_members w.nodes.items nodes.items m there x (armed_member (fate_if kept) x) x_is nodes_so service w.agreed w.seed (nodes_of w) h.members (member_armed service w.agreed w.seed (nodes_of w) m (fate_if kept) x was (omega arith)) in
       record {
         service_is = h.service_is;
         checked = h.checked;
@@ -155,9 +130,8 @@ module _ {S : Type 0} (service : Declarations) (w : World S) (h : IsRunning serv
         agreed = h.agreed ∙ sym (arming_agreed service w.requests w.seed (nodes_of w) (world_of service w) m kept) ∙ ap agreed (sym arming_world);
         kept = subst (λ (n : ℕ). IsKept service w.seed n (world_of service after)) (sym many)
             (subst (IsKept service w.seed (nodes_of w)) (sym arming_world) (row_kept service h.service_is h.checked w.requests h.requests w.seed (nodes_of w) h.few (world_of service w) (KeepFail m kept) there h.kept));
-        seats = subst (λ (n : ℕ). AreSeats service w.agreed w.seed n 1 seats.items) (sym many) all;
-        within = subst (AreWithin (w.done + 1)) (sym armed.others)
-            (set_within service w.agreed w.seats.items m there armed.seat (w.done + 1) (armed_in (fate_if kept) armed.seat) (within_more service w.agreed w.done (w.done + 1) w.seats.items h.within (omega arith)) (omega arith));
+        members = subst (λ (n : ℕ). AreMembers service w.agreed w.seed n 1 nodes.items) (sym many) all;
+        within = new_within w.nodes.items nodes.items m there x (armed_member (fate_if kept) x) x_is nodes_so (w.done + 1) (within_more w.done (w.done + 1) w.nodes.items h.within (omega arith)) (omega arith);
         spelled = h.spelled;
         told = h.told;
         requests = h.requests;
@@ -180,8 +154,8 @@ counted_running service w h = record {
     numbers = record { nodes = h.kept.numbers.nodes; messages = h.kept.numbers.messages };
     handed = h.kept.handed;
   };
-  seats = h.seats;
-  within = within_more service w.agreed w.done (w.done + 1) w.seats.items h.within (omega arith);
+  members = h.members;
+  within = within_more w.done (w.done + 1) w.nodes.items h.within (omega arith);
   spelled = h.spelled;
   told = h.told;
   requests = h.requests;

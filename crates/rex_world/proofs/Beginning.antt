@@ -19,44 +19,43 @@ use Rattle.rex_cluster.specs.Reading.{nothing_seen}
 use Rattle.rex_cluster.specs.Agreed.{agreed, longer_of, longest}
 use Rattle.rex_safety.specs.Kept.{IsKept}
 use Rattle.rex_safety.proofs.Keeps.{beginning_kept}
-use Rattle.rex_world.specs.declared.seats.Seat.{Seat}
 use Rattle.rex_world.specs.declared.world.World.{World}
-use Rattle.rex_world.specs.Seats.{IsSeat, AreSeats, AreWithin, faults_of, here_in, heres, keeper_in}
+use Rattle.rex_world.specs.Members.{Member, AreMembers, AreWithin, IsMember, faults_of, here_at, heres}
 use Rattle.rex_world.specs.World.{IsSpelled, TellsRightly, messages_of, world_of}
 use Rattle.rex_world.specs.Kept.{IsRunning}
 use Rattle.rex_world.proofs.Endings.{heres_both}
 
 -- the nodes so far, before the first line
-pub record AreNew {S : Type 0} (service : Declarations) (seed nodes number : ℕ) (seats : List (Seat S)) : Type 0 where
-  pub here : heres service [] seats ≡ replicate number new_node
-  pub are : AreSeats service [] seed nodes 1 seats
-  pub within : AreWithin 0 seats
-  pub many : length seats ≡ number
+pub record AreNew (service : Declarations) (seed nodes number : ℕ) (xs : List Member) : Type 0 where
+  pub here : heres service [] xs ≡ replicate number new_node
+  pub are : AreMembers service [] seed nodes 1 xs
+  pub within : AreWithin 0 xs
+  pub many : length xs ≡ number
 
-seats_more : {S : Type 0} → (service : Declarations) (seed nodes k : ℕ) (seats : List (Seat S)) (seat : Seat S) → AreSeats service [] seed nodes k seats → IsSeat service [] seed nodes (k + length seats) seat → AreSeats service [] seed nodes k (seats ++ seat ∷ [])
-seats_more service seed nodes k [] seat all one = (subst (λ (m : ℕ). IsSeat service [] seed nodes m seat) (add-zero k) one, tt)
-seats_more service seed nodes k (s ∷ ss) seat all one =
-    let e : k + suc (length ss) ≡ suc k + length ss = omega arith in
-    (all.0, seats_more service seed nodes (suc k) ss seat all.1 (subst (λ (m : ℕ). IsSeat service [] seed nodes m seat) e one))
+members_more : (service : Declarations) (seed nodes k : ℕ) (xs : List Member) (x : Member) → AreMembers service [] seed nodes k xs → IsMember service [] seed nodes (k + length xs) x → AreMembers service [] seed nodes k (xs ++ x ∷ [])
+members_more service seed nodes k [] x all one = (subst (λ (m : ℕ). IsMember service [] seed nodes m x) (add-zero k) one, tt)
+members_more service seed nodes k (y ∷ ys) x all one =
+    let e : k + suc (length ys) ≡ suc k + length ys = omega arith in
+    (all.0, members_more service seed nodes (suc k) ys x all.1 (subst (λ (m : ℕ). IsMember service [] seed nodes m x) e one))
 
-within_next : {S : Type 0} → (seats : List (Seat S)) (seat : Seat S) → AreWithin 0 seats → faults_of (keeper_in seat) ≡ 0 → AreWithin 0 (seats ++ seat ∷ [])
-within_next [] seat all one = (omega (arith, one), tt)
-within_next (s ∷ ss) seat all one = (all.0, within_next ss seat all.1 one)
+within_next : (xs : List Member) (x : Member) → AreWithin 0 xs → faults_of x.keeper ≡ 0 → AreWithin 0 (xs ++ x ∷ [])
+within_next [] x all one = (omega (arith, one), tt)
+within_next (y ∷ ys) x all one = (all.0, within_next ys x all.1 one)
 
-pub new_next : {S : Type 0} → (service : Declarations) (seed nodes number : ℕ) (seats : List (Seat S)) (seat : Seat S) → AreNew service seed nodes number seats → here_in service [] seat ≡ new_node → IsSeat service [] seed nodes (number + 1) seat
-    → faults_of (keeper_in seat) ≡ 0 → AreNew service seed nodes (number + 1) (seats ++ seat ∷ [])
-new_next service seed nodes number seats seat h e one none =
-    let n : number + 1 ≡ 1 + length seats = omega (arith, h.many) in
+pub new_next : (service : Declarations) (seed nodes number : ℕ) (xs : List Member) (x : Member) → AreNew service seed nodes number xs → here_at service [] x ≡ new_node → IsMember service [] seed nodes (number + 1) x
+    → faults_of x.keeper ≡ 0 → AreNew service seed nodes (number + 1) (xs ++ x ∷ [])
+new_next service seed nodes number xs x h e one none =
+    let n : number + 1 ≡ 1 + length xs = omega (arith, h.many) in
     record {
-      here = heres_both service [] seats (seat ∷ []) ∙ ap (λ (xs : List Here). xs ++ here_in service [] seat ∷ []) h.here ∙ ap (λ (y : Here). replicate number new_node ++ y ∷ []) e ∙ sym (replicate_next number new_node);
-      are = seats_more service seed nodes 1 seats seat h.are (subst (λ (m : ℕ). IsSeat service [] seed nodes m seat) n one);
-      within = within_next seats seat h.within none;
-      many = length-append seats (seat ∷ []) ∙ ap (λ (k : ℕ). k + 1) h.many;
+      here = heres_both service [] xs (x ∷ []) ∙ ap (λ (ys : List Here). ys ++ here_at service [] x ∷ []) h.here ∙ ap (λ (y : Here). replicate number new_node ++ y ∷ []) e ∙ sym (replicate_next number new_node);
+      are = members_more service seed nodes 1 xs x h.are (subst (λ (m : ℕ). IsMember service [] seed nodes m x) n one);
+      within = within_next xs x h.within none;
+      many = length-append xs (x ∷ []) ∙ ap (λ (k : ℕ). k + 1) h.many;
     }
 
 -- no node yet
-pub none_new : {S : Type 0} → (service : Declarations) (seed nodes : ℕ) (seats : List (Seat S)) → seats ≡ [] → AreNew service seed nodes 0 seats
-none_new service seed nodes seats e = subst (AreNew service seed nodes 0) (sym e) (record { here = refl; are = tt; within = tt; many = refl })
+pub none_new : (service : Declarations) (seed nodes : ℕ) (xs : List Member) → xs ≡ [] → AreNew service seed nodes 0 xs
+none_new service seed nodes xs e = subst (AreNew service seed nodes 0) (sym e) (record { here = refl; are = tt; within = tt; many = refl })
 
 both : (a b : Bool) → (a && b) ≡ true → (a ≡ true) × (b ≡ true)
 both true b e = (refl, e)
@@ -69,10 +68,10 @@ abbrev model_of : ℕ → List Here → List (Message Value) → List Bool → L
 model_of done nodes messages handed seen = record { done = done; nodes = nodes; messages = messages; handed = handed; seen = seen }
 
 -- the world of the model before the first line
-pub begins : {S : Type 0} → (service : Declarations) (seed n : ℕ) (w : World S) → AreNew service seed n n w.seats.items → w.agreed ≡ [] → w.net ≡ [] → w.handed.items ≡ [] → w.seen.items ≡ nothing_seen → w.done ≡ 0 → world_of service w ≡ beginning n
+pub begins : {S : Type 0} → (service : Declarations) (seed n : ℕ) (w : World S) → AreNew service seed n n w.nodes.items → w.agreed ≡ [] → w.net ≡ [] → w.handed.items ≡ [] → w.seen.items ≡ nothing_seen → w.done ≡ 0 → world_of service w ≡ beginning n
 begins service seed n w h none net handed seen done =
-    ap (λ (d : ℕ). model_of d (heres service w.agreed w.seats.items) (messages_of w.agreed w.net) w.handed.items w.seen.items) done
-    ∙ ap (λ (vs : List Value). model_of 0 (heres service vs w.seats.items) (messages_of vs w.net) w.handed.items w.seen.items) none
+    ap (λ (d : ℕ). model_of d (heres service w.agreed w.nodes.items) (messages_of w.agreed w.net) w.handed.items w.seen.items) done
+    ∙ ap (λ (vs : List Value). model_of 0 (heres service vs w.nodes.items) (messages_of vs w.net) w.handed.items w.seen.items) none
     ∙ ap (λ (xs : List Here). model_of 0 xs (messages_of [] w.net) w.handed.items w.seen.items) h.here
     ∙ ap (λ (ms : List (List ℕ)). model_of 0 (replicate n new_node) (messages_of [] ms) w.handed.items w.seen.items) net
     ∙ ap (λ (hs : List Bool). model_of 0 (replicate n new_node) [] hs w.seen.items) handed
@@ -83,7 +82,7 @@ none_agreed : (n : ℕ) → longest (replicate n new_node) ≡ []
 none_agreed zero = refl
 none_agreed (suc n) = ap (longer_of []) (none_agreed n)
 
-pub new_running : {S : Type 0} → (service : Declarations) (n : ℕ) (w : World S) → n ≤ most_nodes → IsService service → IsChecked service → All (RequestFits service) w.requests → AreNew service w.seed n n w.seats.items
+pub new_running : {S : Type 0} → (service : Declarations) (n : ℕ) (w : World S) → n ≤ most_nodes → IsService service → IsChecked service → All (RequestFits service) w.requests → AreNew service w.seed n n w.nodes.items
     → w.agreed ≡ [] → w.net ≡ [] → w.handed.items ≡ [] → w.seen.items ≡ nothing_seen → w.done ≡ 0 → w.flushed ≡ 0 → w.broken ≡ false → IsRunning service w
 new_running service n w few good checked fit h none net handed seen done flushed whole =
     record {
@@ -94,8 +93,8 @@ new_running service n w few good checked fit h none net handed seen done flushed
       agreed = none ∙ sym (none_agreed n) ∙ ap agreed (sym (begins service w.seed n w h none net handed seen done));
       kept = subst (λ (k : ℕ). IsKept service w.seed k (world_of service w)) (sym h.many)
           (subst (λ (x : ModelWorld). IsKept service w.seed n x) (sym (begins service w.seed n w h none net handed seen done)) (beginning_kept service good checked w.requests fit w.seed n few));
-      seats = subst (λ (k : ℕ). AreSeats service w.agreed w.seed k 1 w.seats.items) (sym h.many) (subst (λ (vs : List Value). AreSeats service vs w.seed n 1 w.seats.items) (sym none) h.are);
-      within = subst (λ (k : ℕ). AreWithin k w.seats.items) (sym done) h.within;
+      members = subst (λ (k : ℕ). AreMembers service w.agreed w.seed k 1 w.nodes.items) (sym h.many) (subst (λ (vs : List Value). AreMembers service vs w.seed n 1 w.nodes.items) (sym none) h.are);
+      within = subst (λ (k : ℕ). AreWithin k w.nodes.items) (sym done) h.within;
       spelled = subst (λ (ms : List (List ℕ)). All IsSpelled ms) (sym net) (All-nil IsSpelled);
       told = subst (λ (ms : List (List ℕ)). All (TellsRightly service w.agreed) ms) (sym net) (All-nil (TellsRightly service w.agreed));
       requests = fit;

@@ -1,10 +1,8 @@
 -- A block of events that a node is handed.
-use Rattle.std.proofs.Common.{◌≡◌, ℕ, ◌-◌, ◌≤◌, Bool, true, false, cond, eqb, eq-eqb, List, [], ◌∷◌, length, Result, Ok, Err, Option, Some, None, OnErr, OnOk, refl, sym, ap, subst, ◌∙◌, arith, length-set}
+use Rattle.std.proofs.Common.{◌≡◌, ℕ, ◌-◌, ◌≤◌, Bool, true, false, cond, eqb, eq-eqb, List, [], ◌∷◌, length, Result, Ok, Err, Option, Some, None, OnErr, OnOk, refl, sym, ap, subst, ◌∙◌}
 use Rattle.std.specs.Prelude.{slice_index_or, slice_set}
 use Rattle.std.specs.Global.{Vec}
 use Rattle.std.specs.List.{All}
-use Rattle.std.specs.Vec.{with_items}
-use Rattle.std.proofs.lemmas.List.{with_items_is}
 use Rattle.std.proofs.lemmas.List.Elements.{All-nil, All-head, All-tail}
 use Rattle.rex_ballot.specs.Limits.{most_nodes}
 use Rattle.rex_syntax.specs.declared.request.Request.{Request}
@@ -28,15 +26,14 @@ use Rattle.rex_node.specs.declared.refusal.Refusal.{Refusal}
 use Rattle.rex_node.specs.Blocks.{take_each}
 use Rattle.rex_node.specs.Parts.{NodeValue, here_of}
 use Rattle.rex_node.specs.Calls.{LeadsTo, Refuses, refusal_active}
-use Rattle.rex_world.specs.declared.seats.Seat.{Seat}
 use Rattle.rex_world.specs.declared.world.World.{World}
-use Rattle.rex_world.specs.Blocks.{IsHandedBlock, IsHandedBlockAt, takes_at}
-use Rattle.rex_world.specs.Seats.{AreSeats, StaysSeat, armed_of, here_at, here_in, heres, records_of}
+use Rattle.rex_world.specs.Taking.{IsHandedBlock, takes_at}
+use Rattle.rex_world.specs.Members.{Member, StaysMember, armed_of, here_at, records_of}
 use Rattle.rex_world.specs.World.{nodes_of, world_of}
-use Rattle.rex_world.specs.Kept.{IsRunning, IsSame}
+use Rattle.rex_world.specs.Kept.{IsRunning}
 use Rattle.rex_world.proofs.Coming.{put_same}
-use Rattle.rex_world.proofs.Given.{take_agreed, take_is, none_refused}
-use Rattle.rex_world.proofs.Seated.{here_is, many_here, new_is, put_is, set_seats, set_within, within_is}
+use Rattle.rex_world.proofs.Given.{given_put, given_running, given_still, none_refused, take_agreed, take_is}
+use Rattle.rex_world.proofs.Placed.{at_old, many_here}
 
 -- ---- the node
 
@@ -57,23 +54,6 @@ module _ (service : Declarations) (past : List Value) (x y : NodeValue KeeperVal
       → OnOk outcome (LeadsTo (take_each service es) (here_of records_of service past x) (here_of records_of service past y)) → OnErr outcome (y ≡ x) → IsHandedBlock service es (here_at service past x) (here_at service past y) outcome
   block_handed (Ok t) refused takes same = record { refused = refused; takes = leads takes; same = tt }
   block_handed (Err r) refused takes same = record { refused = refused; takes = tt; same = ap (here_at service past) same }
-
--- ---- among the nodes
-
-module _ {S : Type 0} (service : Declarations) (past : List Value) (seats : List (Seat S)) (number : ℕ) (here : IsNode (length seats) number) (d : Seat S) where
-  pub block_at : (seed : ℕ) (es : List Event) (seat : Seat S) (outcome : Result (Unit {0}) Refusal)
-      → IsHandedBlock service es (here_in service past (slice_index_or seats (number - 1) d)) (here_in service past seat) outcome → StaysSeat service past seed (length seats) number (slice_index_or seats (number - 1) d) seat
-      → IsHandedBlockAt service past seed number es seats (slice_set seats (number - 1) seat) outcome
-  block_at seed es seat outcome h kept = record {
-    handed = subst (λ (x : Here). IsHandedBlock service es x (node_at (heres service past (slice_set seats (number - 1) seat)) number) outcome) (sym (here_is service past seats number here d))
-        (subst (λ (y : Here). IsHandedBlock service es (here_in service past (slice_index_or seats (number - 1) d)) y outcome) (sym (new_is service past seats number here d seat)) h);
-    others = put_is service past seats number here d seat ∙ ap (λ (y : Here). put (heres service past seats) number y) (sym (new_is service past seats number here d seat));
-    many = length-set seats (number - 1) seat;
-    seats = λ most all. let l = within_is service past seats number here d most all.within in let k = kept.within in record {
-      seats_are = set_seats service past seats number here d seed (length seats) seat all.seats_are kept.seat;
-      within = set_within service past seats number here d most seat all.within (omega (arith, l, k));
-    };
-  }
 
 -- ---- the world
 
@@ -121,62 +101,40 @@ ok_due : (due : Option Refusal) (t : Unit {0}) → Refuses due (Ok t) → due �
 ok_due None t h = refl
 ok_due (Some r) t h = absurd (cc)
 
--- what a slice of the seats came to, the seats came to
-pub block_there : {S : Type 0} → (service : Declarations) (w : World S) (m : ℕ) (es : List Event) (xs ws : List (Seat S)) (outcome : Result (Unit {0}) Refusal) → xs ≡ w.seats.items → IsHandedBlockAt service w.agreed w.seed m es xs ws outcome
-    → IsHandedBlockAt service w.agreed w.seed m es w.seats.items (with_items w.seats ws).items outcome
-block_there service w m es xs ws outcome is a =
-    let many : length ws ≡ nodes_of w = a.many ∙ ap length is in
-    subst (λ (ys : List (Seat _)). IsHandedBlockAt service w.agreed w.seed m es w.seats.items ys outcome) (sym (with_items_is w.seats ws (many ∙ sym w.seats.ok.0)))
-    (subst (λ (ys : List (Seat _)). IsHandedBlockAt service w.agreed w.seed m es ys ws outcome) is a)
-
-module _ {S : Type 0} (service : Declarations) (w : World S) (h : IsRunning service w) (m : ℕ) (there : IsNode (nodes_of w) m) (es : List Event) (seats : Vec (Seat S)) where
+module _ {S : Type 0} (service : Declarations) (w : World S) (h : IsRunning service w) (m : ℕ) (there : IsNode (nodes_of w) m) (nodes : Vec Member) (old new : Member) (old_is : old ≡ slice_index_or w.nodes.items (m - 1) old) (nodes_are : nodes.items ≡ slice_set w.nodes.items (m - 1) new)
+    (stays : StaysMember service w.agreed w.seed (nodes_of w) m old new) (es : List Event) where
   abbrev later : Bool → World S
-  later broken = record w { seats = seats; broken = broken }
+  later broken = record w { nodes = nodes; broken = broken }
 
-  pub block_world : (broken : Bool) (outcome : Result (Unit {0}) Refusal) → IsHandedBlockAt service w.agreed w.seed m es w.seats.items seats.items outcome
-      → OnOk outcome (world_of service (later broken) ≡ after_doings service w.requests w.seed (nodes_of w) (world_of service w) (takes_at m es))
+  abbrev before : ModelWorld
+  before = world_of service w
+
+  abbrev Handed : Result (Unit {0}) Refusal → Type 0
+  Handed outcome = IsHandedBlock service es (here_at service w.agreed old) (here_at service w.agreed new) outcome
+
+  handed_was : (outcome : Result (Unit {0}) Refusal) → Handed outcome → IsHandedBlock service es (node_at before.nodes m) (here_at service w.agreed new) outcome
+  handed_was outcome a = subst (λ (x : Here). IsHandedBlock service es x (here_at service w.agreed new) outcome) (sym (at_old w.nodes.items nodes.items m there old new old_is nodes_are service w.agreed)) a
+
+  pub block_refused : (outcome : Result (Unit {0}) Refusal) → Handed outcome → Refuses (refusal_active (node_at before.nodes m)) outcome
+  block_refused outcome a = (handed_was outcome a).refused
+
+  pub block_world : (broken : Bool) (outcome : Result (Unit {0}) Refusal) → Handed outcome → OnOk outcome (world_of service (later broken) ≡ after_doings service w.requests w.seed (nodes_of w) before (takes_at m es))
   block_world broken (Err r) a = tt
   block_world broken (Ok t) a =
-      let n = none_refused (node_at (heres service w.agreed w.seats.items) m) (ok_due (refusal_active (node_at (heres service w.agreed w.seats.items) m)) t a.handed.refused) in
-      ap (λ (xs : List Here). let v : ModelWorld = record (world_of service w) { nodes = xs } in v) (a.others ∙ ap (put (heres service w.agreed w.seats.items) m) a.handed.takes)
-      ∙ takes_are service w.requests w.seed (nodes_of w) m es (world_of service w) (subst (λ (k : ℕ). IsNode k m) (sym (many_here service w.agreed w.seats.items)) there) n.0 n.1
+      let c = handed_was (Ok t) a in
+      let n = none_refused (node_at before.nodes m) (ok_due (refusal_active (node_at before.nodes m)) t c.refused) in
+      given_put service w h m there nodes old new old_is nodes_are stays broken (take_each service es (begin (node_at before.nodes m))).node c.takes
+      ∙ takes_are service w.requests w.seed (nodes_of w) m es before (subst (λ (k : ℕ). IsNode k m) (sym (many_here service w.agreed w.nodes.items)) there) n.0 n.1
 
-  pub block_unchanged : (broken : Bool) (outcome : Result (Unit {0}) Refusal) → IsHandedBlockAt service w.agreed w.seed m es w.seats.items seats.items outcome → OnErr outcome (world_of service (later broken) ≡ world_of service w)
+  pub block_unchanged : (broken : Bool) (outcome : Result (Unit {0}) Refusal) → Handed outcome → OnErr outcome (world_of service (later broken) ≡ before)
   block_unchanged broken (Ok t) a = tt
-  block_unchanged broken (Err r) a =
-      ap (λ (xs : List Here). let v : ModelWorld = record (world_of service w) { nodes = xs } in v)
-      (a.others ∙ ap (put (heres service w.agreed w.seats.items) m) a.handed.same ∙ put_same (heres service w.agreed w.seats.items) m)
+  block_unchanged broken (Err r) a = given_still service w h m there nodes old new old_is nodes_are stays broken a.same
 
-  pub block_same : (broken : Bool) (outcome : Result (Unit {0}) Refusal) → IsHandedBlockAt service w.agreed w.seed m es w.seats.items seats.items outcome → IsSame w (later broken)
-  block_same broken outcome a = record { nodes = a.many; requests = refl; seed = refl }
-
-  module _ (begins : All BeginsInRange es) where
-    kept_later : (outcome : Result (Unit {0}) Refusal) → IsHandedBlockAt service w.agreed w.seed m es w.seats.items seats.items outcome → IsKept service w.seed (nodes_of w) (world_of service (later w.broken))
-    kept_later (Ok t) a =
-        subst (IsKept service w.seed (nodes_of w)) (sym (block_world w.broken (Ok t) a)) (block_kept service w.requests w.seed (nodes_of w) m es (world_of service w) h.few h.service_is h.checked there begins h.kept)
-    kept_later (Err r) a = subst (IsKept service w.seed (nodes_of w)) (sym (block_unchanged w.broken (Err r) a)) h.kept
-
-    -- what is agreed on stays
-    agreed_later : (outcome : Result (Unit {0}) Refusal) → IsHandedBlockAt service w.agreed w.seed m es w.seats.items seats.items outcome → w.agreed ≡ agreed (world_of service (later w.broken))
-    agreed_later (Ok t) a = h.agreed ∙ sym (takes_agreed service w.requests w.seed (nodes_of w) m es (world_of service w)) ∙ ap agreed (sym (block_world w.broken (Ok t) a))
-    agreed_later (Err r) a = h.agreed ∙ ap agreed (sym (block_unchanged w.broken (Err r) a))
-
-    pub block_running : (outcome : Result (Unit {0}) Refusal) → IsHandedBlockAt service w.agreed w.seed m es w.seats.items seats.items outcome → IsRunning service (later w.broken)
-    block_running outcome a =
-        let all = a.seats w.done (record { seats_are = h.seats; within = h.within }) in
-        record {
-          service_is = h.service_is;
-          checked = h.checked;
-          whole = h.whole;
-          few = subst (λ (n : ℕ). n ≤ most_nodes) (sym a.many) h.few;
-          agreed = agreed_later outcome a;
-          kept = subst (λ (n : ℕ). IsKept service w.seed n (world_of service (later w.broken))) (sym a.many) (kept_later outcome a);
-          seats = subst (λ (n : ℕ). AreSeats service w.agreed w.seed n 1 seats.items) (sym a.many) all.seats_are;
-          within = all.within;
-          spelled = h.spelled;
-          told = h.told;
-          requests = h.requests;
-          flushed = h.flushed;
-          handed = h.handed;
-          clients = h.clients;
-        }
+  pub block_running : All BeginsInRange es → (outcome : Result (Unit {0}) Refusal) → Handed outcome → IsRunning service (later w.broken)
+  block_running begins (Ok t) a =
+      given_running service w h m there nodes old new old_is nodes_are stays
+      (subst (IsKept service w.seed (nodes_of w)) (sym (block_world w.broken (Ok t) a)) (block_kept service w.requests w.seed (nodes_of w) m es before h.few h.service_is h.checked there begins h.kept))
+      (h.agreed ∙ sym (takes_agreed service w.requests w.seed (nodes_of w) m es before) ∙ ap agreed (sym (block_world w.broken (Ok t) a)))
+  block_running begins (Err r) a =
+      given_running service w h m there nodes old new old_is nodes_are stays (subst (IsKept service w.seed (nodes_of w)) (sym (block_unchanged w.broken (Err r) a)) h.kept)
+      (h.agreed ∙ ap agreed (sym (block_unchanged w.broken (Err r) a)))

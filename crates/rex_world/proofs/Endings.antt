@@ -20,14 +20,12 @@ use Rattle.rex_cluster.specs.Lanes.{Here}
 use Rattle.rex_traits.specs.Keeping.{KeeperValue}
 use Rattle.rex_log.specs.Log.{log_of}
 use Rattle.rex_node.specs.Parts.{NodeValue, ActingValue, IsNode, IsActing, knows, here_of, role_of, work_of, state_of, shown_of, shown_with}
-use Rattle.rex_world.specs.declared.seats.Seat.{Seat}
-use Rattle.rex_world.specs.declared.seats.Seat.TheVariants.{Running, Stopped, Empty}
-use Rattle.rex_world.specs.Seats.{IsSeat, AreSeats, heres, here_in, records_of}
+use Rattle.rex_world.specs.Members.{Member, AreMembers, IsMember, here_at, heres, records_of}
 use Rattle.rex_node.specs.Parts.{count_of as known_count}
 use Rattle.rex_world.proofs.Knowing.{count_known}
-use Rattle.rex_world.proofs.Seated.{many_here, seat_is}
+use Rattle.rex_world.proofs.Placed.{many_here, member_is}
 use Rattle.std.proofs.lemmas.List.{append-nil}
-use Rattle.rex_world.specs.Report.{IsNumbered, count_of, end_of, ends_text, node_text, shown_state, up_end_of}
+use Rattle.rex_world.specs.Report.{count_of, end_of, ends_text, node_text, shown_state, up_end_of}
 
 -- the state that events run to
 run_to : (service : Declarations) (es : List Event) (s : StateValue) → run service (start_of service) es ≡ Some s → state_after service es ≡ s
@@ -86,9 +84,9 @@ module _ (service : Declarations) (past : List Value) (x : NodeValue KeeperValue
 
 -- ---- one line after the other
 
-pub heres_both : {S : Type 0} → (service : Declarations) (past : List Value) (xs ys : List (Seat S)) → heres service past (xs ++ ys) ≡ heres service past xs ++ heres service past ys
+pub heres_both : (service : Declarations) (past : List Value) (xs ys : List Member) → heres service past (xs ++ ys) ≡ heres service past xs ++ heres service past ys
 heres_both service past [] ys = refl
-heres_both service past (x ∷ xs) ys = ap (λ (zs : List Here). here_in service past x ∷ zs) (heres_both service past xs ys)
+heres_both service past (x ∷ xs) ys = ap (λ (zs : List Here). here_at service past x ∷ zs) (heres_both service past xs ys)
 
 -- the line of one more node
 ends_more : (service : Declarations) (number : ℕ) (xs : List Here) (y : Here) → ends_text service number (xs ++ y ∷ []) ≡ ends_text service number xs ++ node_text service (number + length xs) y
@@ -100,30 +98,24 @@ ends_more service number (x ∷ xs) y =
     (ends_more service (suc number) xs y ∙ ap (λ (k : ℕ). ends_text service (suc number) xs ++ node_text service k y) e)
     ∙ sym (append_assoc (node_text service number x) (ends_text service (suc number) xs) (node_text service (number + suc (length xs)) y))
 
--- the lines so far, and one more
-pub ends_next : {S : Type 0} → (service : Declarations) (past : List Value) (seats : List (Seat S)) (i number : ℕ) (seat d : Seat S) (initial before after : List ℕ) → i < length seats → seat ≡ slice_index_or seats i d → number ≡ i + 1
-    → before ≡ initial ++ ends_text service 1 (heres service past (take i seats)) → after ≡ before ++ node_text service number (here_in service past seat)
-    → after ≡ initial ++ ends_text service 1 (heres service past (take (i + 1) seats))
-ends_next service past seats i number seat d initial before after l is e b h =
-    let t : take (i + 1) seats ≡ take i seats ++ seat ∷ [] = ap (λ (k : ℕ). take k seats) (add-one i) ∙ take-suc seats i d l ∙ ap (λ (y : Seat _). take i seats ++ y ∷ []) (sym is) in
-    let n : 1 + length (heres service past (take i seats)) ≡ number = omega (arith, many_here service past (take i seats), length-take i seats, l, e) in
-    let m : ends_text service 1 (heres service past (take (i + 1) seats)) ≡ ends_text service 1 (heres service past (take i seats)) ++ node_text service number (here_in service past seat) =
-    ap (λ (ss : List (Seat _)). ends_text service 1 (heres service past ss)) t
-    ∙ ap (λ (xs : List Here). ends_text service 1 xs) (heres_both service past (take i seats) (seat ∷ []))
-    ∙ ends_more service 1 (heres service past (take i seats)) (here_in service past seat)
-    ∙ ap (λ (k : ℕ). ends_text service 1 (heres service past (take i seats)) ++ node_text service k (here_in service past seat)) n in
-    h ∙ ap (λ (t : List ℕ). t ++ node_text service number (here_in service past seat)) b
-    ∙ append_assoc initial (ends_text service 1 (heres service past (take i seats))) (node_text service number (here_in service past seat))
+-- the lines so far, and one more; which append of a node fails isn't told
+pub ends_next : (service : Declarations) (past : List Value) (xs : List Member) (i : ℕ) (x d : Member) (initial before after : List ℕ) → i < length xs → x ≡ slice_index_or xs i d → x.id ≡ i + 1
+    → before ≡ initial ++ ends_text service 1 (heres service past (take i xs)) → after ≡ before ++ node_text service x.id (here_of records_of service past x)
+    → after ≡ initial ++ ends_text service 1 (heres service past (take (i + 1) xs))
+ends_next service past xs i x d initial before after l is e b h =
+    let t : take (i + 1) xs ≡ take i xs ++ x ∷ [] = ap (λ (k : ℕ). take k xs) (add-one i) ∙ take-suc xs i d l ∙ ap (λ (y : Member). take i xs ++ y ∷ []) (sym is) in
+    let n : 1 + length (heres service past (take i xs)) ≡ x.id = omega (arith, many_here service past (take i xs), length-take i xs, l, e) in
+    let m : ends_text service 1 (heres service past (take (i + 1) xs)) ≡ ends_text service 1 (heres service past (take i xs)) ++ node_text service x.id (here_at service past x) =
+    ap (λ (ss : List Member). ends_text service 1 (heres service past ss)) t
+    ∙ ap (λ (ys : List Here). ends_text service 1 ys) (heres_both service past (take i xs) (x ∷ []))
+    ∙ ends_more service 1 (heres service past (take i xs)) (here_at service past x)
+    ∙ ap (λ (k : ℕ). ends_text service 1 (heres service past (take i xs)) ++ node_text service k (here_at service past x)) n in
+    h ∙ ap (λ (t : List ℕ). t ++ node_text service x.id (here_at service past x)) b
+    ∙ append_assoc initial (ends_text service 1 (heres service past (take i xs))) (node_text service x.id (here_at service past x))
     ∙ ap (λ (t : List ℕ). initial ++ t) (sym m)
 
--- a kept node has its number
-pub numbered : {S : Type 0} → (service : Declarations) (past : List Value) (seed nodes number : ℕ) (seat : Seat S) → IsSeat service past seed nodes number seat → IsNumbered service past number seat
-numbered service past seed nodes number (Running x) h = (h.id, h.node)
-numbered service past seed nodes number (Stopped k) h = tt
-numbered service past seed nodes number Empty none = tt
-
-pub numbered_at : {S : Type 0} → (service : Declarations) (past : List Value) (seed nodes : ℕ) (seats : List (Seat S)) (i number : ℕ) (seat d : Seat S) → AreSeats service past seed nodes 1 seats → i < length seats → seat ≡ slice_index_or seats i d → number ≡ i + 1 → IsNumbered service past number seat
-numbered_at service past seed nodes seats i number seat d all l is e =
-    let n : number - 1 ≡ i = omega (arith, e) in
-    numbered service past seed nodes number seat
-    (subst (λ (s : Seat _). IsSeat service past seed nodes number s) (ap (λ (k : ℕ). slice_index_or seats k d) n ∙ sym is) (seat_is service past seats number (omega (arith, e), omega (arith, l, e)) d seed nodes all))
+-- a node at a place has the next number, and is kept
+pub member_at : (service : Declarations) (past : List Value) (seed nodes : ℕ) (xs : List Member) (i : ℕ) (x d : Member) → AreMembers service past seed nodes 1 xs → i < length xs → x ≡ slice_index_or xs i d → IsMember service past seed nodes (i + 1) x
+member_at service past seed nodes xs i x d all l is =
+    let n : (i + 1) - 1 ≡ i = omega arith in
+    subst (λ (y : Member). IsMember service past seed nodes (i + 1) y) (ap (λ (k : ℕ). slice_index_or xs k d) n ∙ sym is) (member_is xs (i + 1) (omega arith, omega (arith, l)) service past d seed nodes all)

@@ -22,7 +22,7 @@ use Rattle.rex_cluster.specs.Invariant.{Begins}
 use Rattle.rex_log.specs.Log.{AreRead}
 use Rattle.rex_node.specs.Stated.{AreStated, is_stated}
 use Rattle.rex_node.specs.Calls.{Does, FailsAfter, GoesWell, call_of, failed_many}
-use Rattle.rex_world.specs.Seats.{IsKeeping, armed_of, failing, faults_of, here_at, records_of}
+use Rattle.rex_world.specs.Members.{IsKeeping, armed_of, failing, faults_of, here_at, records_of}
 use Rattle.rex_steps.specs.Steps.{IsDone}
 use Rattle.rex_world.proofs.Unseen.{Goes, armed_as, unseen}
 

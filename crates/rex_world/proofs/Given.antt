@@ -1,9 +1,7 @@
 -- An event that a node is handed.
-use Rattle.std.proofs.Common.{◌≡◌, ℕ, ◌-◌, ◌≤◌, Bool, true, false, List, ◌++◌, [], length, Result, Ok, Err, Option, Some, None, IfOk, OnErr, OnOk, refl, sym, ap, subst, ◌∙◌, arith, append-nil, length-set}
+use Rattle.std.proofs.Common.{◌≡◌, ℕ, ◌-◌, ◌≤◌, Bool, true, false, List, ◌++◌, [], length, Result, Ok, Err, Option, Some, None, IfOk, OnErr, OnOk, refl, sym, ap, subst, ◌∙◌, append-nil}
 use Rattle.std.specs.Prelude.{slice_index_or, slice_set, if◌then◌else◌}
 use Rattle.std.specs.Global.{Vec}
-use Rattle.std.specs.Vec.{with_items}
-use Rattle.std.proofs.lemmas.List.{with_items_is}
 use Rattle.std.proofs.lemmas.List.Elements.{All-nil}
 use Rattle.rex_ballot.specs.Limits.{most_nodes}
 use Rattle.rex_syntax.specs.declared.service.Declarations.{Declarations}
@@ -27,15 +25,14 @@ use Rattle.rex_node.specs.declared.refusal.Refusal.TheVariants as why
 use Rattle.rex_node.specs.Parts.{NodeValue, here_of}
 use Rattle.rex_node.specs.Calls as calls
 use Rattle.rex_node.specs.Calls.{LeadsTo, Refuses, refusal_active, if_active}
-use Rattle.rex_world.specs.declared.seats.Seat.{Seat}
 use Rattle.rex_world.specs.declared.world.World.{World}
-use Rattle.rex_world.specs.Seats.{AreSeats, StaysSeat, armed_of, here_at, here_in, heres, records_of}
-use Rattle.rex_world.specs.Places.{IsHanded, IsHandedAt}
+use Rattle.rex_world.specs.Members.{Member, AreMembers, StaysMember, armed_of, here_at, records_of}
+use Rattle.rex_world.specs.Taking.{IsHanded}
 use Rattle.rex_world.specs.World.{nodes_of, world_of}
 use Rattle.rex_world.specs.Kept.{IsRunning, IsSame}
 use Rattle.rex_world.proofs.Agreeing.{same_longest}
 use Rattle.rex_world.proofs.Coming.{same_world, put_same}
-use Rattle.rex_world.proofs.Seated.{here_is, new_is, put_is, set_seats, set_within, within_is}
+use Rattle.rex_world.proofs.Placed.{all_stay, at_old, many_are, now_put}
 
 -- ---- the node
 
@@ -52,23 +49,6 @@ module _ (service : Declarations) (past : List Value) (x y : NodeValue KeeperVal
       → IfOk outcome (λ (t : Turn). LeadsTo (taken t) (here_of records_of service past x) (here_of records_of service past y)) → OnErr outcome (y ≡ x) → IsHanded service e (here_at service past x) (here_at service past y) outcome
   handed (Ok t) refused told takes same = record { refused = refused; told = told; takes = leads t takes; same = tt }
   handed (Err r) refused told takes same = record { refused = refused; told = tt; takes = tt; same = ap (here_at service past) same }
-
--- ---- among the nodes
-
-module _ {S : Type 0} (service : Declarations) (past : List Value) (seats : List (Seat S)) (number : ℕ) (here : IsNode (length seats) number) (d : Seat S) where
-  pub handed_at : (seed : ℕ) (e : Event) (seat : Seat S) (outcome : Result Turn Refusal)
-      → IsHanded service e (here_in service past (slice_index_or seats (number - 1) d)) (here_in service past seat) outcome → StaysSeat service past seed (length seats) number (slice_index_or seats (number - 1) d) seat
-      → IsHandedAt service past seed number e seats (slice_set seats (number - 1) seat) outcome
-  handed_at seed e seat outcome h kept = record {
-    handed = subst (λ (x : Here). IsHanded service e x (node_at (heres service past (slice_set seats (number - 1) seat)) number) outcome) (sym (here_is service past seats number here d))
-        (subst (λ (y : Here). IsHanded service e (here_in service past (slice_index_or seats (number - 1) d)) y outcome) (sym (new_is service past seats number here d seat)) h);
-    others = put_is service past seats number here d seat ∙ ap (λ (y : Here). put (heres service past seats) number y) (sym (new_is service past seats number here d seat));
-    many = length-set seats (number - 1) seat;
-    seats = λ most all. let l = within_is service past seats number here d most all.within in let k = kept.within in record {
-      seats_are = set_seats service past seats number here d seed (length seats) seat all.seats_are kept.seat;
-      within = set_within service past seats number here d most seat all.within (omega (arith, l, k));
-    };
-  }
 
 -- ---- the world
 
@@ -117,61 +97,85 @@ take_agreed service w m e = by_up (node_at w.nodes m).up
     by_up true = same_longest w.nodes m _ (same_log (is_active (node_at w.nodes m).role))
     by_up false = refl
 
--- what a slice of the seats came to, the seats came to
-pub handed_there : {S : Type 0} → (service : Declarations) (w : World S) (m : ℕ) (e : Event) (xs ws : List (Seat S)) (outcome : Result Turn Refusal) → xs ≡ w.seats.items → IsHandedAt service w.agreed w.seed m e xs ws outcome
-    → IsHandedAt service w.agreed w.seed m e w.seats.items (with_items w.seats ws).items outcome
-handed_there service w m e xs ws outcome is a =
-    let many : length ws ≡ nodes_of w = a.many ∙ ap length is in
-    subst (λ (ys : List (Seat _)). IsHandedAt service w.agreed w.seed m e w.seats.items ys outcome) (sym (with_items_is w.seats ws (many ∙ sym w.seats.ok.0)))
-    (subst (λ (ys : List (Seat _)). IsHandedAt service w.agreed w.seed m e ys ws outcome) is a)
+module _ {S : Type 0} (service : Declarations) (w : World S) (h : IsRunning service w) (m : ℕ) (there : IsNode (nodes_of w) m) (nodes : Vec Member) (old new : Member) (old_is : old ≡ slice_index_or w.nodes.items (m - 1) old) (nodes_are : nodes.items ≡ slice_set w.nodes.items (m - 1) new)
+    (stays : StaysMember service w.agreed w.seed (nodes_of w) m old new) where
+  abbrev pub later : Bool → World S
+  later broken = record w { nodes = nodes; broken = broken }
 
-module _ {S : Type 0} (service : Declarations) (w : World S) (h : IsRunning service w) (m : ℕ) (there : IsNode (nodes_of w) m) (e : Event) (seats : Vec (Seat S)) where
-  abbrev later : Bool → World S
-  later broken = record w { seats = seats; broken = broken }
+  abbrev before : ModelWorld
+  before = world_of service w
 
-  pub given_world : (broken : Bool) (outcome : Result Turn Refusal) → IsHandedAt service w.agreed w.seed m e w.seats.items seats.items outcome → OnOk outcome (world_of service (later broken) ≡ take service (world_of service w) m e)
-  given_world broken (Err r) a = tt
-  given_world broken (Ok t) a =
-      let n = none_refused (node_at (heres service w.agreed w.seats.items) m) (ok_none (refusal_active (node_at (heres service w.agreed w.seats.items) m)) t a.handed.refused) in
-      ap (λ (xs : List Here). let v : ModelWorld = record (world_of service w) { nodes = xs } in v)
-      (a.others ∙ ap (put (heres service w.agreed w.seats.items) m) (a.handed.takes ∙ ap (λ (u : Turn). (taken u (begin (node_at (heres service w.agreed w.seats.items) m))).node) a.handed.told))
-      ∙ take_is service (world_of service w) m e n.0 n.1
+  was : node_at before.nodes m ≡ here_at service w.agreed old
+  was = at_old w.nodes.items nodes.items m there old new old_is nodes_are service w.agreed
 
-  pub given_unchanged : (broken : Bool) (outcome : Result Turn Refusal) → IsHandedAt service w.agreed w.seed m e w.seats.items seats.items outcome → OnErr outcome (world_of service (later broken) ≡ world_of service w)
-  given_unchanged broken (Ok t) a = tt
-  given_unchanged broken (Err r) a =
-      ap (λ (xs : List Here). let v : ModelWorld = record (world_of service w) { nodes = xs } in v)
-      (a.others ∙ ap (put (heres service w.agreed w.seats.items) m) a.handed.same ∙ put_same (heres service w.agreed w.seats.items) m)
+  many : length nodes.items ≡ nodes_of w
+  many = many_are w.nodes.items nodes.items m there old new old_is nodes_are
 
-  pub given_same : (broken : Bool) (outcome : Result Turn Refusal) → IsHandedAt service w.agreed w.seed m e w.seats.items seats.items outcome → IsSame w (later broken)
-  given_same broken outcome a = record { nodes = a.many; requests = refl; seed = refl }
+  pub given_same : (broken : Bool) → IsSame w (later broken)
+  given_same broken = record { nodes = many; requests = refl; seed = refl }
 
-  module _ (begins : BeginsInRange e) where
-    kept_later : (outcome : Result Turn Refusal) → IsHandedAt service w.agreed w.seed m e w.seats.items seats.items outcome → IsKept service w.seed (nodes_of w) (world_of service (later w.broken))
-    kept_later (Ok t) a = subst (IsKept service w.seed (nodes_of w)) (sym (given_world w.broken (Ok t) a)) (takes_kept service w.seed (nodes_of w) (world_of service w) m e h.few h.service_is h.checked there begins h.kept)
-    kept_later (Err r) a = subst (IsKept service w.seed (nodes_of w)) (sym (given_unchanged w.broken (Err r) a)) h.kept
+  -- only this node is another one
+  pub given_put : (broken : Bool) (y : Here) → here_at service w.agreed new ≡ y → (let v : ModelWorld = record before { nodes = put before.nodes m y } in world_of service (later broken) ≡ v)
+  given_put broken y e =
+      ap (λ (xs : List Here). let v : ModelWorld = record before { nodes = xs } in v) (now_put w.nodes.items nodes.items m there old new old_is nodes_are service w.agreed ∙ ap (put before.nodes m) e)
 
-    -- what is agreed on stays
-    agreed_later : (outcome : Result Turn Refusal) → IsHandedAt service w.agreed w.seed m e w.seats.items seats.items outcome → w.agreed ≡ agreed (world_of service (later w.broken))
-    agreed_later (Ok t) a = h.agreed ∙ sym (take_agreed service (world_of service w) m e) ∙ ap agreed (sym (given_world w.broken (Ok t) a))
-    agreed_later (Err r) a = h.agreed ∙ ap agreed (sym (given_unchanged w.broken (Err r) a))
+  -- it is as it was
+  pub given_still : (broken : Bool) → here_at service w.agreed new ≡ here_at service w.agreed old → world_of service (later broken) ≡ before
+  given_still broken e =
+      given_put broken (node_at before.nodes m) (e ∙ sym was)
+      ∙ ap (λ (xs : List Here). let v : ModelWorld = record before { nodes = xs } in v) (put_same before.nodes m)
 
-    pub given_running : (outcome : Result Turn Refusal) → IsHandedAt service w.agreed w.seed m e w.seats.items seats.items outcome → IsRunning service (later w.broken)
-    given_running outcome a =
-        let all = a.seats w.done (record { seats_are = h.seats; within = h.within }) in
-        record {
-          service_is = h.service_is;
-          checked = h.checked;
-          whole = h.whole;
-          few = subst (λ (n : ℕ). n ≤ most_nodes) (sym a.many) h.few;
-          agreed = agreed_later outcome a;
-          kept = subst (λ (n : ℕ). IsKept service w.seed n (world_of service (later w.broken))) (sym a.many) (kept_later outcome a);
-          seats = subst (λ (n : ℕ). AreSeats service w.agreed w.seed n 1 seats.items) (sym a.many) all.seats_are;
-          within = all.within;
-          spelled = h.spelled;
-          told = h.told;
-          requests = h.requests;
-          flushed = h.flushed;
-          handed = h.handed;
-          clients = h.clients;
-        }
+  -- where the model's world is kept, and what is agreed on stays, the world runs
+  pub given_running : IsKept service w.seed (nodes_of w) (world_of service (later w.broken)) → w.agreed ≡ agreed (world_of service (later w.broken)) → IsRunning service (later w.broken)
+  given_running kept agreed_is =
+      let all = all_stay w.nodes.items nodes.items m there old new old_is nodes_are service w.agreed w.seed (nodes_of w) w.done stays (record { members = h.members; within = h.within }) in
+      record {
+        service_is = h.service_is;
+        checked = h.checked;
+        whole = h.whole;
+        few = subst (λ (n : ℕ). n ≤ most_nodes) (sym many) h.few;
+        agreed = agreed_is;
+        kept = subst (λ (n : ℕ). IsKept service w.seed n (world_of service (later w.broken))) (sym many) kept;
+        members = subst (λ (n : ℕ). AreMembers service w.agreed w.seed n 1 nodes.items) (sym many) all.members;
+        within = all.within;
+        spelled = h.spelled;
+        told = h.told;
+        requests = h.requests;
+        flushed = h.flushed;
+        handed = h.handed;
+        clients = h.clients;
+      }
+
+  module _ (e : Event) where
+    abbrev Handed : Result Turn Refusal → Type 0
+    Handed outcome = IsHanded service e (here_at service w.agreed old) (here_at service w.agreed new) outcome
+
+    handed_was : (outcome : Result Turn Refusal) → Handed outcome → IsHanded service e (node_at before.nodes m) (here_at service w.agreed new) outcome
+    handed_was outcome a = subst (λ (x : Here). IsHanded service e x (here_at service w.agreed new) outcome) (sym was) a
+
+    pub given_refused : (outcome : Result Turn Refusal) → Handed outcome → Refuses (refusal_active (node_at before.nodes m)) outcome
+    given_refused outcome a = (handed_was outcome a).refused
+
+    pub given_told : (outcome : Result Turn Refusal) → Handed outcome → IfOk outcome (λ (t : Turn). t ≡ taken_in service (node_at before.nodes m) e)
+    given_told outcome a = (handed_was outcome a).told
+
+    pub given_world : (broken : Bool) (outcome : Result Turn Refusal) → Handed outcome → OnOk outcome (world_of service (later broken) ≡ take service before m e)
+    given_world broken (Err r) a = tt
+    given_world broken (Ok t) a =
+        let b = handed_was (Ok t) a in
+        let n = none_refused (node_at before.nodes m) (ok_none (refusal_active (node_at before.nodes m)) t b.refused) in
+        given_put broken (taken (taken_in service (node_at before.nodes m) e) (begin (node_at before.nodes m))).node (b.takes ∙ ap (λ (u : Turn). (taken u (begin (node_at before.nodes m))).node) b.told)
+        ∙ take_is service before m e n.0 n.1
+
+    pub given_unchanged : (broken : Bool) (outcome : Result Turn Refusal) → Handed outcome → OnErr outcome (world_of service (later broken) ≡ before)
+    given_unchanged broken (Ok t) a = tt
+    given_unchanged broken (Err r) a = given_still broken a.same
+
+    pub taken_running : BeginsInRange e → (outcome : Result Turn Refusal) → Handed outcome → IsRunning service (later w.broken)
+    taken_running begins (Ok t) a =
+        given_running
+        (subst (IsKept service w.seed (nodes_of w)) (sym (given_world w.broken (Ok t) a)) (takes_kept service w.seed (nodes_of w) before m e h.few h.service_is h.checked there begins h.kept))
+        (h.agreed ∙ sym (take_agreed service before m e) ∙ ap agreed (sym (given_world w.broken (Ok t) a)))
+    taken_running begins (Err r) a =
+        given_running (subst (IsKept service w.seed (nodes_of w)) (sym (given_unchanged w.broken (Err r) a)) h.kept)
+        (h.agreed ∙ ap agreed (sym (given_unchanged w.broken (Err r) a)))

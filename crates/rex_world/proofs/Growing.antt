@@ -1,6 +1,6 @@
 -- What is agreed on grows by what the records of a node say that it knows.
-use Rattle.std.proofs.Common.{◌≡◌, ℕ, zero, suc, ◌+◌, ◌-◌, ◌≤◌, ◌<◌, ◌⊎◌, inl, inr, Bool, true, false, cond, eqb, List, [], ◌∷◌, ◌++◌, length, drop, Result, Ok, Err, refl, sym, ap, subst, ◌∙◌, arith, append-nil, length-append, le_refl}
-use Rattle.std.specs.Prelude.{◌==◌, if◌then◌else◌, slice_index_or}
+use Rattle.std.proofs.Common.{◌≡◌, ℕ, zero, suc, ◌+◌, ◌≤◌, ◌<◌, ◌⊎◌, inl, inr, Bool, true, false, cond, eqb, List, [], ◌∷◌, ◌++◌, length, drop, Result, Ok, Err, refl, sym, ap, subst, ◌∙◌, arith, append-nil, length-append, le_refl}
+use Rattle.std.specs.Prelude.{◌==◌, if◌then◌else◌}
 use Rattle.std.specs.List.{All, list_all}
 use Rattle.std.proofs.lemmas.Bool.{and_parts, cases_lt, eqb-false, eqb-true}
 use Rattle.std.proofs.lemmas.List.Sums.{fold-append}
@@ -13,7 +13,7 @@ use Rattle.rex_durable.specs.declared.records.Rec.TheVariants as rec
 use Rattle.rex_durable.specs.Reading.{record_in}
 use Rattle.rex_cluster.specs.Records.{Rec, known}
 use Rattle.rex_cluster.specs.Invariant.{AreRecords, Begins}
-use Rattle.rex_cluster.specs.Node.{Service, down_node}
+use Rattle.rex_cluster.specs.Node.{Service}
 use Rattle.rex_cluster.specs.Quorum.{IsNode}
 use Rattle.rex_cluster.specs.Values.{Value, runs, service_of, spells, trace_of}
 use Rattle.rex_cluster.specs.Lanes.{Here}
@@ -27,18 +27,15 @@ use Rattle.rex_safety.proofs.Nodes.{node_put}
 use Rattle.rex_log.specs.Log.{AreRead, first, log_behind, log_of, log_with, rec_of, standing_in}
 use Rattle.rex_log.proofs.Firsts.{first_length}
 use Rattle.rex_node.specs.Parts.{IsNode as IsKeptNode, IsUp, NodeValue, here_of, knows, whole}
-use Rattle.rex_world.specs.declared.seats.Seat.{Seat}
-use Rattle.rex_world.specs.declared.seats.Seat.TheVariants.{Running, Stopped, Empty}
 use Rattle.rex_world.specs.declared.world.World.{World}
 use Rattle.rex_world.specs.Agreed.{learned, learned_in}
-use Rattle.rex_world.specs.Seats.{AreSeats, IsKeeping, IsSeat, armed_of, here_at, here_in, heres, records_at, records_of}
+use Rattle.rex_world.specs.Members.{Member, AreMembers, IsKeeping, IsMember, here_at, heres, records_at, records_of}
 use Rattle.rex_world.specs.World.{TellsRightly, messages_of, nodes_of, world_of}
 use Rattle.rex_world.specs.Kept.{IsRunning}
-use Rattle.rex_world.proofs.Acted.{keeping_in, log_in}
 use Rattle.rex_world.proofs.Agreeing.{holds_of_longest}
 use Rattle.rex_world.proofs.Beside.{TakesFronts, begins_on, first_grown, log_grown, messages_grown, past_has, same_fronts, whole_front}
 use Rattle.rex_world.proofs.Learning.{known_due, learned_as, learned_of}
-use Rattle.rex_world.proofs.Seated.{here_is, later_at, many_here, seat_is}
+use Rattle.rex_world.proofs.Placed.{later_at, log_is, many_here, read_is}
 use Rattle.rex_world.proofs.Coming.{IsUnsettled, same_world}
 
 -- ---- records one after the other
@@ -178,43 +175,37 @@ module _ (service : Declarations) (past values : List Value) (fits : list_all (s
     rests = h.rests;
   }
 
-  -- the same of a seat, which is the same node of the model
-  pub here_grown : {S : Type 0} (seat : Seat S) → Agrees (here_in service past seat) → here_in service values seat ≡ here_in service past seat
-  here_grown (Running node) a =
-      ap (λ (log : List (Rec Value StateValue)). let y : Here = record (here_at service past node) { log = log } in y) (log_grown service past values fits front node.keeper.records a.takes)
-  here_grown (Stopped keeper) a =
-      ap (λ (log : List (Rec Value StateValue)). down_node log (armed_of keeper.armed)) (log_grown service past values fits front keeper.records a.takes)
-  here_grown Empty a = refl
+  -- which is the same node of the model
+  pub here_grown : (x : Member) → Agrees (here_at service past x) → here_at service values x ≡ here_at service past x
+  here_grown x a = ap (λ (log : List (Rec Value StateValue)). let y : Here = record (here_at service past x) { log = log } in y) (log_grown service past values fits front x.keeper.records a.takes)
 
-  seat_grown : {S : Type 0} (seed nodes number : ℕ) (seat : Seat S) → Agrees (here_in service past seat) → IsSeat service past seed nodes number seat → IsSeat service values seed nodes number seat
-  seat_grown seed nodes number (Running node) a h = record {
+  member_grown : (seed nodes number : ℕ) (x : Member) → Agrees (here_at service past x) → IsMember service past seed nodes number x → IsMember service values seed nodes number x
+  member_grown seed nodes number x a h = record {
     id = h.id;
     nodes_are = h.nodes_are;
     seed_is = h.seed_is;
-    node = node_grown node a h.node;
-    keeping = keeping_grown node.keeper a.takes h.keeping;
+    node = node_grown x a h.node;
+    keeping = keeping_grown x.keeper a.takes h.keeping;
     whole = h.whole;
   }
-  seat_grown seed nodes number (Stopped keeper) a h = keeping_grown keeper a.takes h
-  seat_grown seed nodes number Empty a none = none
 
-  abbrev EachAgrees : {S : Type 0} → List (Seat S) → Type 0
-  EachAgrees seats = (m : ℕ) → IsNode (length seats) m → Agrees (node_at (heres service past seats) m)
+  abbrev EachAgrees : List Member → Type 0
+  EachAgrees xs = (m : ℕ) → IsNode (length xs) m → Agrees (node_at (heres service past xs) m)
 
-  others_agree : {S : Type 0} (seat : Seat S) (seats : List (Seat S)) → EachAgrees (seat ∷ seats) → EachAgrees seats
-  others_agree seat seats each zero there = absurd (let l : 0 < 0 = there.0 in omega (arith, l))
-  others_agree seat seats each (suc i) there = subst Agrees (later_at (here_in service past seat) (heres service past seats) i) (each (suc (suc i)) (omega arith, omega (arith, there.1)))
+  others_agree : (x : Member) (xs : List Member) → EachAgrees (x ∷ xs) → EachAgrees xs
+  others_agree x xs each zero there = absurd (let l : 0 < 0 = there.0 in omega (arith, l))
+  others_agree x xs each (suc i) there = subst Agrees (later_at (here_at service past x) (heres service past xs) i) (each (suc (suc i)) (omega arith, omega (arith, there.1)))
 
-  pub heres_grown : {S : Type 0} (seats : List (Seat S)) → EachAgrees seats → heres service values seats ≡ heres service past seats
+  pub heres_grown : (xs : List Member) → EachAgrees xs → heres service values xs ≡ heres service past xs
   heres_grown [] each = refl
-  heres_grown (seat ∷ seats) each =
-      ap (λ (x : Here). x ∷ heres service values seats) (here_grown seat (each 1 (omega arith, omega arith)))
-      ∙ ap (λ (xs : List Here). here_in service past seat ∷ xs) (heres_grown seats (others_agree seat seats each))
+  heres_grown (x ∷ xs) each =
+      ap (λ (y : Here). y ∷ heres service values xs) (here_grown x (each 1 (omega arith, omega arith)))
+      ∙ ap (λ (ys : List Here). here_at service past x ∷ ys) (heres_grown xs (others_agree x xs each))
 
-  pub seats_grown : {S : Type 0} (seed nodes number : ℕ) (seats : List (Seat S)) → EachAgrees seats → AreSeats service past seed nodes number seats → AreSeats service values seed nodes number seats
-  seats_grown seed nodes number [] each h = tt
-  seats_grown seed nodes number (seat ∷ seats) each h =
-      (seat_grown seed nodes number seat (each 1 (omega arith, omega arith)) h.0, seats_grown seed nodes (suc number) seats (others_agree seat seats each) h.1)
+  pub members_grown : (seed nodes number : ℕ) (xs : List Member) → EachAgrees xs → AreMembers service past seed nodes number xs → AreMembers service values seed nodes number xs
+  members_grown seed nodes number [] each h = tt
+  members_grown seed nodes number (x ∷ xs) each h =
+      (member_grown seed nodes number x (each 1 (omega arith, omega arith)) h.0, members_grown seed nodes (suc number) xs (others_agree x xs each) h.1)
 
 -- ---- the world
 
@@ -224,17 +215,17 @@ module _ {S : Type 0} (service : Declarations) (w x : World S) (h : IsRunning se
   unsettled = record x { agreed = w.agreed }
 
   abbrev before : List Here
-  before = heres service w.agreed w.seats.items
+  before = heres service w.agreed w.nodes.items
 
   abbrev nodes : List Here
-  nodes = heres service w.agreed x.seats.items
+  nodes = heres service w.agreed x.nodes.items
 
-  module _ (works : IsUnsettled service unsettled) (many : nodes_of x ≡ nodes_of w) (others : nodes ≡ put before m (node_at nodes m)) (grown : Begins (records_at w.seats.items m) (records_at x.seats.items m)) where
+  module _ (works : IsUnsettled service unsettled) (many : nodes_of x ≡ nodes_of w) (others : nodes ≡ put before m (node_at nodes m)) (grown : Begins (records_at w.nodes.items m) (records_at x.nodes.items m)) where
     abbrev all : List Value
     all = agreed (world_of service unsettled)
 
     in_both : (q : ℕ) → IsNode (length nodes) q → IsNode (nodes_of x) q
-    in_both q l = subst (λ (n : ℕ). IsNode n q) (many_here service w.agreed x.seats.items) l
+    in_both q l = subst (λ (n : ℕ). IsNode n q) (many_here service w.agreed x.nodes.items) l
 
     here : IsNode (nodes_of x) m
     here = subst (λ (n : ℕ). IsNode n m) (sym many) there
@@ -250,7 +241,7 @@ module _ {S : Type 0} (service : Declarations) (w x : World S) (h : IsRunning se
 
     -- the node's records
     abbrev old_records : List (List ℕ)
-    old_records = records_at w.seats.items m
+    old_records = records_at w.nodes.items m
 
     abbrev old_log : List (Rec Value StateValue)
     old_log = log_of service w.agreed old_records
@@ -259,36 +250,36 @@ module _ {S : Type 0} (service : Declarations) (w x : World S) (h : IsRunning se
     new_log = log_behind service w.agreed old_log grown.0
 
     old_is : (node_at before m).log ≡ old_log
-    old_is = ap (λ (y : Here). y.log) (here_is service w.agreed w.seats.items m there Empty) ∙ log_in service w.agreed (slice_index_or w.seats.items (m - 1) Empty)
+    old_is = log_is w.nodes.items m there service w.agreed
 
-    behind : log_of service w.agreed (records_at x.seats.items m) ≡ new_log
+    behind : log_of service w.agreed (records_at x.nodes.items m) ≡ new_log
     behind =
         ap (log_of service w.agreed) (sym grown.1)
         ∙ fold-append (λ (log : List (Rec Value StateValue)) (bytes : List ℕ). log_with service w.agreed log (record_in (standing_in log) bytes)) [] old_records grown.0
 
     new_is : (node_at nodes m).log ≡ new_log
-    new_is = ap (λ (y : Here). y.log) (here_is service w.agreed x.seats.items m here Empty) ∙ log_in service w.agreed (slice_index_or x.seats.items (m - 1) Empty) ∙ behind
+    new_is = log_is x.nodes.items m here service w.agreed ∙ behind
 
     sorted : AreRecords (service_of service x.seed) new_log
     sorted = subst (AreRecords (service_of service x.seed)) new_is (works.kept.world.cluster.safe.sorted m here)
 
     old_read : AreRead service w.agreed old_records
-    old_read = (keeping_in service w.agreed w.seed (nodes_of w) m (slice_index_or w.seats.items (m - 1) Empty) (seat_is service w.agreed w.seats.items m there Empty w.seed (nodes_of w) h.seats)).read
+    old_read = read_is w.nodes.items m there service w.agreed w.seed (nodes_of w) h.members
 
-    new_read : AreRead service w.agreed (records_at x.seats.items m)
-    new_read = (keeping_in service w.agreed x.seed (nodes_of x) m (slice_index_or x.seats.items (m - 1) Empty) (seat_is service w.agreed x.seats.items m here Empty x.seed (nodes_of x) works.seats)).read
+    new_read : AreRead service w.agreed (records_at x.nodes.items m)
+    new_read = read_is x.nodes.items m here service w.agreed x.seed (nodes_of x) works.members
 
     -- another node is as it was
     at_node : (q : ℕ) → node_at nodes q ≡ cond (eqb q m) (node_at nodes m) (node_at before q)
     at_node q =
         ap (λ (xs : List Here). node_at xs q) others
-        ∙ node_put before m (node_at nodes m) q (subst (λ (n : ℕ). IsNode n m) (sym (many_here service w.agreed w.seats.items)) there)
+        ∙ node_put before m (node_at nodes m) q (subst (λ (n : ℕ). IsNode n m) (sym (many_here service w.agreed w.nodes.items)) there)
 
     -- what was agreed on begins what is
     front : Begins w.agreed all
     front =
         subst (λ (vs : List Value). Begins vs all) (sym h.agreed)
-        (holds_of_longest (λ (vs : List Value). Begins vs all) before (all, refl) (λ q l. by q (subst (λ (n : ℕ). IsNode n q) (many_here service w.agreed w.seats.items ∙ sym many) l) (eqb q m) refl))
+        (holds_of_longest (λ (vs : List Value). Begins vs all) before (all, refl) (λ q l. by q (subst (λ (n : ℕ). IsNode n q) (many_here service w.agreed w.nodes.items ∙ sym many) l) (eqb q m) refl))
       where
         by : (q : ℕ) → IsNode (nodes_of x) q → (b : Bool) → eqb q m ≡ b → Begins (known (node_at before q).log) all
         by q l true e =
@@ -334,15 +325,15 @@ module _ {S : Type 0} (service : Declarations) (w x : World S) (h : IsRunning se
       takes = λ taken s has. ((transfers_right service x.seed (nodes_of x) (world_of service unsettled) works.kept.world).taken q taken s l has).0;
     }
 
-    module _ (agreed_is : x.agreed ≡ learned w.agreed (drop (length old_records) (records_at x.seats.items m))) where
+    module _ (agreed_is : x.agreed ≡ learned w.agreed (drop (length old_records) (records_at x.nodes.items m))) where
       is_all : x.agreed ≡ all
       is_all = agreed_is ∙ ap (learned w.agreed) (ap (drop (length old_records)) (sym grown.1) ∙ drop-append_seam old_records grown.0) ∙ learned_all
 
       -- the model's world is the same
       pub settled_world : world_of service x ≡ world_of service unsettled
       settled_world =
-          same_world x.done x.done (heres service x.agreed x.seats.items) nodes (messages_of x.agreed x.net) (messages_of w.agreed x.net) x.handed.items x.handed.items x.seen.items x.seen.items refl
-          (ap (λ (vs : List Value). heres service vs x.seats.items) is_all ∙ heres_grown service w.agreed all fits front x.seats.items agree)
+          same_world x.done x.done (heres service x.agreed x.nodes.items) nodes (messages_of x.agreed x.net) (messages_of w.agreed x.net) x.handed.items x.handed.items x.seen.items x.seen.items refl
+          (ap (λ (vs : List Value). heres service vs x.nodes.items) is_all ∙ heres_grown service w.agreed all fits front x.nodes.items agree)
           (ap (λ (vs : List Value). messages_of vs x.net) is_all ∙ (messages_grown service w.agreed all fits front x.net works.told).1)
           refl refl
 
@@ -355,7 +346,7 @@ module _ {S : Type 0} (service : Declarations) (w x : World S) (h : IsRunning se
         few = works.few;
         kept = subst (IsKept service x.seed (nodes_of x)) (sym settled_world) works.kept;
         agreed = is_all ∙ ap agreed (sym settled_world);
-        seats = subst (λ (vs : List Value). AreSeats service vs x.seed (nodes_of x) 1 x.seats.items) (sym is_all) (seats_grown service w.agreed all fits front x.seed (nodes_of x) 1 x.seats.items agree works.seats);
+        members = subst (λ (vs : List Value). AreMembers service vs x.seed (nodes_of x) 1 x.nodes.items) (sym is_all) (members_grown service w.agreed all fits front x.seed (nodes_of x) 1 x.nodes.items agree works.members);
         within = works.within;
         spelled = works.spelled;
         told = subst (λ (vs : List Value). All (TellsRightly service vs) x.net) (sym is_all) (messages_grown service w.agreed all fits front x.net works.told).0;

@@ -19,7 +19,7 @@ use Rattle.rex_schedule.specs.declared.scenario.ScheduleLine.TheVariants as line
 use Rattle.rex_cluster.specs.Node.{Message, kind_of}
 use Rattle.rex_cluster.specs.Values.{Value, service_of}
 use Rattle.rex_cluster.specs.World.{Row, node_at, logs, at_node, only, first_told, deliver_found, sent_from, message_at, with_handed}
-use Rattle.rex_safety.specs.Kept.{roles, IsKept}
+use Rattle.rex_safety.specs.Kept.{roles}
 use Rattle.rex_cluster.specs.Calls.{begin, receive}
 use Rattle.rex_cluster.specs.Invariant.{Begins, IsIn}
 use Rattle.rex_cluster.specs.Records.{known}
@@ -29,16 +29,15 @@ use Rattle.rex_safety.proofs.Worlds.{nth_in}
 use Rattle.rex_node.specs.Going.{RunsOn}
 use Rattle.rex_log.specs.Messages.{message_in, content_in}
 use Rattle.rex_node.specs.Telling.{IsTold}
-use Rattle.rex_world.specs.declared.seats.Seat.{Seat}
 use Rattle.rex_world.specs.declared.told.Told.{Told}
 use Rattle.rex_world.specs.declared.world.World.{World}
-use Rattle.rex_world.specs.Seats.{disarmed, heres}
+use Rattle.rex_world.specs.Members.{disarmed, heres}
 use Rattle.rex_world.specs.World.{TellsIn, TellsRightly, read_message, message_of, messages_of, world_of, nodes_of}
 use Rattle.rex_world.specs.Kept.{IsRunning}
 use Rattle.rex_world.specs.Calls.{ComesTo, Comes, step_in}
 use Rattle.rex_world.specs.Finding.{IsSent, IsMarked}
 use Rattle.rex_world.proofs.Coming.{messages_many}
-use Rattle.rex_world.proofs.Stepping.{front_known_in, runs_after, kept_next}
+use Rattle.rex_world.proofs.Stepping.{front_known, runs_after}
 
 -- ---- messages by their numbers
 
@@ -103,7 +102,7 @@ module _ {S : Type 0} (service : Declarations) (w w1 : World S) (number : ℕ) (
           numbers = record { nodes = h.kept.numbers.nodes; messages = h.kept.numbers.messages };
           handed = ap length marked.handed ∙ length-set w.handed.items (number - 1) true ∙ h.kept.handed;
         };
-        seats = h.seats;
+        members = h.members;
         within = h.within;
         agreed = h.agreed;
         told = h.told;
@@ -124,7 +123,7 @@ module _ {S : Type 0} (service : Declarations) (w : World S) (h : IsRunning serv
       go zero e = absurd (cc)
       go (suc k) e = nth_in k (messages_of w.agreed w.net) (message_in w.agreed m) e
 
-  fits : MessageFits (nodes_of w) (message_in w.agreed m)
+  pub fits : MessageFits (nodes_of w) (message_in w.agreed m)
   fits = h.kept.numbers.messages (message_in w.agreed m) is_there
 
   pub hand_node : IsNode (nodes_of w) m.to
@@ -133,21 +132,13 @@ module _ {S : Type 0} (service : Declarations) (w : World S) (h : IsRunning serv
   pub hand_told : IsTold service w.agreed m.content
   hand_told = sent_told service w.agreed w.net number m h.told sent
 
-  module _ (xs : List (Seat S)) (e : xs ≡ w.seats.items) where
-    pub hand_there : IsNode (length xs) m.to
-    hand_there = subst (λ (ys : List (Seat S)). IsNode (length ys) m.to) (sym e) fits.to
+  pub hand_front : Begins (known (node_at (heres service w.agreed w.nodes.items) m.to).log) w.agreed
+  hand_front = front_known service w h m.to fits.to
 
-    pub hand_front : Begins (known (node_at (heres service w.agreed xs) m.to).log) w.agreed
-    hand_front = front_known_in service w h xs e m.to fits.to
-
-    pub hand_fits : MessageFits (length xs) (message_in w.agreed m)
-    hand_fits = subst (λ (ys : List (Seat S)). MessageFits (length ys) (message_in w.agreed m)) (sym e) fits
-
-    pub hand_runs : RunsOn service (receive (length xs) (service_of service w.seed) m.to m.from (content_in w.agreed m.content)) (begin (disarmed (node_at (heres service w.agreed xs) m.to)))
-    hand_runs =
-        subst (λ (ys : List (Seat S)). RunsOn service (receive (length ys) (service_of service w.seed) m.to m.from (content_in w.agreed m.content)) (begin (disarmed (node_at (heres service w.agreed ys) m.to)))) (sym e)
-        (runs_after service w h m.to fits.to (receive (nodes_of w) (service_of service w.seed) m.to m.from (content_in w.agreed m.content))
-        (λ d good. receive_good (nodes_of w) (service_of service w.seed) (logs (world_of service w)) (roles (world_of service w)) (messages_of w.agreed w.net) m.to fits.to m.from (content_in w.agreed m.content) d good (good.old (message_in w.agreed m) is_there)))
+  pub hand_runs : RunsOn service (receive (nodes_of w) (service_of service w.seed) m.to m.from (content_in w.agreed m.content)) (begin (disarmed (node_at (heres service w.agreed w.nodes.items) m.to)))
+  hand_runs =
+      runs_after service w h m.to fits.to (receive (nodes_of w) (service_of service w.seed) m.to m.from (content_in w.agreed m.content))
+      (λ d good. receive_good (nodes_of w) (service_of service w.seed) (logs (world_of service w)) (roles (world_of service w)) (messages_of w.agreed w.net) m.to fits.to m.from (content_in w.agreed m.content) d good (good.old (message_in w.agreed m) is_there))
 
   -- the row of the node's call, without the message's own effect
   abbrev hand_row : World S → Row
@@ -167,11 +158,6 @@ module _ {S : Type 0} (service : Declarations) (w : World S) (h : IsRunning serv
     line_row =
         ap (deliver_found service w.seed (nodes_of w) (world_of service w) number) (sent_at w.agreed w.net number m sent)
         ∙ ap (first_told (Delivered number (kind_of (content_in w.agreed m.content)) m.from m.to)) (sym marked_row)
-
-    pub hand_kept : IsKept service w1.seed (nodes_of w1) (hand_row w1).world
-    hand_kept =
-        let k : IsKept service w.seed (nodes_of w) (hand_row w1).world = subst (λ (r : Row). IsKept service w.seed (nodes_of w) r.world) line_row (kept_next service w h (line.Deliver number) (sent_within w.net number m sent).0) in
-        subst (λ (v : World S). IsKept service v.seed (nodes_of v) (hand_row w1).world) (sym marked.rest) k
 
     pub hand_came : (w2 : World S) (told told1 told2 : Told) → told1.effects.items ≡ told.effects.items ++ Delivered number (kind_of (content_in w.agreed m.content)) m.from m.to ∷ [] → told1.sent.items ≡ told.sent.items
         → ComesTo service w1 w2 told1 told2 (hand_row w1) → Comes service w w2 told told2 (line.Deliver number)

@@ -7,7 +7,7 @@ use Rattle.rex_cluster.specs.Values.{Value}
 use Rattle.rex_log.specs.Log.{first}
 use Rattle.rex_log.proofs.Firsts.{first_length}
 use Rattle.rex_node.specs.Parts.{NodeValue, IsNode, count_of, here_of, knows}
-use Rattle.rex_world.specs.Seats.{records_of}
+use Rattle.rex_world.specs.Members.{records_of}
 
 count_knows : (past : List Value) (x : NodeValue KeeperValue) → count_of x ≡ length (knows past x)
 count_knows past x = ap (λ (n : ℕ). n + length x.known) (sym (first_length x.offset past)) ∙ sym (length-append (first x.offset past) x.known)

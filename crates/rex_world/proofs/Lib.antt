@@ -1,7 +1,6 @@
 pub mod Settling
 pub mod Growing
 pub mod Beside
-pub mod Silent
 pub mod Shown
 pub mod Answering
 pub mod Learning
@@ -9,7 +8,7 @@ pub mod Agreeing
 pub mod Knowing
 pub mod Blocks
 pub mod Acted
-pub mod Starting
+pub mod Upcoming
 pub mod Arming
 pub mod Given
 pub mod Headlines
@@ -18,7 +17,7 @@ pub mod Runs
 pub mod Traces
 pub mod Releasing
 pub mod Summing
-pub mod Seated
+pub mod Placed
 pub mod Sending
 pub mod Failing
 pub mod Unseen
@@ -29,4 +28,5 @@ pub mod Handing
 pub mod Coming
 pub mod Working
 pub mod Stepping
+pub mod Serving
 pub mod Handed

@@ -16,8 +16,9 @@ use Rattle.rex_cluster.specs.Node.{Service, Content, Lead, Role, Failure, Node, 
 use Rattle.rex_cluster.specs.Node.Content.{Prepare, Promise, Accept, Accepted as Voted, Chosen as Chose, Nack, Ask, Snapshot}
 use Rattle.rex_cluster.specs.Node.Role.{Follower, Leads}
 use Rattle.rex_cluster.specs.Values.{Value, service_of}
+use Rattle.rex_steps.specs.Serving.{if_active}
 use Rattle.rex_cluster.specs.Lanes.{CallHere, is_faithful, active_only, cut_live, cut_lead, cut_role, cut, value_at}
-use Rattle.rex_cluster.specs.Calls.{Call, begin, append, led, logged, propose, decide, best, choose, lead, turn, settle, enough, own_reports, stand, elect, on_prepare, heard, on_own_promise, on_promise, has_last, on_accept, voted, on_own_vote, on_voted, on_chosen, on_nack, on_snapshot, receive, replay, checkpoint, drop_known, migrate}
+use Rattle.rex_cluster.specs.Calls.{Call, ask, begin, append, led, logged, propose, decide, best, choose, lead, turn, settle, enough, own_reports, stand, elect, on_prepare, heard, on_own_promise, on_promise, has_last, on_accept, voted, on_own_vote, on_voted, on_chosen, on_nack, on_snapshot, receive, replay, checkpoint, drop_known, migrate}
 
 -- the call where this append of its node will fail
 abbrev pub armed_as : {V S : Type 0} → Option Failure → Call V S → Call V S
@@ -167,6 +168,9 @@ module _ {V S : Type 0} (failure : Option Failure) where
   pub replay_either : (me : ℕ) → Goes (replay me)
   replay_either me d e = if_either (is_active d.node.role || d.node.replayed == length (known d.node.log)) (quiet refl refl) (quiet refl refl)
 
+  pub ask_either : (me other : ℕ) → Goes (ask me other)
+  ask_either me other d e = quiet refl refl
+
   -- so a call that leaves as many records does the same where an append will fail
   pub unseen : (call : Call V S → Call V S) (x : Node V S) → Goes call → x.armed ≡ None → length (call (begin x)).node.log ≡ length x.log → call (armed_as failure (begin x)) ≡ armed_as failure (call (begin x))
   unseen call x g e same = by (g (begin x) e)
@@ -201,3 +205,14 @@ module _ (failure : Option Failure) (service : Declarations) (seed n me : ℕ) w
 
   pub cut_either : (counts : List ℕ) → Goes failure (cut service seed n me counts)
   cut_either counts d e = role_either counts d.node.role d e
+
+-- ---- what only an active node does
+
+-- such a call goes so where it appends nothing
+module _ (failure : Option Failure) (call : CallHere → CallHere) (log : (d : CallHere) → (call d).node.log ≡ d.node.log) (same : (d : CallHere) → call (armed_as failure d) ≡ armed_as failure (call d)) where
+  pub active_either : Goes failure (if_active call)
+  active_either d e = by (is_active d.node.role)
+    where
+      by : (t : Bool) → Either failure d (active_only t d (call d)) (active_only t (armed_as failure d) (call (armed_as failure d)))
+      by true = quiet failure (log d) (same d)
+      by false = quiet failure refl refl

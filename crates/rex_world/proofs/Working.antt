@@ -26,14 +26,12 @@ use Rattle.rex_safety.proofs.Nexts.{next_fits}
 use Rattle.rex_safety.proofs.Spelled.{kept_room, kept_cut}
 use Rattle.rex_node.specs.Parts.{ActingValue, IsActing, knows, role_of, work_of}
 use Rattle.rex_node.specs.Calls.{AreLimits, CanBeCut, counts_for}
-use Rattle.rex_world.specs.declared.seats.Seat.{Seat}
-use Rattle.rex_world.specs.declared.seats.Seat.TheVariants.{Running, Stopped, Empty}
 use Rattle.rex_world.specs.declared.world.World.{World}
-use Rattle.rex_world.specs.Seats.{IsSeat, here_in, heres}
+use Rattle.rex_world.specs.Members.{Member, IsMember, here_at, heres}
 use Rattle.rex_world.specs.World.{world_of, nodes_of}
 use Rattle.rex_world.specs.Kept.{IsRunning}
 use Rattle.rex_world.proofs.Headlines.{fit_run}
-use Rattle.rex_world.proofs.Seated.{here_is, seat_is}
+use Rattle.rex_world.proofs.Placed.{here_is, member_is}
 
 -- it is active, or has no live events
 abbrev Works : Role Value → Work → Type 0
@@ -44,26 +42,24 @@ parts_work service values a p None h = inr refl
 parts_work service values a None (Some x) h = absurd h
 parts_work service values a (Some p) (Some x) h = inl (_, refl, refl)
 
-seat_works : {S : Type 0} → (service : Declarations) (past : List Value) (seed nodes number : ℕ) (seat : Seat S) → IsSeat service past seed nodes number seat → (here_in service past seat).up ≡ true → Works (here_in service past seat).role (here_in service past seat).work
-seat_works service past seed nodes number (Running node) h up = parts_work service (knows past node) node.acceptor node.proposer node.acting ((h.node.up up).acting)
-seat_works service past seed nodes number (Stopped keeper) h up = absurd (cc)
-seat_works service past seed nodes number Empty h up = absurd h
+member_works : (service : Declarations) (past : List Value) (seed nodes number : ℕ) (x : Member) → IsMember service past seed nodes number x → (here_at service past x).up ≡ true → Works (here_at service past x).role (here_at service past x).work
+member_works service past seed nodes number x h up = parts_work service (knows past x) x.acceptor x.proposer x.acting ((h.node.up up).acting)
 
--- a seat of a world that has some
-spare : {S : Type 0} → (xs : List (Seat S)) → 0 < length xs → Seat S
+-- one of some nodes
+spare : (xs : List Member) → 0 < length xs → Member
 spare [] l = absurd (omega arith)
 spare (x ∷ xs) l = x
 
 module _ {S : Type 0} (service : Declarations) (w : World S) (h : IsRunning service w) (m : ℕ) (there : IsNode (nodes_of w) m) where
   abbrev here : Here
-  here = node_at (heres service w.agreed w.seats.items) m
+  here = node_at (heres service w.agreed w.nodes.items) m
 
   works : here.up ≡ true → Works here.role here.work
   works up =
-      let d = spare w.seats.items (omega (arith, there.0, there.1)) in
-      let e : here ≡ here_in service w.agreed (slice_index_or w.seats.items (m - 1) d) = here_is service w.agreed w.seats.items m there d in
+      let d = spare w.nodes.items (omega (arith, there.0, there.1)) in
+      let e : here ≡ here_at service w.agreed (slice_index_or w.nodes.items (m - 1) d) = here_is w.nodes.items m there service w.agreed d in
       subst (λ (x : Here). Works x.role x.work) (sym e)
-      (seat_works service w.agreed w.seed (nodes_of w) m (slice_index_or w.seats.items (m - 1) d) (seat_is service w.agreed w.seats.items m there d w.seed (nodes_of w) h.seats) (subst (λ (x : Here). x.up ≡ true) e up))
+      (member_works service w.agreed w.seed (nodes_of w) m (slice_index_or w.nodes.items (m - 1) d) (member_is w.nodes.items m there service w.agreed d w.seed (nodes_of w) h.members) (subst (λ (x : Here). x.up ≡ true) e up))
 
   pub fit : values_fit service (known here.log) ≡ true
   fit = (next_fits service w.seed (nodes_of w) (world_of service w) h.kept.world).known m there

@@ -1,6 +1,6 @@
 -- A report that is written piece by piece.
 use Rattle.std.proofs.Common.{◌≡◌, ℕ, List, [], ◌∷◌, ◌++◌, length, take, drop, refl, sym, ap, ◌∙◌, append_assoc, append-nil, take-append-drop}
-use Rattle.std.specs.Prelude.{Result, Ok, Err, OnErr, OnOk}
+use Rattle.std.specs.Prelude.{Result, Ok, Err, OnErr}
 use Rattle.rex_traits.proofs.Known.{grows_more}
 use Rattle.rex_traits.specs.Growth.{GrowsByFront}
 use Rattle.rex_world.specs.Writing.{IsWritten}
@@ -51,7 +51,3 @@ written_last a b c waiting text rest whole h is k =
 pub on_err : {A E P : Type 0} (r : Result A E) → P → OnErr r P
 on_err (Ok x) p = tt
 on_err (Err e) p = p
-
-pub on_ok_is : {A E P : Type 0} (r : Result A E) → P → OnOk r P
-on_ok_is (Ok x) p = p
-on_ok_is (Err e) p = tt

@@ -10,7 +10,7 @@ use Rattle.rex_schedule.specs.declared.scenario.Scenario.{Scenario}
 use Rattle.rex_cluster.specs.Agreed.{agreed}
 use Rattle.rex_safety.specs.Kept.{IsKept}
 use Rattle.rex_world.specs.declared.world.World.{World}
-use Rattle.rex_world.specs.Seats.{AreSeats, AreWithin}
+use Rattle.rex_world.specs.Members.{AreMembers, AreWithin}
 use Rattle.rex_world.specs.World.{IsSpelled, TellsRightly, nodes_of, world_of}
 use Rattle.rex_event.specs.declared.event.TheConstants.{CLIENT_ENTRIES}
 
@@ -22,8 +22,8 @@ pub record IsRunning {S : Type 0} (service : Declarations) (w : World S) : Type 
   pub few : nodes_of w ≤ most_nodes
   pub kept : IsKept service w.seed (nodes_of w) (world_of service w)
   pub agreed : w.agreed ≡ agreed (world_of service w)
-  pub seats : AreSeats service w.agreed w.seed (nodes_of w) 1 w.seats.items
-  pub within : AreWithin w.done w.seats.items
+  pub members : AreMembers service w.agreed w.seed (nodes_of w) 1 w.nodes.items
+  pub within : AreWithin w.done w.nodes.items
   pub spelled : All IsSpelled w.net
   pub told : All (TellsRightly service w.agreed) w.net
   pub requests : All (RequestFits service) w.requests

@@ -1,10 +1,10 @@
 pub mod Agreed
-pub mod Blocks
-pub mod Seats
+pub mod Taking
+pub mod Members
 pub mod World
 pub mod Kept
 pub mod Calls
-pub mod Places
+pub mod Starting
 pub mod Finding
 pub mod Report
 pub mod Runs

@@ -1,5 +1,5 @@
 -- The report of a scenario.
-use Rattle.std.specs.Prelude.{◌≡◌, ℕ, suc, ◌+◌, List, [], ◌∷◌, ◌++◌, length, take, is_some, if◌then◌else◌}
+use Rattle.std.specs.Prelude.{ℕ, suc, ◌+◌, List, [], ◌∷◌, ◌++◌, length, take, is_some, if◌then◌else◌}
 use Rattle.rex_syntax.specs.declared.request.Request.{Request}
 use Rattle.rex_syntax.specs.declared.service.Declarations.{Declarations}
 use Rattle.rex_report.specs.declared.effect.Effect.{Effect}
@@ -12,15 +12,12 @@ use Rattle.rex_schedule.specs.declared.scenario.Scenario.{Scenario}
 use Rattle.rex_schedule.specs.declared.scenario.ScheduleLine.{ScheduleLine}
 use Rattle.rex_cluster.specs.Records.{promise, known}
 use Rattle.rex_cluster.specs.Node.{role_name, is_active}
-use Rattle.rex_cluster.specs.Values.{Value, trace_of, state_after}
+use Rattle.rex_cluster.specs.Values.{trace_of, state_after}
 use Rattle.rex_state.specs.Value.{StateValue}
 use Rattle.rex_cluster.specs.Lanes.{Here, live_state}
 use Rattle.rex_cluster.specs.World.{World, beginning, row}
 use Rattle.rex_node.specs.Parts as parts
 use Rattle.rex_node.specs.Parts.{NodeValue, IsNode, role_of, work_of}
-use Rattle.rex_world.specs.declared.seats.Seat.{Seat}
-use Rattle.rex_world.specs.declared.seats.Seat.TheVariants.{Running, Stopped, Empty}
-use Rattle.rex_world.specs.Seats.{records_of}
 
 -- the report lines of a schedule line
 abbrev pub effects_text : Declarations → ℕ → List Effect → List ℕ
@@ -62,12 +59,6 @@ up_end_of x = record {
   known = parts.count_of x;
   count = count_of x;
 }
-
--- a node that was started has this number, and is kept
-abbrev pub IsNumbered : {S : Type 0} → Declarations → List Value → ℕ → Seat S → Type 0
-IsNumbered service past number (Running node) = (node.id ≡ number) × IsNode records_of service past node
-IsNumbered service past number (Stopped keeper) = Unit {0}
-IsNumbered service past number Empty = Unit {0}
 
 -- the lines of the nodes from this number on
 abbrev pub ends_text : Declarations → ℕ → List Here → List ℕ

@@ -11,7 +11,7 @@ use Rattle.rex_cluster.specs.World.{World as ModelWorld}
 use Rattle.rex_log.specs.Messages.{message_in}
 use Rattle.rex_node.specs.Telling.{IsTold}
 use Rattle.rex_world.specs.declared.world.World.{World}
-use Rattle.rex_world.specs.Seats.{heres}
+use Rattle.rex_world.specs.Members.{heres}
 
 -- what bytes that were read say beside the past; bytes that say nothing ask for nothing
 abbrev pub read_message : List Value → Result Sent ℕ → Message Value
@@ -43,7 +43,7 @@ pub record TellsRightly (service : Declarations) (past : List Value) (bytes : Li
 abbrev pub world_of : {S : Type 0} → Declarations → World S → ModelWorld
 world_of service w = record {
   done = w.done;
-  nodes = heres service w.agreed w.seats.items;
+  nodes = heres service w.agreed w.nodes.items;
   messages = messages_of w.agreed w.net;
   handed = w.handed.items;
   seen = w.seen.items;
@@ -51,4 +51,4 @@ world_of service w = record {
 
 -- so many nodes it has
 abbrev pub nodes_of : {S : Type 0} → World S → ℕ
-nodes_of w = length w.seats.items
+nodes_of w = length w.nodes.items

@@ -4,23 +4,29 @@ ghost use Rattle.std.specs.Prelude.{◌≡◌, ◌≤◌, drop, length, IfOk, On
 ghost use Rattle.rex_schedule.specs.Fits.{IsNode};
 ghost use Rattle.rex_syntax.specs.declared.service.Declarations.{Declarations};
 ghost use Rattle.rex_cluster.specs.Agreed as model;
+ghost use Rattle.rex_cluster.specs.Reading.{seen_by_releases, stamp_at};
+ghost use Rattle.rex_cluster.specs.World.{node_at};
 ghost use Rattle.rex_world.specs.Agreed as specs;
 ghost use Rattle.rex_world.specs.Agreed.{learned, learned_in};
-ghost use Rattle.rex_world.specs.Calls.{CanBeTold, IsSettled};
+ghost use Rattle.rex_world.specs.Calls.{AreReleased, CanBeTold, IsSettled};
 ghost use Rattle.rex_world.specs.Kept.{IsRunning};
-ghost use Rattle.rex_world.specs.Seats.{keeper_in, records_at, records_of};
+ghost use Rattle.rex_world.specs.Members.{AreMembers, heres, records_at, records_of};
 ghost use Rattle.rex_world.specs.World.{nodes_of, world_of};
 
-use crate::seats::Seat;
+use crate::calls::{send_all, tell_all};
+use crate::seeing::show;
 use crate::told::Told;
 use crate::world::World;
 use rex_ballot::Value;
 use rex_durable::layout::{HEAD, KNOWN};
+use rex_event::CLIENT_ENTRIES;
 use rex_list::List;
-use rex_node::{Refusal, Step};
+use rex_node::Step;
+use rex_report::Effect;
 use rex_syntax::checked::Checked;
 use rex_traits::{Keeper, Obedient, Store};
 use std::alloc::{AllocError, Global};
+use std::marker::Brand;
 
 // The instance of a record of a known value.
 fn instance_in(bytes: &[u8]) -> u32
@@ -67,57 +73,54 @@ fn learn_from<S: Store>(
     Ok(())
 }
 
-// The same of the keeper of a node.
-fn learn_in<S: Store>(
-    alloc: Global,
-    agreed: &mut List<Value>,
-    seat: &Seat<S>,
-    count: usize,
-) -> Result<(), AllocError>
-    ensures { OnOk result (agreed.new ≡ learned agreed.old (drop count (records_of (keeper_in seat.now)))) }
-{
-    match seat {
-        Seat::Running(node) => learn_from(alloc, agreed, node.keeper(), count),
-        Seat::Stopped(keeper) => learn_from(alloc, agreed, keeper, count),
-        Seat::Empty => Ok(()),
-    }
-}
-
 impl<S: Store> World<S> {
-    /// How many records the node of a number has.
-    pub(crate) fn record_count(&self, node: u8) -> usize
-        requires { IsNode (nodes_of self.now) node }
-        ensures { result ≡ length (records_at self.now.seats.items node) }
-    {
-        self.seats[node as usize - 1].record_count()
-    }
-
     // Takes in the records of a node that come after so many.
     fn learn(&mut self, node: u8, count: usize) -> Result<(), AllocError>
         requires { IsNode (nodes_of self.old) node }
-        ensures agreed { OnOk result (self.new.agreed ≡ learned self.old.agreed (drop count (records_at self.old.seats.items node))) }
+        ensures agreed { OnOk result (self.new.agreed ≡ learned self.old.agreed (drop count (records_at self.old.nodes.items node))) }
         ensures rest { self.new ≡ record self.old { agreed = self.new.agreed } }
     {
-        let seat = &self.seats[node as usize - 1];
-        learn_in(self.alloc, &mut self.agreed, seat, count)
+        let keeper = self.nodes[node as usize - 1].keeper();
+        learn_from(self.alloc, &mut self.agreed, keeper, count)
     }
 
-    /// Tells what a call of a node came to that had so many records before, sends its messages, and takes in what it has come to
-    /// know, whether it is up or down. The clients to which it released replies have seen them.
+    // The clients to which a node released replies by these effects have seen them.
+    fn show(&mut self, svc: &Checked, node: u8, effects: &[Effect])
+        requires there { IsNode (nodes_of self.old) node }
+        requires members { AreMembers svc.now self.old.agreed self.old.seed (nodes_of self.old) 1 self.old.nodes.items }
+        requires clients { length self.old.seen.items ≡ CLIENT_ENTRIES }
+        requires releases { AreReleased (node_at (heres svc.now self.old.agreed self.old.nodes.items) node) effects.now }
+        ensures seen { self.new.seen.items ≡ seen_by_releases (stamp_at (node_at (heres svc.now self.old.agreed self.old.nodes.items) node)) effects.now
+            self.old.seen.items }
+        ensures rest { self.new ≡ record self.old { seen = self.new.seen } }
+    {
+        show::<Brand, S>(
+            &self.nodes[node as usize - 1],
+            &self.agreed,
+            svc,
+            effects,
+            &mut self.seen,
+        );
+    }
+
+    /// Tells what a node did that had so many records before, sends its messages, and takes in what it has come to know, whether
+    /// it is up or down. The clients to which it released replies have seen them.
     pub(crate) fn settle(
         &mut self,
         svc: &Checked,
         told: &mut Told,
         node: u8,
         count: usize,
-        outcome: Result<Step, Refusal>,
+        step: &Step,
     ) -> Result<(), AllocError>
         requires there { IsNode (nodes_of self.old) node }
-        requires step { IfOk outcome (CanBeTold svc.now self.old node) }
-        ensures { OnOk result (IsSettled svc.now node count self.old self.new told.old told.new outcome) }
+        requires step { CanBeTold svc.now self.old node step.now }
+        ensures { OnOk result (IsSettled svc.now node count self.old self.new told.old told.new step.now) }
     {
-        self.show(svc, node, &outcome);
-        self.tell(told, node, outcome)?;
+        self.show(svc, node, step.effects.as_slice());
+        tell_all(&mut told.effects, step.effects.as_slice())?;
+        let sends = step.sends.as_slice();
+        send_all(&mut self.net, &mut self.handed, &mut told.sent, sends)?;
         self.learn(node, count)
     }
 

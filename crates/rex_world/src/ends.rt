@@ -5,11 +5,10 @@ ghost use Rattle.rex_node.specs.Parts as parts;
 ghost use Rattle.rex_node.specs.Parts.{IsNode, here_of, work_of};
 ghost use Rattle.rex_world.specs.Kept.{IsRunning};
 ghost use Rattle.rex_world.specs.Report as specs;
-ghost use Rattle.rex_world.specs.Report.{IsNumbered, ends_text, node_text};
-ghost use Rattle.rex_world.specs.Seats.{here_in, records_of};
+ghost use Rattle.rex_world.specs.Report.{ends_text, node_text};
+ghost use Rattle.rex_world.specs.Members.{records_of};
 ghost use Rattle.rex_world.specs.World.{world_of};
 
-use crate::seats::Seat;
 use crate::world::World;
 use rex_ballot::{INSTANCES, Value};
 use rex_list::List;
@@ -46,8 +45,8 @@ fn up_end_of<S: Store>(node: &Node<Obedient<S>>) -> UpEnd
     }
 }
 
-// Appends the line of a node that was started.
-fn push_running<S: Store>(
+// Appends the line of a node.
+fn push_node<S: Store>(
     out: &mut Vec<u8>,
     svc: &Checked,
     _agreed: &List<Value>,
@@ -64,28 +63,8 @@ fn push_running<S: Store>(
     push_end(out, &end, service, node.variables(), node.semaphores())
 }
 
-// Appends the line of the node of this number.
-fn push_seat<S: Store>(
-    out: &mut Vec<u8>,
-    svc: &Checked,
-    agreed: &List<Value>,
-    number: u8,
-    seat: &Seat<S>,
-) -> Result<(), AllocError>
-    requires { IsNumbered svc.now agreed.now number seat.now }
-    ensures { OnOk result (out.new.items ≡ out.old.items ++ node_text svc.now number (here_in svc.now agreed.now seat.now)) }
-{
-    match seat {
-        Seat::Running(node) => push_running(out, svc, agreed, node),
-        Seat::Stopped(_) | Seat::Empty => {
-            let service = svc.declarations();
-            push_end(out, &End::Down { node: number }, service, &[], &[])
-        }
-    }
-}
-
 // Appends the lines of nodes of a world.
-fn push_seats<S: Store>(
+fn push_nodes<S: Store>(
     out: &mut Vec<u8>,
     svc: &Checked,
     world: &World<S>,
@@ -93,10 +72,8 @@ fn push_seats<S: Store>(
     requires { IsRunning svc.now world.now }
     ensures { OnOk result (out.new.items ≡ out.old.items ++ ends_text svc.now 1 (world_of svc.now world.now).nodes) }
 {
-    let mut number = 1;
-    for seat in &world.seats {
-        push_seat(out, svc, &world.agreed, number, seat)?;
-        number += 1;
+    for node in &world.nodes {
+        push_node(out, svc, &world.agreed, node)?;
     }
     Ok(())
 }
@@ -107,6 +84,6 @@ impl<S: Store> World<S> {
         requires { IsRunning svc.now self.now }
         ensures { OnOk result (out.new.items ≡ out.old.items ++ ends_text svc.now 1 (world_of svc.now self.now).nodes) }
     {
-        push_seats(out, svc, self)
+        push_nodes(out, svc, self)
     }
 }

@@ -10,17 +10,16 @@ ghost use Rattle.rex_world.specs.Calls.{Comes};
 ghost use Rattle.rex_world.specs.Finding.{IsSent, IsFound, IsMarked};
 
 use crate::calls::kind_of;
-use crate::places::on_message_at;
 use crate::told::Told;
 use crate::world::World;
 use rex_event::{Event, Kind};
 use rex_msg::{DecodeError, Message, decode};
 use rex_replay::Replayer;
 use rex_report::Effect;
+use rex_steps::Call;
 use rex_syntax::checked::Checked;
 use rex_traits::Store;
 use std::alloc::{AllocError, Global};
-use std::marker::Brand;
 
 // The message that bytes spell.
 fn read(alloc: Global, bytes: &[u8]) -> Result<Message, AllocError>
@@ -36,8 +35,8 @@ fn read(alloc: Global, bytes: &[u8]) -> Result<Message, AllocError>
 }
 
 impl<S: Store> World<S> {
-    /// The message of a number, if there is one.
-    pub(crate) fn find(&self, number: u64) -> Result<Option<Message>, AllocError>
+    // The message of a number, if there is one.
+    fn find(&self, number: u64) -> Result<Option<Message>, AllocError>
         requires { All IsSpelled self.now.net }
         ensures { IfOk result (λ found. IsFound self.now.net number found) }
     {
@@ -56,8 +55,8 @@ impl<S: Store> World<S> {
         self.handed[number as usize - 1] = true;
     }
 
-    /// Hands a message over to the node that it goes to.
-    pub(crate) fn hand_to_node<R: Replayer>(
+    // Hands a message over to the node that it goes to.
+    fn hand_to_node<R: Replayer>(
         &mut self,
         svc: &Checked,
         replayer: &mut R,
@@ -76,16 +75,7 @@ impl<S: Store> World<S> {
             to: message.to,
         })?;
         self.mark(number);
-        let count = self.record_count(message.to);
-        let outcome = on_message_at::<Brand, S, R>(
-            &mut self.seats,
-            &self.agreed,
-            svc,
-            replayer,
-            self.seed,
-            message,
-        );
-        self.settle(svc, told, message.to, count, outcome)
+        self.call(svc, replayer, told, message.to, &Call::Receive { message })
     }
 
     /// Hands over the message of a number, if there is one.

@@ -2,19 +2,19 @@
 #![tactic(auto)]
 
 mod agreed;
+mod calling;
 mod calls;
 mod delivering;
 mod ends;
 mod finding;
 mod following;
 pub mod laws;
-mod lines;
-mod places;
 mod report;
 mod run;
-mod seats;
 mod seeing;
+mod starting;
 mod summary;
+mod taking;
 mod told;
 mod tracing;
 mod world;

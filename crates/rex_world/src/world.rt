@@ -1,44 +1,34 @@
 //! The world.
 
-ghost use Rattle.std.specs.Prelude.{◌≡◌, ◌<◌, ◌≤◌, ◌+◌, ◌^◌, [], Err, false, true, length, replicate, Some, IfOk, OnOk, OnErr, if◌then◌else◌};
+ghost use Rattle.std.specs.Prelude.{◌≡◌, ◌<◌, ◌≤◌, ◌+◌, ◌^◌, [], true, length, replicate, IfOk, OnOk, OnErr, if◌then◌else◌};
 ghost use Rattle.std.specs.List.{All};
 ghost use Rattle.rex_ballot.specs.Limits.{most_nodes};
-ghost use Rattle.rex_state.specs.Machine.{run};
-ghost use Rattle.rex_state.specs.Counts.{AreCounted};
 ghost use Rattle.rex_syntax.specs.Versions.{has_old_form};
 ghost use Rattle.rex_schedule.specs.Fits.{FormFits, IsNode, LineFits, ScenarioFits};
 ghost use Rattle.rex_traits.specs.StoreLaws.{memory_value};
 ghost use Rattle.rex_traits.specs.Stores.{value_by};
 ghost use Rattle.rex_traits.specs.declared.mem_keeper.Fate.TheVariants as fate;
-ghost use Rattle.rex_cluster.specs.Node.{new_node};
-ghost use Rattle.rex_cluster.specs.World.{beginning, node_at, row, steps_of};
-ghost use Rattle.rex_cluster.specs.Lanes.{live_state};
-ghost use Rattle.rex_cluster.specs.Takes.{BeginsInRange, after_doings, take, taken_in};
-ghost use Rattle.rex_node.specs.Calls.{Refuses, refusal_active};
-ghost use Rattle.rex_node.specs.declared.refusal.Refusal.TheVariants as why;
+ghost use Rattle.rex_cluster.specs.Node as model;
+ghost use Rattle.rex_cluster.specs.World.{beginning, row, steps_of};
 ghost use Rattle.rex_schedule.specs.declared.scenario.ScheduleLine.TheVariants as line;
-ghost use Rattle.rex_world.specs.Blocks.{takes_at};
-ghost use Rattle.rex_world.specs.Calls.{ArmsNone, DidSteps, IsWhole};
-ghost use Rattle.rex_world.specs.Seats.{AreSeats, AreWithin, IsFresh, IsSeat, faults_of, here_in, heres, keeper_in};
+ghost use Rattle.rex_world.specs.Calls.{ArmsNone, DidSteps};
+ghost use Rattle.rex_world.specs.Members.{AreMembers, AreWithin, IsFresh, IsMember, faults_of, here_at, heres};
 ghost use Rattle.rex_world.specs.World.{nodes_of, world_of};
 ghost use Rattle.rex_world.specs.Kept.{IsRunning, IsSame};
 
 use crate::calls::tell_all;
-use crate::places::{arm_at, take_at, take_block_at};
-use crate::seats::Seat;
 use crate::seeing::unseen;
 use crate::told::Told;
 use rex_ballot::Value;
 use rex_event::{CLIENT_ENTRIES, Event, Kind};
 use rex_list::List;
 use rex_net::Net;
-use rex_node::{Node, Refusal, RestartFault};
+use rex_node::{Node, RestartFault};
 use rex_reads::Seen;
-use rex_record::Turn;
 use rex_replay::Replayer;
 use rex_report::Effect;
 use rex_schedule::{Scenario, ScheduleLine};
-use rex_state::state::State;
+use rex_steps::Call;
 use rex_syntax::checked::Checked;
 use rex_syntax::request::Request;
 use rex_traits::{Fate, MemKeeper, Obedient, Store};
@@ -52,7 +42,7 @@ pub struct World<S: Store> {
     pub(crate) alloc: Global,
     pub(crate) seed: u32,
     pub(crate) requests: List<Request>,
-    pub(crate) seats: Vec<Seat<S>>,
+    pub(crate) nodes: Vec<Node<Obedient<S>>>,
     /// The values that the nodes agreed on.
     pub(crate) agreed: List<Value>,
     /// The messages that were sent, as bytes.
@@ -68,23 +58,23 @@ pub struct World<S: Store> {
 }
 
 // A node before the first line, over a fresh keeper.
-fn new_seat<S: Store>(
+fn new_node<S: Store>(
     alloc: Global,
     svc: &Checked,
     seed: u32,
     nodes: u8,
     number: u8,
     keeper: S,
-) -> Result<Seat<S>, AllocError>
+) -> Result<Node<Obedient<S>>, AllocError>
     requires there { (0 < number) × (number ≤ nodes) }
     requires few { nodes ≤ most_nodes }
     requires fresh { IsFresh (value_by S.records S.faults S.armed S.broken S.as_armed) keeper }
-    ensures here { IfOk result (λ seat. here_in svc.now [] seat ≡ new_node) }
-    ensures seat { IfOk result (IsSeat svc.now [] seed nodes number) }
-    ensures within { IfOk result (λ seat. faults_of (keeper_in seat) ≡ 0) }
+    ensures here { IfOk result (λ node. here_at svc.now [] node ≡ model.new_node) }
+    ensures member { IfOk result (IsMember svc.now [] seed nodes number) }
+    ensures within { IfOk result (λ node. faults_of node.keeper ≡ 0) }
 {
     match Node::restart::<Brand>(alloc, number, nodes, seed, svc, Obedient::new(keeper)) {
-        Ok(node) => Ok(Seat::Running(node)),
+        Ok(node) => Ok(node),
         Err(not_started) => match not_started.fault {
             RestartFault::OutOfMemory => Err(AllocError),
             RestartFault::BadRecord { .. } => unreachable!(),
@@ -93,29 +83,29 @@ fn new_seat<S: Store>(
 }
 
 // The nodes before the first line, each over its keeper.
-fn new_seats<S: Store>(
+fn new_nodes<S: Store>(
     alloc: Global,
     svc: &Checked,
     seed: u32,
     nodes: u8,
     keepers: Vec<S>,
-) -> Result<Vec<Seat<S>>, AllocError>
+) -> Result<Vec<Node<Obedient<S>>>, AllocError>
     requires few { nodes ≤ most_nodes }
     requires many { length keepers.items ≡ nodes }
     requires fresh { All (IsFresh (value_by S.records S.faults S.armed S.broken S.as_armed)) keepers.items }
-    ensures heres { IfOk result (λ seats. heres svc.now [] seats.items ≡ replicate nodes new_node) }
-    ensures seats { IfOk result (λ seats. AreSeats svc.now [] seed nodes 1 seats.items) }
-    ensures within { IfOk result (λ seats. AreWithin 0 seats.items) }
-    ensures many { IfOk result (λ seats. length seats.items ≡ nodes) }
+    ensures heres { IfOk result (λ made. heres svc.now [] made.items ≡ replicate nodes model.new_node) }
+    ensures members { IfOk result (λ made. AreMembers svc.now [] seed nodes 1 made.items) }
+    ensures within { IfOk result (λ made. AreWithin 0 made.items) }
+    ensures many { IfOk result (λ made. length made.items ≡ nodes) }
 {
-    let mut seats = Vec::new(alloc);
+    let mut made = Vec::new(alloc);
     let mut number = 0;
     for keeper in keepers {
         number += 1;
-        let seat = new_seat(alloc, svc, seed, nodes, number, keeper)?;
-        seats.push(seat)?;
+        let node = new_node(alloc, svc, seed, nodes, number, keeper)?;
+        made.push(node)?;
     }
-    Ok(seats)
+    Ok(made)
 }
 
 // A copy of requests.
@@ -142,14 +132,6 @@ fn fate_of(kept: bool) -> Fate
     ensures { result ≡ (if kept then fate.Kept else fate.Lost) }
 {
     if kept { Fate::Kept } else { Fate::Lost }
-}
-
-// Whether memory was short where a node was handed events.
-fn is_short<T>(outcome: &Result<T, Refusal>) -> bool
-    ensures whole { IsWhole outcome.now → result ≡ false }
-    ensures short { outcome.now ≡ Err why.OutOfMemory → result ≡ true }
-{
-    matches!(outcome, Err(Refusal::OutOfMemory))
 }
 
 impl World<MemKeeper> {
@@ -192,13 +174,13 @@ impl<S: Store> World<S> {
     {
         let _service = svc.declarations();
         let requests = copied(alloc, &scenario.requests)?;
-        let seats = new_seats(alloc, svc, scenario.seed, scenario.nodes, keepers)?;
+        let nodes = new_nodes(alloc, svc, scenario.seed, scenario.nodes, keepers)?;
         let seen = unseen(alloc, CLIENT_ENTRIES)?;
         Ok(World {
             alloc,
             seed: scenario.seed,
             requests,
-            seats,
+            nodes,
             agreed: List::new(alloc),
             net: Net::new(alloc),
             handed: Vec::new(alloc),
@@ -244,9 +226,45 @@ impl<S: Store> World<S> {
         ensures done { OnOk result (self.new.done ≡ self.old.done) }
     {
         match line {
-            ScheduleLine::Flush => self.flush(svc, replayer, told),
+            ScheduleLine::Elect { node } => self.call(svc, replayer, told, *node, &Call::Elect),
+            ScheduleLine::Submit { node, request } => {
+                let request = self.requests.as_slice()[*request as usize];
+                let call = Call::Submit { request: &request };
+                self.call(svc, replayer, told, *node, &call)
+            }
+            ScheduleLine::Lane { node, lane } => {
+                let clock = self.done as i64;
+                let call = Call::Lane { lane: *lane, clock };
+                self.call(svc, replayer, told, *node, &call)
+            }
+            ScheduleLine::Cut { node } => {
+                self.call(svc, replayer, told, *node, &Call::Cut { limits: None })
+            }
+            ScheduleLine::CutBelow { node, limits } => {
+                let limits = Some(limits.as_slice());
+                self.call(svc, replayer, told, *node, &Call::Cut { limits })
+            }
             ScheduleLine::Deliver { message } => self.deliver(svc, replayer, told, *message),
-            _ => self.call(svc, replayer, told, line),
+            ScheduleLine::Flush => self.flush(svc, replayer, told),
+            ScheduleLine::Replay { node } => self.call(svc, replayer, told, *node, &Call::Replay),
+            ScheduleLine::Ask { node, other } => {
+                self.call(svc, replayer, told, *node, &Call::Ask { other: *other })
+            }
+            ScheduleLine::Stop { node } => self.stop(svc, told, *node),
+            ScheduleLine::Start { node } => self.start(svc, told, *node),
+            ScheduleLine::Checkpoint { node, version } => {
+                let call = Call::Checkpoint { version: *version };
+                self.call(svc, replayer, told, *node, &call)
+            }
+            ScheduleLine::DropKnown { node } => {
+                self.call(svc, replayer, told, *node, &Call::DropKnown)
+            }
+            ScheduleLine::ReadVariable {
+                node,
+                client,
+                variable,
+            } => self.read(svc, told, *node, *client, *variable),
+            ScheduleLine::KeepFail { .. } => unreachable!(),
         }
     }
 
@@ -261,101 +279,20 @@ impl<S: Store> World<S> {
             (world_of svc.now self.old) (line.KeepFail node kept)).world) }
         ensures running { OnOk result (IsRunning svc.now self.new) }
         ensures same { OnOk result (IsSame self.old self.new) }
+        ensures broken { OnErr result (self.new.broken ≡ true) }
     {
         let _event: Option<(Event, Kind)> = None;
         let mut effects = List::new(self.alloc);
-        effects.push(Effect::WillFail { node, kept })?;
-        arm_at(&mut self.seats, node, fate_of(kept));
+        if effects.push(Effect::WillFail { node, kept }).is_err() {
+            self.broken = true;
+            return Err(AllocError);
+        }
+        self.nodes[node as usize - 1].arm(fate_of(kept));
         self.done += 1;
         Ok(effects)
     }
 
-    // Does a schedule line: what it did is reported first, and then the messages that it sent.
-    fn do_line<R: Replayer>(
-        &mut self,
-        svc: &Checked,
-        replayer: &mut R,
-        line: &ScheduleLine,
-    ) -> Result<List<Effect>, AllocError>
-        requires running { IsRunning svc.now self.old }
-        requires fits { LineFits (nodes_of self.old) (length self.old.requests) svc.now.lanes line.now }
-        requires form { FormFits (has_old_form svc.now) line.now }
-        requires count { self.old.done + 1 < 2 ^ 32 }
-        ensures effects { IfOk result (λ effects. effects ≡ (row svc.now self.old.requests self.old.seed (nodes_of self.old)
-            (world_of svc.now self.old) line.now).effects) }
-        ensures world { OnOk result (world_of svc.now self.new ≡ (row svc.now self.old.requests self.old.seed (nodes_of self.old)
-            (world_of svc.now self.old) line.now).world) }
-        ensures running { OnOk result (IsRunning svc.now self.new) }
-        ensures same { OnOk result (IsSame self.old self.new) }
-    {
-        if let ScheduleLine::KeepFail { node, kept } = line {
-            return self.keep_fail(svc, *node, *kept);
-        }
-        let mut told = Told::new(self.alloc);
-        self.act(svc, replayer, &mut told, line)?;
-        tell_all(&mut told.effects, &told.sent)?;
-        self.done += 1;
-        Ok(List::from_vec(told.effects))
-    }
-
-    /// Hands a node an event that was made elsewhere: an active node takes it among its live ones where it is the next one of
-    /// its lane (`Done`; else `Full` or `Unfit`). No schedule line spells this, and none is counted.
-    pub fn take_event(&mut self, svc: &Checked, node: u8, event: &Event) -> Result<Turn, Refusal>
-        requires running { IsRunning svc.now self.old }
-        requires there { IsNode (nodes_of self.old) node }
-        requires begins { BeginsInRange event.now }
-        ensures refused { Refuses (refusal_active (node_at (world_of svc.now self.old).nodes node)) result }
-        ensures told { IfOk result (λ turn. turn ≡ taken_in svc.now (node_at (world_of svc.now self.old).nodes node) event.now) }
-        ensures world { OnOk result (world_of svc.now self.new ≡ take svc.now (world_of svc.now self.old) node event.now) }
-        ensures unchanged { OnErr result (world_of svc.now self.new ≡ world_of svc.now self.old) }
-        ensures running { IsWhole result → IsRunning svc.now self.new }
-        ensures same { IsSame self.old self.new }
-        ensures done { self.new.done ≡ self.old.done }
-        ensures broken { result ≡ Err why.OutOfMemory → self.new.broken ≡ true }
-    {
-        let turn = take_at::<Brand, S>(&mut self.seats, &self.agreed, svc, self.seed, node, event);
-        self.broken = is_short(&turn);
-        turn
-    }
-
-    /// Hands a node a block of events that were made elsewhere and lead from its live state to this one: an active node takes them
-    /// among its live ones, one after the other, as far as they can be taken. No schedule line spells this, and none is counted.
-    pub fn take_block(
-        &mut self,
-        svc: &Checked,
-        node: u8,
-        events: &[Event],
-        state: State,
-    ) -> Result<(), Refusal>
-        requires running { IsRunning svc.now self.old }
-        requires there { IsNode (nodes_of self.old) node }
-        requires begins { All BeginsInRange events.now }
-        requires runs { (node_at (world_of svc.now self.old).nodes node).up ≡ true
-            → run svc.now (live_state svc.now (node_at (world_of svc.now self.old).nodes node)) events.now ≡ Some state }
-        requires counted { AreCounted events.now }
-        ensures refused { Refuses (refusal_active (node_at (world_of svc.now self.old).nodes node)) result }
-        ensures world { OnOk result (world_of svc.now self.new ≡ after_doings svc.now self.old.requests self.old.seed (nodes_of self.old)
-            (world_of svc.now self.old) (takes_at node events.now)) }
-        ensures unchanged { OnErr result (world_of svc.now self.new ≡ world_of svc.now self.old) }
-        ensures running { IsWhole result → IsRunning svc.now self.new }
-        ensures same { IsSame self.old self.new }
-        ensures done { self.new.done ≡ self.old.done }
-        ensures broken { result ≡ Err why.OutOfMemory → self.new.broken ≡ true }
-    {
-        let taken = take_block_at::<Brand, S>(
-            &mut self.seats,
-            &self.agreed,
-            svc,
-            self.seed,
-            node,
-            events,
-            state,
-        );
-        self.broken = is_short(&taken);
-        taken
-    }
-
-    /// Does a schedule line, and answers what it reports.
+    /// Does a schedule line, and answers what it reports: what it did first, and then the messages that it sent.
     pub fn step<R: Replayer>(
         &mut self,
         svc: &Checked,
@@ -374,10 +311,19 @@ impl<S: Store> World<S> {
         ensures same { OnOk result (IsSame self.old self.new) }
         ensures broken { OnErr result (self.new.broken ≡ true) }
     {
-        let told = self.do_line(svc, replayer, line);
-        if told.is_err() {
-            self.broken = true;
+        if let ScheduleLine::KeepFail { node, kept } = line {
+            return self.keep_fail(svc, *node, *kept);
         }
-        told
+        let mut told = Told::new(self.alloc);
+        if self.act(svc, replayer, &mut told, line).is_err() {
+            self.broken = true;
+            return Err(AllocError);
+        }
+        if tell_all(&mut told.effects, &told.sent).is_err() {
+            self.broken = true;
+            return Err(AllocError);
+        }
+        self.done += 1;
+        Ok(List::from_vec(told.effects))
     }
 }

@@ -4,7 +4,7 @@ use Rattle.std.proofs.lemmas.List.Elements.{All-push}
 use Rattle.rex_disk.specs.Memory.{DiskValue}
 use Rattle.rex_journal.specs.Keeping.{JournalValue}
 use Rattle.rex_journal.specs.Storing.{journal_value}
-use Rattle.rex_world.specs.Seats.{IsFresh}
+use Rattle.rex_world.specs.Members.{IsFresh}
 use Rattle.rex_cli.proofs.worlds.journals.Goals as goal
 
 pub loop-preserved : goal.loop-preserved

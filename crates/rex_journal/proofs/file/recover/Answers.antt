@@ -2,7 +2,7 @@ use Rattle.std.proofs.Common.{IsTrue, [], ◌∷◌, ◌++◌, sym, ◌∙◌, a
 use Rattle.rex_journal.specs.Journal.{StandsFor}
 use Rattle.rex_journal.specs.Opening.{IsFound}
 use Rattle.rex_journal.proofs.Closing.{closing_keeps, found_front}
-use Rattle.rex_journal.proofs.Making.{goes_then, looks_go, opens_failed, write_ends}
+use Rattle.rex_journal.proofs.Making.{goes_then, looks_go, opens_failed, opens_unwritten, write_ends}
 use Rattle.rex_disk.proofs.Moments.{moves_on, widen}
 use Rattle.rex_journal.proofs.Refusing.{fails_good}
 use Rattle.rex_journal.proofs.BytesLaws.{bad_none}
@@ -41,6 +41,9 @@ returns-clause-settled g c = record {
       let still = subst IsTrue c.close_gate.ensures.model meets in
       c.in_ok-close_gate.ensures.durable still (c.in_ok-bytes.ensures.durable (subst IsTrue c.read_synced.ensures.model still));
 }
+
+pub returns-in_err-found-clause-calls : goal.returns-in_err-found-clause-calls
+returns-in_err-found-clause-calls g c = opens_unwritten g.D.Disk.gives c.args.disk.now c.read_synced.new.disk c.from_residual-in_err-found.result _ c.from_residual-in_err-found.ensures.1 c.in_ok-bytes.ensures.calls c.in_err-found.ensures.whole
 
 pub returns-in_err-close_gate-clause-calls : goal.returns-in_err-close_gate-clause-calls
 returns-in_err-close_gate-clause-calls g c = opens_failed g.D.Disk.gives c.args.disk.now c.close_gate.new.disk c.from_residual-in_err-close_gate.result c.from_residual-in_err-close_gate.ensures.1

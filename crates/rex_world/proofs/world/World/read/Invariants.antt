@@ -1,5 +1,5 @@
 use Rattle.rex_world.proofs.world.World.read.Given as goal
 
--- the past of the call is what was agreed on before it
+-- the past of the call is what is agreed on
 abbrev pub ghosts-read_at : goal.ghosts-read_at
 ghosts-read_at g a = record { past = a._agreed.now }

@@ -1,16 +1,37 @@
-use Rattle.rex_world.proofs.Stepping.{starts_from, start_came, start_tells, still_there}
+use Rattle.std.proofs.Common.{ap, length, refl, subst, ◌∙◌}
+use Rattle.rex_traits.specs.Keeping.{KeeperValue}
+use Rattle.rex_cluster.specs.Values.{service_of}
+use Rattle.rex_world.specs.Calls.{ComesTo}
+use Rattle.rex_world.specs.World.{world_of}
+use Rattle.rex_world.proofs.Coming.{started_row}
+use Rattle.rex_world.proofs.Serving.{came, can_be_told, none_told, own_old, records_old, still_own, start_come, start_kept, start_released, starts_old}
+use Rattle.rex_world.proofs.Stepping.{on_ok}
 use Rattle.rex_world.proofs.world.World.start.Goals as goal
 
-pub start_at-outcome-requires-clause-runs : goal.start_at-outcome-requires-clause-runs
-start_at-outcome-requires-clause-runs g c = starts_from c.args.svc.now c.args.self.now c.requires.running c.deref_mut.result.now c.deref_mut.ensures.value c.args.node c.requires.there
+pub start_at-requires-clause-member : goal.start_at-requires-clause-member
+start_at-requires-clause-member g c = own_old c.args.svc.now c.args.self.now c.requires.running c.args.node c.requires.there c.index_mut.result.now c.index_mut.ensures.value
+
+pub start_at-requires-clause-runs : goal.start_at-requires-clause-runs
+start_at-requires-clause-runs g c = starts_old c.args.svc.now c.args.self.now c.requires.running c.args.node c.requires.there c.index_mut.result.now c.index_mut.ensures.value
 
 pub settle-requires-clause-step : goal.settle-requires-clause-step
-settle-requires-clause-step g c = start_tells c.args.svc.now c.args.self.now c.requires.running c.args.node c.deref_mut.result.now c.deref_mut.ensures.value c.start_at-outcome.new.seats c.start_at-outcome.result c.start_at-outcome.ensures.starts
+settle-requires-clause-step g c =
+    can_be_told c.args.svc.now c.args.self.now c.requires.running c.args.node c.requires.there c.index_mut.result.now c.start_at.new.node c.index_mut.ensures.value _ refl _ c.in_ok-step.step
+    (start_come c.args.svc.now c.args.self.now c.requires.running c.args.node c.requires.there c.index_mut.result.now c.index_mut.ensures.value c.start_at.new.node c.in_ok-step.step c.in_ok-step.ensures.came)
+    (still_own c.args.svc.now c.args.self.now c.requires.running c.args.node c.requires.there c.index_mut.result.now c.index_mut.ensures.value c.start_at.new.node c.in_ok-step.ensures.stays)
+    (none_told c.args.svc.now c.args.self.now.agreed c.in_ok-step.step.sends c.in_ok-step.ensures.quiet)
+    (start_kept c.args.svc.now c.args.self.now c.requires.running c.args.node c.requires.there) (start_released c.args.svc.now c.args.self.now c.requires.running c.args.node c.requires.there)
 
 pub returns : goal.returns
 returns g c = record {
-  comes = start_came c.args.svc.now c.args.self.now c.requires.running c.args.node c.requires.there c.record_count-count.result c.record_count-count.ensures c.deref_mut.result.now c.deref_mut.ensures.value c.start_at-outcome.new.seats c.start_at-outcome.result c.settle.new.self c.args.told.now c.settle.new.told c.settle.result c.start_at-outcome.ensures.starts c.settle.ensures;
+  comes =
+      on_ok c.settle.result
+      (λ t. subst (ComesTo c.args.svc.now c.args.self.now c.settle.new.self c.args.told.now c.settle.new.told) (started_row (service_of c.args.svc.now c.args.self.now.seed) (world_of c.args.svc.now c.args.self.now) c.args.node)
+      (came c.args.svc.now c.args.self.now c.requires.running c.args.node c.requires.there c.index_mut.result.now c.start_at.new.node c.index_mut.ensures.value _ refl _ c.in_ok-step.step
+      (start_come c.args.svc.now c.args.self.now c.requires.running c.args.node c.requires.there c.index_mut.result.now c.index_mut.ensures.value c.start_at.new.node c.in_ok-step.step c.in_ok-step.ensures.came)
+      (still_own c.args.svc.now c.args.self.now c.requires.running c.args.node c.requires.there c.index_mut.result.now c.index_mut.ensures.value c.start_at.new.node c.in_ok-step.ensures.stays)
+      (none_told c.args.svc.now c.args.self.now.agreed c.in_ok-step.step.sends c.in_ok-step.ensures.quiet)
+      (start_kept c.args.svc.now c.args.self.now c.requires.running c.args.node c.requires.there) (start_released c.args.svc.now c.args.self.now c.requires.running c.args.node c.requires.there)
+      c.len-count.result (records_old c.args.svc.now c.args.self.now c.requires.running c.args.node c.requires.there c.index.result.now c.index.ensures c.len-count.result (c.len-count.ensures ∙ ap (λ (k : KeeperValue). length k.records) c.keeper.ensures)) c.settle.new.self c.args.told.now c.settle.new.told t))
+      c.settle.ensures;
 }
-
-pub settle-requires-clause-there : goal.settle-requires-clause-there
-settle-requires-clause-there g c = still_there c.args.svc.now c.args.self.now c.requires.running c.args.node c.requires.there c.deref_mut.result.now c.deref_mut.ensures.value c.start_at-outcome.new.seats c.start_at-outcome.ensures.starts.changed.many

@@ -1,25 +1,34 @@
-use Rattle.rex_schedule.specs.declared.scenario.ScheduleLine.TheVariants as line
-use Rattle.std.proofs.Common.{List}
-use Rattle.rex_world.specs.declared.seats.Seat.{Seat}
-use Rattle.rex_cluster.specs.Calls as calls
-use Rattle.rex_world.specs.World.{nodes_of}
-use Rattle.rex_world.proofs.Shown.{stop_releases}
-use Rattle.rex_world.proofs.Stepping.{kept_next, call_tells, came, still_there}
+use Rattle.std.proofs.Common.{ap, length, refl, subst, ◌∙◌}
+use Rattle.rex_traits.specs.Keeping.{KeeperValue}
+use Rattle.rex_cluster.specs.Calls.{stop}
+use Rattle.rex_world.specs.Calls.{ComesTo}
+use Rattle.rex_world.specs.World.{world_of}
+use Rattle.rex_world.proofs.Coming.{served_row}
+use Rattle.rex_world.proofs.Serving.{came, can_be_told, none_told, own_old, records_old, still_own, stop_come, stop_kept, stop_released}
+use Rattle.rex_world.proofs.Stepping.{on_ok}
 use Rattle.rex_world.proofs.world.World.stop.Goals as goal
+
+pub stop_at-requires : goal.stop_at-requires
+stop_at-requires g c = record { member = own_old c.args.svc.now c.args.self.now c.requires.running c.args.node c.requires.there c.index_mut.result.now c.index_mut.ensures.value }
 
 pub settle-requires-clause-step : goal.settle-requires-clause-step
 settle-requires-clause-step g c =
-    call_tells c.args.svc.now c.args.self.now c.requires.running c.args.node c.deref_mut.result.now c.deref_mut.ensures.value
-    (λ (ys : List (Seat _)). calls.stop c.args.node)
-    c.stop_at-outcome.new.seats c.stop_at-outcome.result c.stop_at-outcome.ensures.acts (kept_next c.args.svc.now c.args.self.now c.requires.running (line.Stop c.args.node) c.requires.there)
-    (stop_releases c.args.svc.now c.requires.running.service_is c.requires.running.checked c.args.self.now.seed (nodes_of c.args.self.now) c.args.node)
+    can_be_told c.args.svc.now c.args.self.now c.requires.running c.args.node c.requires.there c.index_mut.result.now c.stop_at.new.node c.index_mut.ensures.value _ refl _ c.in_ok-step.step
+    (stop_come c.args.svc.now c.args.self.now c.requires.running c.args.node c.requires.there c.index_mut.result.now c.index_mut.ensures.value c.stop_at.new.node c.in_ok-step.step c.in_ok-step.ensures.came)
+    (still_own c.args.svc.now c.args.self.now c.requires.running c.args.node c.requires.there c.index_mut.result.now c.index_mut.ensures.value c.stop_at.new.node c.in_ok-step.ensures.stays)
+    (none_told c.args.svc.now c.args.self.now.agreed c.in_ok-step.step.sends c.in_ok-step.ensures.quiet)
+    (stop_kept c.args.svc.now c.args.self.now c.requires.running c.args.node c.requires.there) (stop_released c.args.svc.now c.args.self.now c.requires.running c.args.node c.requires.there)
 
 pub returns : goal.returns
 returns g c = record {
-  comes = came c.args.svc.now c.args.self.now c.requires.running c.args.node c.requires.there c.record_count-count.result c.record_count-count.ensures c.deref_mut.result.now c.deref_mut.ensures.value
-      (λ (ys : List (Seat _)). calls.stop c.args.node)
-      c.stop_at-outcome.new.seats c.stop_at-outcome.result c.settle.new.self c.args.told.now c.settle.new.told c.settle.result c.stop_at-outcome.ensures.acts (kept_next c.args.svc.now c.args.self.now c.requires.running (line.Stop c.args.node) c.requires.there) c.settle.ensures;
+  comes =
+      on_ok c.settle.result
+      (λ t. subst (ComesTo c.args.svc.now c.args.self.now c.settle.new.self c.args.told.now c.settle.new.told) (served_row (world_of c.args.svc.now c.args.self.now) c.args.node (stop c.args.node))
+      (came c.args.svc.now c.args.self.now c.requires.running c.args.node c.requires.there c.index_mut.result.now c.stop_at.new.node c.index_mut.ensures.value _ refl _ c.in_ok-step.step
+      (stop_come c.args.svc.now c.args.self.now c.requires.running c.args.node c.requires.there c.index_mut.result.now c.index_mut.ensures.value c.stop_at.new.node c.in_ok-step.step c.in_ok-step.ensures.came)
+      (still_own c.args.svc.now c.args.self.now c.requires.running c.args.node c.requires.there c.index_mut.result.now c.index_mut.ensures.value c.stop_at.new.node c.in_ok-step.ensures.stays)
+      (none_told c.args.svc.now c.args.self.now.agreed c.in_ok-step.step.sends c.in_ok-step.ensures.quiet)
+      (stop_kept c.args.svc.now c.args.self.now c.requires.running c.args.node c.requires.there) (stop_released c.args.svc.now c.args.self.now c.requires.running c.args.node c.requires.there)
+      c.len-count.result (records_old c.args.svc.now c.args.self.now c.requires.running c.args.node c.requires.there c.index.result.now c.index.ensures c.len-count.result (c.len-count.ensures ∙ ap (λ (k : KeeperValue). length k.records) c.keeper.ensures)) c.settle.new.self c.args.told.now c.settle.new.told t))
+      c.settle.ensures;
 }
-
-pub settle-requires-clause-there : goal.settle-requires-clause-there
-settle-requires-clause-there g c = still_there c.args.svc.now c.args.self.now c.requires.running c.args.node c.requires.there c.deref_mut.result.now c.deref_mut.ensures.value c.stop_at-outcome.new.seats c.stop_at-outcome.ensures.acts.changed.many

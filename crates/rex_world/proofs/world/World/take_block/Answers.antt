@@ -1,38 +1,35 @@
-use Rattle.std.proofs.Common.{◌≡◌, List, Bool, true, sym, subst, ◌∙◌}
+use Rattle.std.specs.Vec.{with_item}
+use Rattle.std.proofs.Common.{◌≡◌, ◌-◌, Bool, refl, sym, subst, true, ◌∙◌}
 use Rattle.std.specs.Prelude.{Some}
-use Rattle.std.specs.Vec.{with_items}
 use Rattle.rex_state.specs.Machine.{run}
-use Rattle.rex_cluster.specs.Lanes.{live_state}
-use Rattle.rex_cluster.specs.World.{node_at}
-use Rattle.rex_world.specs.Seats.{heres}
-use Rattle.rex_world.specs.declared.seats.Seat.{Seat}
+use Rattle.rex_cluster.specs.Lanes.{Here, live_state}
 use Rattle.rex_world.specs.declared.world.World.{World}
 use Rattle.rex_world.specs.Kept.{IsRunning}
-use Rattle.rex_world.proofs.Blocks.{block_there, block_world, block_unchanged, block_same, block_running}
+use Rattle.rex_world.proofs.Blocks.{block_refused, block_running, block_unchanged, block_world}
+use Rattle.rex_world.proofs.Given.{given_same}
+use Rattle.rex_world.proofs.Serving.{here_old, own_old, still_own}
 use Rattle.rex_world.proofs.world.World.take_block.Goals as goal
+
+pub take_block_at-taken-requires-clause-member : goal.take_block_at-taken-requires-clause-member
+take_block_at-taken-requires-clause-member g c = own_old c.args.svc.now c.args.self.now c.requires.running c.args.node c.requires.there c.index_mut-member.result.now c.index_mut-member.ensures.value
 
 pub take_block_at-taken-requires-clause-runs : goal.take_block_at-taken-requires-clause-runs
 take_block_at-taken-requires-clause-runs g c =
-    subst (λ (ys : List (Seat _)). (node_at (heres c.args.svc.now c.args.self.now.agreed ys) c.args.node).up ≡ true → run c.args.svc.now (live_state c.args.svc.now (node_at (heres c.args.svc.now c.args.self.now.agreed ys) c.args.node)) c.args.events.now ≡ Some c.args.state)
-    (sym c.deref_mut.ensures.value) c.requires.runs
+    subst (λ (x : Here). x.up ≡ true → run c.args.svc.now (live_state c.args.svc.now x) c.args.events.now ≡ Some c.args.state) (here_old c.args.svc.now c.args.self.now c.requires.running c.args.node c.requires.there c.index_mut-member.result.now c.index_mut-member.ensures.value) c.requires.runs
+
+pub returns-clause-refused : goal.returns-clause-refused
+returns-clause-refused g c = block_refused c.args.svc.now c.args.self.now c.requires.running c.args.node c.requires.there (with_item c.args.self.now.nodes (c.args.node - 1) c.take_block_at-taken.new.node) c.index_mut-member.result.now c.take_block_at-taken.new.node c.index_mut-member.ensures.value refl (still_own c.args.svc.now c.args.self.now c.requires.running c.args.node c.requires.there c.index_mut-member.result.now c.index_mut-member.ensures.value c.take_block_at-taken.new.node c.take_block_at-taken.ensures.stays) c.args.events.now c.take_block_at-taken.result c.take_block_at-taken.ensures.handed
 
 pub returns-clause-world : goal.returns-clause-world
-returns-clause-world g c =
-    block_world c.args.svc.now c.args.self.now c.requires.running c.args.node c.requires.there c.args.events.now (with_items c.args.self.now.seats c.take_block_at-taken.new.seats) c.is_short-self.result c.take_block_at-taken.result
-    (block_there c.args.svc.now c.args.self.now c.args.node c.args.events.now c.deref_mut.result.now c.take_block_at-taken.new.seats c.take_block_at-taken.result c.deref_mut.ensures.value c.take_block_at-taken.ensures)
+returns-clause-world g c = block_world c.args.svc.now c.args.self.now c.requires.running c.args.node c.requires.there (with_item c.args.self.now.nodes (c.args.node - 1) c.take_block_at-taken.new.node) c.index_mut-member.result.now c.take_block_at-taken.new.node c.index_mut-member.ensures.value refl (still_own c.args.svc.now c.args.self.now c.requires.running c.args.node c.requires.there c.index_mut-member.result.now c.index_mut-member.ensures.value c.take_block_at-taken.new.node c.take_block_at-taken.ensures.stays) c.args.events.now c.is_short-self.result c.take_block_at-taken.result c.take_block_at-taken.ensures.handed
 
 pub returns-clause-unchanged : goal.returns-clause-unchanged
-returns-clause-unchanged g c =
-    block_unchanged c.args.svc.now c.args.self.now c.requires.running c.args.node c.requires.there c.args.events.now (with_items c.args.self.now.seats c.take_block_at-taken.new.seats) c.is_short-self.result c.take_block_at-taken.result
-    (block_there c.args.svc.now c.args.self.now c.args.node c.args.events.now c.deref_mut.result.now c.take_block_at-taken.new.seats c.take_block_at-taken.result c.deref_mut.ensures.value c.take_block_at-taken.ensures)
+returns-clause-unchanged g c = block_unchanged c.args.svc.now c.args.self.now c.requires.running c.args.node c.requires.there (with_item c.args.self.now.nodes (c.args.node - 1) c.take_block_at-taken.new.node) c.index_mut-member.result.now c.take_block_at-taken.new.node c.index_mut-member.ensures.value refl (still_own c.args.svc.now c.args.self.now c.requires.running c.args.node c.requires.there c.index_mut-member.result.now c.index_mut-member.ensures.value c.take_block_at-taken.new.node c.take_block_at-taken.ensures.stays) c.args.events.now c.is_short-self.result c.take_block_at-taken.result c.take_block_at-taken.ensures.handed
 
 pub returns-clause-same : goal.returns-clause-same
-returns-clause-same g c =
-    block_same c.args.svc.now c.args.self.now c.requires.running c.args.node c.requires.there c.args.events.now (with_items c.args.self.now.seats c.take_block_at-taken.new.seats) c.is_short-self.result c.take_block_at-taken.result
-    (block_there c.args.svc.now c.args.self.now c.args.node c.args.events.now c.deref_mut.result.now c.take_block_at-taken.new.seats c.take_block_at-taken.result c.deref_mut.ensures.value c.take_block_at-taken.ensures)
+returns-clause-same g c = given_same c.args.svc.now c.args.self.now c.requires.running c.args.node c.requires.there (with_item c.args.self.now.nodes (c.args.node - 1) c.take_block_at-taken.new.node) c.index_mut-member.result.now c.take_block_at-taken.new.node c.index_mut-member.ensures.value refl (still_own c.args.svc.now c.args.self.now c.requires.running c.args.node c.requires.there c.index_mut-member.result.now c.index_mut-member.ensures.value c.take_block_at-taken.new.node c.take_block_at-taken.ensures.stays) c.is_short-self.result
 
 pub returns-clause-running : goal.returns-clause-running
 returns-clause-running g c = λ whole.
-    subst (λ (b : Bool). let w : World _ = record c.args.self.now { seats = with_items c.args.self.now.seats c.take_block_at-taken.new.seats; broken = b } in IsRunning c.args.svc.now w) (c.requires.running.whole ∙ sym (c.is_short-self.ensures.whole whole))
-    (block_running c.args.svc.now c.args.self.now c.requires.running c.args.node c.requires.there c.args.events.now (with_items c.args.self.now.seats c.take_block_at-taken.new.seats) c.requires.begins c.take_block_at-taken.result
-    (block_there c.args.svc.now c.args.self.now c.args.node c.args.events.now c.deref_mut.result.now c.take_block_at-taken.new.seats c.take_block_at-taken.result c.deref_mut.ensures.value c.take_block_at-taken.ensures))
+    subst (λ (b : Bool). let w : World _ = record c.args.self.now { nodes = with_item c.args.self.now.nodes (c.args.node - 1) c.take_block_at-taken.new.node; broken = b } in IsRunning c.args.svc.now w) (c.requires.running.whole ∙ sym (c.is_short-self.ensures.whole whole))
+    (block_running c.args.svc.now c.args.self.now c.requires.running c.args.node c.requires.there (with_item c.args.self.now.nodes (c.args.node - 1) c.take_block_at-taken.new.node) c.index_mut-member.result.now c.take_block_at-taken.new.node c.index_mut-member.ensures.value refl (still_own c.args.svc.now c.args.self.now c.requires.running c.args.node c.requires.there c.index_mut-member.result.now c.index_mut-member.ensures.value c.take_block_at-taken.new.node c.take_block_at-taken.ensures.stays) c.args.events.now c.requires.begins c.take_block_at-taken.result c.take_block_at-taken.ensures.handed)

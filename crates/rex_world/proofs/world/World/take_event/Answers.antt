@@ -1,32 +1,38 @@
-use Rattle.std.proofs.Common.{Bool, sym, subst, ◌∙◌}
-use Rattle.std.specs.Vec.{with_items}
+use Rattle.std.specs.Vec.{with_item}
+use Rattle.std.proofs.Common.{◌≡◌, ◌-◌, ◌<◌, ◌+◌, ◌^◌, Bool, refl, sym, subst, true, ◌∙◌}
+use Rattle.rex_state.specs.Machine.{lane_of}
+use Rattle.rex_cluster.specs.Lanes.{Here, live_state}
 use Rattle.rex_world.specs.declared.world.World.{World}
 use Rattle.rex_world.specs.Kept.{IsRunning}
-use Rattle.rex_world.proofs.Stepping.{has_room}
-use Rattle.rex_world.proofs.Given.{handed_there, given_world, given_unchanged, given_same, given_running}
+use Rattle.rex_world.proofs.Given.{given_refused, given_same, given_told, given_unchanged, given_world, taken_running}
+use Rattle.rex_world.proofs.Serving.{here_old, own_old, still_own}
+use Rattle.rex_world.proofs.Working.{room}
 use Rattle.rex_world.proofs.world.World.take_event.Goals as goal
 
-pub take_at-turn-requires-clause-count : goal.take_at-turn-requires-clause-count
-take_at-turn-requires-clause-count g c =
-    has_room c.args.svc.now c.args.self.now c.requires.running c.deref_mut.result.now c.deref_mut.ensures.value c.args.node c.requires.there c.args.event.now.lane
+pub take_event_at-turn-requires-clause-member : goal.take_event_at-turn-requires-clause-member
+take_event_at-turn-requires-clause-member g c = own_old c.args.svc.now c.args.self.now c.requires.running c.args.node c.requires.there c.index_mut-member.result.now c.index_mut-member.ensures.value
+
+pub take_event_at-turn-requires-clause-count : goal.take_event_at-turn-requires-clause-count
+take_event_at-turn-requires-clause-count g c =
+    subst (λ (x : Here). x.up ≡ true → (lane_of (live_state c.args.svc.now x) c.args.event.now.lane).done + 1 < 2 ^ 32) (here_old c.args.svc.now c.args.self.now c.requires.running c.args.node c.requires.there c.index_mut-member.result.now c.index_mut-member.ensures.value)
+    (room c.args.svc.now c.args.self.now c.requires.running c.args.node c.requires.there c.args.event.now.lane)
+
+pub returns-clause-refused : goal.returns-clause-refused
+returns-clause-refused g c = given_refused c.args.svc.now c.args.self.now c.requires.running c.args.node c.requires.there (with_item c.args.self.now.nodes (c.args.node - 1) c.take_event_at-turn.new.node) c.index_mut-member.result.now c.take_event_at-turn.new.node c.index_mut-member.ensures.value refl (still_own c.args.svc.now c.args.self.now c.requires.running c.args.node c.requires.there c.index_mut-member.result.now c.index_mut-member.ensures.value c.take_event_at-turn.new.node c.take_event_at-turn.ensures.stays) c.args.event.now c.take_event_at-turn.result c.take_event_at-turn.ensures.handed
+
+pub returns-clause-told : goal.returns-clause-told
+returns-clause-told g c = given_told c.args.svc.now c.args.self.now c.requires.running c.args.node c.requires.there (with_item c.args.self.now.nodes (c.args.node - 1) c.take_event_at-turn.new.node) c.index_mut-member.result.now c.take_event_at-turn.new.node c.index_mut-member.ensures.value refl (still_own c.args.svc.now c.args.self.now c.requires.running c.args.node c.requires.there c.index_mut-member.result.now c.index_mut-member.ensures.value c.take_event_at-turn.new.node c.take_event_at-turn.ensures.stays) c.args.event.now c.take_event_at-turn.result c.take_event_at-turn.ensures.handed
 
 pub returns-clause-world : goal.returns-clause-world
-returns-clause-world g c =
-    given_world c.args.svc.now c.args.self.now c.requires.running c.args.node c.requires.there c.args.event.now (with_items c.args.self.now.seats c.take_at-turn.new.seats) c.is_short-self.result c.take_at-turn.result
-    (handed_there c.args.svc.now c.args.self.now c.args.node c.args.event.now c.deref_mut.result.now c.take_at-turn.new.seats c.take_at-turn.result c.deref_mut.ensures.value c.take_at-turn.ensures)
+returns-clause-world g c = given_world c.args.svc.now c.args.self.now c.requires.running c.args.node c.requires.there (with_item c.args.self.now.nodes (c.args.node - 1) c.take_event_at-turn.new.node) c.index_mut-member.result.now c.take_event_at-turn.new.node c.index_mut-member.ensures.value refl (still_own c.args.svc.now c.args.self.now c.requires.running c.args.node c.requires.there c.index_mut-member.result.now c.index_mut-member.ensures.value c.take_event_at-turn.new.node c.take_event_at-turn.ensures.stays) c.args.event.now c.is_short-self.result c.take_event_at-turn.result c.take_event_at-turn.ensures.handed
 
 pub returns-clause-unchanged : goal.returns-clause-unchanged
-returns-clause-unchanged g c =
-    given_unchanged c.args.svc.now c.args.self.now c.requires.running c.args.node c.requires.there c.args.event.now (with_items c.args.self.now.seats c.take_at-turn.new.seats) c.is_short-self.result c.take_at-turn.result
-    (handed_there c.args.svc.now c.args.self.now c.args.node c.args.event.now c.deref_mut.result.now c.take_at-turn.new.seats c.take_at-turn.result c.deref_mut.ensures.value c.take_at-turn.ensures)
+returns-clause-unchanged g c = given_unchanged c.args.svc.now c.args.self.now c.requires.running c.args.node c.requires.there (with_item c.args.self.now.nodes (c.args.node - 1) c.take_event_at-turn.new.node) c.index_mut-member.result.now c.take_event_at-turn.new.node c.index_mut-member.ensures.value refl (still_own c.args.svc.now c.args.self.now c.requires.running c.args.node c.requires.there c.index_mut-member.result.now c.index_mut-member.ensures.value c.take_event_at-turn.new.node c.take_event_at-turn.ensures.stays) c.args.event.now c.is_short-self.result c.take_event_at-turn.result c.take_event_at-turn.ensures.handed
 
 pub returns-clause-same : goal.returns-clause-same
-returns-clause-same g c =
-    given_same c.args.svc.now c.args.self.now c.requires.running c.args.node c.requires.there c.args.event.now (with_items c.args.self.now.seats c.take_at-turn.new.seats) c.is_short-self.result c.take_at-turn.result
-    (handed_there c.args.svc.now c.args.self.now c.args.node c.args.event.now c.deref_mut.result.now c.take_at-turn.new.seats c.take_at-turn.result c.deref_mut.ensures.value c.take_at-turn.ensures)
+returns-clause-same g c = given_same c.args.svc.now c.args.self.now c.requires.running c.args.node c.requires.there (with_item c.args.self.now.nodes (c.args.node - 1) c.take_event_at-turn.new.node) c.index_mut-member.result.now c.take_event_at-turn.new.node c.index_mut-member.ensures.value refl (still_own c.args.svc.now c.args.self.now c.requires.running c.args.node c.requires.there c.index_mut-member.result.now c.index_mut-member.ensures.value c.take_event_at-turn.new.node c.take_event_at-turn.ensures.stays) c.is_short-self.result
 
 pub returns-clause-running : goal.returns-clause-running
 returns-clause-running g c = λ whole.
-    subst (λ (b : Bool). let w : World _ = record c.args.self.now { seats = with_items c.args.self.now.seats c.take_at-turn.new.seats; broken = b } in IsRunning c.args.svc.now w) (c.requires.running.whole ∙ sym (c.is_short-self.ensures.whole whole))
-    (given_running c.args.svc.now c.args.self.now c.requires.running c.args.node c.requires.there c.args.event.now (with_items c.args.self.now.seats c.take_at-turn.new.seats) c.requires.begins c.take_at-turn.result
-    (handed_there c.args.svc.now c.args.self.now c.args.node c.args.event.now c.deref_mut.result.now c.take_at-turn.new.seats c.take_at-turn.result c.deref_mut.ensures.value c.take_at-turn.ensures))
+    subst (λ (b : Bool). let w : World _ = record c.args.self.now { nodes = with_item c.args.self.now.nodes (c.args.node - 1) c.take_event_at-turn.new.node; broken = b } in IsRunning c.args.svc.now w) (c.requires.running.whole ∙ sym (c.is_short-self.ensures.whole whole))
+    (taken_running c.args.svc.now c.args.self.now c.requires.running c.args.node c.requires.there (with_item c.args.self.now.nodes (c.args.node - 1) c.take_event_at-turn.new.node) c.index_mut-member.result.now c.take_event_at-turn.new.node c.index_mut-member.ensures.value refl (still_own c.args.svc.now c.args.self.now c.requires.running c.args.node c.requires.there c.index_mut-member.result.now c.index_mut-member.ensures.value c.take_event_at-turn.new.node c.take_event_at-turn.ensures.stays) c.args.event.now c.requires.begins c.take_event_at-turn.result c.take_event_at-turn.ensures.handed)

@@ -1,0 +1,25 @@
+use Rattle.std.proofs.Common.{subst, ◌∙◌}
+use Rattle.std.proofs.lemmas.Result.{err_from_is_err_and}
+use Rattle.rex_node.specs.Parts.{NodeValue}
+use Rattle.rex_node.specs.Restarting.{IsRecalled, IsRestartFault}
+use Rattle.rex_node.proofs.Reading.{only_memory}
+use Rattle.rex_node.proofs.Restarts.{came_up, is_node}
+use Rattle.rex_node.proofs.node.Node.start.Goals as goal
+
+pub returns-clause-up : goal.returns-clause-up
+returns-clause-up g c =
+    let r = c.in_ok-recalled.recalled in
+    let said = subst (λ (n : NodeValue _). IsRecalled c.args.svc.now (g.K.Keeper.records n.keeper) r.recovered r.start r.old_base) c.self.view_is c.in_ok-recalled.ensures.recalled in
+    rw c.rise.ensures (came_up g.K.Keeper.records c.args.svc.now g.P.Past.past c.args.self.now r.recovered r.start r.old_base said)
+
+pub returns-clause-kept : goal.returns-clause-kept
+returns-clause-kept g c = λ fit right forgotten.
+    let r = c.in_ok-recalled.recalled in
+    let said = subst (λ (n : NodeValue _). IsRecalled c.args.svc.now (g.K.Keeper.records n.keeper) r.recovered r.start r.old_base) c.self.view_is c.in_ok-recalled.ensures.recalled in
+    rw c.rise.ensures (is_node g.K.Keeper.records c.args.svc.now g.P.Past.past c.args.self.now r.recovered r.start r.old_base said fit right forgotten c.requires.there c.requires.few)
+
+pub returns-in_err-recalled-clause-read : goal.returns-in_err-recalled-clause-read
+returns-in_err-recalled-clause-read g c = λ all stated fit.
+    let p = err_from_is_err_and c.from_residual.result c.from_residual.ensures.1 in
+    let bad = subst (λ (n : NodeValue _). IsRestartFault c.args.svc.now (g.K.Keeper.records n.keeper) c.in_err-recalled.field-0.0) c.self.view_is c.in_err-recalled.ensures.fault in
+    rw p.1 (p.2 ∙ only_memory c.args.svc.now g.P.Past.past (g.K.Keeper.records c.args.self.now.keeper) c.in_err-recalled.field-0.0 bad all stated fit)

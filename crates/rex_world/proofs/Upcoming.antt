@@ -1,0 +1,79 @@
+-- A node that is started does as the model's.
+use Rattle.std.proofs.Common.{◌≡◌, ℕ, true, List, [], ◌∷◌, ◌++◌, length, Result, Ok, Err, IfOk, refl, ap, ◌∙◌}
+use Rattle.std.specs.Prelude.{map, take}
+use Rattle.rex_syntax.specs.declared.service.Declarations.{Declarations}
+use Rattle.rex_syntax.specs.declared.version.Version.TheVariants.{Two}
+use Rattle.rex_report.specs.declared.effect.Effect.{Effect}
+use Rattle.rex_report.specs.declared.effect.Effect.TheVariants as effect
+use Rattle.rex_cluster.specs.Records.{base, known, promise, has_old_base}
+use Rattle.rex_cluster.specs.Records.Rec.{Checkpoint}
+use Rattle.rex_cluster.specs.Calls.{begin, migrate}
+use Rattle.rex_cluster.specs.Lanes.{Here}
+use Rattle.rex_cluster.specs.Values.{Value, service_of}
+use Rattle.rex_cluster.proofs.Migrated.{migrated_sends}
+use Rattle.rex_msg.specs.declared.message.Message.{Message as Sent}
+use Rattle.rex_node.specs.declared.refusal.Refusal.{Refusal}
+use Rattle.rex_node.specs.declared.step.Step.{Step}
+use Rattle.rex_node.specs.Calls.{Does, EndsDown}
+use Rattle.rex_log.specs.Messages.{message_in}
+use Rattle.rex_node.specs.Parts.{StaysNode, count_of}
+use Rattle.rex_world.specs.Starting.{CameBack}
+use Rattle.rex_steps.specs.Steps.{IsDone}
+use Rattle.rex_world.specs.Members.{Member, IsMember, StaysMember, here_at, records_of}
+use Rattle.rex_world.proofs.Acted.{does_stays}
+use Rattle.rex_world.proofs.Failing.{follows, is_done}
+use Rattle.rex_world.proofs.Knowing.{count_known}
+use Rattle.rex_world.proofs.Unseen.{migrate_either}
+
+pub nothing_sent : (past : List Value) (sends : List Sent) → map (message_in past) sends ≡ [] → sends ≡ []
+nothing_sent past [] e = refl
+nothing_sent past (m ∷ ms) e = absurd cc
+
+module _ (service : Declarations) (past : List Value) (old : Member) (member : IsMember service past old.seed old.nodes old.id old) (up : old.up ≡ true) where
+  abbrev h : Here
+  h = here_at service past old
+
+  abbrev told_up : Effect
+  told_up = effect.Started old.id (promise h.log) (length (known h.log)) h.replayed
+
+  -- what its parts say is what its records say
+  told_is : effect.Started old.id old.acceptor.promised (count_of old) old.replayed ≡ told_up
+  told_is =
+      let u = member.node.up up in
+      ap (λ (n : ℕ). effect.Started old.id n (count_of old) old.replayed) u.promised
+      ∙ ap (λ (n : ℕ). effect.Started old.id (promise h.log) n old.replayed) (count_known service past old member.node up)
+
+  pub told_started : (result : Result Step Refusal) (id promised many replayed : ℕ) → id ≡ old.id → promised ≡ old.acceptor.promised → many ≡ count_of old → replayed ≡ old.replayed
+      → IfOk result (λ (step : Step). step.effects ≡ effect.Started id promised many replayed ∷ []) → IfOk result (λ (step : Step). step.effects ≡ told_up ∷ [])
+  told_started (Err refusal) id promised many replayed a b d e told = tt
+  told_started (Ok step) id promised many replayed a b d e told =
+      told
+      ∙ ap (λ (n : ℕ). effect.Started n promised many replayed ∷ []) a
+      ∙ ap (λ (n : ℕ). effect.Started old.id n many replayed ∷ []) b
+      ∙ ap (λ (n : ℕ). effect.Started old.id old.acceptor.promised n replayed ∷ []) d
+      ∙ ap (λ (n : ℕ). effect.Started old.id old.acceptor.promised (count_of old) n ∷ []) e
+      ∙ ap (λ (x : Effect). x ∷ []) told_is
+
+  -- or it is migrated
+  module _ (new : Member) (migrated : Step) (does : Does records_of follows (λ k. k.faults) service past (migrate (service_of service old.seed) old.id) old new migrated) where
+    comes_migrated : (first step : Step) → first.effects ≡ told_up ∷ [] → step.effects ≡ first.effects ++ migrated.effects → step.sends ≡ migrated.sends → CameBack (service_of service old.seed) old.id h (here_at service past new) step
+    comes_migrated first step first_is effects sends =
+        let sv = service_of service old.seed in
+        let done : IsDone past (migrate sv old.id) h (here_at service past new) migrated = is_done service past (migrate sv old.id) (λ f. migrate_either f sv old.id) old new migrated up does in
+        let none : (migrate sv old.id (begin h)).sends ≡ [] = migrated_sends (has_old_base h.log) old.id (begin h) (base h.log) (Checkpoint Two (base h.log) (sv.state (take (base h.log) (known h.log)))) refl in
+        record {
+          node = done.node;
+          sends = sends ∙ nothing_sent past migrated.sends (done.sends ∙ none);
+          effects =
+              effects ∙ ap (λ (es : List Effect). es ++ migrated.effects) first_is
+              ∙ ap (λ (es : List Effect). told_up ∷ es) done.effects;
+        }
+
+    pub migrate_stays : StaysNode records_of service past old new → EndsDown old.id old.keeper.faults new.keeper.faults new.up migrated → StaysMember service past old.seed old.nodes old.id old new
+    migrate_stays stays ends = does_stays service past old.seed old.nodes old.id old member new (migrate (service_of service old.seed) old.id) migrated (λ f. migrate_either f (service_of service old.seed) old.id) stays does ends up
+
+    -- what both steps did
+    pub joined_back : (first : Step) (result : Result Step Refusal) → first.effects ≡ told_up ∷ [] → IfOk result (λ (step : Step). step.effects ≡ first.effects ++ migrated.effects) → IfOk result (λ (step : Step). step.sends ≡ migrated.sends)
+        → IfOk result (CameBack (service_of service old.seed) old.id h (here_at service past new))
+    joined_back first (Ok step) first_is effects sends = comes_migrated first step first_is effects sends
+    joined_back first (Err refusal) first_is effects sends = tt

@@ -1,0 +1,41 @@
+use Rattle.std.proofs.Common.{ap, length, refl, subst, ◌∙◌}
+use Rattle.rex_traits.specs.Keeping.{KeeperValue}
+use Rattle.rex_world.specs.Calls.{ComesTo, call_at}
+use Rattle.rex_world.specs.World.{world_of}
+use Rattle.rex_world.proofs.Coming.{served_row}
+use Rattle.rex_world.proofs.Serving.{call_come, call_kept, call_released, call_stays, came, can_be_told, may_serve, own_old, records_old, room_old}
+use Rattle.rex_world.proofs.Stepping.{on_ok}
+use Rattle.rex_world.proofs.world.World.call.Goals as goal
+
+pub serve-requires-clause-node : goal.serve-requires-clause-node
+serve-requires-clause-node g c = (own_old c.args.svc.now c.args.self.now c.requires.running c.args.node c.requires.there c.index_mut.result.now c.index_mut.ensures.value).node
+
+pub serve-requires-clause-may : goal.serve-requires-clause-may
+serve-requires-clause-may g c = may_serve c.args.svc.now c.args.self.now c.requires.running c.args.node c.requires.there c.index_mut.result.now c.index_mut.ensures.value c.args.call.now c.requires.may
+
+pub serve-requires-clause-count : goal.serve-requires-clause-count
+serve-requires-clause-count g c = room_old c.args.svc.now c.args.self.now c.requires.running c.args.node c.requires.there c.index_mut.result.now c.index_mut.ensures.value
+
+pub settle-requires-clause-step : goal.settle-requires-clause-step
+settle-requires-clause-step g c =
+    can_be_told c.args.svc.now c.args.self.now c.requires.running c.args.node c.requires.there c.index_mut.result.now c.serve.new.node c.index_mut.ensures.value _ refl _ c.in_ok-step.step
+    (call_come c.args.svc.now c.args.self.now c.requires.running c.args.node c.requires.there c.index_mut.result.now c.index_mut.ensures.value c.args.call.now c.requires.may c.serve.new.node c.in_ok-step.step c.in_ok-step.ensures.serves)
+    (call_stays c.args.svc.now c.args.self.now c.requires.running c.args.node c.requires.there c.index_mut.result.now c.index_mut.ensures.value c.args.call.now c.requires.may c.serve.new.node c.in_ok-step.step c.in_ok-step.ensures.serves c.in_ok-step.ensures.kept)
+    c.in_ok-step.ensures.serves.tells
+    (call_kept c.args.svc.now c.args.self.now c.requires.running c.args.node c.requires.there c.index_mut.result.now c.index_mut.ensures.value c.args.call.now c.requires.may)
+    (call_released c.args.svc.now c.args.self.now c.requires.running c.args.node c.requires.there c.index_mut.result.now c.index_mut.ensures.value c.args.call.now c.requires.may)
+
+pub returns : goal.returns
+returns g c = record {
+  comes =
+      on_ok c.settle.result
+      (λ t. subst (ComesTo c.args.svc.now c.args.self.now c.settle.new.self c.args.told.now c.settle.new.told) (served_row (world_of c.args.svc.now c.args.self.now) c.args.node (call_at c.args.svc.now c.args.self.now c.args.node c.args.call.now))
+      (came c.args.svc.now c.args.self.now c.requires.running c.args.node c.requires.there c.index_mut.result.now c.serve.new.node c.index_mut.ensures.value _ refl _ c.in_ok-step.step
+      (call_come c.args.svc.now c.args.self.now c.requires.running c.args.node c.requires.there c.index_mut.result.now c.index_mut.ensures.value c.args.call.now c.requires.may c.serve.new.node c.in_ok-step.step c.in_ok-step.ensures.serves)
+      (call_stays c.args.svc.now c.args.self.now c.requires.running c.args.node c.requires.there c.index_mut.result.now c.index_mut.ensures.value c.args.call.now c.requires.may c.serve.new.node c.in_ok-step.step c.in_ok-step.ensures.serves c.in_ok-step.ensures.kept)
+      c.in_ok-step.ensures.serves.tells
+      (call_kept c.args.svc.now c.args.self.now c.requires.running c.args.node c.requires.there c.index_mut.result.now c.index_mut.ensures.value c.args.call.now c.requires.may)
+      (call_released c.args.svc.now c.args.self.now c.requires.running c.args.node c.requires.there c.index_mut.result.now c.index_mut.ensures.value c.args.call.now c.requires.may)
+      c.len-count.result (records_old c.args.svc.now c.args.self.now c.requires.running c.args.node c.requires.there c.index.result.now c.index.ensures c.len-count.result (c.len-count.ensures ∙ ap (λ (k : KeeperValue). length k.records) c.keeper.ensures)) c.settle.new.self c.args.told.now c.settle.new.told t))
+      c.settle.ensures;
+}

@@ -1,0 +1,99 @@
+use Rattle.std.proofs.Common.{◌≡◌, ℕ, ◌+◌, ◌++◌, List, [], drop, length, sym, ap, subst, ◌∙◌, arith, append-nil}
+use Rattle.std.proofs.lemmas.Result.{on_ok_weaker}
+use Rattle.rex_traits.specs.Growth.{GrowsByFront}
+use Rattle.rex_report.specs.declared.effect.Effect.{Effect}
+use Rattle.rex_cluster.specs.World.{World as ModelWorld, after_lines, row}
+use Rattle.rex_world.specs.declared.world.World.{World}
+use Rattle.rex_world.specs.Kept.{IsRunning, IsSame}
+use Rattle.rex_world.specs.Report.{effects_text, ends_text, report_from}
+use Rattle.rex_world.specs.World.{nodes_of, world_of}
+use Rattle.rex_world.specs.Writing.{IsWritten}
+use Rattle.rex_world.proofs.Runs.{drop_next, drop_end, next_of, report_next, still_of, done_next}
+use Rattle.rex_world.proofs.Written.{front_next, front_none, written_next, written_last}
+use Rattle.rex_world.proofs.Handing.{same_both}
+use Rattle.rex_world.proofs.Traces.{leads_next}
+use Rattle.rex_world.proofs.world.World.run.Goals as goal
+
+pub returns-in_err-effects-clause-front : goal.returns-in_err-effects-clause-front
+returns-in_err-effects-clause-front g c =
+    front_next (g.K.Sink.taken c.args.sink.now) (g.K.Sink.taken c.loop-line.sink) (g.K.Sink.taken c.loop-line.sink) c.loop-line.waiting.items
+    (effects_text c.args.svc.now (c.loop-line.self.done + 1) (row c.args.svc.now c.loop-line.self.requests c.loop-line.self.seed (nodes_of c.loop-line.self) (world_of c.args.svc.now c.loop-line.self) c.line-item.result).effects)
+    _ (report_from c.args.svc.now c.args.scenario.now.requests c.args.scenario.now.seed c.args.scenario.now.nodes (next_of c.args.svc.now c.loop-line.self c.line-item.result) (drop (c.loop-line.line-index + 1) c.args.scenario.now.schedule))
+    _ c.loop-line.invariant.written
+    (report_next c.args.svc.now c.args.scenario.now c.loop-line.self c.line-item.result (drop (c.loop-line.line-index + 1) c.args.scenario.now.schedule) _ c.loop-line.invariant.of
+    (drop_next c.args.scenario.now.schedule c.as_slice-line-items.result.now c.loop-line.line-index c.line-item.result c.as_slice-line-items.ensures c.loop-line-test.true c.line-item.is))
+    (front_none (g.K.Sink.taken c.loop-line.sink) _)
+
+pub returns-in_err-write-clause-front : goal.returns-in_err-write-clause-front
+returns-in_err-write-clause-front g c =
+    let told = ap (λ (n : ℕ). c.loop-line.waiting.items ++ effects_text c.args.svc.now n c.as_slice.result.now) (done_next c.args.svc.now c.loop-line.self c.step.new.self c.line-item.result c.in_ok-effects.ensures.world)
+    ∙ ap (λ (es : List Effect). c.loop-line.waiting.items ++ effects_text c.args.svc.now (c.loop-line.self.done + 1) es) (c.as_slice.ensures ∙ c.in_ok-effects.ensures.effects) in
+    front_next (g.K.Sink.taken c.args.sink.now) (g.K.Sink.taken c.loop-line.sink) (g.K.Sink.taken c.write.new.sink) c.loop-line.waiting.items
+    (effects_text c.args.svc.now (c.loop-line.self.done + 1) (row c.args.svc.now c.loop-line.self.requests c.loop-line.self.seed (nodes_of c.loop-line.self) (world_of c.args.svc.now c.loop-line.self) c.line-item.result).effects)
+    _ (report_from c.args.svc.now c.args.scenario.now.requests c.args.scenario.now.seed c.args.scenario.now.nodes (next_of c.args.svc.now c.loop-line.self c.line-item.result) (drop (c.loop-line.line-index + 1) c.args.scenario.now.schedule))
+    _ c.loop-line.invariant.written
+    (report_next c.args.svc.now c.args.scenario.now c.loop-line.self c.line-item.result (drop (c.loop-line.line-index + 1) c.args.scenario.now.schedule) _ c.loop-line.invariant.of
+    (drop_next c.args.scenario.now.schedule c.as_slice-line-items.result.now c.loop-line.line-index c.line-item.result c.as_slice-line-items.ensures c.loop-line-test.true c.line-item.is))
+    (subst (λ (ws : List ℕ). GrowsByFront (g.K.Sink.taken c.loop-line.sink) (g.K.Sink.taken c.write.new.sink) ws) told c.in_err-write.ensures.front)
+
+pub loop-line-preserved : goal.loop-line-preserved
+loop-line-preserved g c =
+    let told = ap (λ (n : ℕ). c.loop-line.waiting.items ++ effects_text c.args.svc.now n c.as_slice.result.now) (done_next c.args.svc.now c.loop-line.self c.step.new.self c.line-item.result c.in_ok-effects.ensures.world)
+    ∙ ap (λ (es : List Effect). c.loop-line.waiting.items ++ effects_text c.args.svc.now (c.loop-line.self.done + 1) es) (c.as_slice.ensures ∙ c.in_ok-effects.ensures.effects) in
+    let still = c.in_ok-write.ensures.same in
+    let world = ap (world_of c.args.svc.now) still ∙ c.in_ok-effects.ensures.world in
+    let same : IsSame c.loop-line.self c.write.new.self = subst (IsSame c.loop-line.self) (sym still) c.in_ok-effects.ensures.same in
+    record {
+      running = subst (IsRunning c.args.svc.now) (sym still) c.in_ok-effects.ensures.running;
+      of = still_of c.args.scenario.now c.loop-line.self c.write.new.self c.loop-line.invariant.of same;
+      done = done_next c.args.svc.now c.loop-line.self c.write.new.self c.line-item.result world ∙ omega (arith, c.loop-line.invariant.done);
+      world = leads_next c.args.svc.now c.args.scenario.now c.args.self.now c.loop-line.self c.write.new.self c.line-item.result (drop (c.loop-line.line-index + 1) c.args.scenario.now.schedule) _ c.loop-line.invariant.of
+          (drop_next c.args.scenario.now.schedule c.as_slice-line-items.result.now c.loop-line.line-index c.line-item.result c.as_slice-line-items.ensures c.loop-line-test.true c.line-item.is)
+          world c.loop-line.invariant.world;
+      same = same_both c.args.self.now c.loop-line.self c.write.new.self c.loop-line.invariant.same same;
+      written =
+          subst (λ (x : ModelWorld). IsWritten (g.K.Sink.taken c.args.sink.now) (g.K.Sink.taken c.write.new.sink) c.write.new.waiting.items (report_from c.args.svc.now c.args.scenario.now.requests c.args.scenario.now.seed c.args.scenario.now.nodes x (drop (c.loop-line.line-index + 1) c.args.scenario.now.schedule)) (report_from c.args.svc.now c.args.scenario.now.requests c.args.scenario.now.seed c.args.scenario.now.nodes (world_of c.args.svc.now c.args.self.now) c.args.scenario.now.schedule))
+          (sym world)
+          (written_next (g.K.Sink.taken c.args.sink.now) (g.K.Sink.taken c.loop-line.sink) (g.K.Sink.taken c.write.new.sink) c.loop-line.waiting.items
+          (effects_text c.args.svc.now (c.loop-line.self.done + 1) (row c.args.svc.now c.loop-line.self.requests c.loop-line.self.seed (nodes_of c.loop-line.self) (world_of c.args.svc.now c.loop-line.self) c.line-item.result).effects)
+          _ (report_from c.args.svc.now c.args.scenario.now.requests c.args.scenario.now.seed c.args.scenario.now.nodes (next_of c.args.svc.now c.loop-line.self c.line-item.result) (drop (c.loop-line.line-index + 1) c.args.scenario.now.schedule))
+          _ c.loop-line.invariant.written
+          (report_next c.args.svc.now c.args.scenario.now c.loop-line.self c.line-item.result (drop (c.loop-line.line-index + 1) c.args.scenario.now.schedule) _ c.loop-line.invariant.of
+          (drop_next c.args.scenario.now.schedule c.as_slice-line-items.result.now c.loop-line.line-index c.line-item.result c.as_slice-line-items.ensures c.loop-line-test.true c.line-item.is))
+          c.write.new.waiting.items (subst (IsWritten (g.K.Sink.taken c.loop-line.sink) (g.K.Sink.taken c.write.new.sink) c.write.new.waiting.items []) told c.in_ok-write.ensures.written));
+      later = omega (arith, c.in_ok-write.ensures.later, c.loop-line.invariant.later);
+    }
+
+pub returns-clause-whole : goal.returns-clause-whole
+returns-clause-whole g c =
+    on_ok_weaker c.write_ends.result
+    (written_last (g.K.Sink.taken c.args.sink.now) (g.K.Sink.taken c.loop-line.sink) (g.K.Sink.taken c.write_ends.new.sink) c.loop-line.waiting.items
+    (ends_text c.args.svc.now 1 (world_of c.args.svc.now c.loop-line.self).nodes) _ _ c.loop-line.invariant.written
+    (ap (report_from c.args.svc.now c.args.scenario.now.requests c.args.scenario.now.seed c.args.scenario.now.nodes (world_of c.args.svc.now c.loop-line.self))
+    (drop_end c.args.scenario.now.schedule c.as_slice-line-items.result.now c.loop-line.line-index c.as_slice-line-items.ensures c.loop-line-test.false)))
+    c.write_ends.ensures.whole
+
+pub returns-clause-front : goal.returns-clause-front
+returns-clause-front g c =
+    front_next (g.K.Sink.taken c.args.sink.now) (g.K.Sink.taken c.loop-line.sink) (g.K.Sink.taken c.write_ends.new.sink) c.loop-line.waiting.items
+    (ends_text c.args.svc.now 1 (world_of c.args.svc.now c.loop-line.self).nodes) _ [] _ c.loop-line.invariant.written
+    (ap (report_from c.args.svc.now c.args.scenario.now.requests c.args.scenario.now.seed c.args.scenario.now.nodes (world_of c.args.svc.now c.loop-line.self))
+    (drop_end c.args.scenario.now.schedule c.as_slice-line-items.result.now c.loop-line.line-index c.as_slice-line-items.ensures c.loop-line-test.false)
+    ∙ sym (append-nil (ends_text c.args.svc.now 1 (world_of c.args.svc.now c.loop-line.self).nodes)))
+    c.write_ends.ensures.front
+
+pub returns-clause-leads : goal.returns-clause-leads
+returns-clause-leads g c =
+    on_ok_weaker c.write_ends.result
+    (λ (still : c.write_ends.new.self ≡ c.loop-line.self).
+    record {
+      world =
+          ap (world_of c.args.svc.now) still
+          ∙ sym (ap (after_lines c.args.svc.now c.args.scenario.now.requests c.args.scenario.now.seed c.args.scenario.now.nodes (world_of c.args.svc.now c.loop-line.self))
+          (drop_end c.args.scenario.now.schedule c.as_slice-line-items.result.now c.loop-line.line-index c.as_slice-line-items.ensures c.loop-line-test.false))
+          ∙ c.loop-line.invariant.world;
+      running = subst (IsRunning c.args.svc.now) (sym still) c.loop-line.invariant.running;
+      same = subst (IsSame c.args.self.now) (sym still) c.loop-line.invariant.same;
+      done = ap (λ (w : World _). w.done) still ∙ c.loop-line.invariant.done ∙ ap (λ (n : ℕ). c.args.self.now.done + n) (omega (arith, c.loop-line-test.false, c.loop-line.auto.line-index-end, ap length c.as_slice-line-items.ensures));
+    })
+    c.write_ends.ensures.same

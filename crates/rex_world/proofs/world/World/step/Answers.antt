@@ -1,0 +1,13 @@
+use Rattle.std.proofs.Common.{rules}
+use Rattle.rex_world.specs.Kept.{IsRunning}
+use Rattle.rex_world.proofs.Arming.{counted_running}
+use Rattle.rex_world.proofs.world.World.step.Goals as goal
+
+pub returns : goal.returns
+returns g c = record {
+  effects = search rules;
+  world = search rules;
+  running = let running : IsRunning c.args.svc.now c.act.new.self = search rules in counted_running c.args.svc.now c.act.new.self running;
+  same = search rules;
+  broken = tt;
+}
