@@ -14,7 +14,7 @@ const TURNS: u32 = 1 << 19;
 /// A gate for two lanes that begin with no events done. It holds one worker until another one enters with index 1: the
 /// second event of its lane. There the other one stays until the first one has entered, so that it is held.
 #[derive(Drop)]
-pub struct HoldingGate {
+pub(crate) struct HoldingGate {
     held: u8,
     until: u8,
     /// Whether it says that it is open, so that a worker may make several tries between two of its entries.
@@ -49,13 +49,13 @@ fn is_seen(word: &AtomicU64) -> bool {
 
 impl HoldingGate {
     /// A gate that holds worker `held` until worker `until` enters with index 1.
-    pub fn new(held: u8, until: u8) -> HoldingGate {
+    pub(crate) fn new(held: u8, until: u8) -> HoldingGate {
         HoldingGate::that(held, until, false)
     }
 
     /// The same of a gate that says that it is open, and holds worker `held` until worker `until` enters with index 1 or a
     /// later one.
-    pub fn open(held: u8, until: u8) -> HoldingGate {
+    pub(crate) fn open(held: u8, until: u8) -> HoldingGate {
         HoldingGate::that(held, until, true)
     }
 
@@ -97,7 +97,7 @@ impl HoldingGate {
 
     /// Whether both workers came, the one that was held before the other one went on from its lane's second event; each
     /// hold ended as the other worker came; and no lane's entered index fell or skipped.
-    pub fn is_kept(&self) -> bool {
+    pub(crate) fn is_kept(&self) -> bool {
         self.entered.load(Ordering::SeqCst) == 1
             && self.came.load(Ordering::SeqCst) == 1
             && self.gave_up.load(Ordering::SeqCst) == 0
@@ -105,7 +105,7 @@ impl HoldingGate {
     }
 
     /// Whether worker 0 entered each of the events 0, 1 and 2 of lane 0 once.
-    pub fn entered_once(&self) -> bool {
+    pub(crate) fn entered_once(&self) -> bool {
         self.first
             .iter()
             .all(|count| count.load(Ordering::SeqCst) == 1)
@@ -137,18 +137,18 @@ impl Gate for HoldingGate {
 
 /// A gate that lets every worker pass at once, says so, and counts how often one did.
 #[derive(Drop)]
-pub struct CountingGate {
+pub(crate) struct CountingGate {
     entries: AtomicU64,
 }
 
 impl CountingGate {
     /// A gate that nobody passed yet.
-    pub fn new() -> CountingGate {
+    pub(crate) fn new() -> CountingGate {
         CountingGate { entries: zero() }
     }
 
     /// How often a worker passed.
-    pub fn entries(&self) -> u64 {
+    pub(crate) fn entries(&self) -> u64 {
         self.entries.load(Ordering::SeqCst)
     }
 }
@@ -166,7 +166,7 @@ impl Gate for CountingGate {
 /// A gate at which lanes that wait for what lane 0 gives up fall asleep. The other workers stay at it until worker 0 enters with
 /// an index, up to a bound; there worker 0 stays for a while.
 #[derive(Drop)]
-pub struct SleepingGate {
+pub(crate) struct SleepingGate {
     index: u32,
     /// Whether it says that it is open.
     open: bool,
@@ -176,7 +176,7 @@ pub struct SleepingGate {
 
 impl SleepingGate {
     /// A gate at which worker 0 stays for a while before its event of this index.
-    pub fn new(index: u32, open: bool) -> SleepingGate {
+    pub(crate) fn new(index: u32, open: bool) -> SleepingGate {
         SleepingGate {
             index,
             open,

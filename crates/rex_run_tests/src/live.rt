@@ -332,6 +332,15 @@ fn live_held<R: Threads + Wait + Sync + AllocGlobal + Abort + Clock>(
     Ok(())
 }
 
+/// Gates that nobody passed say so: no lane was held, and no event entered.
+#[test]
+fn gates_say_when_nobody_passed(rt: HostRuntime) -> Result<(), Fail> {
+    let holding = HoldingGate::new(0, 1);
+    let counting = CountingGate::new();
+    assert!(rt; !holding.is_kept() && !holding.entered_once() && counting.entries() == 0);
+    Ok(())
+}
+
 #[test]
 fn lanes_run_beside_each_other(rt: HostRuntime) -> Result<(), Fail> {
     for way in WAYS {

@@ -3,8 +3,8 @@ use Rattle.std.proofs.Common.{◌≡◌, inl, inr, ◌⊎◌, ℕ, Bool, true, L
 use Rattle.std.specs.Prelude.{IsErrAnd}
 use Rattle.std.proofs.lemmas.Result.{err_from_is_err_and}
 use Rattle.rex_disk.specs.Calls.{Call}
-use Rattle.rex_journal.specs.Giving.{IsLook, IsOfDevice, Looks, WriteFails}
-use Rattle.rex_wal.specs.Opening.{Ends, EndsAs, HasNoRoom, LooksInto, Opens}
+use Rattle.rex_journal.specs.Giving.{HasNoRoom, IsLook, IsOfDevice, Looks, WriteFails}
+use Rattle.rex_wal.specs.Opening.{Ends, EndsAs, LooksInto, Opens}
 use Rattle.rex_journal.specs.declared.fault.OpenFault.{OpenFault}
 use Rattle.rex_journal.specs.declared.fault.OpenFault.TheVariants as open_fault
 

@@ -1,8 +1,7 @@
 -- What opening a journal finds, and when it is refused.
 use Rattle.std.specs.Prelude.{◌≡◌, ◌⊎◌, ◌≤◌, ◌+◌, max, ℕ, Bool, true, false, List, [], length, Result, Ok, Err}
 use Rattle.rex_disk.specs.Calls.{Call}
-use Rattle.rex_disk.specs.Calls.Call.{Reserves}
-use Rattle.rex_journal.specs.Giving.{Goes, LookFails, Looks, WriteFails}
+use Rattle.rex_journal.specs.Giving.{Goes, HasNoRoom, LookFails, Looks, WriteFails}
 use Rattle.rex_disk.specs.Stops.{overwritten}
 use Rattle.rex_file.specs.Mixing.{Mixed}
 use Rattle.rex_wal.specs.Keeping.{IsClean}
@@ -18,10 +17,6 @@ IsFound file records end false = HasRecords file records × (end ≡ length head
 -- calls were made that wrote nothing, and then one failed: nothing was written but maybe some bytes at one place, and that right before
 abbrev pub Ends : {D : Type 0} → (D → Call → Bool → D → Type 0) → D → D → Type 0
 Ends {D} gives old new = (mid : D) × Looks gives old mid × (LookFails gives mid new ⊎ ((at : ℕ) × (written : List ℕ) × WriteFails gives at written mid new))
-
--- a disk was asked for room and had none
-abbrev pub HasNoRoom : {D : Type 0} → (D → Call → Bool → D → Type 0) → D → D → Type 0
-HasNoRoom gives old new = (calls : ℕ) × (bytes : ℕ) × gives old (Reserves calls bytes) true new
 
 -- how the calls of opening a journal end where it is refused: nothing was written, unless the disk failed
 abbrev pub EndsAs : {D : Type 0} → (D → Call → Bool → D → Type 0) → D → D → OpenFault → Type 0

@@ -8,7 +8,7 @@ pub mod Agreeing
 pub mod Knowing
 pub mod Blocks
 pub mod Acted
-pub mod Upcoming
+pub mod Started
 pub mod Arming
 pub mod Given
 pub mod Headlines

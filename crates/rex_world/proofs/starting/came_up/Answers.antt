@@ -1,4 +1,4 @@
-use Rattle.rex_world.proofs.Upcoming.{told_started}
+use Rattle.rex_world.proofs.Started.{told_started}
 use Rattle.rex_world.proofs.starting.came_up.Goals as goal
 
 pub returns-clause-effects : goal.returns-clause-effects
