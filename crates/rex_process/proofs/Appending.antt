@@ -1,17 +1,15 @@
 -- By appends alone a call of a node makes another keeper of its keeper.
-use Rattle.std.proofs.Common.{◌≡◌, ℕ, List, [], ◌∷◌, Result, Ok, Err, IfOk, inl, inr, sym, ap, subst}
+use Rattle.std.proofs.Common.{◌≡◌, ℕ, List, [], ◌∷◌, Ok, Err, inl, inr, subst, Bool, true}
 use Rattle.rex_syntax.specs.declared.service.Declarations.{Declarations}
 use Rattle.rex_traits.specs.declared.keeper.KeepFault.TheVariants.{Failed, OutOfMemory}
 use Rattle.rex_traits.specs.Chains.{Answer, AppendsInTurn}
 use Rattle.rex_cluster.specs.Lanes.{CallHere}
 use Rattle.rex_cluster.specs.Values.{Value}
-use Rattle.rex_node.specs.declared.refusal.Refusal.{Refusal}
-use Rattle.rex_node.specs.declared.refusal.Refusal.TheVariants as why
 use Rattle.rex_node.specs.declared.step.Step.{Step}
-use Rattle.rex_node.specs.Calls.{Does, IsSpared, Leaves}
+use Rattle.rex_node.specs.Calls.{Does}
 use Rattle.rex_node.specs.Parts.{NodeValue, RunsShort}
+use Rattle.rex_steps.specs.Serving.{IsShort, Serves, ServesIf}
 use Rattle.rex_process.specs.Keeping.{ByAppends, IsAppend}
-use Rattle.rex_process.specs.Process.{ProcessValue}
 use Rattle.rex_process.proofs.Keeping.{leads_join, leads_one, leads_same}
 
 module _ {K : Type 0} (records : K → List (List ℕ)) (gives : K → List ℕ → Answer → K → Type 0) (faults : K → ℕ) where
@@ -40,29 +38,12 @@ module _ {K : Type 0} (records : K → List (List ℕ)) (gives : K → List ℕ 
     in_step step (inl h) = in_turn h.written old.keeper new.keeper (Ok tt) h.appends
     in_step step (inr h) = join old.keeper h.between new.keeper (in_turn h.written old.keeper h.between (Ok tt) h.appends) (one h.between new.keeper h.bytes (Err Failed) h.fails)
 
-    spared : new ≡ old → ByAppends gives old.keeper new.keeper
-    spared same = same_keeper old.keeper new.keeper (ap (λ (x : NodeValue K). x.keeper) same)
+    -- a call that a node served
+    pub served_appends : (step : Step) → old.up ≡ true → Serves records gives faults service past call old new step → ByAppends gives old.keeper new.keeper
+    served_appends step up h = in_step step (subst (λ (u : Bool). ServesIf u records gives faults service past call old new step) up h.serves).does
 
-    -- a call of a node, whatever it answers
-    in_call : (result : Result Step Refusal) → IfOk result (Does records gives faults service past call old new) → Leaves records gives faults service past call result old new → IsSpared result old new → ByAppends gives old.keeper new.keeper
-    in_call (Ok step) did left same = in_step step did
-    in_call (Err why.OutOfMemory) did (inl h) same = in_short old.keeper new.keeper h.short
-    in_call (Err why.OutOfMemory) did (inr h) same =
+    -- and one in which memory was short
+    pub short_appends : IsShort records gives faults service past call old new → ByAppends gives old.keeper new.keeper
+    short_appends (inl h) = in_short old.keeper new.keeper h.short
+    short_appends (inr h) =
         join old.keeper h.stops.between new.keeper (in_turn h.stops.written old.keeper h.stops.between (Ok tt) h.stops.appends) (in_short h.stops.between new.keeper h.stops.short)
-    in_call (Err why.Down) did left same = spared same
-    in_call (Err (why.NotActive role)) did left same = spared same
-    in_call (Err (why.Open i)) did left same = spared same
-    in_call (Err why.Ended) did left same = spared same
-    in_call (Err why.Nothing) did left same = spared same
-    in_call (Err (why.Live many)) did left same = spared same
-    in_call (Err why.UpToDate) did left same = spared same
-    in_call (Err why.Spent) did left same = spared same
-    in_call (Err (why.BadSnapshot at)) did left same = spared same
-
-  -- and one of a process, of whose keeper its node's call alone makes another one
-  pub call_appends : (service : Declarations) (past : List Value) (call : CallHere → CallHere) (inside p : ProcessValue K) (left : NodeValue K) (last : K) → inside ≡ p → last ≡ left.keeper
-      → (result : Result Step Refusal) → IfOk result (Does records gives faults service past call inside.node left) → Leaves records gives faults service past call result inside.node left → IsSpared result inside.node left
-      → ByAppends gives p.node.keeper last
-  call_appends service past call inside p left last seen same result did leaves still =
-      subst (λ (q : ProcessValue K). ByAppends gives q.node.keeper last) seen
-      (subst (λ k. ByAppends gives inside.node.keeper k) (sym same) (in_call service past call inside.node left result did leaves still))

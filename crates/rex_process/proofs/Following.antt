@@ -4,7 +4,7 @@ use Rattle.std.specs.Prelude.{nat_lt, if◌then◌else◌}
 use Rattle.std.specs.declared.alloc.AllocError.{AllocError}
 use Rattle.std.proofs.lemmas.Bool.{false≢true}
 use Rattle.std.proofs.lemmas.Bool.Decides.{nat_tests}
-use Rattle.std.proofs.lemmas.List.{map-append, take-append-drop}
+use Rattle.std.proofs.lemmas.List.{drop_all, map-append, take-append-drop}
 use Rattle.rex_syntax.specs.declared.service.Declarations.{Declarations}
 use Rattle.rex_event.specs.declared.event.Event.{Event}
 use Rattle.rex_msg.specs.declared.message.Message.{Message}
@@ -21,11 +21,12 @@ use Rattle.rex_node.specs.declared.refusal.Refusal.{Refusal}
 use Rattle.rex_node.specs.declared.step.Step.{Step}
 use Rattle.rex_node.specs.Calls.{Does, call_of}
 use Rattle.rex_node.specs.Parts.{NodeValue, here_of}
+use Rattle.rex_node.proofs.Ending.{no_messages}
 use Rattle.rex_fits.specs.Applied.{AppliedValue, ShowNoLater, clock_after}
 use Rattle.rex_transfer.specs.Window.{WindowValue}
 use Rattle.rex_process.specs.Coming.{CatchesUp}
 use Rattle.rex_process.specs.Process.{ProcessValue, caught_up, here, is_behind}
-use Rattle.rex_process.specs.Settling.{FollowsStep, IsCaught, IsJoined, IsSettling, IsUpSettling, Reads, noted_clock}
+use Rattle.rex_process.specs.Settling.{FollowsStep, HasNoNews, IsCaught, IsJoined, IsSettling, IsUpSettling, Reads, noted_clock}
 use Rattle.rex_process.proofs.Dating.{after_raises, after_reads, after_shows, both_show}
 use Rattle.rex_process.proofs.Standing.{holds, known_is}
 
@@ -80,12 +81,8 @@ module _ {K : Type 0} (records : K → List (List ℕ)) (gives : K → List ℕ 
       sent : map (message_in []) more.sends ≡ []
       sent = ap (λ (d : CallHere). d.sends) all
 
-      none : (ms : List Message) → map (message_in []) ms ≡ [] → ms ≡ []
-      none [] e = refl
-      none (x ∷ ms) e = absurd (cc)
-
       unsent : more.sends ≡ []
-      unsent = none more.sends sent
+      unsent = no_messages [] more.sends sent
 
   -- one that isn't behind has nothing to do
   pub catches_none : (step : Step) → new ≡ old → is_behind before ≡ false → CatchesUp records service (caught_up m) old new step step
@@ -191,3 +188,7 @@ noted_is {K} records p many w more clock settling up window behind noted = noted
 -- what a test came to has the clock that is noted
 pub test_noted : {K : Type 0} → (records : K → List (List ℕ)) (p : ProcessValue K) (many : ℕ) (test : Option AppliedValue) (a : AppliedValue) → test ≡ Some a → IsUpSettling records p many test → a.clock ≡ noted_clock records p many
 test_noted records p many test a is h = subst (λ (o : Option AppliedValue). IfSome o (λ (b : AppliedValue). b.clock ≡ noted_clock records p many)) is h.test_clock
+
+-- where nothing more is known, that is the clock that the process has
+pub noted_still : {K : Type 0} → (records : K → List (List ℕ)) (p : ProcessValue K) (many : ℕ) → HasNoNews records p many None → noted_clock records p many ≡ p.clock
+noted_still records p many news = ap (clock_after p.clock) (drop_all many (known (here records p).log) (omega (arith, news.known_is)))

@@ -1,5 +1,5 @@
 -- A process whose lanes go on.
-use Rattle.std.proofs.Common.{arith, ℤ, ◌≡◌, ℕ, ◌+◌, ◌<◌, ◌≤◌, ◌^◌, Bool, true, false, List, [], ◌∷◌, length, Result, Ok, Err, IfOk, OnErr, inl, refl, sym, ◌∙◌, ap, subst, append-nil, length-append, add-zero}
+use Rattle.std.proofs.Common.{arith, ℤ, ◌≡◌, ℕ, ◌+◌, ◌<◌, ◌≤◌, ◌^◌, Bool, true, false, List, [], ◌∷◌, length, Result, Ok, Err, IfOk, OnErr, inl, inr, refl, sym, ◌∙◌, ap, subst, append-nil, length-append, add-zero}
 use Rattle.std.specs.Int.{int_max}
 use Rattle.std.specs.declared.alloc.AllocError.{AllocError}
 use Rattle.rand_pcg.specs.Pcg.{pcg32}
@@ -12,6 +12,7 @@ use Rattle.rex_record.specs.declared.turns.Turn.{Turn}
 use Rattle.rex_record.specs.declared.turns.Turn.TheVariants as turn
 use Rattle.rex_record.specs.Turn.{dice_after, does_draw}
 use Rattle.rex_record.specs.Value.{live_after}
+use Rattle.rex_traits.specs.Chains.{Answer}
 use Rattle.rex_cluster.specs.Records.{known}
 use Rattle.rex_cluster.specs.Node.{Lead, Role, is_active}
 use Rattle.rex_cluster.specs.Node.Role.{Follower, Leads}
@@ -23,6 +24,7 @@ use Rattle.rex_node.specs.declared.step.Step.{Step}
 use Rattle.rex_node.specs.Calls.{LeadsTo, Refuses, refusal_active, turn_at}
 use Rattle.rex_node.specs.Parts.{IsUp, NodeValue, StaysNode, here_of}
 use Rattle.rex_steps.specs.Steps.{IsStepOf, TellsOf}
+use Rattle.rex_steps.proofs.Served.{serves_active, turn_told}
 use Rattle.rex_processes.specs.Processes.Task.{Turn as TurnOf}
 use Rattle.rex_processes.specs.Tested.{KnownFits}
 use Rattle.rex_processes.proofs.Ranging.{actives_in_range, one_has_room}
@@ -31,10 +33,10 @@ use Rattle.rex_process.specs.Coming.{Comes, HasDone}
 use Rattle.rex_process.specs.Process.{ProcessValue, IsProcess, IsUpProcess, IsSame, ComesTo, HasTurn, call_in, task_in, here, is_behind}
 use Rattle.rex_process.specs.Going.{HasGone, HasMade, IsStill, events_in}
 use Rattle.rex_process.proofs.Dating.{raised_first, raised_reads, raised_shows}
+use Rattle.rex_process.proofs.Served.{comes_beside}
 use Rattle.rex_process.proofs.Standing.{none_live, up_is}
 use Rattle.rex_process.proofs.Staying.{stays_process, still_caught}
 use Rattle.rex_process.proofs.Turning.{TurnShows, draws_none, more_shows, turn_shows}
-use Rattle.rex_process.proofs.Working.{works}
 
 -- a process stays one where its clock is raised
 pub raised_process : {K : Type 0} → (records : K → List (List ℕ)) (faults : K → ℕ) (p : ProcessValue K) (clock : ℤ) → IsProcess records faults p → IsProcess records faults (record p { clock = int_max p.clock clock })
@@ -138,7 +140,7 @@ module _ {K : Type 0} (records : K → List (List ℕ)) (faults : K → ℕ) (p 
   pub still_same : IsStill records faults p p
   still_same = record { process = process; up = up; same = record { service = refl; id = refl; nodes = refl; seed = refl }; clock = refl; keeper = refl; role = refl }
 
-  module _ (good : IsService p.service) (checked : IsChecked p.service) (lane : ℕ) (there : lane < p.service.lanes) where
+  module _ (gives : K → List ℕ → Answer → K → Type 0) (good : IsService p.service) (checked : IsChecked p.service) (lane : ℕ) (there : lane < p.service.lanes) where
     abbrev work : CallHere → CallHere
     work d = lane_turn p.service is_up.reads lane d
 
@@ -191,10 +193,15 @@ module _ {K : Type 0} (records : K → List (List ℕ)) (faults : K → ℕ) (p 
       same_parts (Err e) h = ap (λ (x : ProcessValue K). x.node) h
 
       -- the node has done the turn, or refused it
-      done : (id : ℕ) (result : Result Turn Refusal) (outcome : Result Step Refusal) (step : Step) → Refuses (refusal_active before) result → IfOk result (HasGone records p q lane) → OnErr result (q ≡ p)
-          → TellsOf (turn_effect lane) result outcome → IsStepOf id outcome (Ok step) → HasDone records faults p.service (call_in p (TurnOf lane is_up.reads)) p.node q.node step
-      done id result outcome step refused went spared told tell =
-          works records faults p.service p.node q.node id up (ap faults keeper) step (turn_effect lane) work refl result outcome refused (tells result went) (leads_to result went) (same_parts result spared) told tell
+      done : (result : Result Turn Refusal) (outcome : Result Step Refusal) (step : Step) → Refuses (refusal_active before) result → IfOk result (HasGone records p q lane) → OnErr result (q ≡ p)
+          → TellsOf (turn_effect lane) result outcome → IsStepOf p.node.id outcome (Ok step) → HasDone records faults p.service (call_in p (TurnOf lane is_up.reads)) p.node q.node step
+      done result outcome step refused went spared told tell =
+          by (comes_beside records gives faults p process.plain up [] (TurnOf lane is_up.reads) (call_in p (TurnOf lane is_up.reads)) (λ f. refl) tt tt tt q.node step
+          (serves_active records gives faults p.service [] p.node q.node (turn_effect lane) (turn_told lane p.node.id) work refl up keeper result outcome refused (tells result went) (leads_to result went) (same_parts result spared) told (Ok step) tell)).0
+        where
+          by : Comes records faults p.service (call_in p (TurnOf lane is_up.reads)) p.node q.node step → HasDone records faults p.service (call_in p (TurnOf lane is_up.reads)) p.node q.node step
+          by (goes, inl h) = h
+          by (goes, inr h) = absurd (let e : faults q.node.keeper ≡ faults p.node.keeper = ap faults keeper in let l : faults p.node.keeper < faults q.node.keeper = h.counted in omega (arith, e, l))
 
       -- so the step is what the whole task comes to
       comes : (step : Step) → HasDone records faults p.service (call_in p (TurnOf lane is_up.reads)) p.node q.node step → ComesTo records faults p q (TurnOf lane is_up.reads) step
@@ -207,13 +214,13 @@ module _ {K : Type 0} (records : K → List (List ℕ)) (faults : K → ℕ) (p 
       }
 
       -- the step that is told of it is the turn's, whatever the clock was before it was raised
-      pub has_turn : (first : ProcessValue K) (clock : ℤ) → p ≡ record first { clock = int_max first.clock clock } → (id : ℕ) (result : Result Turn Refusal) (outcome : Result Step Refusal)
+      pub has_turn : (first : ProcessValue K) (clock : ℤ) → p ≡ record first { clock = int_max first.clock clock } → (id : ℕ) → id ≡ p.node.id → (result : Result Turn Refusal) (outcome : Result Step Refusal)
           → Refuses (refusal_active before) result → IfOk result (HasGone records p q lane) → OnErr result (q ≡ p) → TellsOf (turn_effect lane) result outcome
           → (told : Result Step AllocError) → IsStepOf id outcome told → IfOk told (HasTurn records faults first q lane clock)
-      has_turn first clock raised id result outcome refused went spared told (Err e) tell = tt
-      has_turn first clock raised id result outcome refused went spared told (Ok step) tell =
+      has_turn first clock raised id number result outcome refused went spared told (Err e) tell = tt
+      has_turn first clock raised id number result outcome refused went spared told (Ok step) tell =
           let clocks : p.clock ≡ int_max first.clock clock = ap (λ (x : ProcessValue K). x.clock) raised in
-          let h = comes step (done id result outcome step refused went spared told tell) in
+          let h = comes step (done result outcome step refused went spared told (subst (λ (k : ℕ). IsStepOf k outcome (Ok step)) number tell)) in
           record {
             reads = is_up.reads;
             greatest = sym is_up.clock ∙ clocks;
@@ -239,7 +246,7 @@ module _ {K : Type 0} (records : K → List (List ℕ)) (faults : K → ℕ) (p 
       -- whatever came of the turn, the process goes on
       pub goes_still : StaysNode records p.service [] p.node q.node → (result : Result Turn Refusal) → Refuses (refusal_active before) result → IfOk result (HasGone records p q lane) → OnErr result (q ≡ p) → IsStill records faults p q
       goes_still stays (Ok t) refused h spared = record {
-        process = keeps stays step (done 0 (Ok t) (Ok step) step refused h tt (record { effects = refl; sends = refl }) refl);
+        process = keeps stays step (done (Ok t) (Ok step) step refused h tt (record { effects = refl; sends = refl }) refl);
         up = ap (λ (x : Here). x.up) h.leads ∙ up;
         same = same;
         clock = clock_is;

@@ -1,6 +1,6 @@
 -- What a node knows goes on where its records do.
-use Rattle.std.proofs.Common.{◌≡◌, ℕ, ◌+◌, ◌≤◌, List, [], ◌∷◌, ◌++◌, length, take, drop, Result, Ok, Err, refl, sym, ◌∙◌, ap, subst, arith, append-nil, append_assoc, length-append}
-use Rattle.std.proofs.lemmas.List.{drop_all, take-append-le}
+use Rattle.std.proofs.Common.{◌≡◌, ℕ, ◌+◌, ◌≤◌, List, [], ◌∷◌, ◌++◌, length, take, Result, Ok, Err, refl, sym, ◌∙◌, ap, subst, arith, append-nil, append_assoc, length-append}
+use Rattle.std.proofs.lemmas.List.{take-append-le}
 use Rattle.rex_syntax.specs.declared.service.Declarations.{Declarations}
 use Rattle.rex_state.specs.Value.{StateValue}
 use Rattle.rex_durable.specs.declared.records.Rec.{Rec as KeptRec}
@@ -10,9 +10,8 @@ use Rattle.rex_cluster.specs.Records.{Rec, known}
 use Rattle.rex_cluster.specs.Values.{Value}
 use Rattle.rex_log.specs.Log.{log_with, log_behind, log_of, standing_in}
 use Rattle.rex_processes.specs.Plain.{IsPlain}
-use Rattle.rex_fits.specs.Applied.{clock_after}
 use Rattle.rex_process.specs.Coming.{GoesOn}
-use Rattle.rex_process.specs.Process.{ProcessValue, here, learned}
+use Rattle.rex_process.specs.Process.{ProcessValue, here}
 use Rattle.rex_process.proofs.Pasts.{plain_before}
 
 abbrev Log : Type 0
@@ -67,16 +66,6 @@ module _ {K : Type 0} (records : K → List (List ℕ)) (p q : ProcessValue K) (
   same_known =
       ap (λ (s : Declarations). known (log_of s [] (records q.node.keeper))) service
       ∙ ap (λ (k : K). known (log_of p.service [] (records k))) keeper
-
-  -- so it learned nothing
-  learned_none : learned records p q ≡ []
-  learned_none =
-      ap (drop (length (known (here records p).log))) same_known
-      ∙ drop_all (length (known (here records p).log)) (known (here records p).log) (omega arith)
-
-  -- and no clock is noted
-  pub same_clock : q.clock ≡ p.clock → q.clock ≡ clock_after p.clock (learned records p q)
-  same_clock same = same ∙ sym (ap (clock_after p.clock) learned_none)
 
 -- ---- more values
 

@@ -4,6 +4,7 @@ use Rattle.std.specs.Prelude.{nat_le}
 use Rattle.std.proofs.lemmas.List.Elements.{All-nil, All-filter}
 use Rattle.rand_pcg.specs.Lcg.{Lcg}
 use Rattle.rex_syntax.specs.declared.service.Declarations.{Declarations}
+use Rattle.rex_syntax.specs.declared.request.Request.{Request}
 use Rattle.rex_syntax.specs.Service.{IsService}
 use Rattle.rex_syntax.specs.Check.{IsChecked}
 use Rattle.rex_event.specs.declared.event.Event.{Event}
@@ -11,16 +12,16 @@ use Rattle.rex_event.specs.Cuts.{below, is_below}
 use Rattle.rex_cut.specs.Greatest.{greatest_cut}
 use Rattle.rex_state.specs.Counts.{counts_of}
 use Rattle.rex_cluster.specs.Records.{Proposal, known}
-use Rattle.rex_cluster.specs.Node.{Lead, Message, Role, Work}
+use Rattle.rex_cluster.specs.Node.{Lead, Message, Role, Work, is_active}
 use Rattle.rex_cluster.specs.Node.Role.{Follower, Leads}
 use Rattle.rex_cluster.specs.Calls.{work_known, enough}
 use Rattle.rex_cluster.specs.Values.{Value, values_fit, service_of, state_after, trace_of}
-use Rattle.rex_cluster.specs.Lanes.{Here, CallHere, active_only, no_limits, value_at, is_faithful, cut_live, cut_lead, cut_role, cut}
+use Rattle.rex_cluster.specs.Lanes.{Here, CallHere, active_only, no_limits, submit_request, value_at, is_faithful, cut_live, cut_lead, cut_role, cut}
 use Rattle.rex_cluster.proofs.Acting.{fits_front}
 use Rattle.rex_cluster.proofs.Working.{fresh_work, Works, if_works, propose_works, settle_works, elect_works, receive_works}
 use Rattle.rex_safety.proofs.WorkingWorlds.{only_works}
 use Rattle.rex_processes.specs.Processes.{call_for}
-use Rattle.rex_processes.specs.Processes.Task.{Elect, Cut, Hear}
+use Rattle.rex_processes.specs.Processes.Task.{Elect, Cut, Hear, Submit}
 use Rattle.rex_processes.specs.Tested.{KnownFits}
 use Rattle.rex_fits.specs.Applied.{IsNoLater, ShowNoLater, shown_by}
 
@@ -81,3 +82,10 @@ module _ (c : ℤ) (service : Declarations) (good : IsService service) (checked 
 
   pub cut_live_dated : (d : CallHere) → LiveIsDated c service d.node → LiveIsDated c service (call_for service seed n m Cut d).node
   cut_live_dated d h = (cut_dated (no_limits service d.node) d (here d h)).each
+
+  pub submit_live : (r : Request) (d : CallHere) → LiveIsDated c service d.node → LiveIsDated c service (call_for service seed n m (Submit r) d).node
+  submit_live r d h = by (is_active d.node.role)
+    where
+      by : (t : Bool) → LiveIsDated c service (active_only t d (submit_request service (Some r) d)).node
+      by true = h
+      by false = h

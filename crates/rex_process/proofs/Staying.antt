@@ -1,5 +1,5 @@
 -- What is kept of a process through a task.
-use Rattle.std.proofs.Common.{arith, ℤ, ◌++◌, ◌≡◌, ℕ, ◌<◌, ◌-◌, ◌^◌, Bool, true, false, List, [], ◌∷◌, length, inl, inr, refl, sym, ◌∙◌, ap, subst, eqb-true}
+use Rattle.std.proofs.Common.{arith, ◌++◌, ◌≡◌, ℕ, ◌<◌, ◌-◌, ◌^◌, Bool, true, false, List, [], ◌∷◌, length, inl, inr, refl, sym, ◌∙◌, ap, subst, eqb-true}
 use Rattle.std.specs.Prelude.{◌&&◌, ◌||◌, ◌==◌, not, nat_lt, if◌then◌else◌}
 use Rattle.std.proofs.lemmas.Bool.{false≢true}
 use Rattle.std.proofs.lemmas.Bool.Decides.{nat_tests}
@@ -10,7 +10,7 @@ use Rattle.rex_cluster.specs.Records.{known}
 use Rattle.rex_cluster.specs.Node.{is_active}
 use Rattle.rex_cluster.specs.Calls.{begin, replay, say}
 use Rattle.rex_report.specs.declared.effect.Effect.TheVariants.{Replayed, UpToDate}
-use Rattle.rex_cluster.specs.Lanes.{Here, CallHere, node_trace}
+use Rattle.rex_cluster.specs.Lanes.{Here, CallHere}
 use Rattle.rex_node.specs.declared.step.Step.{Step}
 use Rattle.rex_node.specs.Parts.{StaysNode, here_of}
 use Rattle.rex_processes.specs.Processes.{Task, armed_after}
@@ -19,7 +19,6 @@ use Rattle.rex_processes.specs.Plain.{IsPlain, IsPlainTask, HearsNoState}
 use Rattle.rex_processes.specs.Leading.{ActiveOpenFits, ActiveIsActing, TaskFits}
 use Rattle.rex_processes.proofs.Keeping.{opens_stay, acts_on}
 use Rattle.rex_processes.proofs.Stateless.{plain_stays}
-use Rattle.rex_fits.specs.Applied.{ShowNoLater}
 use Rattle.rex_process.specs.Coming.{Comes}
 use Rattle.rex_process.specs.Process.{ProcessValue, IsProcess, IsUpProcess, call_in, task_in, caught_up, here, is_behind}
 use Rattle.rex_process.specs.Settling.{Reads}
@@ -149,14 +148,3 @@ module _ {K : Type 0} (records : K → List (List ℕ)) (faults : K → ℕ) (p 
 -- a node that has caught up stays so where neither what it knows nor what it replayed nor its role is another one
 pub still_caught : (m : ℕ) (d : CallHere) → is_behind d.node ≡ false → caught_up m d ≡ d
 still_caught m d e = ap (λ (t : Bool). if t then replay m d else d) e
-
--- so do the clock and the events that it stands for
-pub still_reads : {K : Type 0} → (records : K → List (List ℕ)) (p q : ProcessValue K) → Reads records p → q.clock ≡ p.clock → node_trace (here records q) ≡ node_trace (here records p) → Reads records q
-still_reads records p q h clock same = record {
-  reads = h.reads;
-  clock = clock ∙ h.clock;
-  latest = subst (λ (c : ℤ). ShowNoLater c (node_trace (here records q))) (sym clock) (subst (ShowNoLater p.clock) (sym same) h.latest);
-}
-
-pub reads_of : {K : Type 0} → (records : K → List (List ℕ)) (faults : K → ℕ) (p : ProcessValue K) → IsUpProcess records faults p → Reads records p
-reads_of records faults p h = record { reads = h.reads; clock = h.clock; latest = h.latest }

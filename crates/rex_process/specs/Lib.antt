@@ -6,6 +6,7 @@ pub mod Keeping
 pub mod Process
 pub mod Running
 pub mod Sending
+pub mod Serving
 pub mod Settling
 pub mod Starting
 pub mod Status

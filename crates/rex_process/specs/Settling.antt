@@ -1,5 +1,5 @@
 -- What comes behind a call of a node.
-use Rattle.std.specs.Prelude.{◌≡◌, ◌≤◌, ◌++◌, ℕ, ℤ, pos, true, List, [], length, take, drop, Option, Some, IfSome, Result, Ok, Err}
+use Rattle.std.specs.Prelude.{◌≡◌, ◌≤◌, ◌++◌, ℕ, ℤ, pos, true, false, List, [], length, take, drop, Option, Some, None, IfSome, Result, Ok, Err}
 use Rattle.rex_state.specs.Start.{start_of}
 use Rattle.rex_state.specs.Machine.{run}
 use Rattle.rex_cluster.specs.Records.{known}
@@ -11,7 +11,7 @@ use Rattle.rex_node.specs.Parts.{IsNode}
 use Rattle.rex_processes.specs.Plain.{IsPlain}
 use Rattle.rex_fits.specs.Applied.{AppliedValue, ShowNoLater, clock_after}
 use Rattle.rex_process.specs.Coming.{CatchesUp}
-use Rattle.rex_process.specs.Process.{ProcessValue, caught_up, here}
+use Rattle.rex_process.specs.Process.{ProcessValue, caught_up, here, is_behind}
 
 -- its clock is at least 0, and no event shows a greater one
 pub record Reads {K : Type 0} (records : K → List (List ℕ)) (p : ProcessValue K) : Type 0 where
@@ -43,6 +43,12 @@ pub record IsSettling {K : Type 0} (records : K → List (List ℕ)) (p : Proces
   pub node : IsNode records p.service [] p.node
   pub plain : IsPlain (here records p).log
   pub up : p.node.up ≡ true → IsUpSettling records p many test
+
+-- it knows no more than so many values, and has replayed them, or is active; and nothing was tested
+pub record HasNoNews {K : Type 0} (records : K → List (List ℕ)) (p : ProcessValue K) (many : ℕ) (test : Option AppliedValue) : Type 0 where
+  pub known_is : length (known (here records p).log) ≡ many
+  pub caught_up : is_behind (here records p) ≡ false
+  pub untested : test ≡ None
 
 -- then the node has caught up behind a step; and the clock is this one, and right again
 pub record IsCaught {K : Type 0} (records : K → List (List ℕ)) (p q : ProcessValue K) (clock : ℤ) (before after : Step) : Type 0 where

@@ -1,30 +1,24 @@
 //! Messages of other processes.
 
-ghost use Rattle.std.specs.Prelude.{◌≡◌, [], true, IfOk, IfSome, OnOk, OnErr};
+ghost use Rattle.std.specs.Prelude.{◌≡◌, [], true, IfOk, OnOk, OnErr};
 ghost use Rattle.std.specs.Option.{option_copied};
 ghost use Rattle.rex_cluster.specs.Telling.{TellsNoState};
 ghost use Rattle.rex_log.specs.Messages.{content_in, message_in};
 ghost use Rattle.rex_processes.specs.Processes.Task.{Hear};
-ghost use Rattle.rex_processes.specs.Tested.{MayBeHeard};
-ghost use Rattle.std.specs.List.{All};
-ghost use Rattle.rex_msg.specs.Spelling.{IsMessage};
 ghost use Rattle.rex_process.specs.Sending.{AllSent};
 ghost use Rattle.rex_process.specs.Keeping.{ByAppends};
-ghost use Rattle.rex_process.specs.Process.{Answers, ComesTo, IsLeft, IsProcess, IsSame, here};
+ghost use Rattle.rex_process.specs.Process.{Answers, IsLeft, IsProcess, IsSame, here};
 ghost use Rattle.rex_process.specs.Hearing as spec;
-ghost use Rattle.rex_process.specs.Hearing.{IsHeard, IsTestOf, IsTestOfAdopted, IsTestOfChosen, IsTestOfNext, IsTestOfOpen};
+ghost use Rattle.rex_process.specs.Hearing.{IsHeard, IsTestOf, IsTestOfAdopted, IsTestOfNext, IsTestOfOpen};
 
 use crate::answers::Answer;
 use crate::process::Process;
 use rex_fits::Applied;
 use rex_msg::{Content, Message};
-use rex_node::Step;
-use rex_replay::OneThread;
 use rex_report::Role;
-use rex_steps::told;
+use rex_steps::Call;
 use rex_traits::Keeper;
 use std::alloc::AllocError;
-use std::marker::Brand;
 
 /// Whether a message may be heard.
 #[derive(Drop)]
@@ -51,33 +45,13 @@ impl<'a, K: Keeper> Process<'a, K> {
         ensures appends { ByAppends K.append_gives self.old.node.keeper self.new.node.keeper }
     {
         match self.test_of(&message.content)? {
-            Test::Passed => Ok(Answer::Did(self.receive(message, None)?)),
-            Test::Known(applied) => Ok(Answer::Did(self.receive(message, Some(applied))?)),
+            Test::Passed => Ok(Answer::Did(self.served(&Call::Receive { message }, None)?)),
+            Test::Known(applied) => Ok(Answer::Did(self.served(
+                &Call::Receive { message },
+                Some(applied),
+            )?)),
             Test::Unfit => Ok(Answer::Unfit),
         }
-    }
-
-    // Does what a message asks for that may be heard. If it tells the value of the next instance, that is what was tested.
-    fn receive(&mut self, message: &Message, test: Option<Applied>) -> Result<Step, AllocError>
-        requires process { IsProcess K.records K.faults self.old }
-        requires up { self.old.node.up ≡ true }
-        requires message { IsHeard self.old.node.id self.old.node.nodes message.now }
-        requires may { MayBeHeard self.old.service (here K.records self.old) (content_in [] message.now.content) }
-        requires test { IfSome test (IsTestOfChosen K.records self.old message.now.content) }
-        ensures comes { IfOk result (ComesTo K.records K.faults self.old self.new (Hear (message_in [] message.now))) }
-        ensures sends { IfOk result (λ step. All IsMessage step.sends) }
-        ensures process { OnOk result (IsProcess K.records K.faults self.new) }
-        ensures same { IsSame self.old self.new }
-        ensures left { OnErr result (IsLeft K.records self.old self.new (Hear (message_in [] message.now))) }
-        ensures appends { ByAppends K.append_gives self.old.node.keeper self.new.node.keeper }
-    {
-        let _service = self.svc.declarations();
-        let known = self.node.known();
-        let outcome = self
-            .node
-            .on_message::<Brand, OneThread>(self.svc, &mut OneThread, message);
-        let step = told(self.alloc, self.node.id(), outcome)?;
-        self.settled(known, step, test)
     }
 
     // Tests the value that a message may make known.

@@ -12,11 +12,9 @@ ghost use Rattle.rex_process.specs.Process.{Answers, ComesTo, IsLeft, IsProcess,
 use crate::answers::Answer;
 use crate::process::Process;
 use rex_node::Step;
-use rex_replay::OneThread;
-use rex_steps::told;
+use rex_steps::Call;
 use rex_traits::Keeper;
 use std::alloc::AllocError;
-use std::marker::Brand;
 
 impl<'a, K: Keeper> Process<'a, K> {
     /// Asks to lead.
@@ -31,31 +29,10 @@ impl<'a, K: Keeper> Process<'a, K> {
         ensures appends { ByAppends K.append_gives self.old.node.keeper self.new.node.keeper }
     {
         if self.node.nodes() > 1 || self.own_fits()? {
-            Ok(Answer::Did(self.stand()?))
+            Ok(Answer::Did(self.served(&Call::Elect, None)?))
         } else {
             Ok(Answer::Unfit)
         }
-    }
-
-    // Asks to lead, where no value that doesn't fit is known then.
-    fn stand(&mut self) -> Result<Step, AllocError>
-        requires process { IsProcess K.records K.faults self.old }
-        requires up { self.old.node.up ≡ true }
-        requires own { self.old.node.nodes ≡ 1 → OwnReportsFit self.old.service (here K.records self.old) }
-        ensures comes { IfOk result (ComesTo K.records K.faults self.old self.new Elect) }
-        ensures sends { IfOk result (λ step. All IsMessage step.sends) }
-        ensures process { OnOk result (IsProcess K.records K.faults self.new) }
-        ensures same { IsSame self.old self.new }
-        ensures left { OnErr result (IsLeft K.records self.old self.new Elect) }
-        ensures appends { ByAppends K.append_gives self.old.node.keeper self.new.node.keeper }
-    {
-        let _service = self.svc.declarations();
-        let known = self.node.known();
-        let outcome = self
-            .node
-            .elect::<Brand, OneThread>(self.svc, &mut OneThread);
-        let step = told(self.alloc, self.node.id(), outcome)?;
-        self.settled(known, step, None)
     }
 
     /// Proposes all live events as the value of the next instance.
@@ -69,11 +46,7 @@ impl<'a, K: Keeper> Process<'a, K> {
         ensures left { OnErr result (IsLeft K.records self.old self.new Cut) }
         ensures appends { ByAppends K.append_gives self.old.node.keeper self.new.node.keeper }
     {
-        let _service = self.svc.declarations();
-        let known = self.node.known();
-        let outcome = self.node.cut::<Brand>(self.svc, None);
-        let step = told(self.alloc, self.node.id(), outcome)?;
-        self.settled(known, step, None)
+        self.served(&Call::Cut { limits: None }, None)
     }
 
     // Whether what the node accepted itself beyond what it knows fits: one that is alone knows that at once.

@@ -9,6 +9,7 @@ mod hearing;
 mod leading;
 mod process;
 mod running;
+mod serving;
 mod settling;
 mod starting;
 mod testing;

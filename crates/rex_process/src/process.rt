@@ -15,7 +15,7 @@ use rex_frames::Status;
 use rex_node::{Node, Step};
 use rex_reads::Seen;
 use rex_report::Effect;
-use rex_steps::{answered, read_effect, told};
+use rex_steps::{Call, read_effect};
 use rex_syntax::checked::Checked;
 use rex_syntax::request::Request;
 use rex_traits::Keeper;
@@ -113,8 +113,7 @@ impl<'a, K: Keeper> Process<'a, K> {
         ensures left { OnErr result (self.new ≡ self.old) }
         ensures keeper { self.new.node.keeper ≡ self.old.node.keeper }
     {
-        let outcome = self.node.ask::<Brand>(self.svc, to);
-        told(self.alloc, self.node.id(), outcome)
+        self.served(&Call::Ask { other: to }, None)
     }
 
     /// Answers a client's request, and queues it where it is due.
@@ -129,12 +128,6 @@ impl<'a, K: Keeper> Process<'a, K> {
         ensures left { OnErr result (IsLeft K.records self.old self.new (Submit request.now)) }
         ensures keeper { self.new.node.keeper ≡ self.old.node.keeper }
     {
-        let _service = self.svc.declarations();
-        let outcome = self.node.submit::<Brand>(self.svc, request);
-        told(
-            self.alloc,
-            self.node.id(),
-            answered(self.alloc, request, outcome),
-        )
+        self.served(&Call::Submit { request }, None)
     }
 }

@@ -5,7 +5,7 @@ ghost use Rattle.rex_processes.specs.Plain.{IsPlain};
 ghost use Rattle.rex_node.specs.Parts.{IsNode, StaysNode};
 ghost use Rattle.rex_process.specs.Process as spec;
 ghost use Rattle.rex_process.specs.Process.{here};
-ghost use Rattle.rex_process.specs.Settling.{IsCaught, IsJoined, IsReady, IsSettling, noted_clock};
+ghost use Rattle.rex_process.specs.Settling.{HasNoNews, IsCaught, IsJoined, IsReady, IsSettling, noted_clock};
 
 use crate::process::Process;
 use rex_fits::{Applied, clock_after};
@@ -31,6 +31,7 @@ impl<'a, K: Keeper> Process<'a, K> {
         ensures service { self.new.service ≡ self.old.service }
         ensures kept { StaysNode K.records self.old.service [] self.old.node self.new.node }
         ensures keeper { self.new.node.keeper ≡ self.old.node.keeper }
+        ensures still { HasNoNews K.records self.old known test → self.new ≡ self.old }
     {
         if !self.node.is_up() {
             return Ok(step);
@@ -71,6 +72,7 @@ impl<'a, K: Keeper> Process<'a, K> {
         ensures service { self.new.service ≡ self.old.service }
         ensures kept { StaysNode K.records self.old.service [] self.old.node self.new.node }
         ensures keeper { self.new.node.keeper ≡ self.old.node.keeper }
+        ensures still { HasNoNews K.records self.old known None → self.new ≡ self.old }
     {
         let before = self.clock;
         let clock = clock_after(self.alloc, before, self.node.window().after(known))?;

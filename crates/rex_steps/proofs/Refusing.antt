@@ -16,7 +16,7 @@ use Rattle.rex_state.specs.Value.{StateValue}
 use Rattle.rex_node.specs.declared.refusal.Refusal.{Refusal}
 use Rattle.rex_node.specs.declared.refusal.Refusal.TheVariants as why
 use Rattle.rex_node.specs.declared.step.Step.{Step}
-use Rattle.rex_node.specs.Calls.{IsSpared, Refuses, RefusesThen, if_active, if_up, refusal_of_lead, refusal_of_none, refusal_of_open}
+use Rattle.rex_node.specs.Calls.{IsSpared, RefusesThen, if_active, if_up, refusal_of_lead, refusal_of_none, refusal_of_open}
 use Rattle.rex_steps.specs.Steps.{Acts, IsDone, effect_of}
 
 -- ---- refusals
@@ -73,14 +73,6 @@ module _ (past : List Value) (call : CallHere → CallHere) (number : ℕ) (befo
       by : (up : Bool) → before.up ≡ up → RefusesThen (if_up up due) late result → Acts past call number before after result
       by true e h = acts_up due late result e h left says later (done e)
       by false e h = was_down result e h left
-
-  due_first : (due : Option Refusal) (result : Result Step Refusal) → Refuses due result → RefusesThen due None result
-  due_first (Some refusal) result is = is
-  due_first None (Ok step) is = refl
-  due_first None (Err refusal) is = subst (λ (r : Refusal). RefusesThen None None (err_of r)) (sym is) tt
-
-  pub acts : (due : Option Refusal) (result : Result Step Refusal) → Refuses (if_up before.up due) result → IsSpared result before after → Excused (call (begin before)) number before due → (before.up ≡ true → IfOk result (IsDone past call before after)) → Acts past call number before after result
-  acts due result is left says done = acts_then due None result (due_first (if_up before.up due) result is) left says (λ _. tt) done
 
 -- ---- elections
 
@@ -192,5 +184,3 @@ spared_if (Err (why.Live many)) before after same = same
 spared_if (Err why.UpToDate) before after same = same
 spared_if (Err why.Spent) before after same = same
 spared_if (Err (why.BadSnapshot at)) before after same = same
-
--- ---- states that are told

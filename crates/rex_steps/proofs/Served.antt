@@ -30,12 +30,15 @@ use Rattle.rex_log.specs.Messages.{message_in}
 use Rattle.rex_node.specs.declared.refusal.Refusal.{Refusal}
 use Rattle.rex_node.specs.declared.refusal.Refusal.TheVariants as why
 use Rattle.rex_node.specs.declared.step.Step.{Step}
-use Rattle.rex_node.specs.Calls.{Does, EndsDown, IsGivenUp, IsSpared, Leaves, LeavesAll, LeadsTo, Refuses, RefusesThen, call_of, if_up, last_of, refusal_active, refusal_of_lead, refusal_of_none, turn_at}
+use Rattle.rex_node.specs.Calls.{Does, EndsDown, IsSpared, LeadsTo, Refuses, RefusesThen, call_of, if_up, last_of, refusal_active, refusal_of_lead, refusal_of_none, turn_at}
 use Rattle.rex_node.specs.Calls as calls
 use Rattle.rex_node.specs.Parts.{IsNode, NodeValue, here_of, knows}
 use Rattle.rex_node.specs.Telling.{AreTold, IsTold}
+use Rattle.rex_node.proofs.Ending.{no_messages}
 use Rattle.rex_steps.specs.Steps.{Acts, IsRefused, IsStepOf, IsTelling, TellsOf, WasDown, effect_of}
-use Rattle.rex_steps.specs.Serving.{DoesCall, Serves, ServesIf, if_active}
+use Rattle.rex_steps.specs.declared.serving.Call.{Call}
+use Rattle.rex_steps.specs.declared.serving.Call.TheVariants as called
+use Rattle.rex_steps.specs.Serving.{DoesCall, Serves, ServesIf, Spares, if_active}
 use Rattle.rex_steps.proofs.Refusing.{Excused, acts_then, cut_excused, cut_late, nothing_below}
 
 -- what refuses leaves as it was, and so whatever is made of it
@@ -122,10 +125,6 @@ checkpoint_sends version sv me x =
 pub drop_sends : (me : ℕ) (x : Here) → (drop_known me (begin x)).sends ≡ []
 drop_sends me x = if_silent (base x.log == offset x.log) _ _ refl (append_silent x.armed me _ x _)
 
-nothing_sent : (past : List Value) (sends : List Message) → map (message_in past) sends ≡ [] → sends ≡ []
-nothing_sent past [] e = refl
-nothing_sent past (m ∷ ms) e = absurd cc
-
 -- ---- results
 
 pub on_if_ok : {A B : Type 0} (P : Type 0) (result : Result A B) → OnOk result P → IfOk result (λ _. P)
@@ -137,6 +136,13 @@ pub refused_first : (due : Option Refusal) (result : Result Step Refusal) → Re
 refused_first (Some refusal) result is = is
 refused_first None (Ok step) is = refl
 refused_first None (Err refusal) is = subst (λ (r : Refusal). RefusesThen None None (err_of r)) (sym is) tt
+
+-- a node that is as it was is spared
+pub spares_same : {K : Type 0} (call : Call) (x : NodeValue K) → Spares call x x
+spares_same (called.Submit request) x = refl
+spares_same (called.Lane lane clock) x = refl
+spares_same (called.Ask other) x = refl
+spares_same _ x = tt
 
 module _ (service : Declarations) (before after : Here) (lane : ℕ) (clock : ℤ) (result : Result Turn Refusal) (told : IfOk result (λ (t : Turn). t ≡ turn_at service before lane clock)) where
   pub turn_effects : IfOk result (λ (t : Turn). lanes.turn_effect lane t ∷ [] ≡ (lanes.turned service lane (turn_at service before lane clock) (begin before)).effects)
@@ -263,8 +269,6 @@ module _ {K : Type 0} (records : K → List (List ℕ)) (gives : K → List ℕ 
     tells = step_told step result told tells;
   }
 
-  -- ---- want of memory
-
   -- ---- what only an active node does
 
   module _ {A : Type 0} (f : A → Effect) (none : (x : A) → ◌≡◌ {A = Option Effect} (Some (f x)) (Some (effect.Down old.id)) → ⊥) (call : CallHere → CallHere) (sends : (call (begin before)).sends ≡ []) (up : old.up ≡ true) (same : new.keeper ≡ old.keeper) (step : Step) where
@@ -342,7 +346,7 @@ module _ {K : Type 0} (records : K → List (List ℕ)) (gives : K → List ℕ 
   -- a step of a call that sends nothing tells no state
   pub silent_step : (call : CallHere → CallHere) (result : Result Step Refusal) → ((y : Here) → (call (begin y)).sends ≡ []) → IfOk result (Does records gives faults service past call old new) → IfOk result (λ (s : Step). AreTold service past s.sends)
   silent_step call (Err refusal) silent does = tt
-  silent_step call (Ok step) silent does = subst (AreTold service past) (sym (nothing_sent past step.sends (none does))) (All-nil (λ (m : Message). IsTold service past m.content))
+  silent_step call (Ok step) silent does = subst (AreTold service past) (sym (no_messages past step.sends (none does))) (All-nil (λ (m : Message). IsTold service past m.content))
     where
       none : Does records gives faults service past call old new step → map (message_in past) step.sends ≡ []
       none (inl h) = ap (λ (d : CallHere). d.sends) (sym h.is) ∙ silent before

@@ -105,3 +105,10 @@ pub record KeepsStill {K : Type 0} (records : K → List (List ℕ)) (gives : K 
 -- so it was, or the node has given up the call after appends
 abbrev pub IsShort : {K : Type 0} → (K → List (List ℕ)) → (K → List ℕ → Answer → K → Type 0) → (K → ℕ) → Declarations → List Value → (CallHere → CallHere) → NodeValue K → NodeValue K → Type 0
 IsShort records gives faults service past call old new = KeepsStill records gives faults old.keeper new.keeper ⊎ IsGivenUp records gives faults service past call old new
+
+-- a client's request and a lane's turn leave the node's keeper as it was, and asking another node leaves all of the node so
+abbrev pub Spares : {K : Type 0} → Call → NodeValue K → NodeValue K → Type 0
+Spares (Submit request) old new = new.keeper ≡ old.keeper
+Spares (Lane lane clock) old new = new.keeper ≡ old.keeper
+Spares (Ask other) old new = new ≡ old
+Spares _ old new = Unit {0}

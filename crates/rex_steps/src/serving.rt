@@ -4,7 +4,7 @@ ghost use Rattle.std.specs.Prelude.{◌≡◌, ◌∷◌, ◌<◌, ◌-◌, ◌^
 ghost use Rattle.rex_report.specs.declared.effect.Effect.TheVariants as effect;
 ghost use Rattle.rex_cluster.specs.Lanes.{effect_of};
 ghost use Rattle.rex_node.specs.Parts.{IsNode, StaysNode, here_of};
-ghost use Rattle.rex_steps.specs.Serving.{IsShort, MayServe, Serves, call_for};
+ghost use Rattle.rex_steps.specs.Serving.{IsShort, MayServe, Serves, Spares, call_for};
 ghost use Rattle.rex_steps.specs.Steps.{IsStepOf, IsTelling};
 
 use crate::effects::effect_of;
@@ -84,6 +84,7 @@ pub fn serve<P: Past, K: Keeper, R: Replayer>(
     ensures short { OnErr result (IsShort K.records K.append_gives K.faults svc.now P.past
         (call_for svc.now P.past node.old.seed node.old.nodes node.old.id (here_of K.records svc.now P.past node.old) call.now) node.old node.new) }
     ensures kept { StaysNode K.records svc.now P.past node.old node.new }
+    ensures spares { Spares call.now node.old node.new }
 {
     let _service = svc.declarations();
     let id = node.id();

@@ -8,7 +8,7 @@ use Rattle.rex_node.specs.Parts.{here_of}
 use Rattle.rex_node.specs.Calls.{counts_for, turn_at}
 use Rattle.rex_steps.specs.Steps.{IsStepOf}
 use Rattle.rex_steps.proofs.Refusing.{checkpoint_excused, drop_excused, elect_excused, replay_excused, spared_if}
-use Rattle.rex_steps.proofs.Served.{answer_told, checkpoint_sends, cut_due, cut_then, drop_sends, kept_ends, on_if_ok, refused_first, replay_sends, replay_told, serves_active, serves_then, silent_step, turn_effects, turn_node, turn_told}
+use Rattle.rex_steps.proofs.Served.{answer_told, checkpoint_sends, cut_due, cut_then, drop_sends, kept_ends, on_if_ok, refused_first, replay_sends, replay_told, serves_active, serves_then, silent_step, spares_same, turn_effects, turn_node, turn_told}
 use Rattle.rex_steps.proofs.serving.serve.Goals as goal
 
 pub returns-in-Elect-clause-serves : goal.returns-in-Elect-clause-serves
@@ -71,3 +71,6 @@ returns-in-DropKnown-clause-serves g c =
     (drop_excused c.args.node.now.id (here_of g.K.Keeper.records c.args.svc.now g.P.Past.past c.args.node.now)) (λ _. tt)
     c.drop_known.result (refused_first _ c.drop_known.result c.drop_known.ensures.refused) c.drop_known.ensures.same c.drop_known.ensures.told c.drop_known.ensures.down
     (silent_step g.K.Keeper.records g.K.Keeper.append_gives g.K.Keeper.faults c.args.svc.now g.P.Past.past c.args.node.now c.drop_known.new.self (drop_known c.args.node.now.id) c.drop_known.result (drop_sends c.args.node.now.id) c.drop_known.ensures.told) c.told-in-DropKnown.result (subst (λ (k : ℕ). IsStepOf k c.drop_known.result c.told-in-DropKnown.result) c.id-id.ensures c.told-in-DropKnown.ensures))
+
+pub returns-then-not-is_up-clause-spares : goal.returns-then-not-is_up-clause-spares
+returns-then-not-is_up-clause-spares g c = spares_same c.args.call.now c.args.node.now

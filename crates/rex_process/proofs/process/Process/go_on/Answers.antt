@@ -18,6 +18,6 @@ returns-clause-still g c =
     subst (λ (p : ProcessValue _). IsStill g.K.Keeper.records g.K.Keeper.faults p (record { service = c.self.inside.svc.now; node = c.lane.new.self; clock = c.self.inside.clock })) c.self.view_is
     (moves g.K.Keeper.records g.K.Keeper.faults (record { service = c.self.inside.svc.now; node = c.self.inside.node; clock = c.self.inside.clock })
     (subst (IsProcess g.K.Keeper.records g.K.Keeper.faults) (sym c.self.view_is) c.requires.process) (ap (λ (p : ProcessValue _). p.node.up) c.self.view_is ∙ c.requires.up)
-    c.declarations-service.ensures.sound c.declarations-service.ensures.checked c.args.lane
+    g.K.Keeper.append_gives c.declarations-service.ensures.sound c.declarations-service.ensures.checked c.args.lane
     (subst (λ (s : Declarations). c.args.lane < s.lanes) (ap (λ (p : ProcessValue _). p.service) (sym c.self.view_is)) c.requires.lane)
     c.lane.new.self c.lane.ensures.keeper c.lane.ensures.kept c.lane.result c.lane.ensures.refused (subst (λ (clock : ℤ). IfOk c.lane.result (λ t. t ≡ turn_at c.self.inside.svc.now (here_of g.K.Keeper.records c.self.inside.svc.now [] c.self.inside.node) c.args.lane clock)) same c.lane.ensures.told) c.lane.ensures.node c.lane.ensures.same)

@@ -20,10 +20,10 @@ returns-clause-turn g c =
     has_turn g.K.Keeper.records g.K.Keeper.faults c.raise.new.self
     (raised_is g.K.Keeper.records g.K.Keeper.faults c.args.self.now c.raise.new.self (to_z w64 (of_z w64 c.args.clock)) c.raise.ensures c.requires.process)
     (ap (λ (p : ProcessValue _). p.node.up) raised ∙ c.requires.up)
-    (subst IsService service c.declarations-service.ensures.sound) (subst IsChecked service c.declarations-service.ensures.checked)
+    g.K.Keeper.append_gives (subst IsService service c.declarations-service.ensures.sound) (subst IsChecked service c.declarations-service.ensures.checked)
     c.args.lane (subst (λ (s : Declarations). c.args.lane < s.lanes) (sym (ap (λ (p : ProcessValue _). p.service) raised)) c.requires.lane)
     c.go_on-outcome.new.self c.go_on-outcome.ensures.still.same c.go_on-outcome.ensures.still.clock c.go_on-outcome.ensures.still.keeper
-    c.args.self.now c.args.clock raised c.id.result c.go_on-outcome.result c.turned.result
+    c.args.self.now c.args.clock raised c.id.result (c.id.ensures ∙ ap (λ (p : ProcessValue _). p.node.id) c.self-2.view_is ∙ c.go_on-outcome.ensures.still.same.id) c.go_on-outcome.result c.turned.result
     c.go_on-outcome.ensures.refused c.go_on-outcome.ensures.gone c.go_on-outcome.ensures.spared c.turned.ensures c.told.result c.told.ensures
 
 pub returns-clause-sends : goal.returns-clause-sends
