@@ -1,7 +1,6 @@
 -- What a client is told that reads a variable at a node, or that a release gives.
-use Rattle.std.proofs.Common.{◌≡◌, ℕ, ◌≤◌, max, Bool, true, false, List, Option, Some, None, refl, sym, ap, ◌∙◌}
-use Rattle.std.specs.Prelude.{ℤ, is_some, take}
-use Rattle.std.proofs.lemmas.Bool.{false≢true}
+use Rattle.std.proofs.Common.{arith, ◌≡◌, ℕ, ◌≤◌, max, Bool, true, false, List, Option, Some, None, refl, sym, ap, ◌∙◌}
+use Rattle.std.specs.Prelude.{ℤ, drop, is_some, take}
 use Rattle.rex_syntax.specs.declared.service.Declarations.{Declarations}
 use Rattle.rex_state.specs.Value.{StateValue}
 use Rattle.rex_reads.specs.Reads.{answered}
@@ -10,9 +9,11 @@ use Rattle.rex_cluster.specs.Node.{is_active}
 use Rattle.rex_cluster.specs.Values.{Value, state_after, trace_of}
 use Rattle.rex_cluster.specs.Reading.{last_reply, read_at, stamp_at, value_in}
 use Rattle.rex_cluster.proofs.Replies.{state_is}
-use Rattle.rex_node.specs.Parts.{ActingValue, HasStamps, IsResting, NodeValue, here_of, state_of}
-use Rattle.rex_node.specs.Telling.{stamp_in}
+use Rattle.rex_node.specs.Parts.{ActingValue, IsResting, IsUp, NodeValue, here_of, state_of}
+use Rattle.rex_node.specs.Telling.{last_held}
+use Rattle.rex_node.proofs.Appended.{logged_of}
 use Rattle.rex_node.proofs.Leaving.{role_active}
+use Rattle.rex_node.proofs.Stamping.{held_last}
 
 -- a node that is down or leads tells no value
 told_same : (up leads : Bool) (replayed seen : ℕ) (v w : ℤ) → (up ≡ true → leads ≡ false → v ≡ w) → answered up leads replayed v seen ≡ answered up leads replayed w seen
@@ -42,14 +43,17 @@ module _ {K : Type 0} (records : K → List (List ℕ)) (service : Declarations)
       ∙ told_same x.up (is_active (here_of records service past x).role) x.replayed seen v (value_in (state_after service (trace_of (take x.replayed (known (here_of records service past x).log)))) variable)
       (λ up follows. v_is ∙ value_is variable up follows)
 
-  -- a release of an active node gives its client the number of its last reply
-  pub stamp_is : (client : ℕ) → x.up ≡ true → is_active (here_of records service past x).role ≡ true → client ≤ 256 → stamp_in x.acting x.offset client ≡ stamp_at (here_of records service past x) client
-  stamp_is client up leads few =
-      let u = node.up up in
-      told_by x.acting (sym (role_active service x.known x.acceptor x.proposer x.acting u.acting) ∙ leads) u.stamped
-      ∙ ap (λ (vs : List Value). max (last_reply client 1 vs) x.offset) u.known
-      ∙ ap (λ (o : ℕ). max (last_reply client 1 (known (here_of records service past x).log)) o) u.offset
-    where
-      told_by : (w : Option ActingValue) → is_some w ≡ true → HasStamps x.offset x.known w → stamp_in w x.offset client ≡ max (last_reply client 1 x.known) x.offset
-      told_by None e h = absurd (false≢true e)
-      told_by (Some a) e h = h.stamps client few
+  -- ---- the number that a release of an active node gives its client
+
+  module _ (client : ℕ) (up : x.up ≡ true) (a : ActingValue) (acts : x.acting ≡ Some a) (few : client ≤ 256) where
+    u : IsUp service x (here_of records service past x)
+    u = node.up up
+
+    last : max (last_reply client 1 x.known) x.offset ≡ stamp_at (here_of records service past x) client
+    last =
+        ap (λ (vs : List Value). max (last_reply client 1 vs) x.offset) u.known
+        ∙ ap (λ (o : ℕ). max (last_reply client 1 (known (here_of records service past x).log)) o) u.offset
+
+    -- where what is known of the clients has none, it is that of the last value that is held and has a reply to the client
+    pub stamp_held : last_held x.offset (drop x.offset x.known) client ≡ stamp_at (here_of records service past x) client
+    stamp_held = (let g = logged_of records service past x u in held_last x.offset x.known client (omega (arith, g.low, g.few))) ∙ last

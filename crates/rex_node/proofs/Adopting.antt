@@ -42,7 +42,7 @@ use Rattle.rex_node.specs.declared.going.Going.TheVariants.{On, Down}
 use Rattle.rex_node.specs.declared.going.Round.TheVariants.{Again, Done}
 use Rattle.rex_node.specs.declared.step.Draft.{Draft}
 use Rattle.rex_log.specs.Log.{proposal_in}
-use Rattle.rex_node.specs.Parts.{NodeValue, ActingValue, IsCutAt, IsKept, HasGoneOn, IsResting, IsProposer, IsSame, IsUp, Proposes, here_of, lead_of, open_of, role_of}
+use Rattle.rex_node.specs.Parts.{NodeValue, ActingValue, IsCutAt, IsKept, HasGoneOn, IsResting, IsProposer, IsSame, IsUp, Proposes, here_of, lead_of, open_of, role_of, IsDown}
 use Rattle.rex_node.specs.Calls.{armed_with}
 use Rattle.rex_node.specs.Going.{BreaksOff, Comes, Fell, IsStuck, Leads, LosesFirst, MayGoOn, RunsOn, above, so_far}
 use Rattle.rex_node.specs.Leading.{FromLead, GoesRound, IsFree, IsLonger, accept_own, knowing, HasLearned, HasOpened, IsOwnCut, Learns, LearnsShort, Opens, OpensShort, goes_on, may_lead, opened, reported_value, settling}
@@ -52,6 +52,7 @@ use Rattle.rex_node.proofs.Grows.{fits_before, rest_runs, settle_learns}
 use Rattle.rex_node.proofs.GoingLemmas.{leads_same, leads_then, leads_fell}
 use Rattle.rex_node.proofs.Opening.{lead_opened, opened_by, opened_is}
 use Rattle.rex_node.proofs.Stuck.{breaks_after, breaks_as, settle_loses}
+use Rattle.rex_node.proofs.Reaching.{bare_reached}
 
 -- ---- the model's turn
 
@@ -228,12 +229,13 @@ module _ {K : Type 0} (records : K → List (List ℕ)) (gives : K → List ℕ 
       c.p_is opens
 
   -- a node that is down is kept
-  down_node_kept : (y : NodeValue K) → IsSame x y → y.up ≡ false → IsResting records service past y
+  down_node_kept : (y : NodeValue K) → IsSame x y → IsDown y → IsResting records service past y
   down_node_kept y same down = record {
     id = (subst (λ (n : ℕ). 0 < n) (sym same.id) kept_so.id.0, let least = kept_so.id.1 in let id : y.id ≡ x.id = same.id in let nodes : y.nodes ≡ x.nodes = same.nodes in omega (arith, least));
     few = subst (λ (n : ℕ). n ≤ most_nodes) (sym same.nodes) kept_so.few;
-    up = λ t. absurd (cc);
-    rests = λ t. absurd (cc);
+    up = λ t. absurd (let d : y.up ≡ false = down.down in cc);
+    reached = bare_reached service y.offset y.known y.reached down.bare;
+    rests = λ t. absurd (let d : y.up ≡ false = down.down in cc);
   }
 
   -- the append failed
@@ -306,7 +308,7 @@ module _ {K : Type 0} (records : K → List (List ℕ)) (gives : K → List ℕ 
           comes_y.1,
           comes_y.2,
         ),
-        record { id = comes_y.1.id; few = comes_y.1.few; up = comes_y.1.up; rests = λ t. has_gone },
+        record { id = comes_y.1.id; few = comes_y.1.few; up = comes_y.1.up; reached = comes_y.1.reached; rests = λ t. has_gone },
       )
         where
           has_gone : HasGoneOn y.proposer (is_some y.acting)

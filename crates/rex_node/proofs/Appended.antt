@@ -91,7 +91,7 @@ module _ {K : Type 0} (records : K → List (List ℕ)) (service : Declarations)
     pub caught_up : is_some x.acting ≡ true → x.replayed ≡ length x.known
     pub proposer : IsProposer x.nodes x.id x.acceptor x.proposer
     pub acting : IsActing service x.known x.acceptor x.proposer x.acting
-    pub stamped : HasStamps x.offset x.known x.acting
+    pub stamped : HasStamps x.known x.acting
     pub role : RoleFits (length x.known) (here_of records service past x).role
 
   pub up_of : IsLogged service x (log_of service past (records x.keeper)) → Beside → IsUp service x (here_of records service past x)

@@ -1,5 +1,5 @@
 -- What a node does on a chosen value.
-use Rattle.std.proofs.Common.{◌≡◌, ℕ, suc, ◌<◌, ◌≤◌, Bool, true, false, List, [], ◌∷◌, ◌++◌, length, take, Option, None, refl, sym, ap, subst, ◌∙◌, arith}
+use Rattle.std.proofs.Common.{◌≡◌, ℕ, suc, ◌<◌, ◌≤◌, Bool, true, List, [], ◌∷◌, ◌++◌, length, take, Option, None, refl, sym, ap, subst, ◌∙◌, arith}
 use Rattle.std.specs.Prelude.{map, is_some, cond, nat_lt}
 use Rattle.std.proofs.lemmas.Bool.{eq-eqb, le-ltb, lt-ltb, lt-leb, le-leb}
 use Rattle.std.proofs.lemmas.List.{take-append-le}
@@ -24,7 +24,7 @@ use Rattle.rex_log.specs.Messages.{message_in}
 use Rattle.rex_node.specs.Calls.{armed_with}
 use Rattle.rex_node.specs.Going.{Appends, Fell, IsStuck, RunsOn, Tells, TellsBase, so_far}
 use Rattle.rex_log.specs.Log.{log_of, standing_in}
-use Rattle.rex_node.specs.Parts.{NodeValue, IsUp, IsResting, here_of, leaving, role_of}
+use Rattle.rex_node.specs.Parts.{NodeValue, IsUp, IsResting, here_of, leaving, role_of, IsDown}
 use Rattle.rex_node.proofs.Appended.{instance_fits, logged_of, logged_known, IsLogged}
 use Rattle.rex_node.proofs.Bases.{tells_base}
 use Rattle.rex_node.proofs.Following.{EndsWell, ends_same, far}
@@ -57,7 +57,7 @@ module _ {K : Type 0} (records : K → List (List ℕ)) (gives : K → List ℕ 
       ignores = say (effect.IgnoredInstance i (suc (length (known (here_of records service past x).log)))) (armed_with f (so_far records service past x before))
 
   pub chosen_down : Appends records faults gives x y before mid (record_bytes (kept.Known i v)) Down
-      → (Fell records gives faults service chooses x.id x.keeper y.keeper (so_far records service past x before) (so_far records service past y mid) × (y.up ≡ false)) × IsResting records service past y
+      → (Fell records gives faults service chooses x.id x.keeper y.keeper (so_far records service past x before) (so_far records service past y mid) × IsDown y) × IsResting records service past y
   chosen_down h = recorded_down records gives faults service past x y before mid node up (kept.Known i v) spelled due refl refl chooses _ chosen_is h
 
   pub chosen_stuck : Appends records faults gives x y before mid (record_bytes (kept.Known i v)) On → (z : NodeValue K) → z.keeper ≡ y.keeper → z.base ≡ y.base → IsStuck records gives faults service past chooses x z before

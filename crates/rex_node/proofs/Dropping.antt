@@ -33,13 +33,12 @@ use Rattle.rex_node.specs.declared.step.Draft.{Draft}
 use Rattle.rex_node.specs.declared.going.Going.TheVariants.{On, Down}
 use Rattle.rex_node.specs.Calls.{armed_with}
 use Rattle.rex_node.specs.Going.{Appends, Fell, IsStuck, so_far}
-use Rattle.rex_node.specs.Parts.{ActingValue, ActsFor, HasOpen, IsActing, IsProposer, IsResting, IsUp, NodeValue, count_of, here_of, knows, lead_of, open_of, role_of, whole}
+use Rattle.rex_node.specs.Parts.{ActingValue, ActsFor, HasOpen, IsActing, IsProposer, IsResting, IsUp, NodeValue, count_of, here_of, knows, lead_of, open_of, role_of, whole, IsDown}
 use Rattle.rex_node.specs.Telling.{dropped}
 use Rattle.rex_node.proofs.Appended.{Beside, IsLogged, appended_log, beside_of, call_at, logged_of, up_of}
 use Rattle.rex_node.proofs.Following.{EndsWell, far}
 use Rattle.rex_node.proofs.Knows as knowing
 use Rattle.rex_node.proofs.Recorded.{recorded_down, recorded_on, recorded_stuck}
-use Rattle.rex_node.proofs.Stamping.{stamped_more}
 use Rattle.rex_node.proofs.Votes.{found_instance}
 
 -- ---- what it knows
@@ -59,15 +58,15 @@ dropped_knows past y k from to begins =
 
 -- so it is as before but for where it begins to hold values and acceptances
 abbrev pub forgetful : {K : Type 0} → NodeValue K → K → NodeValue K
-forgetful x keeper = record x { keeper = keeper; offset = x.base; acceptor = forgetting x.acceptor x.base }
+forgetful x keeper = record x { reached = None; keeper = keeper; offset = x.base; acceptor = forgetting x.acceptor x.base }
 
 pub dropped_whole : {K : Type 0} (past : List Value) (x y z : NodeValue K) (k : ℕ) → whole past y ≡ record x { keeper = y.keeper } → z ≡ dropped y k → k ≡ x.base → x.offset ≤ x.base → x.base ≤ length x.known → Begins x.known past
     → whole past z ≡ forgetful x y.keeper
 dropped_whole past x y z k parts z_is k_is low few begins =
     ap (whole past) z_is
     ∙ ap (λ (vs : List Value). record (dropped y k) { known = vs }) (dropped_knows past y k from to (subst (λ (vs : List Value). Begins vs past) (sym knows_is) begins))
-    ∙ ap (λ (n : NodeValue _). record n { offset = k; acceptor = forgetting n.acceptor k }) parts
-    ∙ ap (λ (n : ℕ). record x { keeper = y.keeper; offset = n; acceptor = forgetting x.acceptor n }) k_is
+    ∙ ap (λ (n : NodeValue _). record n { reached = None; offset = k; acceptor = forgetting n.acceptor k }) parts
+    ∙ ap (λ (n : ℕ). record x { reached = None; keeper = y.keeper; offset = n; acceptor = forgetting x.acceptor n }) k_is
   where
     knows_is : knows past y ≡ x.known
     knows_is = ap (λ (n : NodeValue _). n.known) parts
@@ -190,7 +189,7 @@ module _ {K : Type 0} (records : K → List (List ℕ)) (gives : K → List ℕ 
           else append f x.id (Dropped n) (armed_with f (so_far records service past x before)) (say (effect.Dropped x.id n))
 
   pub drop_down : Appends records faults gives x y before mid (record_bytes (kept.Dropped x.base)) Down
-      → (Fell records gives faults service (drop_known x.id) x.id x.keeper y.keeper (so_far records service past x before) (so_far records service past y mid) × (y.up ≡ false)) × IsResting records service past y
+      → (Fell records gives faults service (drop_known x.id) x.id x.keeper y.keeper (so_far records service past x before) (so_far records service past y mid) × IsDown y) × IsResting records service past y
   drop_down h = recorded_down records gives faults service past x y before mid node up (kept.Dropped x.base) drop_spelled due refl refl (drop_known x.id) (say (effect.Dropped x.id x.base)) appends h
 
   pub drop_stuck : Appends records faults gives x y before mid (record_bytes (kept.Dropped x.base)) On → (z : NodeValue K) → z.keeper ≡ y.keeper → z.base ≡ y.base → IsStuck records gives faults service past (drop_known x.id) x z before
@@ -226,12 +225,12 @@ module _ {K : Type 0} (records : K → List (List ℕ)) (gives : K → List ℕ 
           caught_up = b.caught_up;
           proposer = proposer_kept x.nodes x.id x.acceptor x.base x.proposer later b.proposer;
           acting = acting_kept service x.known x.acceptor x.base x.proposer x.acting later b.acting;
-          stamped = stamped_more x.offset x.base x.known x.acting l.low b.stamped;
+          stamped = b.stamped;
           role = subst (RoleFits (length x.known)) (sym (role_kept x.acceptor x.base (is_some x.acting) x.proposer later)) b.role;
         })
 
     forgets_node : IsResting records service past (forgetful x y.keeper)
-    forgets_node = record { id = node.id; few = node.few; up = λ _. forgets_up; rests = node.rests }
+    forgets_node = record { id = node.id; few = node.few; up = λ _. forgets_up; reached = tt; rests = node.rests }
 
     forgets_here : here_of records service past (forgetful x y.keeper) ≡ record (here_of records service past x) { log = Dropped x.base ∷ log }
     forgets_here =

@@ -52,7 +52,7 @@ last_among (x ∷ y ∷ es) e h = inr (last_among (y ∷ es) e h)
 
 -- a node is kept with another keeper of the same records
 pub node_with_keeper : {K : Type 0} (records : K → List (List ℕ)) (service : Declarations) (past : List Value) (x : NodeValue K) (k : K) → records k ≡ records x.keeper → IsResting records service past x → IsResting records service past (record x { keeper = k })
-node_with_keeper records service past x k same h = record { id = h.id; few = h.few; up = λ t. up (h.up t); rests = h.rests }
+node_with_keeper records service past x k same h = record { id = h.id; few = h.few; up = λ t. up (h.up t); reached = h.reached; rests = h.rests }
   where
     up : IsUp service x (here_of records service past x) → IsUp service (record x { keeper = k }) (here_of records service past (record x { keeper = k }))
     up u =
@@ -141,7 +141,7 @@ module _ {K : Type 0} (records : K → List (List ℕ)) (gives : K → List ℕ 
         down = λ more. ap last_of (h.finishes.1 ∙ f.told) ∙ last_push f.front (effect.Down x.id);
         only = λ last. subst (λ (n : NodeValue K). faults x.keeper < faults n.keeper) (sym h.finishes.0) f.fails.counted;
         quiet = λ more. h.finishes.2 ∙ no_messages past draft.sends.items f.quiet;
-        falls = λ more. ap (λ (n : NodeValue K). n.up) h.finishes.0 ∙ h.ends.0.1;
+        falls = λ more. ap (λ (n : NodeValue K). n.up) h.finishes.0 ∙ h.ends.0.1.down;
       }
   down end (Err refusal) h quiet = tt
   down (Err e) (Ok step) h quiet = absurd h.finishes
@@ -175,6 +175,7 @@ module _ {K : Type 0} (records : K → List (List ℕ)) (gives : K → List ℕ 
         id = subst (λ (i : ℕ). (0 < i) × (i ≤ y.nodes)) (sym s.id) (subst (λ (m : ℕ). (0 < x.id) × (x.id ≤ m)) (sym s.nodes) n.id);
         few = subst (λ (m : ℕ). m ≤ most_nodes) (sym s.nodes) n.few;
         up = λ t. absurd (false≢true t);
+        reached = tt;
         rests = λ t. absurd (false≢true t);
       }
 

@@ -183,7 +183,7 @@ module _ {K : Type 0} (records : K → List (List ℕ)) (service : Declarations)
     caught_up = λ _. u.caught_up (ap (λ (w : Option ActingValue). is_some w) e);
     proposer = u.proposer;
     acting = acting_with service x.known x.acceptor x.proposer a b (subst (IsActing service x.known x.acceptor x.proposer) e u.acting) k;
-    stamped = subst (NumbersReplies x.offset x.known) (sym k.0) (subst (HasStamps x.offset x.known) e u.stamped);
+    stamped = subst (NumbersReplies x.known) (sym k.0) (subst (HasStamps x.known) e u.stamped);
     fits = u.fits;
     short = u.short;
     numbers = record {
@@ -197,6 +197,7 @@ module _ {K : Type 0} (records : K → List (List ℕ)) (service : Declarations)
     id = h.id;
     few = h.few;
     up = λ t. up_with (h.up t) e k;
+    reached = h.reached;
     rests = λ t. subst (λ (w : Option ActingValue). HasGoneOn x.proposer (is_some w)) e (h.rests t);
   }
 

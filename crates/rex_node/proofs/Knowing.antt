@@ -49,7 +49,7 @@ use Rattle.rex_node.specs.declared.going.Going.TheVariants.{On, Down}
 use Rattle.rex_node.specs.declared.step.Draft.{Draft}
 use Rattle.rex_log.specs.Messages.{content_in, message_in}
 use Rattle.rex_log.specs.Log.{log_of}
-use Rattle.rex_node.specs.Parts.{NodeValue, ActingValue, Executes, HasStamps, IsActing, IsProposer, NumbersReplies, Proposes, IsCutAt, IsUp, IsKept, Keeps, Falls, ahead_of, here_of, lead_of, role_of, work_of}
+use Rattle.rex_node.specs.Parts.{NodeValue, ActingValue, Executes, HasStamps, IsActing, IsProposer, NumbersReplies, Proposes, IsCutAt, IsUp, IsKept, Keeps, Falls, ahead_of, here_of, lead_of, role_of, work_of, HasReached}
 use Rattle.rex_node.specs.Calls.{armed_with}
 use Rattle.rex_node.specs.Going.{Appends, BreaksOff, Comes, LosesFirst, so_far}
 use Rattle.rex_node.specs.Leading.{CanSettle, IsOwnCut, Learns, LearnsShort, knowing, releases_in, replayed_to, settling}
@@ -59,6 +59,7 @@ use Rattle.rex_node.proofs.GoingLemmas.{leads_same, leads_then}
 use Rattle.rex_node.proofs.Opening.{logged_as, some_of}
 use Rattle.rex_node.proofs.Stamping.{noted_next}
 use Rattle.rex_node.proofs.Written.{appends_as, call_is, log_written, written_on, written_down, broken_written}
+use Rattle.rex_node.proofs.Reaching.{still_reached}
 
 -- ---- what is executed
 
@@ -117,9 +118,9 @@ module _ (service : Declarations) (good : IsService service) (seed : ℕ) (value
   acting_known None h c = tt
   acting_known (Some a) h c = record { executes = executes_settled service good values a h.executes v c; open_is_cut = tt }
 
-  stamped_known : (offset : ℕ) (w : Option ActingValue) → length values < 65535 → HasStamps offset values w → IsCut w → HasStamps offset (values ++ v ∷ []) (option_map (settling service) w)
-  stamped_known offset None few h c = tt
-  stamped_known offset (Some a) few h c = subst (λ (es : List Event). NumbersReplies offset (values ++ v ∷ []) (noting a.answers es)) c.events (noted_next offset values a.answers h few v)
+  stamped_known : (w : Option ActingValue) → length values < 65535 → HasStamps values w → IsCut w → HasStamps (values ++ v ∷ []) (option_map (settling service) w)
+  stamped_known None few h c = tt
+  stamped_known (Some a) few h c = subst (λ (es : List Event). NumbersReplies (values ++ v ∷ []) (noting a.answers es)) c.events (noted_next values a.answers h few v)
 
   work_is : (w : Option ActingValue) → IsActing service values acceptor (Some p) w → IsCut w → work_known (service_of service seed) (is_some w) (values ++ v ∷ []) (work_of w) ≡ work_of (option_map (settling service) w)
   work_is None h c = refl
@@ -176,7 +177,7 @@ ahead_known service values v (Some a) i replayed ahead start few h e = absurd (c
 
 -- ---- a node that learns
 
-module _ {K : Type 0} (records : K → List (List ℕ)) (gives : K → List ℕ → Answer → K → Type 0) (faults : K → ℕ) (service : Declarations) (past : List Value) (good : IsService service) (x : NodeValue K) (u : IsUp service x (here_of records service past x)) (id : (0 < x.id) × (x.id ≤ x.nodes)) (few : x.nodes ≤ most_nodes)
+module _ {K : Type 0} (records : K → List (List ℕ)) (gives : K → List ℕ → Answer → K → Type 0) (faults : K → ℕ) (service : Declarations) (past : List Value) (good : IsService service) (x : NodeValue K) (u : IsUp service x (here_of records service past x)) (id : (0 < x.id) × (x.id ≤ x.nodes)) (few : x.nodes ≤ most_nodes) (reached : HasReached service x.offset x.known x.reached)
     (p : ProposerValue) (e : x.proposer ≡ Some p) (i : ℕ) (v : Value) (next : i ≡ length x.known + 1) (there : ballots.IsInstance i) (short : IsValue v) (fits : values_fit service (x.known ++ v ∷ []) ≡ true) (cut : IsOwnCut service x v) where
   abbrev log : List (Rec Value StateValue)
   log = log_of service past (records x.keeper)
@@ -220,7 +221,7 @@ module _ {K : Type 0} (records : K → List (List ℕ)) (gives : K → List ℕ 
           caught_up = known_all service x.acting i x.replayed (length x.known) (length (x.known ++ v ∷ [])) next (omega (arith, length_push x.known v));
           proposer = proposes_closed x.nodes x.id x.acceptor p (subst (IsProposer x.nodes x.id x.acceptor) e b.proposer);
           acting = acting_known service good seed_any x.known x.acceptor p v x.acting acting cut;
-          stamped = stamped_known service good seed_any x.known x.acceptor p v x.offset x.acting (let last = there.last in omega (arith, next, last)) b.stamped cut;
+          stamped = stamped_known service good seed_any x.known x.acceptor p v x.acting (let last = there.last in omega (arith, next, last)) b.stamped cut;
           role = lead_closed (length x.known) (length (x.known ++ v ∷ [])) x.acceptor p (is_some x.acting) (is_some (option_map (settling service) x.acting))
               (subst (λ (o : Option ProposerValue). RoleFits (length x.known) (role_of x.acceptor o (is_some x.acting))) e b.role);
         }
@@ -229,7 +230,7 @@ module _ {K : Type 0} (records : K → List (List ℕ)) (gives : K → List ℕ 
         seed_any = x.seed
 
     z_kept : IsKept records service past (z_at keeper)
-    z_kept = record { id = id; few = few; up = λ t. up_of records service past (z_at keeper) z_logged z_beside }
+    z_kept = record { id = id; few = few; up = λ t. up_of records service past (z_at keeper) z_logged z_beside; reached = still_reached service x.offset x.known (x.known ++ v ∷ []) x.reached (omega (arith, length_push x.known v)) (λ n l. take-append-le n x.known (v ∷ []) l) reached }
 
     -- the model's call comes to the same
     z_comes : (before after : Draft) (f : Option Failure) → after.effects.items ≡ before.effects.items ++ effect.Known x.id i ∷ releases_in x.acting → map (message_in past) after.sends.items ≡ map (message_in past) before.sends.items ++ others x.nodes x.id (Chose i v)
@@ -316,17 +317,17 @@ module _ {K : Type 0} (records : K → List (List ℕ)) (gives : K → List ℕ 
     learn_down e =
         let s = some_of x.proposer leads in
         let k : Appends records faults gives x y before mid (record_bytes (kept.Known i v)) Down = appends_as records gives faults x y before mid (kept.Known i w) (kept.Known i v) g Down same_rec e h in
-        learns_down records gives faults service past good x (kept_so.up up) kept_so.id kept_so.few s.0 s.1 i v next there short fits cut y before mid k.0 k.1 k.2
+        learns_down records gives faults service past good x (kept_so.up up) kept_so.id kept_so.few kept_so.reached s.0 s.1 i v next there short fits cut y before mid k.0 k.1 k.2
 
     pub learn_on : g ≡ On → (z : NodeValue K) (after : Draft) → z ≡ knowing service y i v → after.effects.items ≡ mid.effects.items ++ effect.Known y.id i ∷ releases_in y.acting → map (message_in past) after.sends.items ≡ map (message_in past) mid.sends.items ++ others y.nodes y.id (content_in past (sent.Chosen i v))
         → Learns records gives faults service past i v x z before after On
     learn_on e z after z_is effects sends =
         let s = some_of x.proposer leads in
         let k : Appends records faults gives x y before mid (record_bytes (kept.Known i v)) On = appends_as records gives faults x y before mid (kept.Known i w) (kept.Known i v) g On same_rec e h in
-        learns_on records gives faults service past good x (kept_so.up up) kept_so.id kept_so.few s.0 s.1 i v next there short fits cut up y z before mid after k.0 k.1 k.2 z_is effects sends
+        learns_on records gives faults service past good x (kept_so.up up) kept_so.id kept_so.few kept_so.reached s.0 s.1 i v next there short fits cut up y z before mid after k.0 k.1 k.2 z_is effects sends
 
     pub learn_stuck : g ≡ On → (z : NodeValue K) → z.keeper ≡ y.keeper → z.base ≡ y.base → LearnsShort records gives faults service past i v x z before
     learn_stuck e z keeper based =
         let s = some_of x.proposer leads in
         let k : Appends records faults gives x y before mid (record_bytes (kept.Known i v)) On = appends_as records gives faults x y before mid (kept.Known i w) (kept.Known i v) g On same_rec e h in
-        learns_broken records gives faults service past good x (kept_so.up up) kept_so.id kept_so.few s.0 s.1 i v next there short fits cut y z before k.0 keeper based
+        learns_broken records gives faults service past good x (kept_so.up up) kept_so.id kept_so.few kept_so.reached s.0 s.1 i v next there short fits cut y z before k.0 keeper based

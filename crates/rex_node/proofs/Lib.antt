@@ -15,6 +15,7 @@ pub mod Executing
 pub mod Knowing
 pub mod Knows
 pub mod Leaving
+pub mod Reaching
 pub mod Limited
 pub mod Majorities
 pub mod Moving

@@ -36,7 +36,7 @@ use Rattle.rex_node.specs.declared.going.Going.TheVariants.{On, Down}
 use Rattle.rex_node.specs.declared.step.Draft.{Draft}
 use Rattle.rex_node.specs.Electing.{acceptance_vote_on, reports_of}
 use Rattle.rex_log.specs.Log.{proposal_in}
-use Rattle.rex_node.specs.Parts.{NodeValue, ActingValue, HasGoneOn, IsActing, IsCutAt, IsKept, IsResting, IsProposer, IsSame, IsUp, OpenIsCut, Proposes, here_of, lead_of, open_of, role_of}
+use Rattle.rex_node.specs.Parts.{NodeValue, ActingValue, HasGoneOn, IsActing, IsCutAt, IsKept, IsResting, IsProposer, IsSame, IsUp, OpenIsCut, Proposes, here_of, lead_of, open_of, role_of, IsDown}
 use Rattle.rex_node.specs.Calls.{armed_with}
 use Rattle.rex_node.specs.Going.{BreaksOff, Comes, Ends, IsStuck, Leads, LosesFirst, MayGoOn, RunsOn, above, so_far}
 use Rattle.rex_node.specs.Leading.{IsFree, IsOwnCut, Learns, LearnsShort, knowing, replayed_to, settling}
@@ -48,6 +48,7 @@ use Rattle.rex_node.proofs.Grows.{fits_before, rest_runs, settle_learns}
 use Rattle.rex_node.proofs.Stuck.{breaks_after, breaks_later, settle_loses}
 use Rattle.rex_node.proofs.Turns.{ends_then, settles_as}
 use Rattle.rex_node.proofs.Votes.{found_all, found_instance, is_quorum, majority_more, one, one_more, opens, outcome, parts, whole_is}
+use Rattle.rex_node.proofs.Reaching.{bare_reached}
 
 -- what a majority is for: the node's proposer, its open proposal, and what makes the vote one
 pub record Chosen {K : Type 0} (x : NodeValue K) (from ballot i : ℕ) (v : Value) : Type 0 where
@@ -114,7 +115,7 @@ module _ {K : Type 0} (records : K → List (List ℕ)) (gives : K → List ℕ 
   choose_leads = subst (λ (o : Option ProposerValue). IsSome o) (sym c.p_is) refl
 
   pub choose_kept : IsKept records service past x
-  choose_kept = record { id = node.id; few = node.few; up = node.up }
+  choose_kept = record { id = node.id; few = node.few; up = node.up; reached = node.reached }
 
   cut_of : (w : Option ActingValue) → IsActing service x.known x.acceptor (Some c.p) w → IfSome w (λ (a : ActingValue). IsCutAt service x.known a v)
   cut_of None h = tt
@@ -175,13 +176,14 @@ module _ {K : Type 0} (records : K → List (List ℕ)) (gives : K → List ℕ 
   pub choose_down : (z : NodeValue K) (mid : Draft) → IsSame x z → Learns records gives faults service past i v x z before mid Down → Ends records gives faults service past whole x z before mid Down
   choose_down z mid same learns =
       let o = learns_at z mid Down learns in
-      let down : z.up ≡ false = o.1 in (
+      let down : IsDown z = o.1 in (
         (leads_fell records gives faults service whole (λ d. decide x.nodes sv x.id d l i v rest) x.id x.keeper x.keeper z.keeper (so_far records service past x before) (so_far records service past x before) (so_far records service past z mid) leads_decide o.0, o.1),
         record {
           id = (subst (λ (n : ℕ). 0 < n) (sym same.id) node.id.0, let least = node.id.1 in let a : z.id ≡ x.id = same.id in let b : z.nodes ≡ x.nodes = same.nodes in omega (arith, least));
           few = subst (λ (n : ℕ). n ≤ most_nodes) (sym same.nodes) node.few;
-          up = λ t. absurd (false≢true (sym down ∙ t));
-          rests = λ t. absurd (false≢true (sym down ∙ t));
+          up = λ t. absurd (false≢true (sym down.down ∙ t));
+          reached = bare_reached service z.offset z.known z.reached down.bare;
+          rests = λ t. absurd (false≢true (sym down.down ∙ t));
         },
       )
 

@@ -37,7 +37,7 @@ use Rattle.rex_node.specs.declared.going.Going.TheVariants.{On, Down}
 use Rattle.rex_node.specs.declared.step.Draft.{Draft}
 use Rattle.rex_node.specs.Stated.{is_stated}
 use Rattle.rex_node.specs.Telling.{LeadTo, fallen_moved}
-use Rattle.rex_node.specs.Parts.{NodeValue, IsResting, IsUp, ahead_left, failed_records, fallen, here_of, leaving, role_of, work_of}
+use Rattle.rex_node.specs.Parts.{NodeValue, IsResting, IsUp, ahead_left, failed_records, fallen, here_of, leaving, role_of, work_of, IsDown}
 use Rattle.rex_node.specs.Calls.{armed_with}
 use Rattle.rex_node.specs.Going.{Appends, Fell, IsStuck, Leads, RunsOn, Tells, so_far}
 use Rattle.rex_node.proofs.Appended.{IsLogged, appended_here, appended_leads, appended_log, call_at, logged_of, up_of}
@@ -148,14 +148,14 @@ module _ {K : Type 0} (records : K → List (List ℕ)) (gives : K → List ℕ 
         ∙ ap (λ (ms : List _). call_at (down_node (if h.0.kept then said ∷ log else log) None) (map (message_in past) ms) mid.effects.items) h.2
         ∙ ap (call_at (down_node (if h.0.kept then said ∷ log else log) None) []) h.1
 
-    pub moved_down : (Fell records gives faults service call x.id x.keeper z.keeper (so_far records service past x before) (so_far records service past z mid) × (z.up ≡ false)) × IsResting records service past z
+    pub moved_down : (Fell records gives faults service call x.id x.keeper z.keeper (so_far records service past x before) (so_far records service past z mid) × IsDown z) × IsResting records service past z
     moved_down = (
       (
         subst (λ (j : K). Fell records gives faults service call x.id x.keeper j (so_far records service past x before) (so_far records service past z mid)) (sym z_keeper)
             (fell_append records gives faults service call rest x.id (rec_of service past r) (so_far records service past x before) call_is x.keeper y.keeper (record_bytes r) stated h.0.kept h.0.answer h.0.records h.0.faults (so_far records service past z mid) down_at),
-        ap (λ (n : NodeValue K). n.up) z_at,
+        record { down = ap (λ (n : NodeValue K). n.up) z_at; bare = ap (λ (n : NodeValue K). n.reached) z_at },
       ),
-      subst (IsResting records service past) (sym z_at) (record { id = node.id; few = node.few; up = λ t. absurd (false≢true t); rests = λ t. absurd (false≢true t) }),
+      subst (IsResting records service past) (sym z_at) (record { id = node.id; few = node.few; up = λ t. absurd (false≢true t); reached = tt; rests = λ t. absurd (false≢true t) }),
     )
 
   -- ---- or it went well
@@ -171,9 +171,9 @@ module _ {K : Type 0} (records : K → List (List ℕ)) (gives : K → List ℕ 
 
     -- the node is a follower at the state
     abbrev follower : K → NodeValue K
-    follower j = record x { keeper = j; acceptor = forgetting x.acceptor k; offset = k; known = first k past; base = k; start = s; replayed = k; ahead = None; proposer = None; acting = None }
+    follower j = record x { keeper = j; acceptor = forgetting x.acceptor k; offset = k; known = first k past; base = k; start = s; replayed = k; ahead = None; reached = None; proposer = None; acting = None }
 
-    module _ (z : NodeValue K) (z_is : z ≡ leaving (record y { offset = k; known = first k past ++ []; acceptor = forgetting y.acceptor k; base = k; start = s; replayed = k; ahead = None })) (after : Draft)
+    module _ (z : NodeValue K) (z_is : z ≡ leaving (record y { offset = k; known = first k past ++ []; acceptor = forgetting y.acceptor k; base = k; start = s; replayed = k; ahead = None; reached = None })) (after : Draft)
         (told : Tells mid after (effect.Transferred y.id k ∷ followed y.id (role_of y.acceptor y.proposer (is_some y.acting)))) where
       left_same : (t : Bool) → replayed_left t k k ≡ k
       left_same true = refl
@@ -186,7 +186,7 @@ module _ {K : Type 0} (records : K → List (List ℕ)) (gives : K → List ℕ 
       followed_at : z ≡ follower y.keeper
       followed_at =
           z_is
-          ∙ ap (λ (n : NodeValue K). leaving (record n { offset = k; known = first k past ++ []; acceptor = forgetting n.acceptor k; base = k; start = s; replayed = k; ahead = None })) h.0.parts
+          ∙ ap (λ (n : NodeValue K). leaving (record n { offset = k; known = first k past ++ []; acceptor = forgetting n.acceptor k; base = k; start = s; replayed = k; ahead = None; reached = None })) h.0.parts
           ∙ ap (λ (vs : List Value). record (follower y.keeper) { known = vs; replayed = replayed_left (is_some x.acting) k k; ahead = ahead_left (is_some x.acting) None }) (append-nil (first k past))
           ∙ ap (λ (m : ℕ). record (follower y.keeper) { replayed = m; ahead = ahead_left (is_some x.acting) None }) (left_same (is_some x.acting))
           ∙ ap (λ (o : Option StateValue). record (follower y.keeper) { ahead = o }) (none_left (is_some x.acting))
@@ -257,6 +257,7 @@ module _ {K : Type 0} (records : K → List (List ℕ)) (gives : K → List ℕ 
               stamped = tt;
               role = tt;
             });
+        reached = tt;
         rests = λ t. tt;
       }
 

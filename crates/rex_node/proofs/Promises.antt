@@ -29,7 +29,7 @@ use Rattle.rex_node.specs.declared.going.Going.TheVariants.{On, Down}
 use Rattle.rex_node.specs.Calls.{armed_with}
 use Rattle.rex_node.specs.Going.{Appends, Fell, IsStuck, Sends, Tells, TellsBase, answering, so_far}
 use Rattle.rex_log.specs.Log.{log_of, proposal_in}
-use Rattle.rex_node.specs.Parts.{NodeValue, IsUp, IsResting, here_of, leaving, role_of}
+use Rattle.rex_node.specs.Parts.{NodeValue, IsUp, IsResting, here_of, leaving, role_of, IsDown}
 use Rattle.rex_node.proofs.Appended.{ballot_fits, instance_fits, logged_of, logged_promised, logged_accepted, IsLogged}
 use Rattle.rex_node.proofs.Bases.{tells_base}
 use Rattle.rex_node.proofs.Instances.{from_kept, last_kept, rising_zero}
@@ -124,7 +124,7 @@ module _ {K : Type 0} (records : K → List (List ℕ)) (gives : K → List ℕ 
           again = promised x.id from b first (armed_with f (so_far records service past x before))
 
       pub raise_down : Appends records faults gives x y before mid (record_bytes (kept.Promised b)) Down
-          → (Fell records gives faults service prepare x.id x.keeper y.keeper (so_far records service past x before) (so_far records service past y mid) × (y.up ≡ false)) × IsResting records service past y
+          → (Fell records gives faults service prepare x.id x.keeper y.keeper (so_far records service past x before) (so_far records service past y mid) × IsDown y) × IsResting records service past y
       raise_down h = recorded_down records gives faults service past x y before mid node up (kept.Promised b) spelled tt refl refl prepare _ raises_is h
 
       pub raise_stuck : Appends records faults gives x y before mid (record_bytes (kept.Promised b)) On → (z : NodeValue K) → z.keeper ≡ y.keeper → z.base ≡ y.base → IsStuck records gives faults service past prepare x z before
@@ -219,7 +219,7 @@ module _ {K : Type 0} (records : K → List (List ℕ)) (gives : K → List ℕ 
       valued = record { in_range = (ballot, there, short) }
 
       pub accept_down : Appends records faults gives x y before mid (record_bytes (kept.Accepted b i v)) Down
-          → (Fell records gives faults service accept x.id x.keeper y.keeper (so_far records service past x before) (so_far records service past y mid) × (y.up ≡ false)) × IsResting records service past y
+          → (Fell records gives faults service accept x.id x.keeper y.keeper (so_far records service past x before) (so_far records service past y mid) × IsDown y) × IsResting records service past y
       accept_down h = recorded_down records gives faults service past x y before mid node up (kept.Accepted b i v) valued tt refl refl accept _ (accept_is true e late) h
 
       pub accept_stuck : Appends records faults gives x y before mid (record_bytes (kept.Accepted b i v)) On → (z : NodeValue K) → z.keeper ≡ y.keeper → z.base ≡ y.base → IsStuck records gives faults service past accept x z before

@@ -23,12 +23,13 @@ use Rattle.rex_node.specs.declared.going.Going.TheVariants.{On, Down}
 use Rattle.rex_node.specs.declared.step.Draft.{Draft}
 use Rattle.rex_node.specs.Calls.{armed_with}
 use Rattle.rex_node.specs.Going.{BreaksOff, Comes, Ends, Fell, IsStuck, Leads as LeadsOn, LosesFirst, so_far}
-use Rattle.rex_node.specs.Parts.{ActingValue, NodeValue, HasGoneOn, IsKept, IsResting, IsProposer, IsSame, Proposes, here_of, lead_of, role_of}
+use Rattle.rex_node.specs.Parts.{ActingValue, NodeValue, HasGoneOn, IsKept, IsResting, IsProposer, IsSame, Proposes, here_of, lead_of, role_of, IsDown}
 use Rattle.rex_node.specs.Leading.{HasLearned, HasOpened, Learns, LearnsShort, Opens, OpensShort, accept_own, settling}
 use Rattle.rex_node.specs.Cutting.{IsIdle, ProposesCut, ProposesCutShort, has_open}
 use Rattle.rex_node.proofs.GoingLemmas.{leads_fell, leads_same, leads_then}
 use Rattle.rex_node.proofs.Stuck.{breaks_after, settle_loses}
 use Rattle.rex_node.proofs.Openings.{candidate_same, from_lead, knows_at_once, lead_from, opened_role, own_majority, proposed_closed, proposed_open, settles_active, stays_open}
+use Rattle.rex_node.proofs.Reaching.{bare_reached}
 
 false_or_true : (t : Bool) → t ≡ true → t ≡ false → ⊥
 false_or_true t e f = false≢true (sym f ∙ e)
@@ -56,16 +57,17 @@ idle_leads acceptor (Some p) h = (p, refl)
 
 module _ {K : Type 0} (records : K → List (List ℕ)) (gives : K → List ℕ → Answer → K → Type 0) (faults : K → ℕ) (service : Declarations) (past : List Value) where
   -- a node that is down is kept
-  down_kept : (x y : NodeValue K) → IsResting records service past x → IsSame x y → y.up ≡ false → IsResting records service past y
+  down_kept : (x y : NodeValue K) → IsResting records service past x → IsSame x y → IsDown y → IsResting records service past y
   down_kept x y node same down = record {
     id = subst (λ (n : ℕ). (0 < n) × (n ≤ y.nodes)) (sym same.id) (subst (λ (n : ℕ). (0 < x.id) × (x.id ≤ n)) (sym same.nodes) node.id);
     few = subst (λ (n : ℕ). n ≤ most_nodes) (sym same.nodes) node.few;
-    up = λ t. absurd (false_or_true y.up t down);
-    rests = λ t. absurd (false_or_true y.up t down);
+    up = λ t. absurd (false_or_true y.up t down.down);
+    reached = bare_reached service y.offset y.known y.reached down.bare;
+    rests = λ t. absurd (false_or_true y.up t down.down);
   }
 
   up_kept : (y : NodeValue K) → IsKept records service past y → HasGoneOn y.proposer (is_some y.acting) → IsResting records service past y
-  up_kept y kept rests = record { id = kept.id; few = kept.few; up = kept.up; rests = λ _. rests }
+  up_kept y kept rests = record { id = kept.id; few = kept.few; up = kept.up; reached = kept.reached; rests = λ _. rests }
 
   module _ (x : NodeValue K) (node : IsResting records service past x) (up : x.up ≡ true) (a : ActingValue) (acts : x.acting ≡ Some a) (events instance : ℕ) (value : Value) (told : Effect) (told_is : told ≡ effect.Proposes x.id (length x.known + 1) events) (next : instance ≡ length x.known + 1)
       (mid : NodeValue K) (before between : Draft) where

@@ -1,5 +1,5 @@
 -- A last part of a call that writes one record.
-use Rattle.std.proofs.Common.{◌≡◌, ℕ, ◌≤◌, true, false, inl, inr, arith, List, [], ◌∷◌, ◌++◌, length, take, Option, None, sym, ap, subst, ◌∙◌}
+use Rattle.std.proofs.Common.{◌≡◌, ℕ, ◌≤◌, true, inl, inr, arith, List, [], ◌∷◌, ◌++◌, length, take, Option, None, sym, ap, subst, ◌∙◌}
 use Rattle.std.specs.Prelude.{map, is_some}
 use Rattle.std.proofs.lemmas.Bool.{false≢true}
 use Rattle.std.proofs.lemmas.List.{map-append}
@@ -22,7 +22,7 @@ use Rattle.rex_log.specs.Messages.{content_in, message_in}
 use Rattle.rex_node.specs.Calls.{armed_with}
 use Rattle.rex_node.specs.Going.{Appends, Fell, IsStuck, Leads, LosesFirst, Sends, Tells, answering, so_far}
 use Rattle.rex_log.specs.Log.{log_of, rec_of, standing_in}
-use Rattle.rex_node.specs.Parts.{NodeValue, IsUp, IsResting, here_of, role_of, leaving}
+use Rattle.rex_node.specs.Parts.{NodeValue, IsUp, IsResting, here_of, role_of, leaving, IsDown}
 use Rattle.rex_node.proofs.Appended.{IsLogged, call_at, appended_log, appended_here, appended_leads, appended_fell}
 use Rattle.rex_node.proofs.GoingLemmas.{leads_same, leads_then}
 use Rattle.rex_node.proofs.Stuck.{breaks_here}
@@ -54,10 +54,10 @@ module _ {K : Type 0} (records : K → List (List ℕ)) (gives : K → List ℕ 
   module _ (whole k : CallHere → CallHere) (is : (f : Option Failure) → whole (armed_with f (so_far records service past x before)) ≡ append f x.id one (armed_with f (so_far records service past x before)) k) where
     -- the append failed
     pub recorded_down : Appends records faults gives x y before mid (record_bytes r) Down
-        → (Fell records gives faults service whole x.id x.keeper y.keeper (so_far records service past x before) (so_far records service past y mid) × (y.up ≡ false)) × IsResting records service past y
+        → (Fell records gives faults service whole x.id x.keeper y.keeper (so_far records service past x before) (so_far records service past y mid) × IsDown y) × IsResting records service past y
     recorded_down h = (
-      (appended_fell records gives faults service past x y before mid r spelling due stated whole k is u.base plain h, ap (λ (n : NodeValue K). n.up) h.0.parts),
-      subst (IsResting records service past) (sym h.0.parts) (record { id = node.id; few = node.few; up = λ t. absurd (false≢true t); rests = λ t. absurd (false≢true t) }),
+      (appended_fell records gives faults service past x y before mid r spelling due stated whole k is u.base plain h, record { down = ap (λ (n : NodeValue K). n.up) h.0.parts; bare = ap (λ (n : NodeValue K). n.reached) h.0.parts }),
+      subst (IsResting records service past) (sym h.0.parts) (record { id = node.id; few = node.few; up = λ t. absurd (false≢true t); reached = tt; rests = λ t. absurd (false≢true t) }),
     )
 
     -- the record is there when memory is short

@@ -25,50 +25,32 @@ use Rattle.rex_node.specs.declared.step.Step.{Step}
 use Rattle.rex_log.specs.Messages.{message_in}
 use Rattle.rex_node.specs.Calls.{Does}
 use Rattle.rex_log.specs.Log.{log_of}
-use Rattle.rex_node.specs.Parts.{ActingValue, NodeValue, IsKept, IsResting, IsUp, StaysResting, here_of, state_of}
+use Rattle.rex_node.specs.Parts.{ActingValue, NodeValue, IsKept, IsResting, IsUp, StaysResting, here_of, reached_at}
 use Rattle.rex_node.proofs.Appended.{IsLogged, Beside, logged_of, beside_of, up_of}
 use Rattle.rex_node.proofs.Leaving.{role_active}
+use Rattle.rex_node.proofs.Reaching.{now_reached}
 
-module _ {K : Type 0} (records : K → List (List ℕ)) (service : Declarations) (past : List Value) (x : NodeValue K) (node : IsKept records service past x) (up : x.up ≡ true) (none : x.acting ≡ None) where
-  is_up : IsUp service x (here_of records service past x)
-  is_up = node.up up
+module _ {K : Type 0} (records : K → List (List ℕ)) (service : Declarations) (past : List Value) (x : NodeValue K) (node : IsKept records service past x) (up : x.up ≡ true) where
+  module _ (count : ℕ) (from : StateValue) (from_runs : run service (start_of service) (trace_of (take count x.known)) ≡ Some from) where
+    pub from_sound : IsService service → IsChecked service → IsSound service from
+    from_sound good checked = run_keeps service (start_of service) from (trace_of (take count x.known)) good (start_keeps service good checked) from_runs
 
-  from_runs : run service (start_of service) (trace_of (take x.replayed x.known)) ≡ Some (state_of x)
-  from_runs = is_up.ahead none
+    pub rest_runs_to : (rest : List Value) → rest ≡ drop count x.known → run service from (trace_of rest) ≡ run service (start_of service) (trace_of x.known)
+    rest_runs_to rest rest_is =
+        ap (λ (vs : List Value). run service from (trace_of vs)) rest_is
+        ∙ sym (run-then service (start_of service) from (trace_of (take count x.known)) (trace_of (drop count x.known)) from_runs)
+        ∙ ap (run service (start_of service)) (sym (trace_both (take count x.known) (drop count x.known)) ∙ ap trace_of (take-append-drop count x.known))
 
-  rest_leads : run service (state_of x) (trace_of (drop x.replayed x.known)) ≡ run service (start_of service) (trace_of x.known)
-  rest_leads =
-      sym (run-then service (start_of service) (state_of x) (trace_of (take x.replayed x.known)) (trace_of (drop x.replayed x.known)) from_runs)
-      ∙ ap (run service (start_of service)) (sym (trace_both (take x.replayed x.known) (drop x.replayed x.known)) ∙ ap trace_of (take-append-drop x.replayed x.known))
-
-  pub from_sound : (from : StateValue) → from ≡ state_of x → IsService service → IsChecked service → IsSound service from
-  from_sound from from_is good checked =
-      subst (IsSound service) (sym from_is) (run_keeps service (start_of service) (state_of x) (trace_of (take x.replayed x.known)) good (start_keeps service good checked) from_runs)
-
-  pub rest_runs_to : (from : StateValue) (rest : List Value) → from ≡ state_of x → rest ≡ drop x.replayed x.known → run service from (trace_of rest) ≡ run service (start_of service) (trace_of x.known)
-  rest_runs_to from rest from_is rest_is =
-      ap (λ (vs : List Value). run service from (trace_of vs)) rest_is
-      ∙ ap (λ (s : StateValue). run service s (trace_of (drop x.replayed x.known))) from_is
-      ∙ rest_leads
-
-  pub rest_runs : (from : StateValue) (rest : List Value) → from ≡ state_of x → rest ≡ drop x.replayed x.known → IsSome (run service from (trace_of rest))
-  rest_runs from rest from_is rest_is =
-      let r = fits_run service x.known is_up.fits in
-      subst (λ (o : Option StateValue). IsSome o) (sym (rest_runs_to from rest from_is rest_is ∙ r.1)) refl
-
-  -- what was replayed is among what is known
-  pub within_known : x.replayed ≤ length x.known
-  within_known = omega (arith, is_up.replayed.replayed, ap (λ (vs : List Value). length vs) is_up.known)
-
-  -- and above the offset
-  pub above_offset : x.offset ≤ x.replayed
-  above_offset = let b = is_up.base in omega (arith, is_up.low, is_up.replayed.based, b)
+    pub rest_runs : (rest : List Value) → rest ≡ drop count x.known → IsSome (run service from (trace_of rest))
+    rest_runs rest rest_is =
+        let r = fits_run service x.known (node.up up).fits in
+        subst (λ (o : Option StateValue). IsSome o) (sym (rest_runs_to rest rest_is ∙ r.1)) refl
 
 -- ---- all that the node knows was replayed
 
 module _ {K : Type 0} (records : K → List (List ℕ)) (gives : K → List ℕ → Answer → K → Type 0) (faults : K → ℕ) (service : Declarations) (past : List Value) (x : NodeValue K) (node : IsResting records service past x) (up : x.up ≡ true) (none : x.acting ≡ None) (n : ℕ) (n_is : n ≡ length x.known) (s : StateValue) where
   abbrev pub after_replay : NodeValue K
-  after_replay = record x { replayed = n; ahead = Some s }
+  after_replay = record x { replayed = n; ahead = Some s; reached = reached_at x.offset x.base n s }
 
   u : IsUp service x (here_of records service past x)
   u = node.up up
@@ -108,7 +90,7 @@ module _ {K : Type 0} (records : K → List (List ℕ)) (gives : K → List ℕ 
   pub replay_stays : run service (start_of service) (trace_of x.known) ≡ Some s → StaysResting records service past x after_replay
   replay_stays runs = record {
     same = record { id = refl; nodes = refl; seed = refl };
-    kept = record { id = node.id; few = node.few; up = λ t. up_after; rests = node.rests };
+    kept = record { id = node.id; few = node.few; up = λ t. up_after; reached = now_reached service x.offset x.base x.known n s (subst (λ (k : ℕ). k ≤ length x.known) (sym n_is) (le_refl (length x.known))) (ap (λ (vs : List Value). run service (start_of service) (trace_of vs)) whole ∙ runs); rests = node.rests };
   }
     where
       l : IsLogged service x (log_of service past (records x.keeper))

@@ -21,10 +21,11 @@ use Rattle.rex_cluster.specs.Values.{Value, state_after, trace_of, values_fit}
 use Rattle.rex_cluster.proofs.Replies.{state_is}
 use Rattle.rex_log.specs.Log.{first, log_of, read_state}
 use Rattle.rex_log.specs.Laws.{Says}
-use Rattle.rex_node.specs.Parts.{NodeValue, IsUp, IsNode, here_of, whole}
-use Rattle.rex_node.specs.Restarting.{CameUp, HasForgotten, HasRightBase, IsAsRecovered, IsRecalled, IsSaved, risen}
+use Rattle.rex_node.specs.Parts.{NodeValue, IsUp, IsNode, here_of, whole, HasReached, ReachedValue, knows}
+use Rattle.rex_node.specs.Restarting.{CameUp, HasForgotten, HasRightBase, IsAsRecovered, IsRecalled, IsSaved, risen, KeepsReached}
 use Rattle.rex_node.proofs.Fronts.{front_runs}
 use Rattle.rex_node.proofs.Recalling.{old_base_is, recovered_says}
+use Rattle.rex_node.proofs.Reaching.{again_reached}
 
 -- ---- the state at the base
 
@@ -62,7 +63,7 @@ whole_is service past log x says forgotten =
 short_values : (promised : ℕ) (ps : List Kept) → All (MayBeAccepted promised) ps → All (λ (p : Kept). IsValue p.value) ps
 short_values promised ps h = All-weaker (MayBeAccepted promised) (λ (p : Kept). IsValue p.value) (λ p k. k.proposal.value) ps h
 
-module _ {K : Type 0} (records : K → List (List ℕ)) (service : Declarations) (past : List Value) (before : NodeValue K) (x : Recovered) (start : StateValue) (old : Bool) (h : IsRecalled service (records before.keeper) x start old) where
+module _ {K : Type 0} (records : K → List (List ℕ)) (service : Declarations) (past : List Value) (before : NodeValue K) (x : Recovered) (start : StateValue) (old : Bool) (reached : Option ReachedValue) (h : IsRecalled service (records before.keeper) x start old) where
   abbrev log : List (Rec Value StateValue)
   log = log_of service past (records before.keeper)
 
@@ -70,7 +71,7 @@ module _ {K : Type 0} (records : K → List (List ℕ)) (service : Declarations)
   said = recovered_says service past (records before.keeper) h.found.read.rs x h.found.read.spelled h.found.read.is
 
   abbrev up_again : NodeValue K
-  up_again = risen before x start old
+  up_again = risen before x start old reached
 
   -- each part is what was read
   as_recovered : IsAsRecovered service (recovered h.found.read.rs) up_again
@@ -130,5 +131,5 @@ module _ {K : Type 0} (records : K → List (List ℕ)) (service : Declarations)
       numbers = record { log = said.fits; role = tt };
     }
 
-    pub is_node : (0 < before.id) × (before.id ≤ before.nodes) → before.nodes ≤ most_nodes → IsNode records service past up_again
-    is_node there few = record { id = there; few = few; up = λ _. node_up; rests = λ _. tt }
+    pub is_node : (0 < before.id) × (before.id ≤ before.nodes) → before.nodes ≤ most_nodes → KeepsReached before x reached → HasReached service before.offset (knows past before) before.reached → IsNode records service past up_again
+    is_node there few keeps was = record { id = there; few = few; up = λ _. node_up; reached = again_reached service past before x reached keeps was; rests = λ _. tt }

@@ -1,6 +1,6 @@
 -- A node that leads goes on, a round at a time.
 use Rattle.std.proofs.Common.{◌≡◌, ℕ, zero, suc, ◌+◌, ◌-◌, ◌*◌, ◌≤◌, Bool, true, false, cond, not, ◌||◌, ◌&&◌, List, [], ◌∷◌, ◌++◌, length, Option, Some, None, refl, sym, ap, subst, ◌∙◌, arith, le_refl}
-use Rattle.std.specs.Prelude.{drop, map, is_some, is_none, option_map, unwrap_or, IfSome}
+use Rattle.std.specs.Prelude.{map, is_some, is_none, option_map, unwrap_or, IfSome}
 use Rattle.std.proofs.lemmas.List.Elements.{All-nil}
 use Rattle.rand_pcg.specs.Lcg.{Lcg}
 use Rattle.rex_ballot.specs.declared.proposal.Proposal.{Proposal as Kept}
@@ -21,40 +21,46 @@ use Rattle.rex_cluster.specs.Node.Role.{Leads as Leading}
 use Rattle.rex_cluster.specs.Quorum.{is_majority}
 use Rattle.rex_cluster.specs.Ranges.{LeadFits, RoleFits}
 use Rattle.rex_cluster.specs.Calls.{Call, activate, best, choose, lead, leading, settle, turn}
-use Rattle.rex_cluster.specs.Values.{Value, service_of}
+use Rattle.rex_cluster.specs.Values.{Value, service_of, trace_of}
 use Rattle.rex_cluster.specs.Lanes.{CallHere}
 use Rattle.rex_node.specs.declared.going.Going.TheVariants.{On}
 use Rattle.rex_node.specs.declared.going.Round.TheVariants.{Done}
 use Rattle.rex_node.specs.declared.step.Draft.{Draft}
 use Rattle.rex_log.specs.Messages.{message_in}
 use Rattle.rex_log.specs.Log.{log_of, proposal_in}
-use Rattle.rex_node.specs.Parts.{NodeValue, ActingValue, ActsFor, HasGoneOn, IsActing, IsKept, IsProposer, IsUp, OpenIsCut, Proposes, here_of, lead_of, open_of, role_of, work_of}
+use Rattle.rex_node.specs.Parts.{NodeValue, ActingValue, ActsFor, HasGoneOn, IsActing, IsKept, IsProposer, IsUp, OpenIsCut, Proposes, here_of, lead_of, open_of, role_of, work_of, HasReached, ReachedValue, reached_at}
 use Rattle.rex_node.specs.Calls.{armed_with}
 use Rattle.rex_node.specs.Going.{MayGoOn, above, so_far}
-use Rattle.rex_node.specs.Leading.{GoesRound, IsActive, IsFree, activated, fresh_answers, fresh, goes_on, may_lead, reported_value}
+use Rattle.rex_node.specs.Leading.{GoesRound, IsActive, IsFree, activated, fresh, goes_on, may_lead, reported_value}
 use Rattle.rex_node.proofs.Appended.{beside_of, logged_of, up_of}
 use Rattle.rex_node.proofs.Adopting.{goes_parts, turn_chooses}
 use Rattle.rex_node.proofs.Bridges as bridges
 use Rattle.rex_node.proofs.GoingLemmas.{leads_same}
 use Rattle.rex_node.proofs.Opening.{logged_as}
-use Rattle.rex_node.proofs.Stamping.{entries_stay, stamped_in}
+use Rattle.rex_node.proofs.Stamping.{stamped_in}
 use Rattle.rex_node.proofs.Written.{call_is}
+use Rattle.rex_node.proofs.Reaching.{now_reached}
+use Rattle.std.proofs.lemmas.List.{take_all}
+use Rattle.rex_state.specs.Machine.{run}
+use Rattle.rex_state.specs.Start.{start_of}
 
 -- ---- a node that is active from here on
 
-module _ {K : Type 0} (x z : NodeValue K) (z_is : z ≡ x) (s : StateValue) (n : ℕ) (r : RecorderValue) (d : Lcg) (counts : List ℕ) (b seed : ℕ) (answers : AnswersValue) where
+module _ {K : Type 0} (x z : NodeValue K) (z_is : z ≡ x) (s : StateValue) (n : ℕ) (r : RecorderValue) (d : Lcg) (counts : List ℕ) (b seed : ℕ) (answers : AnswersValue) (reached : Option ReachedValue) where
   abbrev ballot : ℕ
   ballot = unwrap_or (option_map (λ (p : ProposerValue). p.ballot) x.proposer) 0
 
-  pub activated_is : n ≡ length x.known → r ≡ started s → b ≡ unwrap_or (option_map (λ (p : ProposerValue). p.ballot) x.proposer) 0 → seed ≡ x.seed → d ≡ dice_of seed b → counts ≡ [] → answers ≡ fresh_answers x.offset (drop x.offset x.known) s → record z { replayed = n; ahead = None; acting = Some (record { recorder = r; dice = d; proposed = counts; answers = answers }) } ≡ activated x s
-  activated_is n_is r_is b_is seed_is d_is counts_are answers_are =
-      ap (λ (y : NodeValue K). record y { replayed = n; ahead = None; acting = Some (record { recorder = r; dice = d; proposed = counts; answers = answers }) }) z_is
-      ∙ ap (λ (m : ℕ). record x { replayed = m; ahead = None; acting = Some (record { recorder = r; dice = d; proposed = counts; answers = answers }) }) n_is
-      ∙ ap (λ (a : ActingValue). record x { replayed = length x.known; ahead = None; acting = Some a })
+  pub activated_is : n ≡ length x.known → r ≡ started s → b ≡ unwrap_or (option_map (λ (p : ProposerValue). p.ballot) x.proposer) 0 → seed ≡ x.seed → d ≡ dice_of seed b → counts ≡ [] → answers ≡ answers_at s.clients n → reached ≡ reached_at x.offset x.base n s
+      → record z { replayed = n; ahead = None; reached = reached; acting = Some (record { recorder = r; dice = d; proposed = counts; answers = answers }) } ≡ activated x s
+  activated_is n_is r_is b_is seed_is d_is counts_are answers_are reached_is =
+      ap (λ (y : NodeValue K). record y { replayed = n; ahead = None; reached = reached; acting = Some (record { recorder = r; dice = d; proposed = counts; answers = answers }) }) z_is
+      ∙ ap (λ (o : Option ReachedValue). record x { replayed = n; ahead = None; reached = o; acting = Some (record { recorder = r; dice = d; proposed = counts; answers = answers }) }) reached_is
+      ∙ ap (λ (m : ℕ). record x { replayed = m; ahead = None; reached = reached_at x.offset x.base m s; acting = Some (record { recorder = r; dice = d; proposed = counts; answers = answers }) }) n_is
+      ∙ ap (λ (a : ActingValue). record x { replayed = length x.known; ahead = None; reached = reached_at x.offset x.base (length x.known) s; acting = Some a })
       (ap (λ (q : RecorderValue). record { recorder = q; dice = d; proposed = counts; answers = answers }) r_is
       ∙ ap (λ (q : Lcg). record { recorder = started s; dice = q; proposed = counts; answers = answers }) (d_is ∙ ap (λ (k : ℕ). dice_of k b) seed_is ∙ ap (dice_of x.seed) b_is)
       ∙ ap (λ (q : List ℕ). record { recorder = started s; dice = dice_of x.seed ballot; proposed = q; answers = answers }) counts_are
-      ∙ ap (fresh x.seed ballot s) answers_are)
+      ∙ ap (fresh x.seed ballot s) (answers_are ∙ ap (answers_at s.clients) n_is))
 
 -- ---- a node that goes no further
 
@@ -96,7 +102,7 @@ module _ {K : Type 0} (records : K → List (List ℕ)) (gives : K → List ℕ 
       by false false o n e f = absurd (let q : is_none o ≡ true = ap (λ (z : Option ℕ). is_none z) n in let r : (is_none o && true) ≡ false = e in let s : (is_none o && true) ≡ true = ap (λ (t : Bool). t && true) q in cc)
 
   stays : HasGoneOn x.proposer (is_some x.acting) → ((f : Option Failure) → settles (armed_with f (so_far records service past x before)) ≡ armed_with f (so_far records service past x before)) → GoesRound records gives faults service past turns x x before before (Done On)
-  stays gone same = ((leads_same records gives faults service settles (λ d. d) x.keeper (so_far records service past x before) (so_far records service past x before) refl same, kept_so, up), record { id = kept_so.id; few = kept_so.few; up = kept_so.up; rests = λ t. gone })
+  stays gone same = ((leads_same records gives faults service settles (λ d. d) x.keeper (so_far records service past x before) (so_far records service past x before) refl same, kept_so, up), record { id = kept_so.id; few = kept_so.few; up = kept_so.up; reached = kept_so.reached; rests = λ t. gone })
 
   pub round_rests : goes_on x.proposer (is_some x.acting) ≡ false → IsFree x.proposer (is_some x.acting) → GoesRound records gives faults service past turns x x before before (Done On)
   round_rests g free = by x.proposer refl g free
@@ -135,13 +141,13 @@ module _ {K : Type 0} (records : K → List (List ℕ)) (gives : K → List ℕ 
 
       -- what is known of the clients then
       abbrev told : AnswersValue
-      told = fresh_answers x.offset (drop x.offset x.known) h.state
+      told = answers_at h.state.clients (length x.known)
 
       abbrev z_at : NodeValue K
-      z_at = record x { replayed = length x.known; ahead = None; acting = Some (fresh x.seed p.ballot h.state told) }
+      z_at = record x { replayed = length x.known; ahead = None; reached = reached_at x.offset x.base (length x.known) h.state; acting = Some (fresh x.seed p.ballot h.state told) }
 
       z_is : z ≡ z_at
-      z_is = h.is ∙ ap (λ (o : Option ProposerValue). record x { replayed = length x.known; ahead = None; acting = Some (fresh x.seed (unwrap_or (option_map (λ (q : ProposerValue). q.ballot) o) 0) h.state told) }) e
+      z_is = h.is ∙ ap (λ (o : Option ProposerValue). record x { replayed = length x.known; ahead = None; reached = reached_at x.offset x.base (length x.known) h.state; acting = Some (fresh x.seed (unwrap_or (option_map (λ (q : ProposerValue). q.ballot) o) 0) h.state told) }) e
 
       none_best : (o : Option Kept) → option_map (λ (q : Kept). q.value) o ≡ None → o ≡ None
       none_best None t = refl
@@ -188,7 +194,7 @@ module _ {K : Type 0} (records : K → List (List ℕ)) (gives : K → List ℕ 
           recorder = record { sound = h.sound; runs = refl; few = omega arith; queue = tt };
           known = h.runs;
           requests = All-nil (RequestFits service);
-          answers = entries_stay (answers_at h.state.clients x.offset) (drop x.offset x.known);
+          answers = refl;
         };
         open_is_cut = subst (λ (o : Option ℕ). OpenIsCut service x.known (fresh x.seed p.ballot h.state told) (open_of x.acceptor o)) (sym none) tt;
       }
@@ -209,17 +215,20 @@ module _ {K : Type 0} (records : K → List (List ℕ)) (gives : K → List ℕ 
             caught_up = λ _. refl;
             proposer = b.proposer;
             acting = subst (λ (o : Option ProposerValue). IsActing service x.known x.acceptor o (Some (fresh x.seed p.ballot h.state told))) (sym e) acts;
-            stamped = stamped_in x.offset x.known h.state h.sound.by.complete.clients (omega (arith, g.low, g.few)) (let few = g.numbers.few in let many = ap (λ (vs : List Value). length vs) g.known in omega (arith, few, many));
+            stamped = stamped_in x.known h.state.clients h.sound.by.complete.clients;
             role = subst (λ (o : Option ProposerValue). RoleFits (length x.known) (role_of x.acceptor o true)) (sym e)
                 (lead_same (length x.known) (is_some x.acting) true (subst (λ (o : Option ProposerValue). RoleFits (length x.known) (role_of x.acceptor o (is_some x.acting))) e b.role));
           })
+
+      z_reached : HasReached service x.offset x.known (reached_at x.offset x.base (length x.known) h.state)
+      z_reached = now_reached service x.offset x.base x.known (length x.known) h.state (le_refl (length x.known)) (ap (λ (vs : List Value). run service (start_of service) (trace_of vs)) (take_all (length x.known) x.known (le_refl (length x.known))) ∙ h.runs)
 
       gone : HasGoneOn x.proposer true
       gone = subst (λ (o : Option ProposerValue). HasGoneOn o true) (sym e) (ap not majority)
 
       active_at : GoesRound records gives faults service past turns x z before after (Done On)
       active_at = subst (λ (n : NodeValue K). GoesRound records gives faults service past turns x n before after (Done On)) (sym z_is)
-          ((leads_same records gives faults service settles (λ d. d) x.keeper (so_far records service past x before) (so_far records service past z_at after) refl comes, record { id = kept_so.id; few = kept_so.few; up = λ t. z_up }, up), record { id = kept_so.id; few = kept_so.few; up = λ t. z_up; rests = λ t. gone })
+          ((leads_same records gives faults service settles (λ d. d) x.keeper (so_far records service past x before) (so_far records service past z_at after) refl comes, record { id = kept_so.id; few = kept_so.few; up = λ t. z_up; reached = z_reached }, up), record { id = kept_so.id; few = kept_so.few; up = λ t. z_up; reached = z_reached; rests = λ t. gone })
 
     pub round_active : GoesRound records gives faults service past turns x z before after (Done On)
     round_active = by x.proposer refl

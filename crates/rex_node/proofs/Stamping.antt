@@ -1,19 +1,18 @@
 -- What is known of an active node's clients numbers their replies as the values do.
-use Rattle.std.proofs.Common.{◌≡◌, ℕ, suc, ◌+◌, ◌<◌, ◌≤◌, max, Bool, true, false, cond, List, [], ◌∷◌, ◌++◌, length, take, drop, Option, Some, None, refl, sym, ap, subst, ◌∙◌, arith, append_assoc, append-nil, length-append}
-use Rattle.std.specs.Prelude.{ℤ, unwrap_or}
+use Rattle.std.proofs.Common.{◌≡◌, ℕ, zero, suc, ◌+◌, ◌<◌, ◌≤◌, max, Bool, true, false, cond, List, [], ◌∷◌, ◌++◌, length, take, drop, Option, Some, None, refl, sym, ap, subst, ◌∙◌, arith}
+use Rattle.std.specs.Prelude.{ℤ, slice_index_or, unwrap_or}
 use Rattle.std.proofs.lemmas.Bool.{lt-ltb}
 use Rattle.std.proofs.lemmas.List.{length-take-le, take-append-drop}
 use Rattle.rex_state.specs.declared.lane.Entry.{Entry}
 use Rattle.rex_state.specs.Machine.{entry_at}
-use Rattle.rex_state.specs.Value.{StateValue}
 use Rattle.rex_gate.specs.Numbers.{next_number, replies_to, stamp_of_state}
-use Rattle.rex_gate.specs.Noted.{AnswersValue, answers_at, noting, numbering, stamp_of}
+use Rattle.rex_gate.specs.Noted.{AnswersValue, answers_at, noting, stamp_of}
 use Rattle.rex_gate.proofs.Stamps.{noted_number, numbered_long, state_long, state_stamp}
 use Rattle.rex_cluster.specs.Values.{Value, events_of}
 use Rattle.rex_cluster.specs.Reading.{last_reply}
 use Rattle.rex_cluster.proofs.Lists.{length_push}
-use Rattle.rex_node.specs.Parts.{ActingValue, HasStamps, NumbersReplies}
-use Rattle.rex_node.specs.Leading.{fresh_answers, numbering_values}
+use Rattle.rex_node.specs.Parts.{NumbersReplies}
+use Rattle.rex_node.specs.Telling.{last_held}
 
 -- ---- the last reply among values
 
@@ -40,76 +39,105 @@ last_push client n (u ∷ us) v =
     one a b true = omega arith
     one a b false = omega arith
 
+-- it is the last one of the later values, or else that of the earlier ones
+last_append : (client n : ℕ) (us vs : List Value) → last_reply client n (us ++ vs) ≡ max (last_reply client n us) (last_reply client (n + length us) vs)
+last_append client n [] vs =
+    let from : last_reply client n vs ≡ last_reply client (n + 0) vs = ap (λ (k : ℕ). last_reply client k vs) (let m : n ≡ n + 0 = omega arith in m) in
+    let alone : last_reply client (n + 0) vs ≡ max 0 (last_reply client (n + 0) vs) = omega arith in
+    from ∙ alone
+last_append client n (u ∷ us) vs =
+    ap (max (cond (replies_to client (events_of u)) n 0)) (last_append client (suc n) us vs)
+    ∙ one (cond (replies_to client (events_of u)) n 0) (last_reply client (suc n) us) (last_reply client (suc n + length us) vs)
+    ∙ ap (λ (k : ℕ). max (last_reply client n (u ∷ us)) (last_reply client k vs)) (let m : suc n + length us ≡ n + suc (length us) = omega arith in m)
+  where
+    one : (a b c : ℕ) → max a (max b c) ≡ max (max a b) c
+    one a b c = omega arith
+
 -- ---- one value more
 
-module _ (offset : ℕ) (values : List Value) (a : AnswersValue) (h : NumbersReplies offset values a) (few : length values < 65535) (v : Value) where
+module _ (values : List Value) (a : AnswersValue) (h : NumbersReplies values a) (few : length values < 65535) (v : Value) where
   next : next_number a.count ≡ suc (length values)
   next = ap next_number h.count ∙ ap (λ (t : Bool). cond t (suc (length values)) (length values)) (lt-ltb (length values) 4294967295 (omega (arith, few)))
 
-  stamp_next : (client : ℕ) → client ≤ 256 → (t : Bool) → max (unwrap_or (cond t (Some (suc (length values))) (stamp_of a client)) 0) offset ≡ max (max (last_reply client 1 values) (cond t (1 + length values) 0)) offset
-  stamp_next client l true = let m = last_most client 0 values in omega (arith, m)
-  stamp_next client l false = let s = h.stamps client l in omega (arith, s)
+  stamp_next : (client : ℕ) → client ≤ 256 → (t : Bool) → 0 < unwrap_or (cond t (Some (suc (length values))) (stamp_of a client)) 0
+      → unwrap_or (cond t (Some (suc (length values))) (stamp_of a client)) 0 ≡ max (last_reply client 1 values) (cond t (1 + length values) 0)
+  stamp_next client l true some = let m = last_most client 0 values in omega (arith, m)
+  stamp_next client l false some = let s = h.stamps client l some in omega (arith, s)
 
-  pub numbered_next : NumbersReplies offset (values ++ v ∷ []) (numbering a (events_of v))
-  numbered_next = record {
+  pub noted_next : NumbersReplies (values ++ v ∷ []) (noting a (events_of v))
+  noted_next = record {
     clients = numbered_long (next_number a.count) a.numbers (events_of v) ∙ h.clients;
     count = next ∙ sym (length_push values v);
-    stamps = λ client l.
-        ap (λ (o : Option ℕ). max (unwrap_or o 0) offset)
-        (noted_number (next_number a.count) client a.numbers (events_of v) (let many = h.clients in omega (arith, l, many))
-        ∙ ap (λ (k : ℕ). cond (replies_to client (events_of v)) (Some k) (stamp_of a client)) next)
-        ∙ stamp_next client l (replies_to client (events_of v))
-        ∙ ap (λ (m : ℕ). max m offset) (sym (last_push client 1 values v));
+    stamps = λ client l some.
+        ap (λ (o : Option ℕ). unwrap_or o 0) (told client l)
+        ∙ stamp_next client l (replies_to client (events_of v)) (subst (λ (o : Option ℕ). 0 < unwrap_or o 0) (told client l) some)
+        ∙ sym (last_push client 1 values v);
   }
-
-  pub noted_next : NumbersReplies offset (values ++ v ∷ []) (noting a (events_of v))
-  noted_next = record { clients = numbered_next.clients; count = numbered_next.count; stamps = numbered_next.stamps }
+    where
+      told : (client : ℕ) → client ≤ 256 → stamp_of (noting a (events_of v)) client ≡ cond (replies_to client (events_of v)) (Some (suc (length values))) (stamp_of a client)
+      told client l =
+          noted_number (next_number a.count) client a.numbers (events_of v) (let many = h.clients in omega (arith, l, many))
+          ∙ ap (λ (k : ℕ). cond (replies_to client (events_of v)) (Some k) (stamp_of a client)) next
 
 -- ---- a node that is active from here on
 
-numbered_values : (offset : ℕ) (values vs : List Value) (a : AnswersValue) → NumbersReplies offset values a → length values + length vs ≤ 65535 → NumbersReplies offset (values ++ vs) (numbering_values a vs)
-numbered_values offset values [] a h few = subst (λ (us : List Value). NumbersReplies offset us a) (sym (append-nil values)) h
-numbered_values offset values (v ∷ vs) a h few =
-    subst (λ (us : List Value). NumbersReplies offset us (numbering_values (numbering a (events_of v)) vs)) (append_assoc values (v ∷ []) vs)
-    (numbered_values offset (values ++ v ∷ []) vs (numbering a (events_of v)) (numbered_next offset values a h (omega (arith, few)) v) (let n = length_push values v in omega (arith, few, n)))
-
--- their entries stay
-pub entries_stay : (a : AnswersValue) (vs : List Value) → (numbering_values a vs).entries ≡ a.entries
-entries_stay a [] = refl
-entries_stay a (v ∷ vs) = entries_stay (numbering a (events_of v)) vs
-
--- where the values are no more than the offset it doesn't matter which of them has a reply
-stamped_at : (offset : ℕ) (values : List Value) (clients : List Entry) → length clients ≡ 257 → length values ≡ offset → NumbersReplies offset values (answers_at clients offset)
-stamped_at offset values clients many few = record {
+-- a state says of no reply in which value it is
+pub stamped_in : (values : List Value) (clients : List Entry) → length clients ≡ 257 → NumbersReplies values (answers_at clients (length values))
+stamped_in values clients many = record {
   clients = state_long clients ∙ many;
-  count = sym few;
-  stamps = λ client l.
-      ap (λ (o : Option ℕ). max (unwrap_or o 0) offset) (state_stamp clients client (omega (arith, l, many)))
-      ∙ ap (λ (n : ℕ). max n offset) (zero_of (entry_at clients client).reply)
-      ∙ (let m = last_most client 0 values in omega (arith, m, few));
+  count = refl;
+  stamps = λ client l some. absurd (none client l some);
 }
   where
     zero_of : (o : Option ℤ) → unwrap_or (stamp_of_state o).number 0 ≡ 0
     zero_of None = refl
     zero_of (Some value) = refl
 
-pub stamped_in : (offset : ℕ) (values : List Value) (state : StateValue) → length state.clients ≡ 257 → offset ≤ length values → length values ≤ 65535 → NumbersReplies offset values (fresh_answers offset (drop offset values) state)
-stamped_in offset values state many low few =
-    subst (λ (us : List Value). NumbersReplies offset us (numbering_values (answers_at state.clients offset) (drop offset values))) parts
-    (numbered_values offset (take offset values) (drop offset values) (answers_at state.clients offset) (stamped_at offset (take offset values) state.clients many long) (let n = length-append (take offset values) (drop offset values) in let p = ap (λ (us : List Value). length us) parts in omega (arith, n, p, few)))
-  where
-    parts : take offset values ++ drop offset values ≡ values
-    parts = take-append-drop offset values
+    none : (client : ℕ) → client ≤ 256 → 0 < unwrap_or (stamp_of (answers_at clients (length values)) client) 0 → ⊥
+    none client l some =
+        let z = ap (λ (o : Option ℕ). unwrap_or o 0) (state_stamp clients client (omega (arith, l, many))) ∙ zero_of (entry_at clients client).reply in
+        omega (arith, some, z)
 
-    long : length (take offset values) ≡ offset
-    long = length-take-le offset values low
+-- ---- the values that are held
 
--- ---- the offset rises
+-- where the values that aren't held are no more than the offset it doesn't matter which of them has a reply
+pub held_last : (offset : ℕ) (values : List Value) (client : ℕ) → offset ≤ length values → last_held offset (drop offset values) client ≡ max (last_reply client 1 values) offset
+held_last offset values client low =
+    let long : length (take offset values) ≡ offset = length-take-le offset values low in
+    let most = last_most client 0 (take offset values) in
+    let parts : last_reply client 1 values ≡ max (last_reply client 1 (take offset values)) (last_reply client (suc offset) (drop offset values)) =
+    ap (last_reply client 1) (sym (take-append-drop offset values))
+    ∙ last_append client 1 (take offset values) (drop offset values)
+    ∙ ap (λ (k : ℕ). max (last_reply client 1 (take offset values)) (last_reply client k (drop offset values))) (let m : 1 + length (take offset values) ≡ suc offset = omega (arith, long) in m) in
+    omega (arith, long, most, parts)
 
-pub stamped_more : (offset more : ℕ) (values : List Value) (w : Option ActingValue) → offset ≤ more → HasStamps offset values w → HasStamps more values w
-stamped_more offset more values None l h = tt
-stamped_more offset more values (Some a) l h = record {
-  clients = h.clients;
-  count = h.count;
-  stamps = λ client c. let s = h.stamps client c in omega (arith, s, l);
-}
+-- ---- values looked at from the last one back
+
+-- among these the first replies to the client, or the last reply is that of the others
+first_or_rest : (client number : ℕ) (values : List Value) (i : ℕ) (d : Value) → i < length values
+    → last_reply client number (drop i values) ≡ max (cond (replies_to client (events_of (slice_index_or values i d))) number 0) (last_reply client (suc number) (drop (suc i) values))
+first_or_rest client number [] i d l = absurd (omega (arith, l))
+first_or_rest client number (v ∷ vs) zero d l = refl
+first_or_rest client number (v ∷ vs) (suc i) d l = first_or_rest client number vs i d (omega (arith, l))
+
+-- from the value after so many on none replies to the client
+abbrev pub IsSilent : ℕ → ℕ → List Value → ℕ → Type 0
+IsSilent client offset values n = last_reply client (suc offset + n) (drop n values) ≡ 0
+
+rest_silent : (client offset : ℕ) (values : List Value) (i : ℕ) → IsSilent client offset values (suc i) → last_reply client (suc (suc offset + i)) (drop (suc i) values) ≡ 0
+rest_silent client offset values i silent = ap (λ (k : ℕ). last_reply client k (drop (suc i) values)) (let m : suc (suc offset + i) ≡ suc offset + suc i = omega arith in m) ∙ silent
+
+-- the last one that replies
+pub found_last : (client offset : ℕ) (values : List Value) (i : ℕ) (d : Value) → i < length values → replies_to client (events_of (slice_index_or values i d)) ≡ true → IsSilent client offset values (suc i) → suc (offset + i) ≡ last_held offset values client
+found_last client offset values i d l some silent =
+    let before : length (take i values) ≡ i = length-take-le i values (omega (arith, l)) in
+    let most = last_most client offset (take i values) in
+    let rest : last_reply client (suc (suc offset + i)) (drop (suc i) values) ≡ 0 = rest_silent client offset values i silent in
+    let from : last_reply client (suc offset + i) (drop i values) ≡ max (suc offset + i) (last_reply client (suc (suc offset + i)) (drop (suc i) values)) =
+    first_or_rest client (suc offset + i) values i d l
+    ∙ ap (λ (t : Bool). max (cond t (suc offset + i) 0) (last_reply client (suc (suc offset + i)) (drop (suc i) values))) some in
+    let parts : last_reply client (suc offset) values ≡ max (last_reply client (suc offset) (take i values)) (last_reply client (suc offset + i) (drop i values)) =
+    ap (last_reply client (suc offset)) (sym (take-append-drop i values))
+    ∙ last_append client (suc offset) (take i values) (drop i values)
+    ∙ ap (λ (k : ℕ). max (last_reply client (suc offset) (take i values)) (last_reply client (suc offset + k) (drop i values))) before in
+    omega (arith, before, most, rest, from, parts)

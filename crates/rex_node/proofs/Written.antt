@@ -79,7 +79,7 @@ module _ {K : Type 0} (records : K → List (List ℕ)) (gives : K → List ℕ 
         → Falls records faults gives x y (record_bytes r) → after.effects.items ≡ before.effects.items ++ effect.Down x.id ∷ [] → after.sends.items ≡ []
         → (rest : CallHere → CallHere) → Comes records gives faults service past whole rest x y before after Down
     written_down after same h effects sends rest =
-        (fell_append records gives faults service whole k x.id (rec_of service past r) (so_far records service past x before) is x.keeper y.keeper (record_bytes r) stated h.kept h.answer h.records h.faults (so_far records service past y after) (downs h.kept h.records), ap (λ (n : NodeValue K). n.up) h.parts)
+        (fell_append records gives faults service whole k x.id (rec_of service past r) (so_far records service past x before) is x.keeper y.keeper (record_bytes r) stated h.kept h.answer h.records h.faults (so_far records service past y after) (downs h.kept h.records), record { down = ap (λ (n : NodeValue K). n.up) h.parts; bare = ap (λ (n : NodeValue K). n.reached) h.parts })
       where
         logs : (kept : Bool) (now : List (List ℕ)) → now ≡ failed_records kept (records x.keeper) (record_bytes r) → log_of service past now ≡ cond kept more (log_of service past (records x.keeper))
         logs true now e = log_written now e

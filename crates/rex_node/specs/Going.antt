@@ -28,7 +28,7 @@ use Rattle.rex_node.specs.declared.step.Step.{Step}
 use Rattle.rex_log.specs.Messages.{message_in}
 use Rattle.rex_node.specs.Stated.{AreStated}
 use Rattle.rex_log.specs.Log.{log_of}
-use Rattle.rex_node.specs.Parts.{NodeValue, IsKept, IsResting, Keeps, Falls, Stands, fallen, here_of}
+use Rattle.rex_node.specs.Parts.{NodeValue, IsDown, IsKept, IsResting, Keeps, Falls, Stands, fallen, here_of}
 use Rattle.rex_node.specs.Calls.{armed_with, FailsAfter, StopsShort}
 
 -- the call of the model that has come to this node, and has sent and reported what the draft has
@@ -89,7 +89,7 @@ abbrev pub Comes : {K : Type 0} → (K → List (List ℕ)) → (K → List ℕ 
 Comes records gives faults service past whole rest old new before after On =
     Leads records gives faults service whole rest old.keeper new.keeper (so_far records service past old before) (so_far records service past new after) × IsKept records service past new × (new.up ≡ true)
 Comes records gives faults service past whole rest old new before after Down =
-    Fell records gives faults service whole old.id old.keeper new.keeper (so_far records service past old before) (so_far records service past new after) × (new.up ≡ false)
+    Fell records gives faults service whole old.id old.keeper new.keeper (so_far records service past old before) (so_far records service past new after) × IsDown new
 
 -- the same of the last part: nothing is left of the call
 abbrev pub Ends : {K : Type 0} → (K → List (List ℕ)) → (K → List ℕ → Answer → K → Type 0) → (K → ℕ) → Declarations → List Value → (CallHere → CallHere) → (old new : NodeValue K) → (before after : Draft) → Going → Type 0

@@ -1,5 +1,5 @@
 -- What the parts of a call do by which a node that leads, or asks to, goes on.
-use Rattle.std.specs.Prelude.{◌≡◌, ℕ, ◌-◌, ◌<◌, ◌≤◌, ◌&&◌, Bool, true, false, not, List, [], ◌∷◌, ◌++◌, drop, length, map, unwrap_or, is_some, is_none, Option, Some, None, option_map, IfSome, ◌⊎◌}
+use Rattle.std.specs.Prelude.{◌≡◌, ℕ, ◌-◌, ◌<◌, ◌≤◌, ◌&&◌, Bool, true, false, not, List, [], ◌∷◌, ◌++◌, length, map, unwrap_or, is_some, is_none, Option, Some, None, option_map, IfSome, ◌⊎◌}
 use Rattle.rex_ballot.specs.declared.proposal.Proposal.{Proposal as Kept}
 use Rattle.rex_paxos.specs.Reports.{best_for}
 use Rattle.rex_state.specs.Value.{StateValue}
@@ -13,19 +13,19 @@ use Rattle.rex_paxos.specs.Proposer.{ProposerValue, is_candidate, proposed, clos
 use Rattle.rex_event.specs.Cuts.{IsConsistent, below}
 use Rattle.rex_record.specs.Value.{settled, releases, started}
 use Rattle.rex_record.specs.Kept.{IsRecorder}
-use Rattle.rex_gate.specs.Noted.{AnswersValue, answers_at, numbering, noting}
+use Rattle.rex_gate.specs.Noted.{AnswersValue, answers_at, noting}
 use Rattle.rex_traits.specs.Chains.{Answer}
 use Rattle.rex_cluster.specs.Records.{proposal_of}
 use Rattle.rex_cluster.specs.Node.{Lead, dice_of}
 use Rattle.rex_cluster.specs.Calls.{leading, led, propose, decide, settle}
-use Rattle.rex_cluster.specs.Values.{Value, events_of, service_of, release_effect, trace_of}
+use Rattle.rex_cluster.specs.Values.{Value, service_of, release_effect, trace_of}
 use Rattle.rex_cluster.specs.Lanes.{CallHere}
 use Rattle.rex_node.specs.declared.going.Going.{Going}
 use Rattle.rex_node.specs.declared.going.Going.TheVariants.{On, Down}
 use Rattle.rex_node.specs.declared.going.Round.{Round}
 use Rattle.rex_node.specs.declared.going.Round.TheVariants.{Again, Done}
 use Rattle.rex_node.specs.declared.step.Draft.{Draft}
-use Rattle.rex_node.specs.Parts.{NodeValue, ActingValue, IsCutAt, Stands, lead_of}
+use Rattle.rex_node.specs.Parts.{NodeValue, ActingValue, IsCutAt, Stands, lead_of, reached_at}
 use Rattle.rex_node.specs.Going.{BreaksOff, Comes, Ends, LosesFirst, MayGoOn}
 
 -- this holds of what the node leads with, where it does
@@ -131,22 +131,13 @@ abbrev pub reported_value : Option ProposerValue → ℕ → Option Value
 reported_value None instance = None
 reported_value (Some p) instance = option_map (λ (q : Kept). q.value) (best_for instance p.reported)
 
--- once the replies of these values are numbered, one value after another
-abbrev pub numbering_values : AnswersValue → List Value → AnswersValue
-numbering_values a [] = a
-numbering_values a (v ∷ vs) = numbering_values (numbering a (events_of v)) vs
-
--- what is known of the clients at a state: their entries are the state's, and the values that are held past the offset number their replies
-abbrev pub fresh_answers : ℕ → List Value → StateValue → AnswersValue
-fresh_answers offset held state = numbering_values (answers_at state.clients offset) held
-
 -- what a node executes that is active from here on
 abbrev pub fresh : ℕ → ℕ → StateValue → AnswersValue → ActingValue
 fresh seed ballot state answers = record { recorder = started state; dice = dice_of seed ballot; proposed = []; answers = answers }
 
 -- the node is active, with the state after all that it knows
 abbrev pub activated : {K : Type 0} → NodeValue K → StateValue → NodeValue K
-activated x state = record x { replayed = length x.known; ahead = None; acting = Some (fresh x.seed (unwrap_or (option_map (λ (p : ProposerValue). p.ballot) x.proposer) 0) state (fresh_answers x.offset (drop x.offset x.known) state)) }
+activated x state = record x { replayed = length x.known; ahead = None; reached = reached_at x.offset x.base (length x.known) state; acting = Some (fresh x.seed (unwrap_or (option_map (λ (p : ProposerValue). p.ballot) x.proposer) 0) state (answers_at state.clients (length x.known))) }
 
 pub record IsActive {K : Type 0} (service : Declarations) (old new : NodeValue K) : Type 0 where
   pub state : StateValue

@@ -1,5 +1,5 @@
 -- A node's parts, and the node of the cluster's model that they are.
-use Rattle.std.specs.Prelude.{◌≡◌, ℕ, ◌<◌, ◌≤◌, ◌||◌, not, Bool, true, false, ◌+◌, List, [], ◌∷◌, ◌++◌, length, map, max, take, is_some, unwrap_or, Result, Ok, Err, Option, Some, None, option_map, ◌⊎◌}
+use Rattle.std.specs.Prelude.{◌≡◌, ℕ, zero, suc, ◌<◌, ◌≤◌, ◌||◌, not, Bool, true, false, ◌+◌, List, [], ◌∷◌, ◌++◌, length, map, take, is_some, unwrap_or, Result, Ok, Err, Option, Some, None, option_map, ◌⊎◌, ◌==◌, if◌then◌else◌}
 use Rattle.std.specs.List.{All}
 use Rattle.rex_ballot.specs.Limits.{most_nodes}
 use Rattle.rand_pcg.specs.Lcg.{Lcg}
@@ -42,7 +42,12 @@ pub record ActingValue : Type 0 where
   pub proposed : List ℕ
   pub answers : AnswersValue
 
--- the node's number and how many there are; the seed; its keeper; whether it is up; its acceptor; of how many instances it doesn't hold the values, and the known values after those; how many values its base is after, whether its last checkpoint is in the old version, and the state at the base; how many it has replayed, and the state then where that is another one and the node isn't active; its proposer where it has asked to lead; and what it executes where it is active
+-- a state to which a node came by replaying, and after how many known values it is
+pub record ReachedValue : Type 0 where
+  pub count : ℕ
+  pub state : StateValue
+
+-- the node's number and how many there are; the seed; its keeper; whether it is up; its acceptor; of how many instances it doesn't hold the values, and the known values after those; how many values its base is after, whether its last checkpoint is in the old version, and the state at the base; how many it has replayed, and the state then where that is another one and the node isn't active; the state to which it came last by replaying; its proposer where it has asked to lead; and what it executes where it is active
 pub record NodeValue (K : Type 0) : Type 0 where
   pub id : ℕ
   pub nodes : ℕ
@@ -57,6 +62,7 @@ pub record NodeValue (K : Type 0) : Type 0 where
   pub start : StateValue
   pub replayed : ℕ
   pub ahead : Option StateValue
+  pub reached : Option ReachedValue
   pub proposer : Option ProposerValue
   pub acting : Option ActingValue
 
@@ -166,15 +172,15 @@ IsActing service values acceptor proposer None = Unit {0}
 IsActing service values acceptor None (Some a) = ⊥
 IsActing service values acceptor (Some p) (Some a) = ActsFor service values (open_of acceptor p.open_instance) a
 
--- what is known of the clients counts all that the node knows, and where a client's last reply is in a value past the offset it has that value's number
-pub record NumbersReplies (offset : ℕ) (values : List Value) (a : AnswersValue) : Type 0 where
+-- what is known of the clients counts all that the node knows, and the number that a client has there is that of the value with its last reply
+pub record NumbersReplies (values : List Value) (a : AnswersValue) : Type 0 where
   pub clients : length a.numbers ≡ CLIENT_ENTRIES
   pub count : a.count ≡ length values
-  pub stamps : (client : ℕ) → client ≤ CLIENTS → max (unwrap_or (stamp_of a client) 0) offset ≡ max (last_reply client 1 values) offset
+  pub stamps : (client : ℕ) → client ≤ CLIENTS → 0 < unwrap_or (stamp_of a client) 0 → unwrap_or (stamp_of a client) 0 ≡ last_reply client 1 values
 
-abbrev pub HasStamps : ℕ → List Value → Option ActingValue → Type 0
-HasStamps offset values None = Unit {0}
-HasStamps offset values (Some a) = NumbersReplies offset values a.answers
+abbrev pub HasStamps : List Value → Option ActingValue → Type 0
+HasStamps values None = Unit {0}
+HasStamps values (Some a) = NumbersReplies values a.answers
 
 -- no value is too long to be written down
 abbrev pub AreShort : List Kept → Type 0
@@ -215,15 +221,31 @@ pub record IsUp {K : Type 0} (service : Declarations) (x : NodeValue K) (h : Her
   pub short : AreShort x.acceptor.accepted
   pub proposer : IsProposer x.nodes x.id x.acceptor x.proposer
   pub acting : IsActing service x.known x.acceptor x.proposer x.acting
-  pub stamped : HasStamps x.offset x.known x.acting
+  pub stamped : HasStamps x.known x.acting
   pub fits : values_fit service x.known ≡ true
   pub numbers : NodeFits h
+
+-- a node that forgot no values came to this state by replaying so many of those that it knows
+pub record IsReached (service : Declarations) (offset : ℕ) (values : List Value) (r : ReachedValue) : Type 0 where
+  pub all_held : offset ≡ 0
+  pub among : r.count ≤ length values
+  pub runs : run service (start_of service) (trace_of (take r.count values)) ≡ Some r.state
+
+abbrev pub HasReached : Declarations → ℕ → List Value → Option ReachedValue → Type 0
+HasReached service offset values None = Unit {0}
+HasReached service offset values (Some r) = IsReached service offset values r
+
+-- what a node keeps of a state to which it came after so many values: nothing, where these are the ones up to its base, or once it forgot some
+abbrev pub reached_at : (offset base count : ℕ) → StateValue → Option ReachedValue
+reached_at zero base count state = if base == count then None else Some (record { count = count; state = state })
+reached_at (suc offset) base count state = None
 
 -- what is kept of a node also within a call, as if it held all values that it knows
 pub record IsKept {K : Type 0} (records : K → List (List ℕ)) (service : Declarations) (past : List Value) (x : NodeValue K) : Type 0 where
   pub id : (0 < x.id) × (x.id ≤ x.nodes)
   pub few : x.nodes ≤ most_nodes
   pub up : x.up ≡ true → IsUp service x (here_of records service past x)
+  pub reached : HasReached service x.offset x.known x.reached
 
 -- a node that leads has gone on as far as it can: where a majority promised, it is active or has an open proposal
 abbrev pub HasGoneOn : Option ProposerValue → Bool → Type 0
@@ -235,6 +257,7 @@ pub record IsResting {K : Type 0} (records : K → List (List ℕ)) (service : D
   pub id : (0 < x.id) × (x.id ≤ x.nodes)
   pub few : x.nodes ≤ most_nodes
   pub up : x.up ≡ true → IsUp service x (here_of records service past x)
+  pub reached : HasReached service x.offset x.known x.reached
   pub rests : x.up ≡ true → HasGoneOn x.proposer (is_some x.acting)
 
 -- the same node of the same cluster
@@ -273,9 +296,17 @@ leaving x = record x {
 
 -- ---- going down
 
--- a node that was stopped, or whose append failed, is down: it has its keeper, and nothing else that counts
+-- a node that was stopped is down: it has its keeper, and nothing else that counts
+abbrev pub stopped : {K : Type 0} → NodeValue K → NodeValue K
+stopped x = record x { up = false; replayed = x.base; ahead = None; proposer = None; acting = None }
+
+-- and so is one whose append failed
 abbrev pub fallen : {K : Type 0} → NodeValue K → NodeValue K
-fallen x = record x { up = false; replayed = x.base; ahead = None; proposer = None; acting = None }
+fallen x = record (stopped x) { reached = None }
+
+pub record IsDown {K : Type 0} (x : NodeValue K) : Type 0 where
+  pub down : x.up ≡ false
+  pub bare : x.reached ≡ None
 
 -- ---- appending a record
 

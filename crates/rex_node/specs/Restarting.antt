@@ -22,7 +22,7 @@ use Rattle.rex_node.specs.declared.contents.Place.{Place}
 use Rattle.rex_node.specs.declared.restart.RestartFault.{RestartFault}
 use Rattle.rex_node.specs.declared.restart.RestartFault.TheVariants.{BadRecord, OutOfMemory}
 use Rattle.rex_log.specs.Log.{first, log_of}
-use Rattle.rex_node.specs.Parts.{NodeValue, here_of}
+use Rattle.rex_node.specs.Parts.{NodeValue, ReachedValue, here_of}
 use Rattle.rex_node.specs.Stated.{is_state_kind}
 
 -- ---- what records hold
@@ -146,13 +146,23 @@ down_with id nodes seed start keeper = record {
   start = start;
   replayed = 0;
   ahead = None;
+  reached = None;
   proposer = None;
   acting = None;
 }
 
+-- these values past so many are all, and begin with those by which a node came to a state
+abbrev pub BeginAlike : Option ReachedValue → List Value → ℕ → List Value → Type 0
+BeginAlike None known offset values = Unit {0}
+BeginAlike (Some r) known offset values = (offset ≡ 0) × ((r.count ≤ length values) × (take r.count values ≡ take r.count known))
+
+-- a state to which the node came before is kept only where its records say the same values up to there
+abbrev pub KeepsReached : {K : Type 0} → NodeValue K → Recovered → Option ReachedValue → Type 0
+KeepsReached x said reached = (reached ≡ None) ⊎ ((reached ≡ x.reached) × BeginAlike x.reached x.known said.offset said.known)
+
 -- the node is up, and is a follower that has what its records say, and this state at its base
-abbrev pub risen : {K : Type 0} → NodeValue K → Recovered → StateValue → Bool → NodeValue K
-risen x said start old = record x {
+abbrev pub risen : {K : Type 0} → NodeValue K → Recovered → StateValue → Bool → Option ReachedValue → NodeValue K
+risen x said start old reached = record x {
   up = true;
   acceptor = record { promised = said.promised; accepted = said.accepted };
   offset = said.offset;
@@ -162,6 +172,7 @@ risen x said start old = record x {
   start = start;
   replayed = said.base;
   ahead = None;
+  reached = reached;
   proposer = None;
   acting = None;
 }

@@ -1,5 +1,5 @@
 -- States that are told, or taken over, for values that a node doesn't hold.
-use Rattle.std.specs.Prelude.{◌≡◌, ◌⊎◌, ℕ, ◌<◌, ◌≤◌, ◌-◌, Bool, List, [], ◌∷◌, ◌++◌, drop, length, max, unwrap_or, Result, Ok, Err, Option, Some, None, nat_le, if◌then◌else◌}
+use Rattle.std.specs.Prelude.{◌≡◌, ◌⊎◌, ℕ, suc, ◌<◌, ◌≤◌, ◌-◌, Bool, List, [], ◌∷◌, ◌++◌, drop, length, max, Result, Ok, Err, Option, Some, None, nat_le, if◌then◌else◌}
 use Rattle.std.specs.List.{All}
 use Rattle.rex_ballot.specs.Proposals.{IsValue}
 use Rattle.rex_paxos.specs.Acceptor.{forgetting}
@@ -12,17 +12,17 @@ use Rattle.rex_snapshot.specs.Allowed.{version_in}
 use Rattle.rex_snapshot.specs.Reading.{state_in}
 use Rattle.rex_durable.specs.Spelling.{record_bytes}
 use Rattle.rex_durable.specs.declared.records.Rec.TheVariants.{Transferred}
-use Rattle.rex_gate.specs.Noted.{stamp_of}
 use Rattle.rex_msg.specs.declared.message.Message.{Message}
 use Rattle.rex_msg.specs.declared.message.Content.{Content}
 use Rattle.rex_msg.specs.declared.message.Content.TheVariants as sent
+use Rattle.rex_cluster.specs.Reading.{last_reply}
 use Rattle.rex_cluster.specs.Records.{known}
 use Rattle.rex_cluster.specs.Values.{Value, trace_of}
 use Rattle.rex_cluster.specs.Lanes.{Here}
 use Rattle.rex_log.specs.Log.{first}
 use Rattle.rex_node.specs.declared.refusal.Refusal.{Refusal}
 use Rattle.rex_node.specs.declared.refusal.Refusal.TheVariants as why
-use Rattle.rex_node.specs.Parts.{ActingValue, NodeValue}
+use Rattle.rex_node.specs.Parts.{NodeValue}
 
 -- the first so many values of the past run to the state
 abbrev pub LeadTo : Declarations → List Value → ℕ → StateValue → Type 0
@@ -81,18 +81,17 @@ abbrev pub RefusesContent : Declarations → ℕ → Content → Refusal → Typ
 RefusesContent service many (sent.Snapshot k bytes) refusal = (many < k) × RefusesState (state_in service bytes) refusal
 RefusesContent service many _ refusal = ⊥
 
--- the number of the value with a client's last reply, by what is known of the clients; the offset where that is greater
-abbrev pub stamp_in : Option ActingValue → ℕ → ℕ → ℕ
-stamp_in None offset client = offset
-stamp_in (Some a) offset client = max (unwrap_or (stamp_of a.answers client) 0) offset
+-- the number of the last value with a reply to the client among those that are held, or the offset, if none of them has one
+abbrev pub last_held : ℕ → List Value → ℕ → ℕ
+last_held offset held client = max (last_reply client (suc offset) held) offset
 
 -- the node forgot the values up to its base, and what it accepted for their instances
 abbrev pub dropped : {K : Type 0} → NodeValue K → ℕ → NodeValue K
-dropped x k = record x { offset = k; known = drop (k - x.offset) x.known; acceptor = forgetting x.acceptor k }
+dropped x k = record x { reached = None; offset = k; known = drop (k - x.offset) x.known; acceptor = forgetting x.acceptor k }
 
 -- the node is at the state after so many values, and holds none of them
 abbrev pub moved : {K : Type 0} → NodeValue K → ℕ → StateValue → NodeValue K
-moved x k s = record x { offset = k; known = []; acceptor = forgetting x.acceptor k; base = k; start = s; replayed = k; ahead = None }
+moved x k s = record x { offset = k; known = []; acceptor = forgetting x.acceptor k; base = k; start = s; replayed = k; ahead = None; reached = None }
 
 -- a node that is down, whose record of a state that was taken over was kept or lost
 abbrev pub fallen_moved : {K : Type 0} → Bool → NodeValue K → ℕ → NodeValue K

@@ -139,7 +139,7 @@ impl<K: Keeper> Node<K> {
                 if self.keeper.len() > before {
                     self.base = self.replayed;
                 }
-                self.halt();
+                self.fall();
             }
             Err(KeepFault::OutOfMemory) => {}
         }

@@ -22,8 +22,9 @@ ghost use Rattle.rex_node.specs.Leading.{IsActive, IsFree, IsLonger, GoesRound, 
 use crate::acting::Acting;
 use crate::going::{Going, Round};
 use crate::node::Node;
+use crate::reached::reached_at;
 use crate::step::Draft;
-use crate::values::{copied, events_in};
+use crate::values::copied;
 use rand_pcg::Lcg64Xsh32;
 use rex_ballot::{INSTANCES, Value};
 use rex_delta::check;
@@ -382,16 +383,6 @@ impl<K: Keeper> Node<K> {
         }
     }
 
-    // What is known of the clients at a state: the values that the node holds number their replies.
-    fn fresh_answers(&self, state: &State) -> Result<Answers, AllocError>
-        requires { 0 < length state.now.clients }
-        ensures { IfOk result (λ a. a ≡ spec.fresh_answers self.now.offset self.now.known state.now) }
-    {
-        let mut answers = Answers::at(self.alloc, state, self.known.offset())?;
-        number_values(self.alloc, &mut answers, self.known.values())?;
-        Ok(answers)
-    }
-
     // The node is active from here on: it replays what it knows, and executes with a generator of its ballot.
     fn activate<P: Past, R: Replayer>(
         &mut self,
@@ -414,7 +405,8 @@ impl<K: Keeper> Node<K> {
         let known = self.count::<P>();
         let ballot = self.own_ballot().unwrap_or(0);
         let state = self.replayed_state::<P, R>(svc, replayer)?;
-        let answers = self.fresh_answers(&state)?;
+        let answers = Answers::at(self.alloc, &state, known)?;
+        let reached = reached_at(self.alloc, self.known.offset(), self.base, known, &state)?;
         let recorder = Recorder::new(self.alloc, state)?;
         draft.tell(Effect::Active { node, ballot })?;
         let dice = Lcg64Xsh32::new(self.seed as u64, ballot);
@@ -428,19 +420,9 @@ impl<K: Keeper> Node<K> {
         });
         self.replayed = known;
         self.ahead = None;
+        self.reached = reached;
         Ok(())
     }
-}
-
-// Numbers the replies of values, one value after another.
-fn number_values(alloc: Global, answers: &mut Answers, values: &[Value]) -> Result<(), AllocError>
-    ensures { OnOk result (answers.new ≡ spec.numbering_values answers.old values.now) }
-{
-    for value in values {
-        let events = events_in(alloc, value.as_slice())?;
-        answers.number(events.as_slice())?;
-    }
-    Ok(())
 }
 
 // Whether a node with this proposer, active or not, goes on.

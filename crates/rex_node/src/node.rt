@@ -10,11 +10,12 @@ ghost use Rattle.rex_cluster.specs.Calls.{begin};
 ghost use Rattle.rex_cluster.specs.Lanes.{effect_of, live_state, submit_request, turned};
 ghost use Rattle.rex_cluster.specs.Takes as takes;
 ghost use Rattle.rex_log.specs.Log.{proposal_in};
-ghost use Rattle.rex_node.specs.Parts.{fallen, here_of, role_of, open_of, IsNode, StaysNode, count_of, knows};
+ghost use Rattle.rex_node.specs.Parts.{fallen, stopped, here_of, role_of, open_of, IsNode, StaysNode, count_of, knows};
 ghost use Rattle.rex_node.specs.Blocks.{take_each};
 ghost use Rattle.rex_node.specs.Calls.{Refuses, LeadsTo, if_up, if_active, refusal_active, turn_at};
 
 use crate::acting::Acting;
+use crate::reached::Reached;
 use crate::refusal::Refusal;
 use rex_ballot::{INSTANCES, Proposal};
 use rex_event::Event;
@@ -53,6 +54,8 @@ pub struct Node<K: Keeper> {
     /// How many values were replayed, and the state then, unless that is the one of the checkpoint or what is executed has it.
     pub(crate) replayed: u32,
     pub(crate) ahead: Option<State>,
+    /// The state to which it came last by replaying, where it forgot no values. It is kept while the node is stopped.
+    pub(crate) reached: Option<Reached>,
     /// There while the node leads, or asks to.
     pub(crate) proposer: Option<Proposer>,
     /// There while the node is active.
@@ -78,6 +81,7 @@ impl<K: Keeper> Model for Node<K> {
       start = n.start;
       replayed = n.replayed;
       ahead = n.ahead;
+      reached = n.reached;
       proposer = n.proposer;
       acting = n.acting;
     } };
@@ -139,13 +143,21 @@ impl<K: Keeper> Node<K> {
 
     /// Stops the node where it stands: it is down from here on, and has its keeper, and nothing else that counts.
     pub fn halt(&mut self)
-        ensures { self.new ≡ fallen self.old }
+        ensures { self.new ≡ stopped self.old }
     {
         self.up = false;
         self.replayed = self.base;
         self.ahead = None;
         self.proposer = None;
         self.acting = None;
+    }
+
+    // The node is down since an append failed.
+    pub(crate) fn fall(&mut self)
+        ensures { self.new ≡ fallen self.old }
+    {
+        self.halt();
+        self.reached = None;
     }
 
     /// Stops the node, and gives its keeper back: with the keeper's records it starts again.

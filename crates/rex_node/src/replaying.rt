@@ -1,6 +1,6 @@
 //! How a node replays what it knows.
 
-ghost use Rattle.std.specs.Prelude.{◌≡◌, ◌≢◌, ◌<◌, ◌-◌, ◌^◌, true, length, Some, None, is_some, option_map, IfOk, OnErr};
+ghost use Rattle.std.specs.Prelude.{◌≡◌, ◌≢◌, ◌<◌, ◌≤◌, ◌-◌, ◌^◌, true, length, take, Some, None, is_some, option_map, IfOk, OnErr};
 ghost use Rattle.std.specs.Option.{option_copied};
 ghost use Rattle.rex_event.specs.Cuts.{below};
 ghost use Rattle.rex_cut.specs.Greatest.{greatest_cut};
@@ -17,6 +17,7 @@ ghost use Rattle.rex_node.specs.Calls.{refusal_of_lead, refusal_of_none, refusal
 
 use crate::checkpointing::only;
 use crate::node::Node;
+use crate::reached::reached_at;
 use crate::refusal::Refusal;
 use crate::step::Step;
 use crate::values::replay_values;
@@ -66,6 +67,8 @@ impl<K: Keeper> Node<K> {
         let node = self.id;
         let deltas = self.count::<P>();
         let effects = only(self.alloc, Effect::Replayed { node, deltas })?;
+        let reached = reached_at(self.alloc, self.known.offset(), self.base, deltas, &state)?;
+        self.reached = reached;
         self.ahead = Some(state);
         self.replayed = deltas;
         Ok(Step {
@@ -103,9 +106,34 @@ impl<K: Keeper> Node<K> {
         requires acting { self.now.acting ≡ None }
         ensures runs { IfOk result (λ s. run svc.now (start_of svc.now) (trace_of (knows P.past self.now)) ≡ Some s) }
     {
+        match &self.reached {
+            Some(reached) if reached.count >= self.replayed => {
+                self.replayed_from::<P, R>(svc, replayer, reached.count, &reached.state)
+            }
+            _ => {
+                let from = ahead_of(&self.ahead, &self.start);
+                self.replayed_from::<P, R>(svc, replayer, self.replayed, from)
+            }
+        }
+    }
+
+    // The same, from the state after so many values.
+    fn replayed_from<P: Past, R: Replayer>(
+        &self,
+        svc: &Checked,
+        replayer: &mut R,
+        count: u32,
+        from: &State,
+    ) -> Result<State, AllocError>
+        requires node { IsKept K.records svc.now P.past (whole P.past self.now) }
+        requires up { self.now.up ≡ true }
+        requires held { self.now.offset ≤ count }
+        requires among { count ≤ length (knows P.past self.now) }
+        requires from { run svc.now (start_of svc.now) (trace_of (take count (knows P.past self.now))) ≡ Some from.now }
+        ensures runs { IfOk result (λ s. run svc.now (start_of svc.now) (trace_of (knows P.past self.now)) ≡ Some s) }
+    {
         let _service = svc.declarations();
-        let from = ahead_of(&self.ahead, &self.start);
-        let rest = self.known.after(self.replayed);
+        let rest = self.known.after(count);
         replay_values(self.alloc, svc, replayer, from, rest)
     }
 }

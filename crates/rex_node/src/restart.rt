@@ -1,6 +1,6 @@
 //! How a node comes up.
 
-ghost use Rattle.std.specs.Prelude.{◌≡◌, ◌<◌, ◌≤◌, ℕ, List, true, Some, IfOk, IfErr, IsOk, OnErr, OnOk};
+ghost use Rattle.std.specs.Prelude.{◌≡◌, ◌<◌, ◌≤◌, ℕ, List, length, take, true, Some, IfOk, IfErr, IsOk, OnErr, OnOk};
 ghost use Rattle.std.specs.List.{list_all};
 ghost use Rattle.rex_ballot.specs.Limits.{most_nodes};
 ghost use Rattle.rex_durable.specs.Laws.{IsRecovered};
@@ -8,14 +8,14 @@ ghost use Rattle.rex_snapshot.specs.Reading.{state_in};
 ghost use Rattle.rex_cluster.specs.Records.{known};
 ghost use Rattle.rex_cluster.specs.Values.{spells, values_fit};
 ghost use Rattle.rex_log.specs.Log.{AreRead, log_of};
-ghost use Rattle.rex_node.specs.Parts.{IsNode};
+ghost use Rattle.rex_node.specs.Parts.{HasReached, IsNode, knows};
 ghost use Rattle.rex_node.specs.Stated.{AreStated};
 ghost use Rattle.rex_node.specs.declared.restart.RestartFault.TheVariants.{OutOfMemory};
-ghost use Rattle.rex_node.specs.Restarting.{CameUp, HasForgotten, HasRightBase, IsRead, IsRecalled, IsRestartFault, down_with, risen, state_at};
+ghost use Rattle.rex_node.specs.Restarting.{CameUp, HasForgotten, HasRightBase, IsRead, IsRecalled, IsRestartFault, BeginAlike, KeepsReached, down_with, risen, state_at};
 
 use crate::contents::{Place, bad_at, ends_old, first_bad};
 use crate::node::Node;
-use rex_ballot::Proposals;
+use rex_ballot::{Proposals, Value};
 use rex_durable::{RecoverFault, Recovered, recover};
 use rex_log::Past;
 use rex_paxos::Acceptor;
@@ -105,7 +105,8 @@ impl<K: Keeper> Node<K> {
         requires there { (0 < self.old.id) × (self.old.id ≤ self.old.nodes) }
         requires few { self.old.nodes ≤ most_nodes }
         ensures up { OnOk result (CameUp K.records svc.now P.past self.old.id self.old.nodes self.old.seed self.old.keeper self.new) }
-        ensures kept { values_fit svc.now (known (log_of svc.now P.past (K.records self.old.keeper))) ≡ true
+        ensures kept { HasReached svc.now self.old.offset (knows P.past self.old) self.old.reached
+            → values_fit svc.now (known (log_of svc.now P.past (K.records self.old.keeper))) ≡ true
             → HasRightBase svc.now (log_of svc.now P.past (K.records self.old.keeper)) → HasForgotten P.past (log_of svc.now P.past (K.records self.old.keeper))
             → OnOk result (IsNode K.records svc.now P.past self.new) }
         ensures back { OnErr result (self.new ≡ self.old) }
@@ -136,21 +137,36 @@ impl<K: Keeper> Node<K> {
             old_base: false,
             replayed: 0,
             ahead: None,
+            reached: None,
             proposer: None,
             acting: None,
+        }
+    }
+
+    // Whether these values past so many are all, and begin with those by which the node came to the state that it keeps.
+    fn begins_alike(&self, offset: u32, values: &[Value]) -> bool
+        ensures { result ≡ true → BeginAlike self.now.reached self.now.known offset values.now }
+    {
+        match &self.reached {
+            None => true,
+            Some(reached) => offset == 0 && begin_alike(reached.count, values, self.known.values()),
         }
     }
 
     // The node is up, and is what its records say of it.
     fn rise(&mut self, recalled: Recalled)
         requires { IsRecovered recalled.recovered }
-        ensures { self.new ≡ risen self.old recalled.recovered recalled.start recalled.old_base }
+        ensures risen { self.new ≡ risen self.old recalled.recovered recalled.start recalled.old_base self.new.reached }
+        ensures reached { KeepsReached self.old recalled.recovered self.new.reached }
     {
         let Recalled {
             recovered,
             start,
             old_base,
         } = recalled;
+        if !self.begins_alike(recovered.offset, recovered.known.as_slice()) {
+            self.reached = None;
+        }
         self.up = true;
         self.acceptor = Acceptor::with_accepted(
             recovered.promised,
@@ -165,6 +181,28 @@ impl<K: Keeper> Node<K> {
         self.proposer = None;
         self.acting = None;
     }
+}
+
+// Whether the first so many of these values are the first of those.
+fn begin_alike(count: u32, these: &[Value], those: &[Value]) -> bool
+    ensures { result ≡ true → (count ≤ length these.now) × (take count these.now ≡ take count those.now) }
+{
+    let count = count as usize;
+    if these.len() < count || those.len() < count {
+        return false;
+    }
+    for index in 0..count {
+        if !is_same(these[index].as_slice(), those[index].as_slice()) {
+            return false;
+        }
+    }
+    true
+}
+
+fn is_same(this: &[u8], that: &[u8]) -> bool
+    ensures { result ≡ true → this.now ≡ that.now }
+{
+    this == that
 }
 
 // What a keeper's records say of its node, with the state at its base.

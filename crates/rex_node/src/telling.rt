@@ -1,6 +1,6 @@
 //! What a node tells of itself.
 
-ghost use Rattle.std.specs.Prelude.{◌≡◌, ◌≤◌, None, true, is_some, length, option_map};
+ghost use Rattle.std.specs.Prelude.{◌≡◌, ◌≤◌, None, Ok, IfOk, true, is_some, length, option_map};
 ghost use Rattle.std.specs.Option.{option_copied};
 ghost use Rattle.rex_ballot.specs.Proposals.{proposal_for};
 ghost use Rattle.rex_ballot.specs.declared.proposal.Proposal.{Proposal as Kept};
@@ -11,11 +11,10 @@ ghost use Rattle.rex_cluster.specs.Reading.{read_at, stamp_at};
 ghost use Rattle.rex_node.specs.Checkpointing.{replayed_state};
 ghost use Rattle.rex_node.specs.Parts as parts;
 ghost use Rattle.rex_node.specs.Parts.{IsNode, here_of, open_of, proposed_value, role_of, state_of, shown_of, work_of};
-ghost use Rattle.rex_node.specs.Telling as spec;
 
-use crate::acting::Acting;
 use crate::node::Node;
 use crate::replaying::ahead_of;
+use crate::replies::last_held;
 use rex_event::CLIENTS;
 use rex_log::Past;
 use rex_paxos::Acceptor;
@@ -25,6 +24,7 @@ use rex_state::state::State;
 use rex_syntax::checked::Checked;
 use rex_traits::Keeper;
 use rex_transfer::Window;
+use std::alloc::AllocError;
 
 impl<K: Keeper> Node<K> {
     /// How many nodes there are.
@@ -133,15 +133,23 @@ impl<K: Keeper> Node<K> {
     }
 
     /// The number that a release of the node gives a client: that of the value with the client's last reply, or the offset,
-    /// where that is greater. It takes no memory.
-    pub fn stamp<P: Past>(&self, svc: &Checked, client: u16) -> u32
+    /// where that is greater. Where the node released none to the client since it became active, it looks for the value among
+    /// those that it holds, and that takes memory.
+    pub fn stamp<P: Past>(&self, svc: &Checked, client: u16) -> Result<u32, AllocError>
         requires node { IsNode K.records svc.now P.past self.now }
         requires client { client ≤ CLIENTS }
         ensures active { self.now.up ≡ true → is_active (here_of K.records svc.now P.past self.now).role ≡ true
-            → result ≡ stamp_at (here_of K.records svc.now P.past self.now) client }
-        ensures idle { self.now.acting ≡ None → result ≡ self.now.offset }
+            → IfOk result (λ stamp. stamp ≡ stamp_at (here_of K.records svc.now P.past self.now) client) }
+        ensures idle { self.now.acting ≡ None → result ≡ Ok self.now.offset }
     {
-        stamp_in(&self.acting, self.known.offset(), client)
+        let offset = self.known.offset();
+        match &self.acting {
+            None => Ok(offset),
+            Some(acting) => match acting.answers.stamp(client).unwrap_or(0) {
+                0 => last_held(self.alloc, &self.known, client),
+                number => Ok(number.max(offset)),
+            },
+        }
     }
 
     /// The values of the semaphores in the same state.
@@ -173,15 +181,5 @@ fn value_in(state: &State, variable: u16) -> i64
     match state.variables().get(variable as usize) {
         None => 0,
         Some(value) => *value,
-    }
-}
-
-// The number of the value with a client's last reply, by what is known of the clients; the offset where that is greater.
-fn stamp_in(acting: &Option<Acting>, offset: u32, client: u16) -> u32
-    ensures { result ≡ spec.stamp_in acting.now offset client }
-{
-    match acting {
-        None => offset,
-        Some(acting) => acting.answers.stamp(client).unwrap_or(0).max(offset),
     }
 }

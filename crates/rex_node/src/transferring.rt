@@ -126,6 +126,7 @@ impl<K: Keeper> Node<K> {
         ensures { self.new ≡ spec.dropped self.old deltas }
     {
         self.known.drop_to(deltas);
+        self.reached = None;
         self.acceptor.forget(deltas);
     }
 
@@ -250,6 +251,7 @@ impl<K: Keeper> Node<K> {
         ensures { self.new ≡ spec.moved self.old deltas state }
     {
         self.known.jump(deltas);
+        self.reached = None;
         self.acceptor.forget(deltas);
         self.base = deltas;
         self.start = state;

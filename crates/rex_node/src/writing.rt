@@ -24,7 +24,7 @@ impl<K: Keeper> Node<K> {
     {
         let written = rex_durable::append(self.alloc, &mut self.keeper, rec);
         if let Err(KeepFault::Failed) = written {
-            self.halt();
+            self.fall();
         }
         written
     }
@@ -71,7 +71,7 @@ impl<K: Keeper> Node<K> {
             Ok(_) => Ok(draft.done()),
             Err(_) => {
                 if self.keeper.len() > before {
-                    self.halt();
+                    self.fall();
                 }
                 Err(Refusal::OutOfMemory)
             }

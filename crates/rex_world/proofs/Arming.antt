@@ -70,6 +70,7 @@ node_armed service past f x h = record {
     fits = u.fits;
     numbers = u.numbers;
   };
+  reached = h.reached;
   rests = h.rests;
 }
 

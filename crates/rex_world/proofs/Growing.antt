@@ -37,6 +37,7 @@ use Rattle.rex_world.proofs.Beside.{TakesFronts, begins_on, first_grown, log_gro
 use Rattle.rex_world.proofs.Learning.{known_due, learned_as, learned_of}
 use Rattle.rex_world.proofs.Placed.{later_at, log_is, many_here, read_is}
 use Rattle.rex_world.proofs.Coming.{IsUnsettled, same_world}
+use Rattle.rex_node.proofs.Reaching.{reached_beside}
 
 -- ---- records one after the other
 
@@ -172,6 +173,7 @@ module _ (service : Declarations) (past values : List Value) (fits : list_all (s
         ap (λ (log : List (Rec Value StateValue)). let y : Here = record (here_of records_of service past x) { log = log } in y) (log_grown service past values fits front x.keeper.records a.takes) in
         subst (λ (vs : List Value). let y : NodeValue KeeperValue = record x { known = vs } in IsUp service y (here_of records_of service values x)) (sym same_knows)
         (subst (IsUp service (whole past x)) (sym same_here) u);
+    reached = reached_beside service past values x h.reached;
     rests = h.rests;
   }
 

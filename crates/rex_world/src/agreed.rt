@@ -85,13 +85,13 @@ impl<S: Store> World<S> {
     }
 
     // The clients to which a node released replies by these effects have seen them.
-    fn show(&mut self, svc: &Checked, node: u8, effects: &[Effect])
+    fn show(&mut self, svc: &Checked, node: u8, effects: &[Effect]) -> Result<(), AllocError>
         requires there { IsNode (nodes_of self.old) node }
         requires members { AreMembers svc.now self.old.agreed self.old.seed (nodes_of self.old) 1 self.old.nodes.items }
         requires clients { length self.old.seen.items ≡ CLIENT_ENTRIES }
         requires releases { AreReleased (node_at (heres svc.now self.old.agreed self.old.nodes.items) node) effects.now }
-        ensures seen { self.new.seen.items ≡ seen_by_releases (stamp_at (node_at (heres svc.now self.old.agreed self.old.nodes.items) node)) effects.now
-            self.old.seen.items }
+        ensures seen { OnOk result (self.new.seen.items ≡ seen_by_releases (stamp_at (node_at (heres svc.now self.old.agreed self.old.nodes.items) node)) effects.now
+            self.old.seen.items) }
         ensures rest { self.new ≡ record self.old { seen = self.new.seen } }
     {
         show::<Brand, S>(
@@ -100,7 +100,8 @@ impl<S: Store> World<S> {
             svc,
             effects,
             &mut self.seen,
-        );
+        )?;
+        Ok(())
     }
 
     /// Tells what a node did that had so many records before, sends its messages, and takes in what it has come to know, whether
@@ -117,7 +118,7 @@ impl<S: Store> World<S> {
         requires step { CanBeTold svc.now self.old node step.now }
         ensures { OnOk result (IsSettled svc.now node count self.old self.new told.old told.new step.now) }
     {
-        self.show(svc, node, step.effects.as_slice());
+        self.show(svc, node, step.effects.as_slice())?;
         tell_all(&mut told.effects, step.effects.as_slice())?;
         let sends = step.sends.as_slice();
         send_all(&mut self.net, &mut self.handed, &mut told.sent, sends)?;

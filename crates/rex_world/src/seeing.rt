@@ -1,6 +1,6 @@
 //! What clients have seen of the agreed values: replies that were released to them, and values that they read.
 
-ghost use Rattle.std.specs.Prelude.{◌≡◌, ◌≤◌, ◌∷◌, [], true, length, replicate, IfOk};
+ghost use Rattle.std.specs.Prelude.{◌≡◌, ◌≤◌, ◌∷◌, [], true, length, replicate, IfOk, OnOk};
 ghost use Rattle.rex_reads.specs.Reads.{seen_after};
 ghost use Rattle.rex_cluster.specs.Node.{is_active};
 ghost use Rattle.rex_cluster.specs.Reading as reading;
@@ -51,19 +51,20 @@ fn show_reply<P: Past, S: Store>(
     svc: &Checked,
     client: u16,
     seen: &mut [Seen],
-)
+) -> Result<(), AllocError>
     requires member { IsMember svc.now P.past node.now.seed node.now.nodes node.now.id node.now }
     requires clients { length seen.old ≡ CLIENT_ENTRIES }
     requires up { (here_at svc.now P.past node.now).up ≡ true }
     requires active { is_active (here_at svc.now P.past node.now).role ≡ true }
-    ensures { seen.new ≡ seen_more client (stamp_at (here_at svc.now P.past node.now) client) seen.old }
+    ensures { OnOk result (seen.new ≡ seen_more client (stamp_at (here_at svc.now P.past node.now) client) seen.old) }
 {
     // A number that no client has is nowhere kept.
     let place = client as usize;
     if place < seen.len() {
-        let stamp = node.stamp::<P>(svc, client);
+        let stamp = node.stamp::<P>(svc, client)?;
         seen[place].raise(stamp);
     }
+    Ok(())
 }
 
 // Where the node released a reply by this effect, its client has seen it.
@@ -72,16 +73,16 @@ fn show_one<P: Past, S: Store>(
     svc: &Checked,
     effect: &Effect,
     seen: &mut [Seen],
-)
+) -> Result<(), AllocError>
     requires member { IsMember svc.now P.past node.now.seed node.now.nodes node.now.id node.now }
     requires clients { length seen.old ≡ CLIENT_ENTRIES }
     requires releases { AreReleased (here_at svc.now P.past node.now) (effect.now ∷ []) }
-    ensures { seen.new ≡ seen_by_release (stamp_at (here_at svc.now P.past node.now)) (released_to effect.now) seen.old }
+    ensures { OnOk result (seen.new ≡ seen_by_release (stamp_at (here_at svc.now P.past node.now)) (released_to effect.now) seen.old) }
 {
     let _event: Option<(Event, Kind)> = None;
     match effect {
         Effect::Released { client, .. } => show_reply::<P, S>(node, svc, *client, seen),
-        _ => {}
+        _ => Ok(()),
     }
 }
 
@@ -92,13 +93,14 @@ pub(crate) fn show<P: Past, S: Store>(
     svc: &Checked,
     effects: &[Effect],
     seen: &mut [Seen],
-)
+) -> Result<(), AllocError>
     requires member { IsMember svc.now P.past node.now.seed node.now.nodes node.now.id node.now }
     requires clients { length seen.old ≡ CLIENT_ENTRIES }
     requires releases { AreReleased (here_at svc.now P.past node.now) effects.now }
-    ensures { seen.new ≡ seen_by_releases (stamp_at (here_at svc.now P.past node.now)) effects.now seen.old }
+    ensures { OnOk result (seen.new ≡ seen_by_releases (stamp_at (here_at svc.now P.past node.now)) effects.now seen.old) }
 {
     for effect in effects {
-        show_one::<P, S>(node, svc, effect, seen);
+        show_one::<P, S>(node, svc, effect, seen)?;
     }
+    Ok(())
 }

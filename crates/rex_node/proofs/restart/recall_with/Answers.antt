@@ -1,4 +1,4 @@
-use Rattle.std.proofs.Common.{ap, sym, ◌∙◌}
+use Rattle.std.proofs.Common.{sym, ◌∙◌}
 use Rattle.rex_node.proofs.Held.{none_bad, not_bad, read_last, saved_so}
 use Rattle.rex_node.proofs.restart.recall_with.Goals as goal
 

@@ -1,17 +1,15 @@
-use Rattle.std.proofs.Common.{◌≡◌, List, length, ap, sym, ◌∙◌}
+use Rattle.std.proofs.Common.{◌≡◌, length, ap, ◌∙◌}
 use Rattle.std.specs.Prelude.{unwrap_or}
 use Rattle.rex_state.specs.Start.{start_of}
-use Rattle.rex_cluster.specs.Values.{Value, trace_of}
+use Rattle.rex_cluster.specs.Values.{trace_of}
 use Rattle.rex_state.proofs.Sounds.{run_keeps, start_keeps}
 use Rattle.rex_gate.proofs.Noted.{some_entries}
-use Rattle.rex_node.specs.Parts.{NodeValue, whole, knows}
-use Rattle.rex_node.specs.Leading.{fresh_answers}
-use Rattle.rex_node.proofs.Knows.{held_are}
+use Rattle.rex_node.specs.Parts.{NodeValue, whole, knows, reached_at}
 use Rattle.rex_node.proofs.Rounds.{activated_is}
 use Rattle.rex_node.proofs.node.Node.activate.Goals as goal
 
-pub fresh_answers-requires : goal.fresh_answers-requires
-fresh_answers-requires g c =
+pub at-requires : goal.at-requires
+at-requires g c =
     some_entries c.args.svc.now c.in_ok-state.state
     (run_keeps c.args.svc.now (start_of c.args.svc.now) c.in_ok-state.state (trace_of (knows g.P.Past.past c.args.self.now)) c.declarations-service.ensures.sound (start_keeps c.args.svc.now c.declarations-service.ensures.sound c.declarations-service.ensures.checked) c.in_ok-state.ensures.runs)
 
@@ -22,6 +20,7 @@ returns-clause-active g c =
       state = c.in_ok-state.state;
       runs = c.in_ok-state.ensures.runs;
       sound = run_keeps c.args.svc.now (start_of c.args.svc.now) c.in_ok-state.state (trace_of (knows g.P.Past.past c.args.self.now)) c.declarations-service.ensures.sound (start_keeps c.args.svc.now c.declarations-service.ensures.sound c.declarations-service.ensures.checked) c.in_ok-state.ensures.runs;
-      is = activated_is (whole g.P.Past.past c.args.self.now) _ (ap (λ (x : NodeValue _). whole g.P.Past.past x) c.self.view_is) c.in_ok-state.state c.count-known.result c.in_ok-recorder.recorder.value c.new-dice.result c.new-counts.result c.unwrap_or-ballot.result c.self.inside.seed c.in_ok-answers.answers many c.in_ok-recorder.ensures.started
-          (c.unwrap_or-ballot.ensures ∙ ap (λ o. unwrap_or o 0) c.own_ballot.ensures) (ap (λ (n : NodeValue _). n.seed) c.self.view_is) c.new-dice.ensures c.new-counts.ensures (c.in_ok-answers.ensures ∙ ap (λ (vs : List Value). fresh_answers c.args.self.now.offset vs c.in_ok-state.state) (sym (held_are g.P.Past.past c.args.self.now)));
+      is = activated_is (whole g.P.Past.past c.args.self.now) _ (ap (λ (x : NodeValue _). whole g.P.Past.past x) c.self.view_is) c.in_ok-state.state c.count-known.result c.in_ok-recorder.recorder.value c.new-dice.result c.new-counts.result c.unwrap_or-ballot.result c.self.inside.seed c.in_ok-answers.answers c.in_ok-reached.reached many c.in_ok-recorder.ensures.started
+          (c.unwrap_or-ballot.ensures ∙ ap (λ o. unwrap_or o 0) c.own_ballot.ensures) (ap (λ (n : NodeValue _). n.seed) c.self.view_is) c.new-dice.ensures c.new-counts.ensures c.in_ok-answers.ensures
+          (c.in_ok-reached.ensures ∙ ap (λ o. reached_at o c.self.inside.base c.count-known.result c.in_ok-state.state) c.offset.ensures ∙ ap (λ (n : NodeValue _). reached_at n.offset n.base c.count-known.result c.in_ok-state.state) c.self.view_is);
     }

@@ -10,13 +10,13 @@ pub returns-clause-up : goal.returns-clause-up
 returns-clause-up g c =
     let r = c.in_ok-recalled.recalled in
     let said = subst (λ (n : NodeValue _). IsRecalled c.args.svc.now (g.K.Keeper.records n.keeper) r.recovered r.start r.old_base) c.self.view_is c.in_ok-recalled.ensures.recalled in
-    rw c.rise.ensures (came_up g.K.Keeper.records c.args.svc.now g.P.Past.past c.args.self.now r.recovered r.start r.old_base said)
+    rw c.rise.ensures.risen (came_up g.K.Keeper.records c.args.svc.now g.P.Past.past c.args.self.now r.recovered r.start r.old_base c.rise.new.self.reached said)
 
 pub returns-clause-kept : goal.returns-clause-kept
-returns-clause-kept g c = λ fit right forgotten.
+returns-clause-kept g c = λ was fit right forgotten.
     let r = c.in_ok-recalled.recalled in
     let said = subst (λ (n : NodeValue _). IsRecalled c.args.svc.now (g.K.Keeper.records n.keeper) r.recovered r.start r.old_base) c.self.view_is c.in_ok-recalled.ensures.recalled in
-    rw c.rise.ensures (is_node g.K.Keeper.records c.args.svc.now g.P.Past.past c.args.self.now r.recovered r.start r.old_base said fit right forgotten c.requires.there c.requires.few)
+    rw c.rise.ensures.risen (is_node g.K.Keeper.records c.args.svc.now g.P.Past.past c.args.self.now r.recovered r.start r.old_base c.rise.new.self.reached said fit right forgotten c.requires.there c.requires.few c.rise.ensures.reached was)
 
 pub returns-in_err-recalled-clause-read : goal.returns-in_err-recalled-clause-read
 returns-in_err-recalled-clause-read g c = λ all stated fit.

@@ -18,7 +18,7 @@ show-requires-clause-releases g c =
 
 pub returns-clause-seen : goal.returns-clause-seen
 returns-clause-seen g c =
-    let is = c.show.ensures ∙ ap (seen_by_releases (stamp_at (here_at c.args.svc.now c.args.self.now.agreed c.index.result.now)) c.args.effects.now) c.deref_mut.ensures.value in
+    let is = c.in_ok-show.ensures ∙ ap (seen_by_releases (stamp_at (here_at c.args.svc.now c.args.self.now.agreed c.index.result.now)) c.args.effects.now) c.deref_mut.ensures.value in
     with_items_is c.args.self.now.seen c.show.new.seen (ap length is ∙ releases_long (stamp_at (here_at c.args.svc.now c.args.self.now.agreed c.index.result.now)) c.args.effects.now c.args.self.now.seen.items ∙ sym c.args.self.now.seen.ok.0)
     ∙ is
     ∙ ap (λ (x : Here). seen_by_releases (stamp_at x) c.args.effects.now c.args.self.now.seen.items) (sym (here_so c.args.self.now.nodes.items c.args.node c.requires.there c.args.svc.now c.args.self.now.agreed c.index.result.now c.index.ensures))

@@ -1,0 +1,7 @@
+use Rattle.std.proofs.Common.{◌≡◌, drop}
+use Rattle.rex_gate.specs.Numbers.{replies_to}
+use Rattle.rex_node.proofs.replies.replies_to.Given as goal
+
+-- none of the events before replies
+abbrev pub invariant-loop-event : goal.invariant-loop-event
+invariant-loop-event l = replies_to l.client (drop l.event-index l.events) ≡ replies_to l.client l.events
