@@ -1,7 +1,7 @@
 //! The tests of nodes, worlds and programs, over memory: calls of a node, the runs of whole scenarios, lanes as threads, the
 //! words by which they lock, and failing devices; and of journals in files. There is nothing here for a program to use.
 //!
-//! They stand apart from `rex_tests`, so that its tests are proved while nodes and worlds still are.
+//! They stand apart from `rex_tests` and `rex_format_tests`, so that those are proved while nodes and worlds still are.
 #![tactic(auto)]
 
 #[cfg(test)]

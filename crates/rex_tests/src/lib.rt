@@ -1,7 +1,7 @@
 //! The tests of the libraries below a node and beside it, by their public calls alone: a file for each library. There is nothing
 //! here for a program to use.
 //!
-//! A crate that has tests is proved once more with them, so they stand in this one and in `rex_run_tests`.
+//! A crate that has tests is proved once more with them, so they stand in this one, in `rex_format_tests` and in `rex_run_tests`.
 #![tactic(auto)]
 
 #[cfg(test)]
@@ -17,13 +17,7 @@ mod crew;
 #[cfg(test)]
 mod cut;
 #[cfg(test)]
-mod delta;
-#[cfg(test)]
-mod durable;
-#[cfg(test)]
 mod event;
-#[cfg(test)]
-mod frames;
 #[cfg(test)]
 mod gate;
 #[cfg(test)]
@@ -31,13 +25,9 @@ mod generator;
 #[cfg(test)]
 mod identity;
 #[cfg(test)]
-mod journal;
-#[cfg(test)]
 mod list;
 #[cfg(test)]
 mod lockset;
-#[cfg(test)]
-mod msg;
 #[cfg(test)]
 mod net;
 #[cfg(test)]
@@ -47,18 +37,6 @@ mod parse;
 #[cfg(test)]
 mod paxos;
 #[cfg(test)]
-mod plain;
-#[cfg(test)]
-mod plain_deltas;
-#[cfg(test)]
-mod plain_journals;
-#[cfg(test)]
-mod plain_messages;
-#[cfg(test)]
-mod plain_records;
-#[cfg(test)]
-mod plain_snapshots;
-#[cfg(test)]
 mod reads;
 #[cfg(test)]
 mod record;
@@ -67,13 +45,9 @@ mod reduce;
 #[cfg(test)]
 mod replay;
 #[cfg(test)]
-mod report;
-#[cfg(test)]
 mod scenario;
 #[cfg(test)]
 mod services;
-#[cfg(test)]
-mod snapshot;
 #[cfg(test)]
 mod state;
 #[cfg(test)]
@@ -88,5 +62,3 @@ mod threads;
 mod traits;
 #[cfg(test)]
 mod transfer;
-#[cfg(test)]
-mod wire;
