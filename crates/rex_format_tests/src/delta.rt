@@ -74,7 +74,7 @@ static CHANGES: [(u8, &[u8], usize); 29] = [
 ];
 
 /// The delta that bytes spell.
-pub fn delta_of(alloc: Global, bytes: &[u8]) -> Result<Delta, &'static str>
+pub(crate) fn delta_of(alloc: Global, bytes: &[u8]) -> Result<Delta, &'static str>
     ensures { IfOk result (λ d. IsDelta d) }
 {
     match decode(alloc, bytes) {

@@ -8,7 +8,7 @@ use std::process::Abort;
 /// The numbers that were read of some bytes from the left, up to the first bad field. From a bad field on nothing is read,
 /// and each number is 0.
 #[derive(Drop)]
-pub struct Plain<'a> {
+pub(crate) struct Plain<'a> {
     bytes: &'a [u8],
     rest: &'a [u8],
     /// Where the last field begins.
@@ -18,7 +18,7 @@ pub struct Plain<'a> {
 }
 
 impl<'a> Plain<'a> {
-    pub fn new(alloc: Global, bytes: &'a [u8]) -> Plain<'a> {
+    pub(crate) fn new(alloc: Global, bytes: &'a [u8]) -> Plain<'a> {
         Plain {
             bytes,
             rest: bytes,
@@ -29,7 +29,7 @@ impl<'a> Plain<'a> {
     }
 
     /// The number in the next so many bytes.
-    pub fn number(&mut self, rt: &impl Abort, width: usize) -> u64 {
+    pub(crate) fn number(&mut self, rt: &impl Abort, width: usize) -> u64 {
         let field = self.take(width);
         if self.bad.is_some() {
             return 0;
@@ -40,14 +40,14 @@ impl<'a> Plain<'a> {
     }
 
     /// The same, where it has to lie in a range.
-    pub fn within(&mut self, rt: &impl Abort, width: usize, least: u64, greatest: u64) -> u64 {
+    pub(crate) fn within(&mut self, rt: &impl Abort, width: usize, least: u64, greatest: u64) -> u64 {
         let number = self.number(rt, width);
         self.allow(least <= number && number <= greatest);
         number
     }
 
     /// A length of at most 4,194,304, and so many bytes.
-    pub fn value(&mut self, rt: &impl Abort) {
+    pub(crate) fn value(&mut self, rt: &impl Abort) {
         let length = self.within(rt, 4, 0, 4_194_304);
         let value = self.take(length as usize);
         for byte in value {
@@ -56,26 +56,26 @@ impl<'a> Plain<'a> {
     }
 
     /// The last field is bad, unless this holds.
-    pub fn allow(&mut self, allowed: bool) {
+    pub(crate) fn allow(&mut self, allowed: bool) {
         if !allowed && self.bad.is_none() {
             self.bad = Some(self.field);
         }
     }
 
     /// Puts a number that follows from the fields among those that were read.
-    pub fn note(&mut self, rt: &impl Abort, number: u64) {
+    pub(crate) fn note(&mut self, rt: &impl Abort, number: u64) {
         if self.bad.is_none() {
             self.numbers.push(number).expect(rt, "memory");
         }
     }
 
     /// Whether nothing was bad up to here.
-    pub fn is_good(&self) -> bool {
+    pub(crate) fn is_good(&self) -> bool {
         self.bad.is_none()
     }
 
     /// All numbers, where no bytes are left; else where the first bad field begins.
-    pub fn finish(self) -> Result<Vec<u64>, usize> {
+    pub(crate) fn finish(self) -> Result<Vec<u64>, usize> {
         let end = self.bytes.len().saturating_sub(self.rest.len());
         match self.bad {
             Some(at) => Err(at),
@@ -113,14 +113,14 @@ fn big_endian(field: &[u8]) -> u64 {
 }
 
 /// Whether a number is a ballot: 16 times a round from 1 to 2^32, and a node from 1 to 9.
-pub fn is_ballot(number: u64) -> bool {
+pub(crate) fn is_ballot(number: u64) -> bool {
     let round = number / 16;
     let node = number % 16;
     1 <= round && round <= 4_294_967_296 && 1 <= node && node <= 9
 }
 
 /// The bytes, every prefix of them, a byte more, and each byte changed to 0 and to 255. Of `n` bytes these are `3 * n + 2` lists.
-pub fn hostile(alloc: Global, bytes: &[u8]) -> Result<Vec<Vec<u8>>, AllocError> {
+pub(crate) fn hostile(alloc: Global, bytes: &[u8]) -> Result<Vec<Vec<u8>>, AllocError> {
     let mut lists = Vec::new(alloc);
     lists.push(bytes.to_vec(alloc)?)?;
     lists.push(longer(alloc, bytes)?)?;
@@ -147,7 +147,7 @@ fn changed(alloc: Global, bytes: &[u8], at: usize, byte: u8) -> Result<Vec<u8>, 
 }
 
 /// The bytes with others in the place of those from an offset on.
-pub fn patched(rt: &impl Abort, alloc: Global, bytes: &[u8], at: usize, new: &[u8]) -> Vec<u8> {
+pub(crate) fn patched(rt: &impl Abort, alloc: Global, bytes: &[u8], at: usize, new: &[u8]) -> Vec<u8> {
     let mut patched = bytes.to_vec(alloc).expect(rt, "memory");
     for (place, byte) in patched.iter_mut().skip(at).zip(new) {
         *place = *byte;
@@ -156,7 +156,7 @@ pub fn patched(rt: &impl Abort, alloc: Global, bytes: &[u8], at: usize, new: &[u
 }
 
 /// Whether both readers took the same numbers, or found the same bad field.
-pub fn agree(found: &Result<Vec<u64>, usize>, expected: &Result<Vec<u64>, usize>) -> bool {
+pub(crate) fn agree(found: &Result<Vec<u64>, usize>, expected: &Result<Vec<u64>, usize>) -> bool {
     match (found, expected) {
         (Ok(found), Ok(expected)) => found.as_slice() == expected.as_slice(),
         (Err(found), Err(expected)) => found == expected,
@@ -165,7 +165,7 @@ pub fn agree(found: &Result<Vec<u64>, usize>, expected: &Result<Vec<u64>, usize>
 }
 
 /// Where the first bad field begins, if one is bad.
-pub fn bad_at(found: &Result<Vec<u64>, usize>) -> Option<usize> {
+pub(crate) fn bad_at(found: &Result<Vec<u64>, usize>) -> Option<usize> {
     match found {
         Ok(_) => None,
         Err(at) => Some(*at),
@@ -173,12 +173,12 @@ pub fn bad_at(found: &Result<Vec<u64>, usize>) -> Option<usize> {
 }
 
 /// Puts further numbers behind others.
-pub fn put(rt: &impl Abort, numbers: &mut Vec<u64>, more: &[u64]) {
+pub(crate) fn put(rt: &impl Abort, numbers: &mut Vec<u64>, more: &[u64]) {
     numbers.extend_from_slice(more).expect(rt, "memory");
 }
 
 /// Puts the length of a value and its bytes behind other numbers.
-pub fn put_value(rt: &impl Abort, numbers: &mut Vec<u64>, value: &[u8]) {
+pub(crate) fn put_value(rt: &impl Abort, numbers: &mut Vec<u64>, value: &[u8]) {
     put(rt, numbers, &[value.len() as u64]);
     for byte in value {
         put(rt, numbers, &[*byte as u64]);

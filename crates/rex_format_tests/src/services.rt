@@ -8,7 +8,7 @@ use std::alloc::Global;
 use std::process::Abort;
 
 /// The service that a text of less than 1,000 bytes declares.
-pub fn service(rt: &impl Abort, alloc: Global, text: &str) -> Service {
+pub(crate) fn service(rt: &impl Abort, alloc: Global, text: &str) -> Service {
     assert!(rt; text.len() < 1000);
     read_service(alloc, text.as_bytes())
         .ok()
@@ -16,7 +16,7 @@ pub fn service(rt: &impl Abort, alloc: Global, text: &str) -> Service {
 }
 
 /// The same, checked.
-pub fn checked(rt: &impl Abort, alloc: Global, text: &str) -> Checked {
+pub(crate) fn checked(rt: &impl Abort, alloc: Global, text: &str) -> Checked {
     let service = service(rt, alloc, text);
     check(alloc, service).ok().expect(rt, "a checked service")
 }

@@ -296,14 +296,15 @@ leaving x = record x {
 
 -- ---- going down
 
--- a node that was stopped is down: it has its keeper, and nothing else that counts
+-- a node that was stopped is down: it has its keeper and the state that it came to last by replaying, and nothing else that counts
 abbrev pub stopped : {K : Type 0} → NodeValue K → NodeValue K
 stopped x = record x { up = false; replayed = x.base; ahead = None; proposer = None; acting = None }
 
--- and so is one whose append failed
+-- so is one whose append failed, but for that state
 abbrev pub fallen : {K : Type 0} → NodeValue K → NodeValue K
 fallen x = record (stopped x) { reached = None }
 
+-- it is down, and has no such state
 pub record IsDown {K : Type 0} (x : NodeValue K) : Type 0 where
   pub down : x.up ≡ false
   pub bare : x.reached ≡ None

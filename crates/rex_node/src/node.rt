@@ -141,7 +141,8 @@ impl<K: Keeper> Node<K> {
         }
     }
 
-    /// Stops the node where it stands: it is down from here on, and has its keeper, and nothing else that counts.
+    /// Stops the node where it stands: it is down from here on, and has its keeper and the state that it came to last by replaying.
+    /// Nothing else that it has counts.
     pub fn halt(&mut self)
         ensures { self.new ≡ stopped self.old }
     {

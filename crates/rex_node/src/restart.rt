@@ -99,8 +99,8 @@ impl<K: Keeper> Node<K> {
         }
     }
 
-    /// The node comes up again with what its keeper has, and with nothing else, as a restarted one does. After an error it is as
-    /// it was.
+    /// The node comes up again with what its keeper has, as a restarted one does. Of what it had before it went down it has a state
+    /// that it came to by replaying, where its records say the same values up to there. After an error it is as it was.
     pub fn start<P: Past>(&mut self, svc: &Checked) -> Result<(), RestartFault>
         requires there { (0 < self.old.id) × (self.old.id ≤ self.old.nodes) }
         requires few { self.old.nodes ≤ most_nodes }

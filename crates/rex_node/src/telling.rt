@@ -133,8 +133,8 @@ impl<K: Keeper> Node<K> {
     }
 
     /// The number that a release of the node gives a client: that of the value with the client's last reply, or the offset,
-    /// where that is greater. Where the node released none to the client since it became active, it looks for the value among
-    /// those that it holds, and that takes memory.
+    /// where that is greater. Where no value that the node came to know since it became active replies to the client, it looks for
+    /// that value among all that it holds, and that takes memory.
     pub fn stamp<P: Past>(&self, svc: &Checked, client: u16) -> Result<u32, AllocError>
         requires node { IsNode K.records svc.now P.past self.now }
         requires client { client ≤ CLIENTS }

@@ -33,12 +33,12 @@ fn second(alloc: Global) -> Result<Identity, Fail> {
 }
 
 /// A keeper with this record.
-fn holding(alloc: Global, record: &[u8]) -> Result<MemKeeper, Fail>
-    requires { length record.now < 2 ^ 32 }
+fn holding(alloc: Global, bytes: &[u8]) -> Result<MemKeeper, Fail>
+    requires { length bytes.now < 2 ^ 32 }
     ensures { IfOk result (λ k. k.faults ≡ 0) }
 {
     let mut keeper = MemKeeper::new(alloc);
-    match keeper.append(record) {
+    match keeper.append(bytes) {
         Ok(()) => Ok(keeper),
         Err(_) => Err("not appended")?,
     }

@@ -72,7 +72,7 @@ fn can_begin(recorder: &Recorder, svc: &Checked, request: &Request) -> bool
 }
 
 /// Queues a request of a client that has none, which an idle lane could begin.
-pub fn queue(rt: &impl Abort, recorder: &mut Recorder, svc: &Checked, request: Request)
+pub(crate) fn queue(rt: &impl Abort, recorder: &mut Recorder, svc: &Checked, request: Request)
     requires { IsRecorder svc.now recorder.old.value }
     ensures { IsRecorder svc.now recorder.new.value }
 {

@@ -11,11 +11,10 @@ use Rattle.rex_cluster.specs.Calls.{begin, migrate}
 use Rattle.rex_cluster.specs.Lanes.{Here}
 use Rattle.rex_cluster.specs.Values.{Value, service_of}
 use Rattle.rex_cluster.proofs.Migrated.{migrated_sends}
-use Rattle.rex_msg.specs.declared.message.Message.{Message as Sent}
 use Rattle.rex_node.specs.declared.refusal.Refusal.{Refusal}
 use Rattle.rex_node.specs.declared.step.Step.{Step}
 use Rattle.rex_node.specs.Calls.{Does, EndsDown}
-use Rattle.rex_log.specs.Messages.{message_in}
+use Rattle.rex_node.proofs.Ending.{no_messages}
 use Rattle.rex_node.specs.Parts.{StaysNode, count_of}
 use Rattle.rex_world.specs.Starting.{CameBack}
 use Rattle.rex_steps.specs.Steps.{IsDone}
@@ -24,10 +23,6 @@ use Rattle.rex_world.proofs.Acted.{does_stays}
 use Rattle.rex_world.proofs.Failing.{follows, is_done}
 use Rattle.rex_world.proofs.Knowing.{count_known}
 use Rattle.rex_world.proofs.Unseen.{migrate_either}
-
-pub nothing_sent : (past : List Value) (sends : List Sent) → map (message_in past) sends ≡ [] → sends ≡ []
-nothing_sent past [] e = refl
-nothing_sent past (m ∷ ms) e = absurd cc
 
 module _ (service : Declarations) (past : List Value) (old : Member) (member : IsMember service past old.seed old.nodes old.id old) (up : old.up ≡ true) where
   abbrev h : Here
@@ -63,7 +58,7 @@ module _ (service : Declarations) (past : List Value) (old : Member) (member : I
         let none : (migrate sv old.id (begin h)).sends ≡ [] = migrated_sends (has_old_base h.log) old.id (begin h) (base h.log) (Checkpoint Two (base h.log) (sv.state (take (base h.log) (known h.log)))) refl in
         record {
           node = done.node;
-          sends = sends ∙ nothing_sent past migrated.sends (done.sends ∙ none);
+          sends = sends ∙ no_messages past migrated.sends (done.sends ∙ none);
           effects =
               effects ∙ ap (λ (es : List Effect). es ++ migrated.effects) first_is
               ∙ ap (λ (es : List Effect). told_up ∷ es) done.effects;
