@@ -292,10 +292,6 @@ read_good service offset rs good = by (snapshot_of (checkpoint rs)) refl
 -- ---- records that were read
 
 module _ (service : Declarations) (kept : List (List ℕ)) (x : Recovered) (r : IsRead kept x) where
-  -- the state that was read is the last one
-  pub read_last : (saved : Result StateValue ℕ) (last : Option ℕ) → saved ≡ state_at service x.snapshot → last ≡ bad_at saved → last ≡ bad_at (state_at service (snapshot_of (checkpoint r.rs)))
-  read_last saved last is bad = bad ∙ ap bad_at is ∙ ap (λ (y : Recovered). bad_at (state_at service y.snapshot)) r.is
-
   pub none_bad : (found : Option Place) → found ≡ first_bad service x.offset 1 r.rs → found ≡ None → IsFound service kept x
   none_bad found is none = record { read = r; good = ap (λ (y : Recovered). first_bad service y.offset 1 r.rs) (sym r.is) ∙ sym is ∙ none }
 

@@ -10,6 +10,7 @@ pub mod Appended
 pub mod Candidates
 pub mod Continuing
 pub mod Counts
+pub mod Deltas
 pub mod Ending
 pub mod Executing
 pub mod Knowing

@@ -1,18 +1,23 @@
 //! What the records of a keeper hold.
 
-ghost use Rattle.std.specs.Prelude.{◌≡◌, ◌==◌, ◌||◌, ℕ, List as Items, drop, get_or};
+ghost use Rattle.std.specs.Prelude.{◌≡◌, ◌==◌, ◌||◌, ◌+◌, ◌≤◌, ℕ, List as Items, None, drop, get_or, length, true};
+ghost use Rattle.std.specs.List.{All};
 ghost use Rattle.rex_syntax.specs.declared.service.Declarations.{Declarations};
 ghost use Rattle.rex_delta.specs.Reading.{delta_in};
 ghost use Rattle.rex_durable.specs.declared.records.Rec.{Rec};
 ghost use Rattle.rex_durable.specs.Kept.{Spell};
-ghost use Rattle.rex_durable.specs.Recovery.{checkpoint, snapshot_of};
+ghost use Rattle.rex_durable.specs.Recovery.{checkpoint, recovered as recovered_of, snapshot_of};
+ghost use Rattle.rex_transfer.specs.Window.{SpellsDelta};
 ghost use Rattle.rex_node.specs.Restarting as spec;
 ghost use Rattle.rex_node.specs.Stated.{is_state_kind};
 
 use crate::checkpointing::is_old;
+use rex_ballot::{INSTANCES, Value};
+use rex_durable::Recovered;
 use rex_durable::layout::{CHECKPOINT, HEAD, KNOWN, TRANSFERRED};
 use rex_snapshot::version_in;
 use rex_traits::Keeper;
+use rex_transfer::Window;
 
 /// The number of a record, counted from 1, and an offset in it.
 #[derive(Clone, Copy, Debug, PartialEq, Eq)]
@@ -107,9 +112,28 @@ pub(crate) fn bad_at<T>(content: &Result<T, usize>) -> Option<usize>
     }
 }
 
-/// The first bad place in what a keeper's records hold: known values above the offset have to spell deltas, and the last snapshot,
-/// of a checkpoint or of a state that was taken over, a state. The caller read that, and says where it is bad.
-pub(crate) fn first_bad<K: Keeper>(keeper: &K, offset: u32, last: Option<usize>) -> Option<Place>
+// Whether the value of an instance spells a delta. One that the window knows to do so isn't read again.
+fn is_delta(window: &Window, instance: u32, value: &[u8]) -> bool
+    ensures { result ≡ true → SpellsDelta value.now }
+{
+    window.knows_delta(instance, value) || bad_in_value(value).is_none()
+}
+
+// Whether each of these values, which are those of the instances past so many, does.
+fn are_deltas(window: &Window, offset: u32, values: &[Value]) -> bool
+    requires { offset + length values.now ≤ INSTANCES }
+    ensures { result ≡ true → All SpellsDelta values.now }
+{
+    for index in 0..values.len() {
+        if !is_delta(window, offset + index as u32 + 1, values[index].as_slice()) {
+            return false;
+        }
+    }
+    true
+}
+
+// The first bad place in what a keeper's records hold, found by a look at each of them.
+fn first_bad<K: Keeper>(keeper: &K, offset: u32, last: Option<usize>) -> Option<Place>
     ensures { (service : Declarations) (rs : Items Rec) → Spell (K.records keeper.now) rs
         → last ≡ spec.bad_at (spec.state_at service (snapshot_of (checkpoint rs))) → result ≡ spec.first_bad service offset 1 rs }
 {
@@ -123,6 +147,25 @@ pub(crate) fn first_bad<K: Keeper>(keeper: &K, offset: u32, last: Option<usize>)
         later = comes(later, bytes);
     }
     found
+}
+
+/// The first bad place in what the records hold of which this was recovered: known values above the offset have to spell deltas, and the
+/// last snapshot, of a checkpoint or of a state that was taken over, a state. The caller read that, and says where it is bad. The records
+/// are looked through only where something is.
+pub(crate) fn bad_place<K: Keeper>(
+    keeper: &K,
+    recovered: &Recovered,
+    window: &Window,
+    last: Option<usize>,
+) -> Option<Place>
+    requires { recovered.now.offset + length recovered.now.known ≤ INSTANCES }
+    ensures { (service : Declarations) (rs : Items Rec) → Spell (K.records keeper.now) rs → recovered.now ≡ recovered_of rs
+        → last ≡ spec.bad_at (spec.state_at service recovered.now.snapshot) → result ≡ spec.first_bad service recovered.now.offset 1 rs }
+{
+    if last.is_none() && are_deltas(window, recovered.offset, recovered.known.as_slice()) {
+        return None;
+    }
+    first_bad(keeper, recovered.offset, last)
 }
 
 // Whether the last checkpoint is in the old version, this record being the last one.

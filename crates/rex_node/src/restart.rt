@@ -1,10 +1,11 @@
 //! How a node comes up.
 
 ghost use Rattle.std.specs.Prelude.{◌≡◌, ◌<◌, ◌≤◌, ℕ, List, length, take, true, Some, IfOk, IfErr, IsOk, OnErr, OnOk};
-ghost use Rattle.std.specs.List.{list_all};
+ghost use Rattle.std.specs.List.{All, list_all};
 ghost use Rattle.rex_ballot.specs.Limits.{most_nodes};
 ghost use Rattle.rex_durable.specs.Laws.{IsRecovered};
 ghost use Rattle.rex_snapshot.specs.Reading.{state_in};
+ghost use Rattle.rex_transfer.specs.Window.{SpellsDelta};
 ghost use Rattle.rex_cluster.specs.Records.{known};
 ghost use Rattle.rex_cluster.specs.Values.{spells, values_fit};
 ghost use Rattle.rex_log.specs.Log.{AreRead, log_of};
@@ -13,7 +14,7 @@ ghost use Rattle.rex_node.specs.Stated.{AreStated};
 ghost use Rattle.rex_node.specs.declared.restart.RestartFault.TheVariants.{OutOfMemory};
 ghost use Rattle.rex_node.specs.Restarting.{CameUp, HasForgotten, HasRightBase, IsRead, IsRecalled, IsRestartFault, BeginAlike, KeepsReached, down_with, risen, state_at};
 
-use crate::contents::{Place, bad_at, ends_old, first_bad};
+use crate::contents::{Place, bad_at, bad_place, ends_old};
 use crate::node::Node;
 use rex_ballot::{Proposals, Value};
 use rex_durable::{RecoverFault, Recovered, recover};
@@ -114,7 +115,7 @@ impl<K: Keeper> Node<K> {
         ensures read { AreRead svc.now P.past (K.records self.old.keeper) → AreStated svc.now (K.records self.old.keeper)
             → list_all (spells svc.now) (known (log_of svc.now P.past (K.records self.old.keeper))) ≡ true → IfErr result (λ e. e ≡ OutOfMemory) }
     {
-        let recalled = recall(self.alloc, svc, &self.keeper)?;
+        let recalled = recall(self.alloc, svc, &self.keeper, &self.known)?;
         self.rise(recalled);
         Ok(())
     }
@@ -155,7 +156,8 @@ impl<K: Keeper> Node<K> {
 
     // The node is up, and is what its records say of it.
     fn rise(&mut self, recalled: Recalled)
-        requires { IsRecovered recalled.recovered }
+        requires fits { IsRecovered recalled.recovered }
+        requires deltas { All SpellsDelta recalled.recovered.known }
         ensures risen { self.new ≡ risen self.old recalled.recovered recalled.start recalled.old_base self.new.reached }
         ensures reached { KeepsReached self.old recalled.recovered self.new.reached }
     {
@@ -205,13 +207,18 @@ fn is_same(this: &[u8], that: &[u8]) -> bool
     this == that
 }
 
-// What a keeper's records say of its node, with the state at its base.
-fn recall<K: Keeper>(alloc: Global, svc: &Checked, keeper: &K) -> Result<Recalled, RestartFault>
+// What a keeper's records say of its node, with the state at its base. Values that the window knows to spell deltas aren't read again.
+fn recall<K: Keeper>(
+    alloc: Global,
+    svc: &Checked,
+    keeper: &K,
+    window: &Window,
+) -> Result<Recalled, RestartFault>
     ensures recalled { IfOk result (λ r. IsRecalled svc.now (K.records keeper.now) r.recovered r.start r.old_base) }
     ensures fault { IfErr result (IsRestartFault svc.now (K.records keeper.now)) }
 {
     match recover(alloc, keeper) {
-        Ok(recovered) => recall_with(alloc, svc, keeper, recovered),
+        Ok(recovered) => recall_with(alloc, svc, keeper, window, recovered),
         Err(RecoverFault::BadRecord { number, at }) => Err(RestartFault::BadRecord { number, at }),
         Err(RecoverFault::OutOfMemory) => Err(RestartFault::OutOfMemory),
     }
@@ -222,6 +229,7 @@ fn recall_with<K: Keeper>(
     alloc: Global,
     svc: &Checked,
     keeper: &K,
+    window: &Window,
     recovered: Recovered,
 ) -> Result<Recalled, RestartFault>
     requires { IsRead (K.records keeper.now) recovered }
@@ -229,7 +237,7 @@ fn recall_with<K: Keeper>(
     ensures fault { IfErr result (IsRestartFault svc.now (K.records keeper.now)) }
 {
     let saved = saved_state(alloc, svc, &recovered)?;
-    if let Some(Place { number, at }) = first_bad(keeper, recovered.offset, bad_at(&saved)) {
+    if let Some(Place { number, at }) = bad_place(keeper, &recovered, window, bad_at(&saved)) {
         return Err(RestartFault::BadRecord { number, at });
     }
     let Ok(start) = saved else { unreachable!() };

@@ -39,9 +39,20 @@ fn joined(alloc: Global, values: &[Value]) -> Result<Vec<Event>, AllocError>
     let mut events = Vec::new(alloc);
     for value in values {
         let more = events_in(alloc, value.as_slice())?;
-        events.append(&mut more.into_vec())?;
+        join(&mut events, more.into_vec())?;
     }
     Ok(events)
+}
+
+// Puts events behind others. The first ones aren't copied.
+fn join(events: &mut Vec<Event>, mut more: Vec<Event>) -> Result<(), AllocError>
+    ensures { OnOk result (events.new.items ≡ events.old.items ++ more.items) }
+{
+    if events.is_empty() {
+        *events = more;
+        return Ok(());
+    }
+    events.append(&mut more)
 }
 
 /// The events of the delta that a value spells; none where it spells none.
@@ -60,5 +71,5 @@ pub fn events_in(alloc: Global, value: &[u8]) -> Result<List<Event>, AllocError>
 pub(crate) fn copied(alloc: Global, value: &[u8]) -> Result<Value, AllocError>
     ensures { IfOk result (λ v. v ≡ value.now) }
 {
-    Ok(List::from_vec(value.to_vec(alloc)?))
+    Ok(List::from_vec(Vec::from_slice(alloc, value)?))
 }

@@ -1,5 +1,5 @@
 -- The definitions on examples.
-use Rattle.std.specs.Prelude.{◌≡◌, ◌∷◌, [], Some, slice_get, refl}
+use Rattle.std.specs.Prelude.{◌≡◌, ◌∷◌, [], refl}
 use Rattle.rex_transfer.specs.Window.{WindowValue, known_of, pushed, dropped_to}
 
 -- a window that holds the values of instances 3 and 4

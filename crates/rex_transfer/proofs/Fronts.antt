@@ -1,5 +1,5 @@
 -- Windows of a list, where the list or the window goes on.
-use Rattle.std.proofs.Common.{◌≡◌, ℕ, zero, suc, ◌+◌, ◌<◌, ◌≤◌, List, [], ◌∷◌, ◌++◌, length, Some, refl, sym, ◌∙◌, ap, subst, arith, append_assoc, append-nil, length-append}
+use Rattle.std.proofs.Common.{◌≡◌, ℕ, zero, suc, ◌+◌, ◌≤◌, List, [], ◌∷◌, ◌++◌, length, Some, refl, sym, ◌∙◌, ap, subst, arith, append_assoc, append-nil, length-append}
 use Rattle.std.specs.Prelude.{◌-◌, take, drop, slice_get}
 use Rattle.std.proofs.lemmas.List.{take-append-drop}
 use Rattle.rex_transfer.specs.Window.{WindowValue, known_of, pushed, dropped_to}

@@ -1,2 +1,3 @@
+mod Deltas
 mod Examples
 mod Fronts

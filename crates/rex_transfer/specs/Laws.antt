@@ -1,5 +1,5 @@
 -- What windows tell of a list.
-use Rattle.std.specs.Prelude.{◌≡◌, ℕ, ◌+◌, ◌-◌, ◌<◌, ◌≤◌, List, [], ◌∷◌, ◌++◌, length, take, drop, Some, slice_get}
+use Rattle.std.specs.Prelude.{◌≡◌, ℕ, ◌-◌, ◌<◌, ◌≤◌, List, [], ◌∷◌, ◌++◌, length, Some, slice_get}
 use Rattle.rex_transfer.specs.Window.{WindowValue, known_of, pushed, dropped_to}
 
 -- the window is one of the list: it knows a front of the list, and holds what stands in that after its offset

@@ -1,5 +1,7 @@
 -- Windows of a list of values, one for each instance from 1 on.
-use Rattle.std.specs.Prelude.{◌≡◌, ℕ, ◌+◌, ◌-◌, ◌<◌, ◌≤◌, List, [], ◌∷◌, ◌++◌, length, drop, Some, slice_get}
+use Rattle.std.specs.Prelude.{◌≡◌, ℕ, ◌+◌, ◌-◌, ◌<◌, ◌≤◌, List, [], ◌∷◌, ◌++◌, length, take, drop, Some, slice_get, IsOk}
+use Rattle.std.specs.List.{All}
+use Rattle.rex_delta.specs.Reading.{delta_in}
 use Rattle.rex_transfer.specs.declared.window.Look.{Look}
 use Rattle.rex_transfer.specs.declared.window.Look.TheVariants as look
 use Rattle.rex_ballot.specs.declared.ballots.TheConstants.{INSTANCES}
@@ -13,9 +15,15 @@ pub record WindowValue : Type 0 where
 abbrev pub known_of : WindowValue → ℕ
 known_of w = w.offset + length w.values
 
--- there are no more instances than the most
-pub record IsWindow (w : WindowValue) : Type 0 where
+-- a value spells a delta
+abbrev pub SpellsDelta : List ℕ → Type 0
+SpellsDelta value = IsOk (delta_in value)
+
+-- there are no more instances than the most, and of the values the first so many spell deltas
+pub record IsWindow (w : WindowValue) (checked : ℕ) : Type 0 where
   pub few : known_of w ≤ INSTANCES
+  pub there : checked ≤ length w.values
+  pub deltas : All SpellsDelta (take checked w.values)
 
 -- the value of the next instance is there
 abbrev pub pushed : WindowValue → List ℕ → WindowValue

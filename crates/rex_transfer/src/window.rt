@@ -1,8 +1,9 @@
 //! Windows.
 
-ghost use Rattle.std.specs.Prelude.{◌≡◌, ◌<◌, ◌≤◌, ◌+◌, ◌-◌, ◌∷◌, [], drop, length, OnOk, OnErr};
+ghost use Rattle.std.specs.Prelude.{◌≡◌, ◌<◌, ◌≤◌, ◌+◌, ◌-◌, ◌∷◌, [], true, drop, length, OnOk, OnErr};
+ghost use Rattle.std.specs.List.{All};
 ghost use Rattle.rex_transfer.specs.Window as spec;
-ghost use Rattle.rex_transfer.specs.Window.{Looks, known_of};
+ghost use Rattle.rex_transfer.specs.Window.{Looks, SpellsDelta, known_of};
 
 use rex_ballot::{INSTANCES, Value};
 use rex_list::List;
@@ -10,11 +11,14 @@ use std::alloc::{AllocError, Global};
 use std::marker::Model;
 
 /// The values that a node holds of a list of values, one for each instance from 1 on: it knows those up to an instance, and
-/// holds those past its offset, up to which it forgot them or never had them.
+/// holds those past its offset, up to which it forgot them or never had them. Of some of these, the first, it also knows that each
+/// spells a delta.
 #[derive(Drop)]
 pub struct Window {
     offset: u32,
     values: Vec<Value>,
+    /// How many of the values, from the first on, are known to spell deltas.
+    checked: usize,
 }
 
 impl Model for Window {
@@ -24,7 +28,7 @@ impl Model for Window {
 
     ghost view = { λ w. record { offset = w.offset; values = w.values.items } };
 
-    ghost invariant = { λ w. IsWindow (record { offset = w.offset; values = w.values.items }) };
+    ghost invariant = { λ w. IsWindow (record { offset = w.offset; values = w.values.items }) w.checked };
 }
 
 /// What a window has for an instance.
@@ -46,17 +50,22 @@ impl Window {
         Window {
             offset: 0,
             values: Vec::new(alloc),
+            checked: 0,
         }
     }
 
-    /// A window that holds these values past the offset. It takes no memory.
+    /// A window that holds these values past the offset, each of which spells a delta, as it knows from here on. It takes no memory.
     pub fn from_list(offset: u32, values: List<Value>) -> Window
-        requires { offset + length values ≤ INSTANCES }
+        requires few { offset + length values ≤ INSTANCES }
+        requires deltas { All SpellsDelta values }
         ensures { result ≡ record { offset = offset; values = values } }
     {
+        let values = values.into_vec();
+        let checked = values.len();
         Window {
             offset,
-            values: values.into_vec(),
+            values,
+            checked,
         }
     }
 
@@ -121,6 +130,17 @@ impl Window {
         }
     }
 
+    /// Whether the window holds this value for the instance, and knows that it spells a delta. It takes no memory.
+    pub fn knows_delta(&self, instance: u32, value: &[u8]) -> bool
+        ensures { result ≡ true → SpellsDelta value.now }
+    {
+        let checked = self.offset + self.checked as u32;
+        match self.get(instance) {
+            Look::Value(held) => instance <= checked && held == value,
+            _ => false,
+        }
+    }
+
     /// Forgets the values of the instances up to this one, which becomes the offset. It takes no memory.
     pub fn drop_to(&mut self, instance: u32)
         requires from { self.old.offset ≤ instance }
@@ -131,6 +151,7 @@ impl Window {
         let kept = self.values.len() - gone;
         self.values.rotate_left(gone);
         self.values.truncate(kept);
+        self.checked = self.checked.saturating_sub(gone);
         self.offset = instance;
     }
 
@@ -141,6 +162,7 @@ impl Window {
         ensures { self.new ≡ record { offset = instance; values = [] } }
     {
         self.values.clear();
+        self.checked = 0;
         self.offset = instance;
     }
 }

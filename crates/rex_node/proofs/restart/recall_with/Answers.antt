@@ -1,21 +1,22 @@
-use Rattle.std.proofs.Common.{sym, ◌∙◌}
-use Rattle.rex_node.proofs.Held.{none_bad, not_bad, read_last, saved_so}
+use Rattle.std.proofs.Common.{ap, sym, ◌∙◌}
+use Rattle.rex_node.specs.Restarting.{bad_at}
+use Rattle.rex_node.proofs.Held.{none_bad, not_bad, saved_so}
 use Rattle.rex_node.proofs.restart.recall_with.Goals as goal
 
 pub unreachable-requires : goal.unreachable-requires
 unreachable-requires g c =
     let service = c.args.svc.now in
     let kept = g.K.Keeper.records c.args.keeper.now in
-    let last = read_last service kept c.args.recovered c.requires c.in_ok-saved.saved c.bad_at.result c.in_ok-saved.ensures c.bad_at.ensures in
-    let found = none_bad service kept c.args.recovered c.requires c.first_bad.result (c.first_bad.ensures service c.requires.rs c.requires.spelled last) c.in_default.is in
+    let found = none_bad service kept c.args.recovered c.requires c.bad_place.result
+    (c.bad_place.ensures service c.requires.rs c.requires.spelled c.requires.is (c.bad_at.ensures ∙ ap bad_at c.in_ok-saved.ensures)) c.in_default.is in
     not_bad service kept c.args.recovered c.requires c.in_default-saved.field-0 found (sym c.in_default-saved.is ∙ c.in_ok-saved.ensures)
 
 pub returns-clause-recalled : goal.returns-clause-recalled
 returns-clause-recalled g c =
     let service = c.args.svc.now in
     let kept = g.K.Keeper.records c.args.keeper.now in
-    let last = read_last service kept c.args.recovered c.requires c.in_ok-saved.saved c.bad_at.result c.in_ok-saved.ensures c.bad_at.ensures in
-    let found = none_bad service kept c.args.recovered c.requires c.first_bad.result (c.first_bad.ensures service c.requires.rs c.requires.spelled last) c.in_default.is in
+    let found = none_bad service kept c.args.recovered c.requires c.bad_place.result
+    (c.bad_place.ensures service c.requires.rs c.requires.spelled c.requires.is (c.bad_at.ensures ∙ ap bad_at c.in_ok-saved.ensures)) c.in_default.is in
     record {
       found = found;
       start_is = saved_so service c.args.recovered.snapshot c.in-Ok.start (sym c.in-Ok.is ∙ c.in_ok-saved.ensures);

@@ -7,4 +7,4 @@ pub loop-value-preserved : goal.loop-value-preserved
 loop-value-preserved c =
     joined_more c.args.values.now c.loop-value.value-index c.value-item.result c.loop-value-test.true c.value-item.is c.loop-value.events.items c.in_ok-more.more _ c.loop-value.invariant
     (c.in_ok-more.ensures.events ∙ ap events_of c.as_slice.ensures) c.in_ok-more.ensures.counted
-    (c.in_ok-append.ensures.items ∙ ap (λ (es : List _). c.loop-value.events.items ++ es) c.into_vec.ensures)
+    (c.in_ok-join.ensures ∙ ap (λ (es : List _). c.loop-value.events.items ++ es) c.into_vec.ensures)

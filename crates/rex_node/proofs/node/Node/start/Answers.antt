@@ -2,9 +2,13 @@ use Rattle.std.proofs.Common.{subst, ◌∙◌}
 use Rattle.std.proofs.lemmas.Result.{err_from_is_err_and}
 use Rattle.rex_node.specs.Parts.{NodeValue}
 use Rattle.rex_node.specs.Restarting.{IsRecalled, IsRestartFault}
+use Rattle.rex_node.proofs.Deltas.{known_good}
 use Rattle.rex_node.proofs.Reading.{only_memory}
 use Rattle.rex_node.proofs.Restarts.{came_up, is_node}
 use Rattle.rex_node.proofs.node.Node.start.Goals as goal
+
+pub rise-requires-clause-deltas : goal.rise-requires-clause-deltas
+rise-requires-clause-deltas g c = known_good c.args.svc.now (g.K.Keeper.records c.self.inside.keeper) c.in_ok-recalled.recalled.recovered c.in_ok-recalled.ensures.recalled.found
 
 pub returns-clause-up : goal.returns-clause-up
 returns-clause-up g c =
