@@ -57,7 +57,7 @@ impl Answers {
     {
         Ok(Answers {
             alloc,
-            clients: state.entries().to_vec(alloc)?,
+            clients: Vec::from_slice(alloc, state.entries())?,
             numbers: Numbers::at(alloc, state.entries())?,
             last: count,
         })

@@ -105,11 +105,11 @@ impl State {
         ensures { IfOk result (λ s. s ≡ self.now) }
     {
         Ok(State {
-            variables: self.variables.to_vec(alloc)?,
+            variables: Vec::from_slice(alloc, &self.variables)?,
             lanes: copy_lanes(alloc, &self.lanes)?,
             queues: copy_queues(alloc, &self.queues)?,
-            semaphores: self.semaphores.to_vec(alloc)?,
-            clients: self.clients.to_vec(alloc)?,
+            semaphores: Vec::from_slice(alloc, &self.semaphores)?,
+            clients: Vec::from_slice(alloc, &self.clients)?,
         })
     }
 
