@@ -1,9 +1,8 @@
 //! A reader of lines, one after the other.
 
-ghost use Rattle.std.specs.Prelude.{◌≡◌, ◌≤◌, length, None, IfOk, unwrap_or};
-ghost use Rattle.std.specs.List.{list_all};
+ghost use Rattle.std.specs.Prelude.{◌≡◌, ◌≤◌, length, None, unwrap_or};
 ghost use Rattle.rex_event.specs.Limits.{most_lanes};
-ghost use Rattle.rex_text.specs.Text.{words_of, is_allowed};
+ghost use Rattle.rex_text.specs.Text.{words_of};
 ghost use Rattle.rex_text.specs.Text as text;
 ghost use Rattle.rex_parse.specs.Above.{nothing};
 ghost use Rattle.rex_parse.specs.Table.{line_code};
@@ -16,8 +15,8 @@ use crate::name_table::NameTable;
 use crate::words::form_of;
 use rex_list::List;
 use rex_syntax::service::{Declarations, LOCALS, Service};
-use rex_text::words;
-use std::alloc::{AllocError, Global};
+use rex_text::{is_clean, words, words_in};
+use std::alloc::Global;
 use std::marker::Model;
 
 impl Above {
@@ -85,7 +84,7 @@ impl Above {
         ensures takes { Takes result (raw_code self.old line.now) (raw_after self.old number line.now) self.new }
         ensures locals { length self.new.locals ≤ LOCALS }
     {
-        if !is_allowed(line) {
+        if !is_clean(line) {
             return Err(Fault::Refused(ServiceCode::BadByte));
         }
         if is_skipped(line) {
@@ -119,23 +118,6 @@ impl Above {
     }
 }
 
-// Every byte is looked at, so that a processor can look at several of them at once.
-fn is_allowed(line: &[u8]) -> bool
-    ensures { result ≡ list_all is_allowed line.now }
-{
-    let mut has_other = false;
-    for byte in line {
-        has_other |= !is_allowed_byte(*byte);
-    }
-    !has_other
-}
-
-fn is_allowed_byte(byte: u8) -> bool
-    ensures { result ≡ text.is_allowed byte }
-{
-    (32 <= byte && byte <= 126) || byte == 9
-}
-
 fn is_skipped(line: &[u8]) -> bool
     ensures { result ≡ text.is_skipped (words_of line.now) }
 {
@@ -145,20 +127,6 @@ fn is_skipped(line: &[u8]) -> bool
         Some(word) => word.first() == Some(&b'#'),
     }
 }
-
-fn words_in(alloc: Global, line: &[u8]) -> Result<Vec<&[u8]>, AllocError>
-    ensures { IfOk result (λ found. texts found.items ≡ words_of line.now) }
-{
-    let mut found = Vec::with_capacity(alloc, USUAL_WORDS)?;
-    let mut rest = words(line);
-    while let Some(word) = rest.next() {
-        found.push(word)?;
-    }
-    Ok(found)
-}
-
-/// Room for the words of most lines: a `set` with eight operands has eighteen.
-const USUAL_WORDS: usize = 18;
 
 /// A reader of the lines of a service. Contracts see it as what the lines so far have declared.
 #[derive(Drop)]

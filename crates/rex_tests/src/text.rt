@@ -1,8 +1,9 @@
-//! Texts that are split into lines and words, and numbers that are read and spelled.
+//! Texts that are split into lines and words, and numbers that are read.
 
 ghost use Rattle.std.specs.Prelude.{◌<◌, length};
 
-use rex_text::{lines, push_i64, push_u64, raw_lines, read_i64, read_u64, words};
+use itoa::Buffer;
+use rex_text::{lines, raw_lines, read_i64, read_u64, words};
 use std::alloc::Global;
 use std::test::Fail;
 
@@ -12,7 +13,7 @@ fn shown(alloc: Global, text: &[u8]) -> Result<String, Fail>
 {
     let mut out = String::new(alloc);
     for (number, words) in lines(text) {
-        push_u64(&mut out, u64::from(number))?;
+        out.push_str(Buffer::new().format(number))?;
         out.push(':')?;
         for word in words {
             out.push_str(str::from_utf8(word)?)?;
@@ -67,25 +68,17 @@ static SIGNED: [(&str, i64); 3] = [
 ];
 
 #[test]
-fn unsigned_numbers_are_read_and_spelled(rt: HostRuntime) -> Result<(), Fail> {
+fn unsigned_numbers_are_read(rt: HostRuntime) {
     for (word, number) in &UNSIGNED {
-        let mut out = String::new(rt.alloc());
-        push_u64(&mut out, *number)?;
-        assert_eq!(rt; out.as_str(), *word);
         assert_eq!(rt; read_u64(word.as_bytes()), Some(*number));
     }
-    Ok(())
 }
 
 #[test]
-fn signed_numbers_are_read_and_spelled(rt: HostRuntime) -> Result<(), Fail> {
+fn signed_numbers_are_read(rt: HostRuntime) {
     for (word, number) in &SIGNED {
-        let mut out = String::new(rt.alloc());
-        push_i64(&mut out, *number)?;
-        assert_eq!(rt; out.as_str(), *word);
         assert_eq!(rt; read_i64(word.as_bytes()), Some(*number));
     }
-    Ok(())
 }
 
 /// Words that are neither.

@@ -1,4 +1,4 @@
-mod Buffers
 mod Examples
+pub mod Found
 pub mod Spellings
 pub mod Splits

@@ -4,9 +4,10 @@ use Rattle.std.proofs.Common.{List, [], ◌∷◌, length, get_or, take, drop, A
 use Rattle.std.specs.List.{filter, slice_split, position_or_len, before_first, after_first}
 use Rattle.std.specs.Str.Lines.{lines, lines_of_parts, strip_carriage_return}
 use Rattle.std.proofs.lemmas.List.{take_all, drop_more, get_or-drop, get_or-take, length-take, length-drop, nil_from_length, take_rest}
-use Rattle.std.proofs.lemmas.List.Sums.{fails_before_first, passes_at_first, prefix_len-le-length}
+use Rattle.std.proofs.lemmas.List.Sums.{fails_before_first, passes_at_first, position_or_len_is, prefix_len-le-length}
 use Rattle.std.proofs.lemmas.List.Splits.{slice_split_none, slice_split_first, slice_split-cons_yes, length-slice_split}
-use Rattle.std.proofs.lemmas.Bool.{ne_eqb, cases_lt, lt-ltb, le-ltb, eqb-true, eqb-false}
+use Rattle.std.proofs.lemmas.Bool.{ne_eqb, cases_lt, lt-ltb, le-ltb, eq-eqb, eqb-true, eqb-false}
+use Rattle.memchr.specs.Find.{IsFirstByte, is_byte}
 use Rattle.rex_text.specs.Text.{is_blank, is_skipped, words_of}
 
 -- ---- where the first byte that passes stands
@@ -18,6 +19,18 @@ place_found p bs found e = elim (cases_lt (position_or_len p bs) (length bs)) [
   | inl lt ↦ rw (e, lt-ltb _ _ lt) refl
   | inr ge ↦ rw (e, le-ltb _ _ ge) (omega (arith, prefix_len-le-length (λ x. not (p x)) bs))
 ]
+
+-- the first byte that is the one looked for, or the length where there is none
+pub first_place : (byte : ℕ) (bs : List ℕ) (found : Option ℕ) → IsFirstByte (is_byte byte) bs found
+    → unwrap_or found (length bs) ≡ position_or_len (λ b. eqb b byte) bs
+first_place byte bs None none =
+    let before : (k : ℕ) → k < length bs → eqb (get_or bs k 0) byte ≡ false =
+    λ k lt. ne_eqb (get_or bs k 0) byte (λ e. none k (omega arith) lt (eq-eqb _ _ e)) in
+    sym (position_or_len_is (λ b. eqb b byte) bs (length bs) 0 (omega arith) before (λ lt. absurd (omega arith)))
+first_place byte bs (Some place) here =
+    let before : (k : ℕ) → k < place → eqb (get_or bs k 0) byte ≡ false =
+    λ k lt. ne_eqb (get_or bs k 0) byte (λ e. here.0.before k (omega arith) lt (eq-eqb _ _ e)) in
+    sym (position_or_len_is (λ b. eqb b byte) bs place 0 (omega (arith, here.0.high)) before (λ lt. here.1))
 
 none_passes : (p : ℕ → Bool) (bs : List ℕ) → position_or_len p bs ≡ length bs → All (λ b. p b ≡ false) bs
 none_passes p bs e i d lt = fails_before_first p bs i d (omega (arith, e))

@@ -1,6 +1,6 @@
 -- The lines and words of a text.
-use Rattle.std.specs.Prelude.{◌+◌, ◌==◌, ◌&&◌, ◌||◌, ℕ, Bool, true, not, List, [], ◌∷◌}
-use Rattle.std.specs.Prelude.{length, map, nat_le, slice_index}
+use Rattle.std.specs.Prelude.{◌+◌, ◌-◌, ◌==◌, ◌&&◌, ◌||◌, ℕ, Bool, true, not, List, [], ◌∷◌}
+use Rattle.std.specs.Prelude.{drop, if◌then◌else◌, length, map, nat_le, nat_lt, slice_index, take}
 use Rattle.std.specs.List.{filter, slice_split}
 use Rattle.std.specs.Str.Lines.{lines}
 
@@ -19,6 +19,10 @@ is_blank byte = byte == 32 || byte == 9
 -- Blanks separate words.
 abbrev pub words_of : List ℕ → List Word
 words_of line = filter (λ word. not (length word == 0)) (slice_split is_blank line)
+
+-- The bytes from one place up to another are a word, if there are any.
+abbrev pub word_between : List ℕ → ℕ → ℕ → List Word
+word_between line start end = if nat_lt start end then take (end - start) (drop start line) ∷ [] else []
 
 -- Each element has its number, of which the first is n.
 abbrev pub numbered : {A : Type 0} → ℕ → List A → List (ℕ × A)

@@ -5,6 +5,8 @@ ghost use Rattle.std.specs.List.{position_or_len};
 ghost use Rattle.std.specs.Str.Lines.{strip_carriage_return};
 ghost use Rattle.rex_text.specs.Text.{is_blank, is_skipped, lines_of, words_of};
 
+use memchr::memchr;
+
 // The first line, and what follows the LF that ends it.
 pub(crate) fn first_line(bytes: &[u8]) -> (&[u8], &[u8])
     requires { 0 < length bytes.now }
@@ -43,10 +45,7 @@ fn line_end(bytes: &[u8]) -> usize
     ensures place { result ≡ position_or_len (λ byte. byte == 10) bytes.now }
     ensures within { result ≤ length bytes.now }
 {
-    bytes
-        .iter()
-        .position(|byte| *byte == b'\n')
-        .unwrap_or(bytes.len())
+    memchr(b'\n', bytes).unwrap_or(bytes.len())
 }
 
 // Where the first blank stands, or the length.
@@ -72,7 +71,7 @@ pub(crate) fn word_start(bytes: &[u8]) -> usize
 }
 
 // Whether a byte separates words.
-fn is_blank(byte: u8) -> bool
+pub(crate) fn is_blank(byte: u8) -> bool
     ensures { result ≡ is_blank byte }
 {
     byte == b' ' || byte == b'\t'
