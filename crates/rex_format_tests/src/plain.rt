@@ -40,7 +40,13 @@ impl<'a> Plain<'a> {
     }
 
     /// The same, where it has to lie in a range.
-    pub(crate) fn within(&mut self, rt: &impl Abort, width: usize, least: u64, greatest: u64) -> u64 {
+    pub(crate) fn within(
+        &mut self,
+        rt: &impl Abort,
+        width: usize,
+        least: u64,
+        greatest: u64,
+    ) -> u64 {
         let number = self.number(rt, width);
         self.allow(least <= number && number <= greatest);
         number
@@ -147,7 +153,13 @@ fn changed(alloc: Global, bytes: &[u8], at: usize, byte: u8) -> Result<Vec<u8>, 
 }
 
 /// The bytes with others in the place of those from an offset on.
-pub(crate) fn patched(rt: &impl Abort, alloc: Global, bytes: &[u8], at: usize, new: &[u8]) -> Vec<u8> {
+pub(crate) fn patched(
+    rt: &impl Abort,
+    alloc: Global,
+    bytes: &[u8],
+    at: usize,
+    new: &[u8],
+) -> Vec<u8> {
     let mut patched = bytes.to_vec(alloc).expect(rt, "memory");
     for (place, byte) in patched.iter_mut().skip(at).zip(new) {
         *place = *byte;

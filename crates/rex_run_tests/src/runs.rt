@@ -153,13 +153,13 @@ end node 3 follower promised 18 known 0 replayed 0 a=0
 
 /// The status, and what was written.
 #[derive(Drop)]
-pub struct Outcome {
+pub(crate) struct Outcome {
     pub status: u8,
     pub written: Vec<u8>,
 }
 
 /// Runs the program with these words, with a space between, over these devices and behind a gate, and answers its status.
-pub fn status_over<R: Threads + Sync + AllocGlobal, S: Source, G: Gate + Sync>(
+pub(crate) fn status_over<R: Threads + Sync + AllocGlobal, S: Source, G: Gate + Sync>(
     rt: &R,
     line: &str,
     source: &mut S,
@@ -175,7 +175,7 @@ pub fn status_over<R: Threads + Sync + AllocGlobal, S: Source, G: Gate + Sync>(
 }
 
 /// Runs the program with these words over memory. The read and the write of these numbers, from 1, fail; 0 is none.
-pub fn run<R: Threads + Sync + AllocGlobal>(
+pub(crate) fn run<R: Threads + Sync + AllocGlobal>(
     rt: &R,
     line: &str,
     input: &[u8],

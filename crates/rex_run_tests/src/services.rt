@@ -7,7 +7,7 @@ use std::alloc::Global;
 use std::process::Abort;
 
 /// The service that a text of less than 1,000 bytes declares, checked.
-pub fn checked(rt: &impl Abort, alloc: Global, text: &str) -> Checked {
+pub(crate) fn checked(rt: &impl Abort, alloc: Global, text: &str) -> Checked {
     assert!(rt; text.len() < 1000);
     let service = read_service(alloc, text.as_bytes())
         .ok()
