@@ -10,7 +10,7 @@ ghost use Rattle.rex_state.specs.Sound.{IsSound};
 ghost use Rattle.rex_event.specs.Limits.{most_lanes};
 ghost use Rattle.rex_state.specs.Semaphores.{HasSemaphore, semaphore_at};
 ghost use Rattle.rex_state.specs.Room.{CanApply, FitsIn, HasQueue, HasEntry, IsSmall};
-ghost use Rattle.rex_state.specs.Put.{with_lane, with_variable, noted, lines_run};
+ghost use Rattle.rex_state.specs.Put.{HasSizesOf, with_lane, with_variable, without_entries, noted, lines_run};
 ghost use Rattle.rex_state.specs.Spare.{spare_of};
 ghost use Rattle.rex_state.specs.Counts.{counts_of};
 
@@ -23,7 +23,7 @@ use crate::lane::{Entry, Lane, Queue, as_lane, copy_frame, exclusive_holder, hol
 use crate::own::{run_lane, start_lane};
 use crate::parts::{
     copy_lanes, copy_queues, empty_queues, first_counts, first_values, idle_lanes, lane_counts,
-    new_entries,
+    new_entries, put_lanes, put_queues,
 };
 use rex_event::{Event, Kind};
 use rex_frame::frame::Frame;
@@ -31,6 +31,7 @@ use rex_syntax::checked::Checked;
 use rex_syntax::locks::LOCKS;
 use std::alloc::{AllocError, Global};
 use std::marker::Model;
+use std::mem::replace;
 
 /// What a service came to: the variables' values, the lanes, the lanes that wait at each condition, the semaphores' values,
 /// and what is known of each client.
@@ -327,6 +328,27 @@ impl State {
         ensures { self.new ≡ with_variable self.old variable value }
     {
         self.variables[variable] = value;
+    }
+
+    /// Takes the clients' entries out.
+    pub fn take_entries(&mut self, alloc: Global) -> Vec<Entry>
+        ensures entries { result.items ≡ self.old.clients }
+        ensures others { self.new ≡ without_entries self.old }
+    {
+        replace(&mut self.clients, Vec::new(alloc))
+    }
+
+    /// Becomes equal to a later state of its service, which has these entries of the clients. It takes no memory.
+    pub fn catch_up(&mut self, later: &State, entries: Vec<Entry>)
+        requires sizes { HasSizesOf self.old later.now }
+        requires entries { entries.items ≡ later.now.clients }
+        ensures { self.new ≡ later.now }
+    {
+        self.variables.copy_from_slice(&later.variables);
+        put_lanes(&mut self.lanes, &later.lanes);
+        put_queues(&mut self.queues, &later.queues);
+        self.semaphores.copy_from_slice(&later.semaphores);
+        self.clients = entries;
     }
 
     /// Does to the queues, to the semaphores and to the clients' entries what an event does, and nothing else.

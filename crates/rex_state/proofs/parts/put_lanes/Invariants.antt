@@ -1,0 +1,8 @@
+use Rattle.std.proofs.Common.{◌≡◌, take, length}
+use Rattle.rex_state.proofs.parts.put_lanes.Given as goal
+
+abbrev pub invariant-loop-index : goal.invariant-loop-index
+invariant-loop-index l = record {
+  put : take l.index l.lanes ≡ take l.index l.others;
+  long : length l.lanes ≡ length l.others;
+}
