@@ -34,7 +34,7 @@ fn below(alloc: Global, counts: &[u32], events: &[Event]) -> Result<Vec<Event>, 
     ensures is { IfOk result (λ v. v.items ≡ cuts.below counts.now events.now) }
     ensures room { IfOk result (λ v. All HasNext v.items) }
 {
-    let mut kept = Vec::new(alloc);
+    let mut kept = Vec::with_capacity(alloc, events.len())?;
     for event in events {
         if is_below(counts, event) {
             kept.push(*event)?;

@@ -1,8 +1,11 @@
 -- The replies among events that are gone through, one after another.
-use Rattle.std.proofs.Common.{◌≡◌, ℕ, suc, ◌+◌, ◌<◌, List, ◌∷◌, ◌++◌, length, get_or, drop, drop-cons, sym, ap, ◌∙◌, arith, append_assoc}
+use Rattle.std.proofs.Common.{◌≡◌, ℕ, suc, ◌+◌, ◌<◌, List, [], ◌∷◌, ◌++◌, length, get_or, take, drop, drop-cons, refl, sym, ap, ◌∙◌, arith, append_assoc}
+use Rattle.std.proofs.lemmas.List.{take_at}
 use Rattle.rex_event.specs.declared.event.Event.{Event}
 use Rattle.rex_state.specs.declared.lane.Entry.{Entry}
 use Rattle.rex_state.specs.Machine.{clients_after}
+use Rattle.rex_state.proofs.Keep.{clients_long}
+use Rattle.rex_gate.specs.Noted.{noted}
 use Rattle.rex_record.specs.declared.recorder.Release.{Release}
 use Rattle.rex_record.specs.Value.{release_of, releases}
 
@@ -23,3 +26,19 @@ releases_on clients after es i e released more all there is after_is more_is h =
     ∙ ap (λ (cs : List Entry). released ++ (release_of cs e.kind ++ releases cs (drop (i + 1) es))) after_is
     ∙ ap (λ (rest : List Event). released ++ releases clients rest) (sym (rest_is es i e there is))
     ∙ h
+
+-- the entries after one more event are changed by the events that are left to the same ones
+pub noted_on : (clients after : List Entry) (es : List Event) (i : ℕ) (e : Event) (all : List Entry) → i < length es → e ≡ get_or es i e → after ≡ clients_after e.kind clients
+    → noted clients (drop i es) ≡ all → noted after (drop (i + 1) es) ≡ all
+noted_on clients after es i e all there is after_is h =
+    ap (λ (cs : List Entry). noted cs (drop (i + 1) es)) after_is ∙ ap (noted clients) (sym (rest_is es i e there is)) ∙ h
+
+length_noted : (cs : List Entry) (es : List Event) → length (noted cs es) ≡ length cs
+length_noted cs [] = refl
+length_noted cs (e ∷ es) = length_noted (clients_after e.kind cs) es ∙ clients_long e.kind cs
+
+-- noting events in place leaves all entries noted
+pub noted_over : (was : List Entry) (es : List Event) (now all : List Entry) (n : ℕ) → now ≡ noted was es → was ≡ all → n ≡ length all
+    → take n (now ++ drop (length now) all) ≡ noted was es
+noted_over was es now all n is same long =
+    take_at now (drop (length now) all) n (ap length is ∙ length_noted was es ∙ ap length same ∙ sym long) ∙ is
