@@ -112,15 +112,16 @@ impl<S: Store> World<S> {
         told: &mut Told,
         node: u8,
         count: usize,
-        step: &Step,
+        step: Step,
     ) -> Result<(), AllocError>
         requires there { IsNode (nodes_of self.old) node }
-        requires step { CanBeTold svc.now self.old node step.now }
-        ensures { OnOk result (IsSettled svc.now node count self.old self.new told.old told.new step.now) }
+        requires step { CanBeTold svc.now self.old node step }
+        ensures { OnOk result (IsSettled svc.now node count self.old self.new told.old told.new step) }
     {
-        self.show(svc, node, step.effects.as_slice())?;
-        tell_all(&mut told.effects, step.effects.as_slice())?;
-        let sends = step.sends.as_slice();
+        let Step { effects, sends } = step;
+        self.show(svc, node, effects.as_slice())?;
+        tell_all(&mut told.effects, effects)?;
+        let sends = sends.as_slice();
         send_all(&mut self.net, &mut self.handed, &mut told.sent, sends)?;
         self.learn(node, count)
     }

@@ -44,7 +44,7 @@ impl<S: Store> World<S> {
             replayer,
             call,
         )?;
-        self.settle(svc, told, node, count, &step)
+        self.settle(svc, told, node, count, step)
     }
 
     /// The node of a number is stopped.
@@ -61,7 +61,7 @@ impl<S: Store> World<S> {
         let place = node as usize - 1;
         let count = self.nodes[place].keeper().len();
         let step = stop_at::<Brand, S>(&mut self.nodes[place], &self.agreed, self.alloc, svc)?;
-        self.settle(svc, told, node, count, &step)
+        self.settle(svc, told, node, count, step)
     }
 
     /// The node of a number is started.
@@ -78,7 +78,7 @@ impl<S: Store> World<S> {
         let place = node as usize - 1;
         let count = self.nodes[place].keeper().len();
         let step = start_at::<Brand, S>(&mut self.nodes[place], &self.agreed, self.alloc, svc)?;
-        self.settle(svc, told, node, count, &step)
+        self.settle(svc, told, node, count, step)
     }
 
     /// A client reads a variable at the node of a number.

@@ -8,6 +8,7 @@ ghost use Rattle.rex_log.specs.Messages.{content_in};
 ghost use Rattle.rex_world.specs.Calls.{Sends};
 
 use rex_event::{Event, Kind};
+use rex_list::List;
 use rex_msg::{Content, Message, encode};
 use rex_net::Net;
 use rex_report::{Effect, MessageKind};
@@ -82,12 +83,14 @@ pub(crate) fn send_all(
     Ok(())
 }
 
-/// Tells effects.
-pub(crate) fn tell_all(told: &mut Vec<Effect>, effects: &[Effect]) -> Result<(), AllocError>
-    ensures { OnOk result (told.new.items ≡ told.old.items ++ effects.now) }
+/// Tells effects behind those that were told before. The first ones aren't copied.
+pub(crate) fn tell_all(told: &mut Vec<Effect>, effects: List<Effect>) -> Result<(), AllocError>
+    ensures { OnOk result (told.new.items ≡ told.old.items ++ effects) }
 {
-    for effect in effects {
-        told.push(*effect)?;
+    let mut effects = effects.into_vec();
+    if told.is_empty() {
+        *told = effects;
+        return Ok(());
     }
-    Ok(())
+    told.append(&mut effects)
 }

@@ -319,11 +319,12 @@ impl<S: Store> World<S> {
             self.broken = true;
             return Err(AllocError);
         }
-        if tell_all(&mut told.effects, &told.sent).is_err() {
+        let Told { mut effects, sent } = told;
+        if tell_all(&mut effects, List::from_vec(sent)).is_err() {
             self.broken = true;
             return Err(AllocError);
         }
         self.done += 1;
-        Ok(List::from_vec(told.effects))
+        Ok(List::from_vec(effects))
     }
 }
