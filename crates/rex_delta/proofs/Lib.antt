@@ -10,5 +10,6 @@ pub mod Written
 pub mod CanWrite
 pub mod Examples
 mod Looking
+mod Silent
 mod Passing
 mod Tallies

@@ -5,3 +5,4 @@ pub mod Writing
 pub mod Parts
 pub mod Counts
 pub mod Alone
+pub mod Replying

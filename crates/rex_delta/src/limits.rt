@@ -8,8 +8,11 @@ pub const PLAIN: u8 = 1;
 /// The version of the spelling of events of which some is on a semaphore.
 pub const COUNTING: u8 = 2;
 
+/// The number of a reply's kind.
+pub const REPLY: u8 = 14;
+
 /// The greatest number of a kind in version 1, and in version 2.
-pub const PLAIN_KINDS: u8 = 14;
+pub const PLAIN_KINDS: u8 = REPLY;
 
 pub const KINDS: u8 = 16;
 

@@ -39,6 +39,7 @@ pub mod OwnPieces
 pub mod Recalling
 pub mod Restarts
 pub mod Rounds
+mod Silent
 pub mod Stamping
 pub mod Admitted
 pub mod Spelled

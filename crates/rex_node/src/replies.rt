@@ -1,10 +1,12 @@
 //! Which of the values that a node holds replied to a client last.
 
 ghost use Rattle.std.specs.Prelude.{◌≡◌, IfOk};
+ghost use Rattle.rex_cluster.specs.Values.{events_of};
 ghost use Rattle.rex_gate.specs.Numbers as numbers;
 ghost use Rattle.rex_node.specs.Telling as spec;
 
 use crate::values::events_in;
+use rex_delta::may_reply;
 use rex_event::{Event, Kind};
 use rex_transfer::Window;
 use std::alloc::{AllocError, Global};
@@ -18,12 +20,22 @@ pub(crate) fn last_held(alloc: Global, known: &Window, client: u16) -> Result<u3
     let count = values.len();
     for back in 0..count {
         // Those that came last are looked at first.
-        let events = events_in(alloc, values[count - 1 - back].as_slice())?;
-        if replies_to(client, events.as_slice()) {
+        if has_reply(alloc, values[count - 1 - back].as_slice(), client)? {
             return Ok(last - back as u32);
         }
     }
     Ok(known.offset())
+}
+
+// Whether an event of the delta that a value spells replies to the client. Most values show without being read that none does.
+fn has_reply(alloc: Global, value: &[u8], client: u16) -> Result<bool, AllocError>
+    ensures { IfOk result (λ has. has ≡ numbers.replies_to client (events_of value.now)) }
+{
+    if !may_reply(value, client) {
+        return Ok(false);
+    }
+    let events = events_in(alloc, value)?;
+    Ok(replies_to(client, events.as_slice()))
 }
 
 // Whether one of the events replies to the client.

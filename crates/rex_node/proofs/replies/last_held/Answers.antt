@@ -1,12 +1,11 @@
 use Rattle.std.proofs.Common.{arith, ◌≡◌, ℕ, ◌-◌, ◌+◌, ◌<◌, suc, true, List, length, sym, ap, subst, ◌∙◌, slice_index_or}
-use Rattle.rex_event.specs.declared.event.Event.{Event}
 use Rattle.rex_gate.specs.Numbers.{replies_to}
 use Rattle.rex_cluster.specs.Values.{Value, events_of}
 use Rattle.rex_node.proofs.Stamping.{IsSilent, found_last}
 use Rattle.rex_node.proofs.replies.last_held.Goals as goal
 
-pub returns-then-replies_to : goal.returns-then-replies_to
-returns-then-replies_to c =
+pub returns-then-branch : goal.returns-then-branch
+returns-then-branch c =
     let i : ℕ = length c.args.known.now.values - 1 - c.loop-back.back in
     let many : length c.values-values.result.now ≡ length c.args.known.now.values = ap (λ (vs : List Value). length vs) c.values-values.ensures in
     let test = c.loop-back-test.true in
@@ -15,9 +14,7 @@ returns-then-replies_to c =
     ap (λ (vs : List Value). replies_to c.args.client (events_of (slice_index_or vs (length vs - 1 - c.loop-back.back) c.index-values-count.result))) (sym c.values-values.ensures)
     ∙ ap (λ (v : Value). replies_to c.args.client (events_of v)) (sym c.index-values-count.is)
     ∙ ap (λ (v : Value). replies_to c.args.client (events_of v)) (sym c.as_slice.ensures)
-    ∙ ap (λ (es : List Event). replies_to c.args.client es) (sym c.in_ok-events.ensures.events)
-    ∙ ap (λ (es : List Event). replies_to c.args.client es) (sym c.as_slice-in-loop-back.ensures)
-    ∙ sym c.replies_to.ensures ∙ c.if-replies_to.true in
+    ∙ sym c.in_ok-has_reply.ensures ∙ c.if-branch.true in
     (let known = c.known-last.ensures.known in let n : c.known-last.result - c.loop-back.back ≡ suc (c.args.known.now.offset + i) = omega (arith, there, known) in n)
     ∙ found_last c.args.client c.args.known.now.offset c.args.known.now.values i c.index-values-count.result (omega (arith, there)) some
     (subst (IsSilent c.args.client c.args.known.now.offset c.args.known.now.values) (let n : length c.args.known.now.values - c.loop-back.back ≡ suc i = omega (arith, there) in n) c.loop-back.invariant)
