@@ -1,21 +1,27 @@
 -- What a name stands for is found at its number.
-use Rattle.std.proofs.Common.{◌≡◌, ℕ, ◌+◌, ◌-◌, ◌≤◌, Bool, true, false, cond, ◌||◌, ltb, List, [], ◌∷◌, ◌++◌, length, Option, Some, None, refl, sym, ap, ◌∙◌, arith}
-use Rattle.std.specs.Prelude.{zero, suc, is_some, find, option_map, slice_get}
-use Rattle.std.specs.List.{list_any, position_or_len}
+use Rattle.std.proofs.Common.{◌≡◌, ℕ, ◌+◌, ◌-◌, ◌<◌, ◌≤◌, Bool, true, false, cond, ◌||◌, ltb, List, [], ◌∷◌, ◌++◌, length, Option, Some, None, refl, sym, ap, subst, ◌∙◌, arith}
+use Rattle.std.specs.Prelude.{zero, suc, not, is_some, find, option_map, slice_get, IfSome}
+use Rattle.std.specs.List.{All, list_any, position_or_len}
 use Rattle.std.specs.Str.{bytes_eq}
-use Rattle.std.proofs.lemmas.Bool.{ltb-false}
+use Rattle.std.proofs.lemmas.Bool.{ltb-true, ltb-false}
 use Rattle.std.proofs.lemmas.List.{length-append}
+use Rattle.std.proofs.lemmas.List.Elements.{All-head, All-tail, All-push}
 use Rattle.std.proofs.lemmas.List.Folds.{find_at}
+use Rattle.std.proofs.lemmas.Slice.Eq.{bytes_eq-Decides}
 use Rattle.rex_text.specs.Text.{Word}
 use Rattle.rex_syntax.specs.Names.{number_of, with_word}
-use Rattle.rex_parse.specs.Above.{meaning_in}
+use Rattle.rex_parse.specs.Above.{is_declared, meaning_in}
 use Rattle.rex_parse.specs.Words.{is_name, fits}
 use Rattle.rex_parse.specs.Table.{new_code}
-use Rattle.rex_parse.specs.Entries.{entries_of}
+use Rattle.rex_parse.specs.Entries.{entries_of, AreNamed}
 use Rattle.rex_parse.specs.declared.language.Above.{Above}
 use Rattle.rex_parse.specs.declared.language.Entry.{Entry}
 use Rattle.rex_parse.specs.declared.language.Meaning.{Meaning}
+use Rattle.rex_parse.specs.declared.language.ServiceCode.{ServiceCode}
 use Rattle.rex_parse.specs.declared.language.ServiceCode.TheVariants.{NoName, Taken}
+
+abbrev IsNamed : Word → Type 0
+IsNamed w = is_name w ≡ true
 
 -- ---- a look-up
 
@@ -70,6 +76,33 @@ some_found w ws ms n same e =
     let at : n - 1 ≡ place = omega arith in
     ap (slice_get ms) at ∙ sym (found_at w ws ms same)
 
+-- ---- what is found is a name
+
+by_first : (b : Bool) (x w : Word) (p n : ℕ) → (b ≡ true → x ≡ w) → cond (not b) (1 + p) 0 < 1 + n → is_name x ≡ true → (p < n → is_name w ≡ true) → is_name w ≡ true
+by_first true x w p n same below named more = subst (λ (y : Word). is_name y ≡ true) (same refl) named
+by_first false x w p n same below named more = more (omega arith)
+
+named_at : (w : Word) (ws : List Word) → All IsNamed ws → position_or_len (λ x. bytes_eq x w) ws < length ws → is_name w ≡ true
+named_at w [] names below = absurd (omega arith)
+named_at w (x ∷ ws) names below =
+    let less : cond (not (bytes_eq x w)) (1 + position_or_len (λ x. bytes_eq x w) ws) 0 < 1 + length ws = omega arith in
+    by_first (bytes_eq x w) x w (position_or_len (λ x. bytes_eq x w) ws) (length ws) (bytes_eq-Decides x w).0 less (All-head IsNamed x ws names) (named_at w ws (All-tail IsNamed x ws names))
+
+placed : (b : Bool) (n k : ℕ) → Some k ≡ option_map (λ place. place + 1) (cond b (Some n) None) → b ≡ true
+placed true n k e = refl
+placed false n k e = absurd cc
+
+-- a word with a number is a name, where all of them are
+pub numbered_is_name : (w : Word) (ws : List Word) (n : ℕ) → All IsNamed ws → Some n ≡ number_of ws w → is_name w ≡ true
+numbered_is_name w ws n names e =
+    let place : ℕ = position_or_len (λ x. bytes_eq x w) ws in
+    named_at w ws names (ltb-true place (length ws) (placed (ltb place (length ws)) place n e))
+
+-- what holds anyway holds where something is found
+pub if_any : (o : Option Meaning) (P : Type 0) → P → IfSome o (λ _. P)
+if_any None P h = tt
+if_any (Some m) P h = h
+
 -- ---- a further name
 
 entries_more : (ws : List Word) (ms : List Meaning) (w : Word) (m : Meaning) → length ws ≡ length ms → entries_of (ws ++ w ∷ []) (ms ++ m ∷ []) ≡ entries_of ws ms ++ (record { name = w; meaning = m }) ∷ []
@@ -92,16 +125,24 @@ absent w (x ∷ ws) (m ∷ ms) same h =
 new_word : (w : Word) (ws : List Word) (ms : List Meaning) → length ws ≡ length ms → find (λ (e : Entry). bytes_eq e.name w) (entries_of ws ms) ≡ None → with_word ws w ≡ ws ++ w ∷ []
 new_word w ws ms same h = rw (absent w ws ms same h) refl
 
-pub longer : (w : Word) (ws : List Word) (ms : List Meaning) (m : Meaning) → length ws ≡ length ms → find (λ (e : Entry). bytes_eq e.name w) (entries_of ws ms) ≡ None
+longer : (w : Word) (ws : List Word) (ms : List Meaning) (m : Meaning) → length ws ≡ length ms → find (λ (e : Entry). bytes_eq e.name w) (entries_of ws ms) ≡ None
     → length (with_word ws w) ≡ length (ms ++ m ∷ [])
 longer w ws ms m same h = rw (new_word w ws ms same h) (simp length-append (ap (λ (n : ℕ). n + 1) same))
+
+pub more_named : (w : Word) (ws : List Word) (ms : List Meaning) (m : Meaning) → AreNamed ws ms → is_name w ≡ true → find (λ (e : Entry). bytes_eq e.name w) (entries_of ws ms) ≡ None
+    → AreNamed (with_word ws w) (ms ++ m ∷ [])
+more_named w ws ms m named name h =
+    record {
+      paired = longer w ws ms m named.paired h;
+      names = rw (new_word w ws ms named.paired h) (All-push IsNamed ws w named.names name);
+    }
 
 -- a word that no entry has goes last
 pub new_entry : (w : Word) (ws : List Word) (ms : List Meaning) (m : Meaning) → length ws ≡ length ms → find (λ (e : Entry). bytes_eq e.name w) (entries_of ws ms) ≡ None
     → entries_of (with_word ws w) (ms ++ m ∷ []) ≡ entries_of ws ms ++ (record { name = w; meaning = m }) ∷ []
 new_entry w ws ms m same h = rw (new_word w ws ms same h) (entries_more ws ms w m same)
 
--- ---- a name that a line declares is new
+-- ---- what a line declares is a name, and new
 
 new_by : (b : Bool) (o : Option Entry) → cond b (fits (is_some (option_map meaning_in o)) Taken) (Some NoName) ≡ None → o ≡ None
 new_by true None e = refl
@@ -111,3 +152,11 @@ new_by false o e = absurd cc
 pub name_is_new : (a : Above) (w : Word) → new_code a w ≡ None → find (λ (e : Entry). bytes_eq e.name w) a.names ≡ None
 unfolding new_code
 name_is_new a w e = new_by (is_name w) (find (λ (e : Entry). bytes_eq e.name w) a.names) e
+
+name_by : (b : Bool) (o : Option ServiceCode) → cond b o (Some NoName) ≡ None → b ≡ true
+name_by true o e = refl
+name_by false o e = absurd cc
+
+pub new_is_name : (a : Above) (w : Word) → new_code a w ≡ None → is_name w ≡ true
+unfolding new_code
+new_is_name a w e = name_by (is_name w) (fits (is_declared a w) Taken) e

@@ -7,6 +7,7 @@ ghost use Rattle.rex_parse.specs.Answers.{texts};
 
 use crate::language::{Above, Form, Meaning, ServiceCode};
 use crate::least::{fits, least};
+use crate::names::is_name_of;
 use crate::words::{begins_number, count_of, is_among, is_name, operator_of};
 use rex_syntax::service::{LINES, LOOPS, LockKind, OPERANDS};
 use rex_text::read_i64;
@@ -42,13 +43,14 @@ impl Above {
     pub(crate) fn lock_code(&self, word: &[u8]) -> Option<ServiceCode>
         ensures { result ≡ table.lock_code self.now word.now }
     {
-        if !is_name(word) {
+        let meaning = self.meaning_of(word);
+        if !is_name_of(word, meaning) {
             return Some(ServiceCode::NoName);
         }
         if self.is_local(word) {
             return Some(ServiceCode::WrongKind);
         }
-        match self.meaning_of(word) {
+        match meaning {
             None => Some(ServiceCode::Undeclared),
             Some(Meaning::Lock(_)) => None,
             Some(_) => Some(ServiceCode::WrongKind),
@@ -70,13 +72,14 @@ impl Above {
     pub(crate) fn lock_of_code(&self, kind: LockKind, word: &[u8]) -> Option<ServiceCode>
         ensures { result ≡ table.lock_of_code self.now kind word.now }
     {
-        if !is_name(word) {
+        let meaning = self.meaning_of(word);
+        if !is_name_of(word, meaning) {
             return Some(ServiceCode::NoName);
         }
         if self.is_local(word) {
             return Some(ServiceCode::WrongKind);
         }
-        match self.meaning_of(word) {
+        match meaning {
             None => Some(ServiceCode::Undeclared),
             Some(Meaning::Lock(lock)) => {
                 fits(!self.is_of_kind(kind, lock), ServiceCode::WrongKind)
@@ -90,13 +93,14 @@ impl Above {
     pub(crate) fn semaphore_code(&self, word: &[u8]) -> Option<ServiceCode>
         ensures { result ≡ table.semaphore_code self.now word.now }
     {
-        if !is_name(word) {
+        let meaning = self.meaning_of(word);
+        if !is_name_of(word, meaning) {
             return Some(ServiceCode::NoName);
         }
         if self.is_local(word) {
             return Some(ServiceCode::WrongKind);
         }
-        match self.meaning_of(word) {
+        match meaning {
             None => Some(ServiceCode::Undeclared),
             Some(Meaning::Semaphore(_)) => None,
             Some(_) => Some(ServiceCode::WrongKind),
@@ -108,13 +112,14 @@ impl Above {
     pub(crate) fn condition_code(&self, word: &[u8]) -> Option<ServiceCode>
         ensures { result ≡ table.condition_code self.now word.now }
     {
-        if !is_name(word) {
+        let meaning = self.meaning_of(word);
+        if !is_name_of(word, meaning) {
             return Some(ServiceCode::NoName);
         }
         if self.is_local(word) {
             return Some(ServiceCode::WrongKind);
         }
-        match self.meaning_of(word) {
+        match meaning {
             None => Some(ServiceCode::Undeclared),
             Some(Meaning::Condition(_)) => None,
             Some(_) => Some(ServiceCode::WrongKind),
@@ -126,13 +131,14 @@ impl Above {
     pub(crate) fn variable_code(&self, word: &[u8]) -> Option<ServiceCode>
         ensures { result ≡ table.variable_code self.now word.now }
     {
-        if !is_name(word) {
+        let meaning = self.meaning_of(word);
+        if !is_name_of(word, meaning) {
             return Some(ServiceCode::NoName);
         }
         if self.is_local(word) {
             return Some(ServiceCode::WrongKind);
         }
-        variable_kind_code(self.meaning_of(word))
+        variable_kind_code(meaning)
     }
 
     /// Of a local's name, which may be new.

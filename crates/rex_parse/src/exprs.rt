@@ -14,6 +14,7 @@ ghost use Rattle.rex_parse.specs.declared.language.ServiceCode.TheVariants as re
 use crate::codes::{EXPRESSION_WORDS, operator_code, variable_kind_code};
 use crate::language::{Above, Meaning, ServiceCode};
 use crate::least::{fits, least};
+use crate::names::is_name_of;
 use crate::words::{begins_number, is_name, operator_of};
 use rex_list::List;
 use rex_syntax::expr::{Expr, Operand, Operator, Term};
@@ -163,7 +164,7 @@ impl Above {
         ensures operand { result.operand ≡ operand.Variable (after.variable_number (meaning_of self.now word.now)) }
     {
         let meaning = self.meaning_of(word);
-        let code = if is_name(word) {
+        let code = if is_name_of(word, meaning) {
             variable_kind_code(meaning)
         } else {
             Some(ServiceCode::BadExpression)

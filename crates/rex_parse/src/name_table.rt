@@ -1,8 +1,9 @@
 //! What declared names stand for.
 
-ghost use Rattle.std.specs.Prelude.{◌≡◌, ◌++◌, ◌∷◌, [], None, find, option_map, slice_get, OnOk};
+ghost use Rattle.std.specs.Prelude.{◌≡◌, ◌++◌, ◌∷◌, [], None, find, option_map, slice_get, true, IfSome, OnOk};
 ghost use Rattle.std.specs.Str.{bytes_eq};
 ghost use Rattle.rex_parse.specs.Above.{meaning_in};
+ghost use Rattle.rex_parse.specs.Words.{is_name};
 
 use crate::language::Meaning;
 use rex_syntax::names::Names;
@@ -19,15 +20,15 @@ pub struct NameTable {
 }
 
 impl Model for NameTable {
-    ghost use Rattle.std.specs.Prelude.{◌≡◌, List, length};
+    ghost use Rattle.std.specs.Prelude.{List};
     ghost use Rattle.rex_parse.specs.declared.language.Entry.{Entry};
-    ghost use Rattle.rex_parse.specs.Entries.{entries_of};
+    ghost use Rattle.rex_parse.specs.Entries.{entries_of, AreNamed};
 
     ghost Value = { List Entry };
 
     ghost view = { λ t. entries_of t.names t.meanings.items };
 
-    ghost invariant = { λ t. length t.names ≡ length t.meanings.items };
+    ghost invariant = { λ t. AreNamed t.names t.meanings.items };
 }
 
 impl NameTable {
@@ -43,7 +44,8 @@ impl NameTable {
 
     /// What a name stands for.
     pub fn get(&self, name: &[u8]) -> Option<Meaning>
-        ensures { result ≡ option_map meaning_in (find (λ e. bytes_eq e.name name.now) self.now) }
+        ensures meaning { result ≡ option_map meaning_in (find (λ e. bytes_eq e.name name.now) self.now) }
+        ensures named { IfSome result (λ _. is_name name.now ≡ true) }
     {
         match self.names.get(name) {
             None => None,
@@ -53,7 +55,8 @@ impl NameTable {
 
     /// A name that isn't there goes last.
     pub fn insert(&mut self, name: &[u8], meaning: Meaning) -> Result<(), AllocError>
-        requires { find (λ e. bytes_eq e.name name.now) self.old ≡ None }
+        requires name { is_name name.now ≡ true }
+        requires new { find (λ e. bytes_eq e.name name.now) self.old ≡ None }
         ensures { OnOk result (self.new ≡ self.old ++ (record { name = name.now; meaning = meaning }) ∷ []) }
     {
         if self.meanings.len() >= u32::MAX as usize {

@@ -1,15 +1,18 @@
 //! What words name, given what the lines above have declared.
 
-ghost use Rattle.std.specs.Prelude.{◌≡◌, ◌≤◌, length};
+ghost use Rattle.std.specs.Prelude.{◌≡◌, ◌≤◌, length, true, IfSome};
 ghost use Rattle.rex_parse.specs.Above as above;
+ghost use Rattle.rex_parse.specs.Words as spec;
 
 use crate::blocks::BlockKind;
 use crate::language::{Above, Meaning};
+use crate::words::is_name;
 
 impl Above {
     /// What a declared name stands for.
     pub fn meaning_of(&self, word: &[u8]) -> Option<Meaning>
-        ensures { result ≡ above.meaning_of self.now word.now }
+        ensures meaning { result ≡ above.meaning_of self.now word.now }
+        ensures named { IfSome result (λ _. spec.is_name word.now ≡ true) }
     {
         self.names.get(word)
     }
@@ -61,5 +64,16 @@ impl Above {
             None => None,
             Some(handler) => handler.blocks.innermost(),
         }
+    }
+}
+
+/// Whether a word is a name, given what it stands for. What is declared is a name, so that most words aren't looked at.
+pub(crate) fn is_name_of(word: &[u8], meaning: Option<Meaning>) -> bool
+    requires { IfSome meaning (λ _. spec.is_name word.now ≡ true) }
+    ensures { result ≡ spec.is_name word.now }
+{
+    match meaning {
+        Some(_) => true,
+        None => is_name(word),
     }
 }
