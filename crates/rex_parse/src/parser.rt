@@ -15,7 +15,7 @@ use crate::name_table::NameTable;
 use crate::words::form_of;
 use rex_list::List;
 use rex_syntax::service::{Declarations, LOCALS, Service};
-use rex_text::{is_clean, words, words_in};
+use rex_text::{find_words, is_clean, words};
 use std::alloc::Global;
 use std::marker::Model;
 
@@ -79,7 +79,13 @@ impl Above {
     }
 
     // A line as it stands.
-    fn raw_line(&mut self, alloc: Global, number: u32, line: &[u8]) -> Result<(), Fault>
+    fn raw_line<'a>(
+        &mut self,
+        alloc: Global,
+        words: &mut Vec<&'a [u8]>,
+        number: u32,
+        line: &'a [u8],
+    ) -> Result<(), Fault>
         requires { length self.old.locals ≤ LOCALS }
         ensures takes { Takes result (raw_code self.old line.now) (raw_after self.old number line.now) self.new }
         ensures locals { length self.new.locals ≤ LOCALS }
@@ -90,8 +96,8 @@ impl Above {
         if is_skipped(line) {
             return Ok(());
         }
-        let words = words_in(alloc, line)?;
-        self.word_line(alloc, number, &words)
+        find_words(words, line)?;
+        self.word_line(alloc, number, words)
     }
 
     fn declarations(self) -> Declarations
@@ -170,11 +176,17 @@ impl Parser {
     }
 
     /// Reads the next line, which has this number in its text, as it stands. After an error the reader serves no more.
-    pub fn raw_line(&mut self, number: u32, line: &[u8]) -> Result<(), Fault>
+    /// The list is lent as room for the line's words, so that one serves a whole text.
+    pub fn raw_line<'a>(
+        &mut self,
+        words: &mut Vec<&'a [u8]>,
+        number: u32,
+        line: &'a [u8],
+    ) -> Result<(), Fault>
         ensures takes { Takes result (raw_code self.old line.now) (raw_after self.old number line.now) self.new }
         ensures good { IsGood self.old → OnOk result (IsGood self.new) }
     {
-        self.above.raw_line(self.alloc, number, line)
+        self.above.raw_line(self.alloc, words, number, line)
     }
 
     /// The code that fits the end of the text, at the line after the last.

@@ -16,7 +16,7 @@ use std::alloc::Global;
 
 /// Reads a whole text, line by line.
 #[tactic(auto, unfolding(crate::specs::Reading::answer_from))]
-fn read_text(parser: &mut Parser, bytes: &[u8]) -> Result<(), ReadError>
+fn read_text(alloc: Global, parser: &mut Parser, bytes: &[u8]) -> Result<(), ReadError>
     requires start { parser.old ≡ nothing }
     requires good { IsGood parser.old }
     requires short { length bytes.now + 1 < 2 ^ 32 }
@@ -25,10 +25,11 @@ fn read_text(parser: &mut Parser, bytes: &[u8]) -> Result<(), ReadError>
     ensures good { OnOk result (IsGood parser.new) }
     ensures refused { IfErr result (λ e. Fails e (answer_of bytes.now)) }
 {
+    let mut words = Vec::new(alloc);
     let mut lines = raw_lines(bytes);
     let mut next = 1;
     while let Some((number, line)) = lines.next() {
-        match parser.raw_line(number, line) {
+        match parser.raw_line(&mut words, number, line) {
             Ok(()) => next = number + 1,
             Err(Fault::Refused(code)) => return Err(ReadError::Refused { line: number, code }),
             Err(Fault::OutOfMemory) => return Err(ReadError::OutOfMemory),
@@ -47,7 +48,7 @@ pub fn read_service(alloc: Global, bytes: &[u8]) -> Result<Service, ReadError>
     ensures typed { IfOk result ServiceIsTyped }
 {
     let mut parser = Parser::new(alloc);
-    read_text(&mut parser, bytes)?;
+    read_text(alloc, &mut parser, bytes)?;
     Ok(parser.finish())
 }
 

@@ -48,7 +48,12 @@ pub fn read_unscheduled(alloc: Global, bytes: &[u8]) -> Result<(Scenario, Servic
 
 // Reads a text of no more bytes than may be, line by line. Its schedule may have lines, or may not.
 #[tactic(auto, unfolding(crate::specs::Reading::answer_from))]
-fn read_text(reader: &mut Reader, bytes: &[u8], _scheduled: bool) -> Result<(), ScenarioError>
+fn read_text(
+    alloc: Global,
+    reader: &mut Reader,
+    bytes: &[u8],
+    _scheduled: bool,
+) -> Result<(), ScenarioError>
     requires start { reader.old ≡ start _scheduled }
     requires short { length bytes.now + 1 < 2 ^ 32 }
     ensures read { OnOk result (answer_from (start _scheduled) 1 (numbered 1 (lines_of bytes.now)) ≡ Ok reader.new) }
@@ -59,10 +64,11 @@ fn read_text(reader: &mut Reader, bytes: &[u8], _scheduled: bool) -> Result<(), 
     ensures plain { OnOk result ((reader.new.beyond ≡ None) ↔ IsPlain (service_of reader.new.service)) }
     ensures refused { IfErr result (Refuses (answer_from (start _scheduled) 1 (numbered 1 (lines_of bytes.now)))) }
 {
+    let mut words = Vec::new(alloc);
     let mut lines = raw_lines(bytes);
     let mut next = 1;
     while let Some((number, line)) = lines.next() {
-        match reader.line(number, line) {
+        match reader.line(&mut words, number, line) {
             Ok(()) => next = number + 1,
             Err(LineFault::Refused(code)) => {
                 return Err(ScenarioError::Refused { line: number, code });
@@ -94,7 +100,7 @@ fn read(alloc: Global, bytes: &[u8], scheduled: bool) -> Result<(Scenario, Servi
         });
     }
     let mut reader = Reader::new(alloc, scheduled);
-    read_text(&mut reader, bytes, scheduled)?;
+    read_text(alloc, &mut reader, bytes, scheduled)?;
     Ok(reader.finish())
 }
 

@@ -1,6 +1,7 @@
 -- The words of a line that one loop over its bytes finds.
 use Rattle.std.proofs.Common.{◌≡◌, ℕ, ◌+◌, ◌-◌, ◌<◌, ◌≤◌, Bool, true, false, cond, eqb, ltb, not}
 use Rattle.std.proofs.Common.{List, [], ◌∷◌, ◌++◌, length, get_or, take, drop, All, refl, sym, ap, ◌∙◌, arith, inl, inr}
+use Rattle.std.specs.Prelude.{Result, Ok, Err, OnOk}
 use Rattle.std.specs.List.{filter, slice_split, position_or_len}
 use Rattle.std.proofs.lemmas.Bool.{cases_lt, lt-ltb, le-ltb, ne_eqb}
 use Rattle.std.proofs.lemmas.List.{append-nil, append_assoc, drop-drop, get_or-drop, get_or_default, length-take, length-drop, take_all}
@@ -71,6 +72,7 @@ none_more p bs start end plain at k low high = elim (cases_lt k end) [
 pub more_found : (old new some rest behind all : List (List ℕ)) → new ≡ old ++ some → old ++ rest ≡ all → rest ≡ some ++ behind → new ++ behind ≡ all
 more_found old new some rest behind all now before cut = rw now (append_assoc old some behind ∙ sym (ap (λ ws. old ++ ws) cut) ∙ before)
 
--- the last word goes to those found
-pub all_found : (old new some rest all : List (List ℕ)) → new ≡ old ++ some → old ++ rest ≡ all → rest ≡ some → new ≡ all
-all_found old new some rest all now before cut = now ∙ sym (ap (λ ws. old ++ ws) cut) ∙ before
+-- the last word goes to those found, where there is memory
+pub all_found : {A B : Type 0} (r : Result A B) (old new some rest all : List (List ℕ)) → OnOk r (new ≡ old ++ some) → old ++ rest ≡ all → rest ≡ some → OnOk r (new ≡ all)
+all_found (Ok a) old new some rest all now before cut = now ∙ sym (ap (λ ws. old ++ ws) cut) ∙ before
+all_found (Err b) old new some rest all now before cut = tt

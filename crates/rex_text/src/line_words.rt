@@ -1,31 +1,28 @@
 //! The words of a line as a list, and whether its bytes are allowed.
 
-ghost use Rattle.std.specs.Prelude.{◌≡◌, ◌≤◌, ◌++◌, IfOk, OnOk, length, map};
+ghost use Rattle.std.specs.Prelude.{◌≡◌, ◌≤◌, ◌++◌, OnOk, length, map};
 ghost use Rattle.std.specs.List.{list_all};
 ghost use Rattle.rex_text.specs.Text.{is_allowed, word_between, words_of};
 ghost use Rattle.rex_text.specs.Text as text;
 
 use crate::cuts::is_blank;
-use std::alloc::{AllocError, Global};
+use std::alloc::AllocError;
 
-/// Room for the words of most lines: a `set` with eight operands has eighteen.
-const USUAL_WORDS: usize = 18;
-
-/// The words of a line, as one list, which is all the memory that they take.
-pub fn words_in(alloc: Global, line: &[u8]) -> Result<Vec<&[u8]>, AllocError>
-    ensures { IfOk result (λ found. map (λ word. word.now) found.items ≡ words_of line.now) }
+/// Puts the words of a line in place of what a list held. It takes memory only where there are more words than the list
+/// has room for.
+pub fn find_words<'a>(found: &mut Vec<&'a [u8]>, line: &'a [u8]) -> Result<(), AllocError>
+    ensures { OnOk result (map (λ word. word.now) found.new.items ≡ words_of line.now) }
 {
-    let mut found = Vec::with_capacity(alloc, USUAL_WORDS)?;
+    found.clear();
     let mut start = 0;
     for (at, byte) in line.iter().enumerate() {
         // Most bytes stand above a space, so that one comparison settles them.
         if *byte <= b' ' && is_blank(*byte) {
-            end_word(&mut found, line, start, at)?;
+            end_word(found, line, start, at)?;
             start = at + 1;
         }
     }
-    end_word(&mut found, line, start, line.len())?;
-    Ok(found)
+    end_word(found, line, start, line.len())
 }
 
 // The words, and one more that stands from `start` to `end`, if any byte does.

@@ -1,6 +1,5 @@
-use Rattle.std.proofs.Common.{◌≡◌, Ok, arith, rules}
-use Rattle.rex_text.specs.Text.{lines_of, numbered}
-use Rattle.rex_scenario.specs.Reading.{answer_from, start}
+use Rattle.std.proofs.Common.{arith, rules}
+use Rattle.rex_scenario.specs.Reading.{answer_from}
 use Rattle.rex_scenario.proofs.Lines.{number_fits, answer_from-good, fits-good, scheduled-good}
 use Rattle.rex_scenario.proofs.Noted.{noted_first, noted_plain}
 use Rattle.rex_scenario.proofs.reading.read_text.Goals as goal
@@ -21,12 +20,10 @@ loop-next-preserved c = record {
 }
 
 -- the text ends well where the lines come to an end and no code fits that
-read_all : (c : goal.In-None) → answer_from (start c.args._scheduled) 1 (numbered 1 (lines_of c.args.bytes.now)) ≡ Ok c.loop-next.reader
+pub returns-clause-beyond : goal.returns-clause-beyond
 unfolding answer_from
-read_all c = search rules
+returns-clause-beyond c = noted_first c.args._scheduled c.args.bytes.now c.loop-next.reader (search rules)
 
-pub returns-in-None-clause-beyond : goal.returns-in-None-clause-beyond
-returns-in-None-clause-beyond c = noted_first c.args._scheduled c.args.bytes.now c.loop-next.reader (read_all c)
-
-pub returns-in-None-clause-plain : goal.returns-in-None-clause-plain
-returns-in-None-clause-plain c = noted_plain c.args._scheduled c.args.bytes.now c.loop-next.reader (read_all c)
+pub returns-clause-plain : goal.returns-clause-plain
+unfolding answer_from
+returns-clause-plain c = noted_plain c.args._scheduled c.args.bytes.now c.loop-next.reader (search rules)

@@ -2,9 +2,9 @@ use Rattle.std.proofs.Common.{◌≡◌, ◌<◌, ◌≤◌, ℕ, true, false, L
 use Rattle.std.proofs.lemmas.Bool.{ne_eqb}
 use Rattle.rex_text.specs.Text.{is_blank}
 use Rattle.rex_text.proofs.Found.{all_found, last_word, more_found, none_more, word_ends}
-use Rattle.rex_text.proofs.line_words.words_in.Goals.{then-byte-le32+then-is_blank+in_ok-end_word, else-byte-le32}
-use Rattle.rex_text.proofs.line_words.words_in.Goals.{else-byte-le32-via-then-byte-le32+else-is_blank, else-byte-le32-via-else-byte-le32}
-use Rattle.rex_text.proofs.line_words.words_in.Goals as goal
+use Rattle.rex_text.proofs.line_words.find_words.Goals.{then-byte-le32+then-is_blank+in_ok-end_word, else-byte-le32}
+use Rattle.rex_text.proofs.line_words.find_words.Goals.{else-byte-le32-via-then-byte-le32+else-is_blank, else-byte-le32-via-else-byte-le32}
+use Rattle.rex_text.proofs.line_words.find_words.Goals as goal
 
 above_space : (byte : ℕ) → 32 < byte → is_blank byte ≡ false
 above_space byte lt = rw (ne_eqb byte 32 (λ e. omega arith), ne_eqb byte 9 (λ e. omega arith)) refl
@@ -41,4 +41,4 @@ returns c =
     let end : l.at ≡ length line = omega (arith, c.loop-at-test.false, l.auto.at-end) in
     let order : l.start ≤ length line = omega (arith, l.invariant.order) in
     let last = last_word is_blank line l.start order (λ k low high. l.invariant.plain k low (omega arith)) in
-    all_found _ _ _ _ _ c.in_ok-end_word-2.ensures l.invariant.words last
+    all_found c.end_word-2.result _ _ _ _ _ c.end_word-2.ensures l.invariant.words last

@@ -1,6 +1,6 @@
 use Rattle.std.proofs.Common.{◌≡◌, ℕ, ◌<◌, ◌≤◌, ◌++◌, false, drop, get_or, map}
 use Rattle.rex_text.specs.Text.{is_blank, words_of}
-use Rattle.rex_text.proofs.line_words.words_in.Given as goal
+use Rattle.rex_text.proofs.line_words.find_words.Given as goal
 
 -- The words found, with those behind `start`, are the words of the line, and no blank stands from `start` on.
 abbrev pub invariant-loop-at : goal.invariant-loop-at
