@@ -125,8 +125,8 @@ fourth_of false f l c r = refl
 
 pub uses_covered : (past : List Event) (e : Event) (own : Summary) (u : Uses) → own ≡ own_of past e → KeepAll past u → CoversUses own u e
 uses_covered past e own u q k = record {
-  lanes = table_covered (λ (d : Event). Some d.lane) past e own u.lanes.items (Some e.lane) refl q k.lanes (λ d. first_of (nat_eq d.lane e.lane) _);
-  exclusive = table_covered (λ (d : Event). exclusive_lock d.kind) past e own u.exclusive.items (exclusive_lock e.kind) refl q k.exclusive (λ d. lock_of (is_sharing d.kind) (is_sharing e.kind) (named_lock d.kind) (named_lock e.kind) (nat_eq d.lane e.lane) _);
-  clients = table_covered (λ (d : Event). named_client d.kind) past e own u.clients.items (named_client e.kind) refl q k.clients (λ d. third_of (same_name (named_client d.kind) (named_client e.kind)) (nat_eq d.lane e.lane) _ _);
-  semaphores = table_covered (λ (d : Event). named_semaphore d.kind) past e own u.semaphores.items (named_semaphore e.kind) refl q k.semaphores (λ d. fourth_of (same_name (named_semaphore d.kind) (named_semaphore e.kind)) (nat_eq d.lane e.lane) _ _ _);
+  lanes = table_covered (λ (d : Event). Some d.lane) past e own u.lanes (Some e.lane) refl q k.lanes (λ d. first_of (nat_eq d.lane e.lane) _);
+  exclusive = table_covered (λ (d : Event). exclusive_lock d.kind) past e own u.exclusive (exclusive_lock e.kind) refl q k.exclusive (λ d. lock_of (is_sharing d.kind) (is_sharing e.kind) (named_lock d.kind) (named_lock e.kind) (nat_eq d.lane e.lane) _);
+  clients = table_covered (λ (d : Event). named_client d.kind) past e own u.clients (named_client e.kind) refl q k.clients (λ d. third_of (same_name (named_client d.kind) (named_client e.kind)) (nat_eq d.lane e.lane) _ _);
+  semaphores = table_covered (λ (d : Event). named_semaphore d.kind) past e own u.semaphores (named_semaphore e.kind) refl q k.semaphores (λ d. fourth_of (same_name (named_semaphore d.kind) (named_semaphore e.kind)) (nat_eq d.lane e.lane) _ _ _);
 }

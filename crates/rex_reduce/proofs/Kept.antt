@@ -1,5 +1,5 @@
 -- Tables that keep the summaries of a past, by what its events name.
-use Rattle.std.proofs.Common.{◌≡◌, ℕ, zero, suc, ◌<◌, Bool, true, false, ◌||◌, cond, List, [], ◌∷◌, refl, ap, sym, ◌∙◌}
+use Rattle.std.proofs.Common.{◌≡◌, ℕ, zero, suc, ◌<◌, Bool, true, false, ◌||◌, cond, List, ◌∷◌, refl, ap, sym, ◌∙◌}
 use Rattle.std.specs.Prelude.{nat_eq, Option, Some, None}
 use Rattle.rex_event.specs.declared.event.Event.{Event}
 use Rattle.rex_event.specs.declared.event.Kind.{Kind}
@@ -43,13 +43,13 @@ woken_is first past rows kind (suc n) k =
 
 -- each table keeps the events of a past by what it is named after
 pub record KeepAll (past : List Event) (u : Uses) : Type 0 where
-  pub lanes : Keeps (λ (d : Event) (place : Option ℕ). same_name (Some d.lane) place) past u.lanes.items
-  pub exclusive : Keeps (λ (d : Event) (place : Option ℕ). same_name (exclusive_lock d.kind) place) past u.exclusive.items
-  pub shared : Keeps (λ (d : Event) (place : Option ℕ). same_name (shared_lock d.kind) place) past u.shared.items
-  pub clients : Keeps (λ (d : Event) (place : Option ℕ). same_name (named_client d.kind) place) past u.clients.items
-  pub semaphores : Keeps (λ (d : Event) (place : Option ℕ). same_name (named_semaphore d.kind) place) past u.semaphores.items
-  pub wakers : Keeps (λ (d : Event) (place : Option ℕ). is_waker_at d.kind place LANES) past u.wakers.items
-  pub wakes : Keeps by_wake past u.wakes.items
+  pub lanes : Keeps (λ (d : Event) (place : Option ℕ). same_name (Some d.lane) place) past u.lanes
+  pub exclusive : Keeps (λ (d : Event) (place : Option ℕ). same_name (exclusive_lock d.kind) place) past u.exclusive
+  pub shared : Keeps (λ (d : Event) (place : Option ℕ). same_name (shared_lock d.kind) place) past u.shared
+  pub clients : Keeps (λ (d : Event) (place : Option ℕ). same_name (named_client d.kind) place) past u.clients
+  pub semaphores : Keeps (λ (d : Event) (place : Option ℕ). same_name (named_semaphore d.kind) place) past u.semaphores
+  pub wakers : Keeps (λ (d : Event) (place : Option ℕ). is_waker_at d.kind place LANES) past u.wakers
+  pub wakes : Keeps by_wake past u.wakes
 
 -- what conflicts with an event is found
 pub met_is : (past : List Event) (u : Uses) (e : Event) → KeepAll past u → e.lane < LANES → ((d : Event) → Has d past → d.lane < LANES) → met u e ≡ summary_of (λ (d : Event). conflict d e) past
@@ -60,19 +60,19 @@ met_is past u e k l lanes =
     let p4 = λ (d : Event). ((nat_eq d.lane e.lane || same_name (exclusive_lock d.kind) (named_lock e.kind)) || same_name (shared_lock d.kind) (exclusive_lock e.kind)) || same_name (named_client d.kind) (named_client e.kind) in
     let p5 = λ (d : Event). (((nat_eq d.lane e.lane || same_name (exclusive_lock d.kind) (named_lock e.kind)) || same_name (shared_lock d.kind) (exclusive_lock e.kind)) || same_name (named_client d.kind) (named_client e.kind)) || same_name (named_semaphore d.kind) (named_semaphore e.kind) in
     let p6 = λ (d : Event). ((((nat_eq d.lane e.lane || same_name (exclusive_lock d.kind) (named_lock e.kind)) || same_name (shared_lock d.kind) (exclusive_lock e.kind)) || same_name (named_client d.kind) (named_client e.kind)) || same_name (named_semaphore d.kind) (named_semaphore e.kind)) || is_waker_at d.kind (wake_slot e) LANES in
-    let a1 = with_is (λ (d : Event) (place : Option ℕ). same_name (exclusive_lock d.kind) place) p1 past u.exclusive.items (named_lock e.kind) (λ d. same_none (exclusive_lock d.kind)) k.exclusive in
-    let a2 = with_is (λ (d : Event) (place : Option ℕ). same_name (shared_lock d.kind) place) p2 past u.shared.items (exclusive_lock e.kind) (λ d. same_none (shared_lock d.kind)) k.shared in
-    let a3 = with_is (λ (d : Event) (place : Option ℕ). same_name (named_client d.kind) place) p3 past u.clients.items (named_client e.kind) (λ d. same_none (named_client d.kind)) k.clients in
-    let a4 = with_is (λ (d : Event) (place : Option ℕ). same_name (named_semaphore d.kind) place) p4 past u.semaphores.items (named_semaphore e.kind) (λ d. same_none (named_semaphore d.kind)) k.semaphores in
-    let a5 = with_is (λ (d : Event) (place : Option ℕ). is_waker_at d.kind place LANES) p5 past u.wakers.items (wake_slot e) (λ d. waker_none d.kind LANES) k.wakers in
-    let a6 = woken_is p6 past u.wakes.items e.kind LANES k.wakes in
-    let last : Summary → Summary = λ x. with_woken (with_at x u.wakers.items (wake_slot e)) u.wakes.items e.kind LANES in
-    ap (λ (x : Summary). last (with_at (with_at (with_at (with_at x u.exclusive.items (named_lock e.kind)) u.shared.items (exclusive_lock e.kind)) u.clients.items (named_client e.kind)) u.semaphores.items (named_semaphore e.kind))) (k.lanes.each e.lane)
-    ∙ ap (λ (x : Summary). last (with_at (with_at (with_at x u.shared.items (exclusive_lock e.kind)) u.clients.items (named_client e.kind)) u.semaphores.items (named_semaphore e.kind))) a1
-    ∙ ap (λ (x : Summary). last (with_at (with_at x u.clients.items (named_client e.kind)) u.semaphores.items (named_semaphore e.kind))) a2
-    ∙ ap (λ (x : Summary). last (with_at x u.semaphores.items (named_semaphore e.kind))) a3
+    let a1 = with_is (λ (d : Event) (place : Option ℕ). same_name (exclusive_lock d.kind) place) p1 past u.exclusive (named_lock e.kind) (λ d. same_none (exclusive_lock d.kind)) k.exclusive in
+    let a2 = with_is (λ (d : Event) (place : Option ℕ). same_name (shared_lock d.kind) place) p2 past u.shared (exclusive_lock e.kind) (λ d. same_none (shared_lock d.kind)) k.shared in
+    let a3 = with_is (λ (d : Event) (place : Option ℕ). same_name (named_client d.kind) place) p3 past u.clients (named_client e.kind) (λ d. same_none (named_client d.kind)) k.clients in
+    let a4 = with_is (λ (d : Event) (place : Option ℕ). same_name (named_semaphore d.kind) place) p4 past u.semaphores (named_semaphore e.kind) (λ d. same_none (named_semaphore d.kind)) k.semaphores in
+    let a5 = with_is (λ (d : Event) (place : Option ℕ). is_waker_at d.kind place LANES) p5 past u.wakers (wake_slot e) (λ d. waker_none d.kind LANES) k.wakers in
+    let a6 = woken_is p6 past u.wakes e.kind LANES k.wakes in
+    let last : Summary → Summary = λ x. with_woken (with_at x u.wakers (wake_slot e)) u.wakes e.kind LANES in
+    ap (λ (x : Summary). last (with_at (with_at (with_at (with_at x u.exclusive (named_lock e.kind)) u.shared (exclusive_lock e.kind)) u.clients (named_client e.kind)) u.semaphores (named_semaphore e.kind))) (k.lanes.each e.lane)
+    ∙ ap (λ (x : Summary). last (with_at (with_at (with_at x u.shared (exclusive_lock e.kind)) u.clients (named_client e.kind)) u.semaphores (named_semaphore e.kind))) a1
+    ∙ ap (λ (x : Summary). last (with_at (with_at x u.clients (named_client e.kind)) u.semaphores (named_semaphore e.kind))) a2
+    ∙ ap (λ (x : Summary). last (with_at x u.semaphores (named_semaphore e.kind))) a3
     ∙ ap last a4
-    ∙ ap (λ (x : Summary). with_woken x u.wakes.items e.kind LANES) a5
+    ∙ ap (λ (x : Summary). with_woken x u.wakes e.kind LANES) a5
     ∙ a6
     ∙ summary_agree (λ (d : Event). meets d e) (λ (d : Event). conflict d e) past (λ d h. meets_is d e (lanes d h) l)
 
@@ -104,11 +104,11 @@ added_keeps name past e own rows more (Some number) q n k a =
 -- with one more event the tables keep the longer past
 pub more_all : (past : List Event) (e : Event) (own : Summary) (u more : Uses) → own ≡ own_of past e → KeepAll past u → AreAdded u e own more → KeepAll (e ∷ past) more
 more_all past e own u more q k a = record {
-  lanes = added_keeps (λ (d : Event). Some d.lane) past e own u.lanes.items more.lanes.items (Some e.lane) q refl k.lanes a.lanes;
-  exclusive = added_keeps (λ (d : Event). exclusive_lock d.kind) past e own u.exclusive.items more.exclusive.items (exclusive_lock e.kind) q refl k.exclusive a.exclusive;
-  shared = added_keeps (λ (d : Event). shared_lock d.kind) past e own u.shared.items more.shared.items (shared_lock e.kind) q refl k.shared a.shared;
-  clients = added_keeps (λ (d : Event). named_client d.kind) past e own u.clients.items more.clients.items (named_client e.kind) q refl k.clients a.clients;
-  semaphores = added_keeps (λ (d : Event). named_semaphore d.kind) past e own u.semaphores.items more.semaphores.items (named_semaphore e.kind) q refl k.semaphores a.semaphores;
-  wakers = more_keeps (λ (d : Event) (place : Option ℕ). is_waker_at d.kind place LANES) past e own u.wakers.items more.wakers.items q k.wakers a.wakers;
-  wakes = added_keeps (λ (d : Event). wake_slot d) past e own u.wakes.items more.wakes.items (wake_slot e) q refl k.wakes a.wakes;
+  lanes = added_keeps (λ (d : Event). Some d.lane) past e own u.lanes more.lanes (Some e.lane) q refl k.lanes a.lanes;
+  exclusive = added_keeps (λ (d : Event). exclusive_lock d.kind) past e own u.exclusive more.exclusive (exclusive_lock e.kind) q refl k.exclusive a.exclusive;
+  shared = added_keeps (λ (d : Event). shared_lock d.kind) past e own u.shared more.shared (shared_lock e.kind) q refl k.shared a.shared;
+  clients = added_keeps (λ (d : Event). named_client d.kind) past e own u.clients more.clients (named_client e.kind) q refl k.clients a.clients;
+  semaphores = added_keeps (λ (d : Event). named_semaphore d.kind) past e own u.semaphores more.semaphores (named_semaphore e.kind) q refl k.semaphores a.semaphores;
+  wakers = more_keeps (λ (d : Event) (place : Option ℕ). is_waker_at d.kind place LANES) past e own u.wakers more.wakers q k.wakers a.wakers;
+  wakes = added_keeps (λ (d : Event). wake_slot d) past e own u.wakes more.wakes (wake_slot e) q refl k.wakes a.wakes;
 }

@@ -12,5 +12,6 @@ pub mod Once
 pub mod Reduced
 mod Steps
 mod NoWakers
+mod Places
 mod Covers
 pub mod Examples

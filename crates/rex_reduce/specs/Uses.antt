@@ -13,33 +13,33 @@ abbrev pub met : Uses → Event → Summary
 met u e =
     with_woken
     (with_at
-    (with_at (with_at (with_at (with_at (at u.lanes.items e.lane) u.exclusive.items (named_lock e.kind)) u.shared.items (exclusive_lock e.kind)) u.clients.items (named_client e.kind)) u.semaphores.items (named_semaphore e.kind))
-    u.wakers.items (wake_slot e))
-    u.wakes.items e.kind LANES
+    (with_at (with_at (with_at (with_at (at u.lanes e.lane) u.exclusive (named_lock e.kind)) u.shared (exclusive_lock e.kind)) u.clients (named_client e.kind)) u.semaphores (named_semaphore e.kind))
+    u.wakers (wake_slot e))
+    u.wakes e.kind LANES
 
 -- an event is added at what it names
 pub record AreAdded (u : Uses) (e : Event) (own : Summary) (more : Uses) : Type 0 where
-  pub lanes : AreAddedAt u.lanes.items (Some e.lane) own more.lanes.items
-  pub exclusive : AreAddedAt u.exclusive.items (exclusive_lock e.kind) own more.exclusive.items
-  pub shared : AreAddedAt u.shared.items (shared_lock e.kind) own more.shared.items
-  pub clients : AreAddedAt u.clients.items (named_client e.kind) own more.clients.items
-  pub semaphores : AreAddedAt u.semaphores.items (named_semaphore e.kind) own more.semaphores.items
-  pub wakers : AreAddedWoken u.wakers.items e.kind own LANES more.wakers.items
-  pub wakes : AreAddedAt u.wakes.items (wake_slot e) own more.wakes.items
+  pub lanes : AreAddedAt u.lanes (Some e.lane) own more.lanes
+  pub exclusive : AreAddedAt u.exclusive (exclusive_lock e.kind) own more.exclusive
+  pub shared : AreAddedAt u.shared (shared_lock e.kind) own more.shared
+  pub clients : AreAddedAt u.clients (named_client e.kind) own more.clients
+  pub semaphores : AreAddedAt u.semaphores (named_semaphore e.kind) own more.semaphores
+  pub wakers : AreAddedWoken u.wakers e.kind own LANES more.wakers
+  pub wakes : AreAddedAt u.wakes (wake_slot e) own more.wakes
 
 -- the summary of an event covers what stands where it excludes all others
 pub record CoversUses (own : Summary) (u : Uses) (e : Event) : Type 0 where
-  pub lanes : Covers own u.lanes.items (Some e.lane)
-  pub exclusive : Covers own u.exclusive.items (exclusive_lock e.kind)
-  pub clients : Covers own u.clients.items (named_client e.kind)
-  pub semaphores : Covers own u.semaphores.items (named_semaphore e.kind)
+  pub lanes : Covers own u.lanes (Some e.lane)
+  pub exclusive : Covers own u.exclusive (exclusive_lock e.kind)
+  pub clients : Covers own u.clients (named_client e.kind)
+  pub semaphores : Covers own u.semaphores (named_semaphore e.kind)
 
 -- of no events
 pub record AreEmpty (u : Uses) : Type 0 where
-  pub lanes : u.lanes.items ≡ []
-  pub exclusive : u.exclusive.items ≡ []
-  pub shared : u.shared.items ≡ []
-  pub clients : u.clients.items ≡ []
-  pub semaphores : u.semaphores.items ≡ []
-  pub wakers : u.wakers.items ≡ []
-  pub wakes : u.wakes.items ≡ []
+  pub lanes : u.lanes ≡ []
+  pub exclusive : u.exclusive ≡ []
+  pub shared : u.shared ≡ []
+  pub clients : u.clients ≡ []
+  pub semaphores : u.semaphores ≡ []
+  pub wakers : u.wakers ≡ []
+  pub wakes : u.wakes ≡ []

@@ -2,4 +2,4 @@ use Rattle.rex_reduce.specs.Tables.{AreAddedWoken}
 use Rattle.rex_reduce.proofs.tables.add_each_woken.Given as goal
 
 abbrev pub invariant-loop-lane : goal.invariant-loop-lane
-invariant-loop-lane l = AreAddedWoken l.initial.rows.items l.event.kind l.own l.lane l.rows.items
+invariant-loop-lane l = AreAddedWoken l.initial.rows l.event.kind l.own l.lane l.rows
