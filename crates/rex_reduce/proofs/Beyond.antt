@@ -1,10 +1,14 @@
--- Lanes of which nothing is covered have no causes.
-use Rattle.std.proofs.Common.{◌≡◌, ℕ, zero, suc, ◌≤◌, ◌<◌, Bool, false, List, [], ◌∷◌, ◌++◌, sym, ap, ◌∙◌, subst, arith, ⊎_elim, append-nil}
+-- Lanes of which nothing is covered have no causes, nor has an event that is alone.
+use Rattle.std.proofs.Common.{◌≡◌, ℕ, zero, suc, ◌≤◌, ◌<◌, Bool, false, List, [], ◌∷◌, ◌++◌, length, sym, ap, ◌∙◌, subst, arith, ⊎_elim, append-nil}
 use Rattle.std.specs.Prelude.{◌&&◌, not, nat_eq, nat_lt, if◌then◌else◌}
 use Rattle.std.proofs.lemmas.Bool.{le-ltb, cases_lt}
 use Rattle.rex_event.specs.declared.delta.Cause.{Cause}
+use Rattle.rex_event.specs.declared.event.Event.{Event}
+use Rattle.rex_event.specs.declared.event.TheConstants.{LANES}
 use Rattle.rex_event.specs.Cuts.{count_at}
-use Rattle.rex_reduce.specs.Reduction.{uncovered, last_covered}
+use Rattle.rex_clocks.specs.Counts.{none}
+use Rattle.rex_clocks.proofs.Counts.{count_none}
+use Rattle.rex_reduce.specs.Reduction.{first_indices, uncovered, last_covered, reduced}
 
 -- a lane of which nothing is covered adds none
 adds_none : (causes : List Cause) (t : Bool) (x : Cause) (u : Bool) → t ≡ false → causes ++ (if t && u then x ∷ [] else []) ≡ causes
@@ -19,3 +23,10 @@ none_beyond bases clock beneath own lanes (suc more) few none = ⊎_elim
     ∙ sym (adds_none (uncovered bases clock beneath own more) (nat_lt (count_at beneath more) (count_at clock more)) (last_covered bases clock more) (not (nat_eq more own)) (le-ltb _ _ (omega (arith, none more inside)))))
     (λ (l : suc more ≤ lanes). let e : lanes ≡ suc more = omega (arith, few, l) in ap (uncovered bases clock beneath own) e)
     (cases_lt lanes (suc more))
+
+-- an event that is alone has no causes
+pub none_alone : (es : List Event) → length es ≡ 1 → [] ∷ [] ≡ reduced es
+none_alone [] e = absurd (omega arith)
+none_alone (x ∷ []) e =
+    ap (λ (causes : List Cause). causes ∷ []) (none_beyond (first_indices (x ∷ [])) none none x.lane 0 LANES (omega arith) (λ lane l. count_none lane))
+none_alone (x ∷ y ∷ es) e = absurd (omega arith)

@@ -1,6 +1,6 @@
 //! The least causes of each event, found from the summary of those before it that conflict with it.
 
-ghost use Rattle.std.specs.Prelude.{◌≡◌, ℕ, ◌+◌, ◌<◌, ◌≤◌, length, IfOk};
+ghost use Rattle.std.specs.Prelude.{◌≡◌, ℕ, ◌+◌, ◌<◌, ◌≤◌, [], ◌∷◌, length, IfOk};
 ghost use Rattle.std.specs.List.{All};
 ghost use Rattle.rex_event.specs.Cuts.{count_at};
 ghost use Rattle.rex_clocks.specs.Lanes.{HasLane};
@@ -51,16 +51,20 @@ fn causes_of(
     Ok(causes)
 }
 
-/// The least causes that are right for a trace: they lead, with the order of each lane, from one event to another exactly
-/// where that one has to come first, and each family of causes that does so has them among its own. Each event's causes
-/// are the last events of other lanes before it that have no event between (the transitive reduction of the order; Aho,
-/// Garey and Ullman, 1972), found by vector clocks in steps that don't grow with the trace.
-pub fn reduce(alloc: Global, events: &[Event]) -> Result<Vec<Causes>, AllocError>
+/// The causes of an event that is alone.
+fn no_causes(alloc: Global) -> Result<Vec<Causes>, AllocError>
+    ensures { IfOk result (λ v. v.items ≡ [] ∷ []) }
+{
+    let mut causes = Vec::new(alloc);
+    causes.push(List::new(alloc))?;
+    Ok(causes)
+}
+
+/// The causes of each event, by the tables of those before it.
+fn causes_by_uses(alloc: Global, events: &[Event]) -> Result<Vec<Causes>, AllocError>
     requires trace { IsTrace events.now }
     requires room { All HasNext events.now }
-    ensures is { IfOk result (λ v. v.items ≡ reduced events.now) }
-    ensures least { IfOk result (λ v. AreLeast events.now v.items) }
-    ensures fit { IfOk result (λ v. FitPieces events.now v.items) }
+    ensures { IfOk result (λ v. v.items ≡ reduced events.now) }
 {
     let first = first_indices(events);
     let mut uses = Uses::new(alloc);
@@ -73,4 +77,31 @@ pub fn reduce(alloc: Global, events: &[Event]) -> Result<Vec<Causes>, AllocError
         uses.add(event, &summary)?;
     }
     Ok(causes)
+}
+
+/// The causes of each event. Fewer than two events need no tables.
+fn causes_of_each(alloc: Global, events: &[Event]) -> Result<Vec<Causes>, AllocError>
+    requires trace { IsTrace events.now }
+    requires room { All HasNext events.now }
+    ensures { IfOk result (λ v. v.items ≡ reduced events.now) }
+{
+    match events.len() {
+        0 => Ok(Vec::new(alloc)),
+        1 => no_causes(alloc),
+        _ => causes_by_uses(alloc, events),
+    }
+}
+
+/// The least causes that are right for a trace: they lead, with the order of each lane, from one event to another exactly
+/// where that one has to come first, and each family of causes that does so has them among its own. Each event's causes
+/// are the last events of other lanes before it that have no event between (the transitive reduction of the order; Aho,
+/// Garey and Ullman, 1972), found by vector clocks in steps that don't grow with the trace.
+pub fn reduce(alloc: Global, events: &[Event]) -> Result<Vec<Causes>, AllocError>
+    requires trace { IsTrace events.now }
+    requires room { All HasNext events.now }
+    ensures is { IfOk result (λ v. v.items ≡ reduced events.now) }
+    ensures least { IfOk result (λ v. AreLeast events.now v.items) }
+    ensures fit { IfOk result (λ v. FitPieces events.now v.items) }
+{
+    causes_of_each(alloc, events)
 }
