@@ -1,4 +1,4 @@
-use Rattle.std.specs.Prelude.{◌≡◌, ℕ, ◌+◌, ◌<◌, Bool, true, false, not, ℤ, pos, negsuc, List, length, slice_index_or, int_lt, int_le, int_div, int_rem, if◌then◌else◌}
+use Rattle.std.specs.Prelude.{ℕ, ◌<◌, Bool, true, false, not, ℤ, pos, List, slice_index_or, int_lt, int_le, int_rem, if◌then◌else◌}
 use Rattle.std.specs.Int.{w64, int_wrapping_add, int_wrapping_sub, int_wrapping_mul, int_wrapping_div}
 use Rattle.std.specs.Ordering.{int_eq}
 use Rattle.std.specs.List.{All, fold}

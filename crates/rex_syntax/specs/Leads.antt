@@ -1,5 +1,5 @@
 -- Where a line leads with what is held, and why it is refused.
-use Rattle.std.specs.Prelude.{pos, [], ℕ, ◌-◌, ◌&&◌, Bool, true, false, not, Option, Some, None, Result, Ok, Err, slice_index_or, if◌then◌else◌}
+use Rattle.std.specs.Prelude.{pos, [], ℕ, ◌-◌, ◌&&◌, Bool, true, false, not, Some, None, Result, Ok, Err, slice_index_or, if◌then◌else◌}
 use Rattle.std.specs.List.{list_all}
 use Rattle.rex_syntax.specs.declared.expr.Operand.{Operand}
 use Rattle.rex_syntax.specs.declared.expr.Operand.TheVariants.{Variable}
@@ -15,7 +15,6 @@ use Rattle.rex_syntax.specs.Locks.{mode_of, with_mode, is_free, is_exclusive, is
 use Rattle.rex_syntax.specs.declared.flow.CheckCode.{CheckCode}
 use Rattle.rex_syntax.specs.declared.flow.CheckCode.TheVariants.{UnguardedRead, UnguardedWrite, NotHeld, OutOfOrder, HeldAtReply, ConditionLock, HeldAtDown}
 use Rattle.rex_syntax.specs.declared.flow.Leads.{Leads}
-use Rattle.rex_syntax.specs.declared.flow.Target.{Target}
 
 -- no variable, and no condition: what a number that is not there stands for
 abbrev pub no_variable : VariableOf

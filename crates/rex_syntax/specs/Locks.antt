@@ -1,4 +1,4 @@
-use Rattle.std.specs.Prelude.{◌≡◌, ℕ, replicate, take, drop, Bool, true, false, ◌&&◌, ◌+◌, slice_index_or, slice_set}
+use Rattle.std.specs.Prelude.{ℕ, replicate, take, drop, Bool, true, false, ◌&&◌, ◌+◌, slice_index_or, slice_set}
 use Rattle.std.specs.List.{list_all}
 use Rattle.rex_syntax.specs.declared.locks.Mode.{Mode}
 use Rattle.rex_syntax.specs.declared.locks.Mode.TheVariants.{Free, Shared, Exclusive}

@@ -1,4 +1,4 @@
-use Rattle.std.proofs.Common.{◌≡◌, ℕ, List, [], ◌∷◌, get_or, sym, ap, ◌∙◌, arith}
+use Rattle.std.proofs.Common.{ℕ, List, [], ◌∷◌, get_or, sym, ap, ◌∙◌, arith}
 use Rattle.rex_delta.proofs.EventLaws.{delta_found}
 use Rattle.rex_delta.proofs.Silent.{silent}
 use Rattle.rex_delta.proofs.replying.may_reply.Goals as goal

@@ -1,5 +1,4 @@
-use Rattle.std.specs.Bool.{Decides}
-use Rattle.std.proofs.Common.{◌≡◌, ap, true, false, refl, ◌∙◌, sym, List, subst, rules}
+use Rattle.std.proofs.Common.{◌≡◌, ap, true, refl, List, subst, rules}
 use denote.Enum.Bare.{same_true, sameb}
 use Rattle.rex_syntax.specs.contracts.locks.Mode.{the_type}
 use Rattle.std.proofs.lemmas.Slice.Eq.{slice_eq-Decides}
