@@ -1,6 +1,8 @@
 -- The number of events of a delta, and its events, are found without the rest.
-use Rattle.std.proofs.Common.{◌≡◌, ℕ, zero, suc, Bool, true, false, cond, List, [], ◌∷◌, length, Result, Ok, Err, refl, sym, ap, ◌∙◌}
-use Rattle.std.specs.Prelude.{◌==◌, IfOk}
+use Rattle.std.proofs.Common.{◌≡◌, ℕ, zero, suc, Bool, true, false, cond, min, arith, List, [], ◌∷◌, ◌++◌, length, take, Result, Ok, Err, refl, sym, ap, ◌∙◌}
+use Rattle.std.specs.Prelude.{◌==◌, is_err, IfOk}
+use Rattle.std.proofs.lemmas.Bool.{false≢true}
+use Rattle.std.proofs.lemmas.List.{length-take, take-append-le}
 use Rattle.std.specs.Int.{w8, w16}
 use Rattle.arrayvec.specs.ArrayVec.{ArrayVec}
 use Rattle.rex_event.specs.declared.event.Event.{Event}
@@ -12,9 +14,9 @@ use Rattle.rex_wire.specs.declared.fault.DecodeError.{DecodeError}
 use Rattle.rex_wire.proofs.Fields.{IsBytes, bind_ok, ok_is}
 use Rattle.rex_delta.specs.Spelling.{is_between, HasSpelling, delta_bytes}
 use Rattle.rex_delta.specs.Reading.{Before, first_before, after_event, next_event_at, events_at, bases_at, delta_at, delta_in}
-use Rattle.rex_delta.specs.Parts.{passed, into_array}
+use Rattle.rex_delta.specs.Parts.{GivesInto, passed, into_array}
 use Rattle.rex_delta.specs.Counts.{count_of, count_in, counted_at}
-use Rattle.rex_delta.specs.Alone.{events_of, events_in, alone, alone_at}
+use Rattle.rex_delta.specs.Alone.{events_of, events_in, alone, behind, behind_at, behind_of}
 use Rattle.rex_delta.proofs.Lists.{Listed}
 use Rattle.rex_delta.proofs.EventLaws.{delta_found}
 
@@ -83,31 +85,46 @@ pub counted_whole : (bytes : List ℕ) → whole counted_at bytes ≡ count_in b
 unfolding delta_in
 counted_whole bytes = ap (λ (r : Reading ℕ). r >>= λ x. cond (length x.1.rest == 0) (Ok x.0) (Err x.1.at)) (delta_counted (all_left bytes)) ∙ whole_kept how_many (delta_at (all_left bytes)) ∙ count_is (delta_in bytes)
 
--- ---- the events
+-- ---- the events, behind others
 
-abbrev its_events : Delta → List Event
-its_events d = d.events
+module _ (before : List Event) where
+  abbrev with_events : Delta → List Event
+  with_events d = before ++ d.events
 
-events_kept : (r : Reading Listed) (bases : List ℕ) → alone r ≡ ((r >>= made bases) >>= kept its_events)
-events_kept (Ok x) bases = refl
-events_kept (Err at) bases = refl
+  events_kept : (r : Reading Listed) (bases : List ℕ) → behind before (alone r) ≡ ((r >>= made bases) >>= kept with_events)
+  events_kept (Ok x) bases = refl
+  events_kept (Err at) bases = refl
 
-delta_alone : (l : Left) → alone_at l ≡ (delta_at l >>= kept its_events)
-unfolding alone_at delta_at
-delta_alone l =
-    field_kept its_events (allowed_at w8 (is_between 1 2) l) _ _ (λ version.
-    field_kept its_events (allowed_at w8 (is_between 1 most_lanes) version.1) _ _ (λ lanes.
-    bases_kept its_events (bases_at lanes.0 lanes.1) _ _ (λ bases.
-    field_kept its_events (allowed_at w16 (is_between 1 4096) bases.1) _ _ (λ count.
-    events_kept (events_at bases.0 (first_before version.0 bases.0 count.0) count.0 count.1) bases.0))))
+  delta_behind : (l : Left) → behind_at before l ≡ (delta_at l >>= kept with_events)
+  unfolding behind_at delta_at
+  delta_behind l =
+      field_kept with_events (allowed_at w8 (is_between 1 2) l) _ _ (λ version.
+      field_kept with_events (allowed_at w8 (is_between 1 most_lanes) version.1) _ _ (λ lanes.
+      bases_kept with_events (bases_at lanes.0 lanes.1) _ _ (λ bases.
+      field_kept with_events (allowed_at w16 (is_between 1 4096) bases.1) _ _ (λ count.
+      events_kept (events_at bases.0 (first_before version.0 bases.0 count.0) count.0 count.1) bases.0))))
 
-events_are : (r : Result Delta ℕ) → part_of its_events r ≡ events_of r
-events_are (Ok d) = refl
-events_are (Err at) = refl
+  events_are : (r : Result Delta ℕ) → part_of with_events r ≡ behind_of before r
+  events_are (Ok d) = refl
+  events_are (Err at) = refl
 
-pub alone_whole : (bytes : List ℕ) → whole alone_at bytes ≡ events_in bytes
-unfolding delta_in
-alone_whole bytes = ap (λ (r : Reading (List Event)). r >>= λ x. cond (length x.1.rest == 0) (Ok x.0) (Err x.1.at)) (delta_alone (all_left bytes)) ∙ whole_kept its_events (delta_at (all_left bytes)) ∙ events_are (delta_in bytes)
+  pub behind_whole : (bytes : List ℕ) → whole (behind_at before) bytes ≡ behind_of before (delta_in bytes)
+  unfolding delta_in
+  behind_whole bytes =
+      ap (λ (r : Reading (List Event)). r >>= λ x. cond (length x.1.rest == 0) (Ok x.0) (Err x.1.at)) (delta_behind (all_left bytes))
+      ∙ whole_kept with_events (delta_at (all_left bytes)) ∙ events_are (delta_in bytes)
+
+-- what stands in front stays there when one more goes behind
+pub keep_front : (before es : List Event) (e : Event) → take (length before) es ≡ before → take (length before) (es ++ e ∷ []) ≡ before
+keep_front before es e front =
+    let long : length (take (length before) es) ≡ length before = ap (λ (xs : List Event). length xs) front in
+    let least : length (take (length before) es) ≡ min (length before) (length es) = length-take (length before) es in
+    take-append-le (length before) es (e ∷ []) (omega (arith, long, least)) ∙ front
+
+-- an error is given whatever was lent
+pub error_given : (r : Result (Unit {0}) DecodeError) (xs ys : List Event) (read : Result (List Event) ℕ) → is_err r ≡ true → GivesInto r xs read → GivesInto r ys read
+error_given (Ok done) xs ys read err given = absurd (false≢true err)
+error_given (Err e) xs ys read err given = given
 
 found_by : (bytes : List ℕ) (read : Result Delta ℕ) (es : List Event) → IsBytes bytes → delta_in bytes ≡ read → events_of read ≡ Ok es → (d : Delta) × HasSpelling d × (bytes ≡ delta_bytes d) × (es ≡ d.events)
 found_by bytes (Ok d) es fits is e = let f = delta_found bytes d fits is in (d, f.has, f.bytes_are, cc)

@@ -50,7 +50,12 @@ passed read = read >>= λ x. Ok (tt, x.1)
 abbrev pub into_array : {A : Type 0} → Reading (List A) → Reading (ArrayVec A)
 into_array read = read >>= λ xs. Ok (record { items = xs.0 }, xs.1)
 
--- what a call leaves that reads on into a list without items, and the reader after it, are what reading gives, unless memory runs out
-abbrev pub ReadsInto : Result (Unit {0}) DecodeError → List ℕ → Left → Reading (List ℕ) → Type 0
-ReadsInto (Ok done) items new read = read ≡ Ok (items, new)
-ReadsInto (Err e) items new read = Fails e read
+-- what a call leaves that reads on into what it was lent, and the reader after it, are what reading gives, unless memory runs out
+abbrev pub ReadsInto : {A : Type 0} → Result (Unit {0}) DecodeError → A → Left → Reading A → Type 0
+ReadsInto (Ok done) x new read = read ≡ Ok (x, new)
+ReadsInto (Err e) x new read = Fails e read
+
+-- the same of all bytes
+abbrev pub GivesInto : {A : Type 0} → Result (Unit {0}) DecodeError → A → Result A ℕ → Type 0
+GivesInto (Ok done) x read = read ≡ Ok x
+GivesInto (Err e) x read = Fails e read

@@ -17,7 +17,7 @@ mod write_events;
 mod write_kinds;
 
 pub use check_delta::check;
-pub use events_alone::decode_events;
+pub use events_alone::{append_events, decode_events};
 pub use laws::no_spelling_begins_another;
 pub use read_delta::decode;
 pub use replying::may_reply;

@@ -1,10 +1,34 @@
 -- The events that are read alone are those of the delta.
-use Rattle.std.proofs.Common.{◌≡◌, ℕ, List, Result, Ok, Err}
+use Rattle.std.proofs.Common.{◌≡◌, ℕ, List, ◌++◌, Result, Ok, Err, refl, sym, append-nil}
+use Rattle.std.proofs.lemmas.List.Elements.{All-nil}
 use Rattle.rex_event.specs.declared.delta.Delta.{Delta}
 use Rattle.rex_event.specs.declared.event.Event.{Event}
-use Rattle.rex_delta.specs.Alone.{events_of}
-use Rattle.rex_cluster.specs.Values.{read_delta}
+use Rattle.rex_state.specs.Counts.{AreCounted}
+use Rattle.rex_wire.proofs.Fields.{IsBytes}
+use Rattle.rex_delta.specs.Alone.{behind_of, events_of as its_events}
+use Rattle.rex_delta.specs.Reading.{delta_in}
+use Rattle.rex_delta.proofs.EventLaws.{delta_found}
+use Rattle.rex_cluster.specs.Values.{Value, events_of, read_delta}
+use Rattle.rex_node.proofs.Spelled.{spelled_counted}
 
-pub read_events : (r : Result Delta ℕ) (es : List Event) → events_of r ≡ Ok es → es ≡ (read_delta r).events
+pub read_events : (r : Result Delta ℕ) (es : List Event) → its_events r ≡ Ok es → es ≡ (read_delta r).events
 read_events (Ok d) es e = cc
 read_events (Err at) es e = absurd cc
+
+-- what was appended are the events of the delta that was read
+pub appended : (before after : List Event) (r : Result Delta ℕ) → behind_of before r ≡ Ok after → after ≡ before ++ (read_delta r).events
+appended before after (Ok d) is = cc
+appended before after (Err at) is = absurd cc
+
+-- where none was read there are none
+pub none_appended : (before : List Event) (at : ℕ) (r : Result Delta ℕ) → behind_of before r ≡ Err at → before ≡ before ++ (read_delta r).events
+none_appended before at (Ok d) is = absurd cc
+none_appended before at (Err bad) is = sym (append-nil before)
+
+-- the events of a value are counted
+pub value_counted : (value : Value) → IsBytes value → AreCounted (events_of value)
+value_counted value bytes = by (delta_in value) refl
+  where
+    by : (r : Result Delta ℕ) → delta_in value ≡ r → AreCounted (read_delta r).events
+    by (Ok d) is = spelled_counted d (delta_found value d bytes is).has
+    by (Err at) is = record { each = All-nil _ }

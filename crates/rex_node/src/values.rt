@@ -7,7 +7,7 @@ ghost use Rattle.rex_state.specs.Sound.{IsSound};
 ghost use Rattle.rex_cluster.specs.Values.{events_of, trace_of};
 
 use rex_ballot::Value;
-use rex_delta::{DecodeError, decode_events};
+use rex_delta::{DecodeError, append_events, decode_events};
 use rex_event::Event;
 use rex_list::List;
 use rex_replay::Replayer;
@@ -38,21 +38,21 @@ fn joined(alloc: Global, values: &[Value]) -> Result<Vec<Event>, AllocError>
 {
     let mut events = Vec::new(alloc);
     for value in values {
-        let more = events_in(alloc, value.as_slice())?;
-        join(&mut events, more.into_vec())?;
+        append_value(&mut events, value.as_slice())?;
     }
     Ok(events)
 }
 
-// Puts events behind others. The first ones aren't copied.
-fn join(events: &mut Vec<Event>, mut more: Vec<Event>) -> Result<(), AllocError>
-    ensures { OnOk result (events.new.items ≡ events.old.items ++ more.items) }
+// Appends the events of the delta that a value spells; none where it spells none.
+fn append_value(events: &mut Vec<Event>, value: &[u8]) -> Result<(), AllocError>
+    ensures events { OnOk result (events.new.items ≡ events.old.items ++ events_of value.now) }
+    ensures counted { AreCounted (events_of value.now) }
 {
-    if events.is_empty() {
-        *events = more;
-        return Ok(());
+    match append_events(events, value) {
+        Ok(()) => Ok(()),
+        Err(DecodeError::OutOfMemory) => Err(AllocError),
+        Err(DecodeError::Bad { .. }) => Ok(()),
     }
-    events.append(&mut more)
 }
 
 /// The events of the delta that a value spells; none where it spells none.
