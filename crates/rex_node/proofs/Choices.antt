@@ -63,6 +63,12 @@ module _ {K : Type 0} (records : K → List (List ℕ)) (gives : K → List ℕ 
   pub chosen_stuck : Appends records faults gives x y before mid (record_bytes (kept.Known i v)) On → (z : NodeValue K) → z.keeper ≡ y.keeper → z.base ≡ y.base → IsStuck records gives faults service past chooses x z before
   chosen_stuck h z keeper based = recorded_stuck records gives faults service past x y before mid node up (kept.Known i v) spelled due refl refl chooses (λ e. follow x.id (effect.Known x.id i ∷ []) e) chosen_is h (λ d. refl) z keeper based
 
+  -- the value fits behind those that are known
+  pub chosen_fits : RunsOn service (on_chosen x.id i v) (so_far records service past x before) → values_fit service (x.known ++ v ∷ []) ≡ true
+  chosen_fits runs =
+      ap (λ (vs : List Value). values_fit service (vs ++ v ∷ [])) u.known
+      ∙ subst (λ (d : CallHere). values_fit service (known d.node.log) ≡ true) (chosen_is None) runs
+
   pub chosen_on : RunsOn service (on_chosen x.id i v) (so_far records service past x before) → Appends records faults gives x y before mid (record_bytes (kept.Known i v)) On → (z : NodeValue K) (after : Draft) → z ≡ record (leaving y) { known = y.known ++ v ∷ [] }
       → Tells mid after (effect.Known y.id i ∷ followed y.id (role_of y.acceptor y.proposer (is_some y.acting))) → EndsWell records gives faults service past x z before after chooses
   chosen_on runs h z after z_is t =
@@ -83,14 +89,9 @@ module _ {K : Type 0} (records : K → List (List ℕ)) (gives : K → List ℕ 
       z_here : z ≡ record (leaving x) { keeper = y.keeper; acceptor = x.acceptor; known = x.known ++ v ∷ [] }
       z_here = z_is ∙ ap (λ (n : NodeValue K). record (leaving n) { known = n.known ++ v ∷ [] }) h.0.parts
 
-      fits : values_fit service (x.known ++ v ∷ []) ≡ true
-      fits =
-          ap (λ (vs : List Value). values_fit service (vs ++ v ∷ [])) u.known
-          ∙ subst (λ (d : CallHere). values_fit service (known d.node.log) ≡ true) (chosen_is None) runs
-
       logged_here : IsLogged service (record x { keeper = y.keeper; acceptor = x.acceptor; known = x.known ++ v ∷ [] }) (Known i v ∷ log_of service past (records x.keeper))
       logged_here =
-          let l : IsLogged service (record x { known = x.known ++ v ∷ [] }) (Known i v ∷ log_of service past (records x.keeper)) = logged_known service x (log_of service past (records x.keeper)) (logged_of records service past x u) i v next (instance_fits i there) fits in
+          let l : IsLogged service (record x { known = x.known ++ v ∷ [] }) (Known i v ∷ log_of service past (records x.keeper)) = logged_known service x (log_of service past (records x.keeper)) (logged_of records service past x u) i v next (instance_fits i there) (chosen_fits runs) in
           record { promised = l.promised; accepted = l.accepted; offset_is = l.offset_is; low = l.low; known = l.known; base = l.base; old_base = l.old_base; few = l.few; start = l.start; short = l.short; fits = l.fits; numbers = l.numbers }
 
 -- ---- what a node is asked for

@@ -1,7 +1,10 @@
 -- Known values that spell deltas, and a last state that is spelled: then nothing that records hold is bad.
-use Rattle.std.proofs.Common.{◌≡◌, ◌+◌, ◌<◌, ℕ, suc, Bool, true, false, List, [], ◌∷◌, length, take, get_or, Result, Ok, Err, Option, Some, None, refl, sym, ap, subst, ◌∙◌}
+use Rattle.std.proofs.Common.{◌≡◌, ◌+◌, ◌<◌, ℕ, suc, Bool, true, false, List, [], ◌∷◌, ◌++◌, length, take, get_or, Result, Ok, Err, Option, Some, None, refl, sym, ap, subst, ◌∙◌}
 use Rattle.std.specs.Prelude.{if◌then◌else◌, fold, is_some, nat_lt, IsOk}
-use Rattle.std.specs.List.{All, filter_map, cons_option}
+use Rattle.std.specs.List.{All, list_all, filter_map, cons_option}
+use Rattle.std.proofs.lemmas.Bool.{and_parts}
+use Rattle.std.proofs.lemmas.List.Folds.{list_all-append}
+use Rattle.rex_cluster.specs.Values.{is_piece, spells, values_fit}
 use Rattle.std.proofs.lemmas.List.Elements.{All-append, All-nil, All-cons, All-head, All-tail}
 use Rattle.std.proofs.lemmas.List.{take_more}
 use Rattle.rex_syntax.specs.declared.service.Declarations.{Declarations}
@@ -12,7 +15,7 @@ use Rattle.rex_transfer.specs.Window.{SpellsDelta}
 use Rattle.rex_durable.specs.declared.records.Rec.{Rec}
 use Rattle.rex_durable.specs.declared.records.Rec.TheVariants.{Promised, Accepted, Known, Checkpoint, Dropped, Transferred}
 use Rattle.rex_durable.specs.declared.recovery.Recovered.{Recovered}
-use Rattle.rex_durable.specs.Recovery.{Saved, checkpoint, checkpoint_in, known, known_above, offset, recovered, snapshot_of, value_above}
+use Rattle.rex_durable.specs.Recovery.{Saved, checkpoint_in, known, known_above, offset, recovered, snapshot_of}
 use Rattle.rex_node.specs.declared.contents.Place.{Place}
 use Rattle.rex_node.specs.Restarting.{IsFound, bad_at, bad_in, first_bad, has_state, place_or, state_at}
 
@@ -25,6 +28,17 @@ good_delta (Err at) h = absurd (cc)
 delta_good : (q : Result Delta ℕ) → bad_at q ≡ None → IsOk q
 delta_good (Ok d) e = refl
 delta_good (Err at) e = absurd (cc)
+
+-- a value that fits behind others spells one
+pub last_spelled : (service : Declarations) (values : List (List ℕ)) (v : List ℕ) → values_fit service (values ++ v ∷ []) ≡ true → SpellsDelta v
+last_spelled service values v fits =
+    let all : list_all (spells service) (values ++ v ∷ []) ≡ true = (and_parts _ _ fits).0 in
+    let last : list_all (spells service) (v ∷ []) ≡ true = (and_parts _ _ (sym (list_all-append (spells service) values (v ∷ [])) ∙ all)).1 in
+    piece_is (delta_in v) (and_parts _ _ (and_parts _ _ last).0).1
+  where
+    piece_is : (q : Result Delta ℕ) → is_piece service q ≡ true → IsOk q
+    piece_is (Ok d) h = refl
+    piece_is (Err at) h = absurd cc
 
 -- with one value more
 pub one_more : (values : List (List ℕ)) (index : ℕ) (value : List ℕ) → index < length values → value ≡ get_or values index value → All SpellsDelta (take index values) → SpellsDelta value → All SpellsDelta (take (index + 1) values)

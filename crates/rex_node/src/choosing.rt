@@ -10,6 +10,7 @@ ghost use Rattle.rex_log.specs.Messages.{message_in};
 ghost use Rattle.rex_report.specs.declared.effect.Effect.TheVariants as effect;
 ghost use Rattle.rex_cluster.specs.Calls as calls;
 ghost use Rattle.rex_cluster.specs.Calls.{followed};
+ghost use Rattle.rex_transfer.specs.Window.{SpellsDelta};
 ghost use Rattle.rex_node.specs.Parts.{IsNode, IsSame, here_of, knows, leaving, role_of, whole};
 ghost use Rattle.rex_node.specs.Telling.{AreTold};
 ghost use Rattle.rex_cluster.specs.Invariant.{Begins};
@@ -106,6 +107,7 @@ impl<K: Keeper> Node<K> {
         value: &[u8],
     ) -> Result<(), AllocError>
         requires room { length (knows P.past self.old) < INSTANCES }
+        requires delta { SpellsDelta value.now }
         ensures chosen { OnOk result (whole P.past self.new
             ≡ record (leaving (whole P.past self.old)) { known = knows P.past self.old ++ value.now ∷ [] }) }
         ensures told { OnOk result (Tells draft.old draft.new (effect.Known self.old.id instance ∷ followed self.old.id
@@ -115,7 +117,7 @@ impl<K: Keeper> Node<K> {
         ensures same { IsSame (whole P.past self.old) (whole P.past self.new) }
     {
         let node = self.id;
-        self.known.push(value)?;
+        self.known.push(value, true)?;
         draft.tell(Effect::Known { node, instance })?;
         self.leave::<P>(draft)
     }

@@ -10,6 +10,7 @@ ghost use Rattle.rex_paxos.specs.Proposer.{ProposerValue, closed};
 ghost use Rattle.rex_paxos.specs.Reports.{best_for};
 ghost use Rattle.rex_cluster.specs.Calls as calls;
 ghost use Rattle.rex_cluster.specs.Values.{events_of, release_effect, replies_of, service_of, values_fit};
+ghost use Rattle.rex_transfer.specs.Window.{SpellsDelta};
 ghost use Rattle.rex_node.specs.Parts.{IsKept, IsSame, knows, whole};
 ghost use Rattle.rex_log.specs.Messages.{content_in, message_in};
 ghost use Rattle.rex_node.specs.Going.{Ends, IsStuck, RunsOn, so_far, MayGoOn};
@@ -195,6 +196,7 @@ impl<K: Keeper> Node<K> {
     ) -> Result<(), AllocError>
         requires recorder { IfSome self.old.acting (CanSettle svc.now) }
         requires room { length (knows P.past self.old) < INSTANCES }
+        requires delta { SpellsDelta value.now }
         ensures knows { OnOk result (whole P.past self.new ≡ knowing svc.now (whole P.past self.old) instance value.now) }
         ensures effects { OnOk result (draft.new.effects.items
             ≡ draft.old.effects.items ++ effect.Known self.old.id instance ∷ releases_in self.old.acting) }
@@ -205,7 +207,7 @@ impl<K: Keeper> Node<K> {
         ensures same { IsSame (whole P.past self.old) (whole P.past self.new) }
     {
         let node = self.id;
-        self.known.push(value)?;
+        self.known.push(value, true)?;
         draft.tell(Effect::Known { node, instance })?;
         self.settle::<P>(svc, draft, instance)?;
         self.close::<P>();

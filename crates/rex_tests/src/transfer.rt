@@ -18,7 +18,7 @@ fn look(window: &Window, instance: u32) -> (&'static str, u32) {
 
 fn push(rt: &impl Abort, window: &mut Window, byte: u8) -> Result<(), Fail> {
     assert!(rt; window.known() < 65535);
-    window.push(&[byte])?;
+    window.push(&[byte], false)?;
     Ok(())
 }
 

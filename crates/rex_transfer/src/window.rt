@@ -1,6 +1,6 @@
 //! Windows.
 
-ghost use Rattle.std.specs.Prelude.{◌≡◌, ◌<◌, ◌≤◌, ◌+◌, ◌-◌, ◌∷◌, [], true, drop, length, OnOk, OnErr};
+ghost use Rattle.std.specs.Prelude.{◌≡◌, ◌<◌, ◌≤◌, ◌+◌, ◌-◌, ◌^◌, ◌∷◌, [], true, drop, length, OnOk, OnErr};
 ghost use Rattle.std.specs.List.{All};
 ghost use Rattle.rex_transfer.specs.Window as spec;
 ghost use Rattle.rex_transfer.specs.Window.{Looks, SpellsDelta, known_of};
@@ -101,14 +101,18 @@ impl Window {
         &self.values[gone..]
     }
 
-    /// Takes the value of the next instance. Where memory is short nothing changes.
-    pub fn push(&mut self, value: &[u8]) -> Result<(), AllocError>
-        requires { known_of self.old < INSTANCES }
+    /// Takes the value of the next instance, of which the caller may know that it spells a delta. Where memory is short nothing
+    /// changes.
+    pub fn push(&mut self, value: &[u8], is_delta: bool) -> Result<(), AllocError>
+        requires room { known_of self.old < INSTANCES }
+        requires delta { is_delta ≡ true → SpellsDelta value.now }
         ensures ok { OnOk result (self.new ≡ spec.pushed self.old value.now) }
         ensures err { OnErr result (self.new ≡ self.old) }
     {
-        let value = List::from_vec(value.to_vec(*self.values.allocator())?);
+        let held = self.values.len();
+        let value = List::from_vec(Vec::from_slice(*self.values.allocator(), value)?);
         self.values.push(value)?;
+        self.checked = checked_with(self.checked, held, is_delta);
         Ok(())
     }
 
@@ -164,5 +168,17 @@ impl Window {
         self.values.clear();
         self.checked = 0;
         self.offset = instance;
+    }
+}
+
+// How many of the values are known to spell deltas once one more is held beside so many.
+fn checked_with(checked: usize, held: usize, is_delta: bool) -> usize
+    requires { held < 2 ^ 64 - 1 }
+    ensures { result ≡ spec.checked_with checked held is_delta }
+{
+    if is_delta && checked == held {
+        held + 1
+    } else {
+        checked
     }
 }

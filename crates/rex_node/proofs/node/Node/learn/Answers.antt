@@ -1,5 +1,6 @@
 use Rattle.std.proofs.Common.{length, ap, arith}
 use Rattle.rex_node.specs.Parts.{NodeValue}
+use Rattle.rex_node.proofs.Deltas.{last_spelled}
 use Rattle.rex_node.proofs.Written.{on_err}
 use Rattle.rex_node.proofs.Knowing.{learn_settles, learn_parts, learn_down, learn_on, learn_stuck}
 use Rattle.rex_node.proofs.node.Node.learn.Goals as goal
@@ -15,6 +16,7 @@ know-requires g c = record {
       let parts = learn_parts g.K.Keeper.records g.K.Keeper.append_gives g.K.Keeper.faults c.args.svc.now g.P.Past.past c.declarations-service.ensures.sound (whole g.P.Past.past c.args.self.now) c.requires.kept c.requires.up c.requires.leads c.args.instance c.args.value.now c.requires.next c.requires.there c.requires.value c.requires.fits c.requires.cut
       c.in_ok-copied.field-0 c.in_ok-copied.ensures (whole g.P.Past.past c.append.new.self) c.args.draft.now c.append.new.draft c.in_ok-append.field-0 c.in_ok-append.ensures.appends c.in-On.is in
       omega (arith, ap (λ (x : NodeValue _). length x.known) parts, c.requires.next, c.requires.there.last);
+  delta = last_spelled c.args.svc.now (whole g.P.Past.past c.args.self.now).known c.args.value.now c.requires.fits;
 }
 
 pub returns-in-Down-clause-learns : goal.returns-in-Down-clause-learns

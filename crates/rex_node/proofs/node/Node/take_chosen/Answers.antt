@@ -1,7 +1,8 @@
 use Rattle.std.proofs.Common.{ap}
 use Rattle.rex_durable.specs.declared.records.Rec.TheVariants as kept
 use Rattle.rex_node.proofs.Promises.{appends_at, on_err_anyway}
-use Rattle.rex_node.proofs.Choices.{chosen_down, chosen_stuck, chosen_on}
+use Rattle.rex_node.proofs.Choices.{chosen_down, chosen_fits, chosen_stuck, chosen_on}
+use Rattle.rex_node.proofs.Deltas.{last_spelled}
 use Rattle.rex_node.proofs.node.Node.take_chosen.Goals as goal
 use Rattle.rex_node.specs.Parts.{whole}
 
@@ -22,3 +23,8 @@ returns-clause-ends g c =
     chosen_on g.K.Keeper.records g.K.Keeper.append_gives g.K.Keeper.faults c.args.svc.now g.P.Past.past (whole g.P.Past.past c.args.self.now) c.requires.node c.requires.up c.args.draft.now c.args.instance c.args.value.now c.requires.instance c.requires.next c.requires.value (whole g.P.Past.past c.append.new.self) c.append.new.draft c.requires.runs
     (appends_at g.K.Keeper.records g.K.Keeper.append_gives g.K.Keeper.faults (whole g.P.Past.past c.args.self.now) (whole g.P.Past.past c.append.new.self) c.args.draft.now c.append.new.draft (kept.Known c.args.instance c.in_ok-copied.field-0) _ c.in_ok-append.field-0 _ (ap (kept.Known c.args.instance) c.in_ok-copied.ensures) c.in-On.is c.in_ok-append.ensures.appends)
     (whole g.P.Past.past c.chosen.new.self) c.chosen.new.draft c.in_ok-chosen-in-On.ensures.chosen c.in_ok-chosen-in-On.ensures.told
+
+pub chosen-requires-clause-delta : goal.chosen-requires-clause-delta
+chosen-requires-clause-delta g c =
+    last_spelled c.args.svc.now (whole g.P.Past.past c.args.self.now).known c.args.value.now
+    (chosen_fits g.K.Keeper.records g.K.Keeper.append_gives g.K.Keeper.faults c.args.svc.now g.P.Past.past (whole g.P.Past.past c.args.self.now) c.requires.node c.requires.up c.args.draft.now c.args.instance c.args.value.now c.requires.instance c.requires.next c.requires.value (whole g.P.Past.past c.append.new.self) c.append.new.draft c.requires.runs)
