@@ -1,14 +1,13 @@
 -- The values of a window that spell deltas, as it changes.
-use Rattle.std.proofs.Common.{◌≡◌, ℕ, ◌+◌, ◌<◌, ◌≤◌, Bool, true, false, List, [], ◌∷◌, ◌++◌, length, get_or, refl, sym, ap, subst, ◌∙◌, arith, length-take-le}
-use Rattle.std.specs.Prelude.{◌==◌, ◌&&◌, if◌then◌else◌, ◌-◌, take, drop, slice_get, Some, unwrap_or}
+use Rattle.std.proofs.Common.{◌≡◌, ℕ, ◌+◌, ◌<◌, ◌≤◌, List, [], ◌∷◌, ◌++◌, length, get_or, sym, ap, subst, ◌∙◌, arith, length-take-le}
+use Rattle.std.specs.Prelude.{◌-◌, take, drop, slice_get, Some, unwrap_or}
 use Rattle.std.specs.List.{All}
-use Rattle.std.proofs.lemmas.Bool.{eqb-true}
 use Rattle.std.proofs.lemmas.List.{get_or-drop, get_or-take, length-drop, length-take, length_push, take-append-le, take_all}
 use Rattle.std.proofs.lemmas.List.Elements.{All-push}
 use Rattle.std.proofs.Math.Seq.{take-append_seam}
 use Rattle.std.proofs.lemmas.Option.{unwrap_or-slice_get}
 use Rattle.rex_ballot.specs.declared.ballots.TheConstants.{INSTANCES}
-use Rattle.rex_transfer.specs.Window.{IsWindow, SpellsDelta, WindowValue, checked_with, known_of, pushed}
+use Rattle.rex_transfer.specs.Window.{IsWindow, SpellsDelta, WindowValue, known_of, pushed}
 
 -- each of them
 each_delta : (values : List (List ℕ)) (checked place : ℕ) (d : List ℕ) → checked ≤ length values → All SpellsDelta (take checked values) → place < checked → SpellsDelta (get_or values place d)
@@ -60,7 +59,7 @@ module _ (w : WindowValue) (checked : ℕ) (v : List ℕ) (room : known_of w < I
     deltas = subst (λ vs. All SpellsDelta vs) (sym (take-append-le checked w.values (v ∷ []) h.there)) h.deltas;
   }
 
-  checked_too : checked ≡ length w.values → SpellsDelta v → IsWindow (pushed w v) (length w.values + 1)
+  pub checked_too : checked ≡ length w.values → SpellsDelta v → IsWindow (pushed w v) (length w.values + 1)
   checked_too all delta = record {
     few = unchecked.few;
     there = let long = length_push w.values v in omega (arith, long);
@@ -68,11 +67,3 @@ module _ (w : WindowValue) (checked : ℕ) (v : List ℕ) (room : known_of w < I
         let before : All SpellsDelta w.values = subst (λ vs. All SpellsDelta vs) (ap (λ n. take n w.values) all ∙ take_all (length w.values) w.values (omega arith)) h.deltas in
         subst (λ vs. All SpellsDelta vs) (sym (ap (λ n. take n (w.values ++ v ∷ [])) (sym (length_push w.values v)) ∙ take_all (length (w.values ++ v ∷ [])) (w.values ++ v ∷ []) (omega arith))) (All-push SpellsDelta w.values v before delta);
   }
-
-  pub pushes : (is_delta : Bool) → (is_delta ≡ true → SpellsDelta v) → IsWindow (pushed w v) (checked_with checked (length w.values) is_delta)
-  pushes is_delta delta = by is_delta (checked == length w.values) refl delta
-    where
-      by : (is_delta same : Bool) → (checked == length w.values) ≡ same → (is_delta ≡ true → SpellsDelta v) → IsWindow (pushed w v) (if is_delta && same then length w.values + 1 else checked)
-      by true true same delta = checked_too (eqb-true checked (length w.values) same) (delta refl)
-      by true false same delta = unchecked
-      by false same e delta = unchecked

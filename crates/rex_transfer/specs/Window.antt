@@ -1,5 +1,5 @@
 -- Windows of a list of values, one for each instance from 1 on.
-use Rattle.std.specs.Prelude.{◌≡◌, ◌==◌, ◌&&◌, Bool, if◌then◌else◌, ℕ, ◌+◌, ◌-◌, ◌<◌, ◌≤◌, List, [], ◌∷◌, ◌++◌, length, take, drop, Some, slice_get, IsOk}
+use Rattle.std.specs.Prelude.{◌≡◌, ℕ, ◌+◌, ◌-◌, ◌<◌, ◌≤◌, List, [], ◌∷◌, ◌++◌, length, take, drop, Some, slice_get, IsOk}
 use Rattle.std.specs.List.{All}
 use Rattle.rex_delta.specs.Reading.{delta_in}
 use Rattle.rex_transfer.specs.declared.window.Look.{Look}
@@ -28,10 +28,6 @@ pub record IsWindow (w : WindowValue) (checked : ℕ) : Type 0 where
 -- the value of the next instance is there
 abbrev pub pushed : WindowValue → List ℕ → WindowValue
 pushed w value = record w { values = w.values ++ value ∷ [] }
-
--- of how many it is known that they spell deltas, once one more is held beside so many
-abbrev pub checked_with : ℕ → ℕ → Bool → ℕ
-checked_with checked held is_delta = if is_delta && checked == held then held + 1 else checked
 
 -- the values up to an instance are forgotten
 abbrev pub dropped_to : WindowValue → ℕ → WindowValue

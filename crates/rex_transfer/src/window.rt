@@ -112,7 +112,9 @@ impl Window {
         let held = self.values.len();
         let value = List::from_vec(Vec::from_slice(*self.values.allocator(), value)?);
         self.values.push(value)?;
-        self.checked = checked_with(self.checked, held, is_delta);
+        if is_delta && self.checked == held {
+            self.checked = held + 1;
+        }
         Ok(())
     }
 
@@ -168,17 +170,5 @@ impl Window {
         self.values.clear();
         self.checked = 0;
         self.offset = instance;
-    }
-}
-
-// How many of the values are known to spell deltas once one more is held beside so many.
-fn checked_with(checked: usize, held: usize, is_delta: bool) -> usize
-    requires { held < 2 ^ 64 - 1 }
-    ensures { result ≡ spec.checked_with checked held is_delta }
-{
-    if is_delta && checked == held {
-        held + 1
-    } else {
-        checked
     }
 }
