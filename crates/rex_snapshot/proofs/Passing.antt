@@ -6,7 +6,6 @@ use Rattle.std.proofs.lemmas.Bool.{ltb-false, ltb-true, le-leb, le-ltb, lt-ltb, 
 use Rattle.std.proofs.Math.Bool.{and-true}
 use Rattle.rex_frame.specs.declared.frame.Frame.{Frame}
 use Rattle.rex_event.specs.declared.event.TheConstants.{CLIENTS, SEQUENCES}
-use Rattle.rex_wire.specs.Ranges.{is_between}
 use Rattle.rex_snapshot.specs.declared.ahead.Ahead.{Ahead}
 use Rattle.rex_snapshot.specs.declared.parts.Seat.{Seat}
 use Rattle.rex_snapshot.specs.Allowed.{IsAhead, is_unserved, may_be_client, may_be_replied, may_be_sequence, has_sequence, is_beyond, is_served, is_skipped, serves}

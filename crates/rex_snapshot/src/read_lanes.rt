@@ -1,6 +1,6 @@
 //! Reading lanes and their frames.
 
-ghost use Rattle.std.specs.Prelude.{◌≡◌, ◌<◌, ◌≤◌, length, true, IfOk};
+ghost use Rattle.std.specs.Prelude.{◌≡◌, ◌<◌, ◌≤◌, ◌-◌, length, true, IfOk};
 ghost use Rattle.rex_syntax.specs.Shape.{open_at};
 ghost use Rattle.rex_frame.specs.Handlers.{lines_of, locals_of};
 ghost use Rattle.std.specs.Int.{w16};
@@ -11,7 +11,6 @@ ghost use Rattle.rex_snapshot.specs.Reading.{into_array, values_at, turn_at, tur
 ghost use Rattle.rex_snapshot.specs.Reading.{busy_at, placed_at, seat_at, seats_at};
 
 use crate::allowed::{condition_of, may_be_line, may_be_new_client};
-use crate::locksets::lockset_at;
 use crate::loops::{lines_of, open_loops, turns_of};
 use crate::parts::Seat;
 use arrayvec::ArrayVec;
@@ -50,27 +49,29 @@ fn handler(reader: &mut Reader, svc: &Checked) -> Result<u8, DecodeError>
     Ok(u8_between(reader, 1, handlers)? - 1)
 }
 
-/// The number of a frame's line.
+/// The number of a frame's line, at which the lane holds what is filled in.
 fn line_number(
     reader: &mut Reader,
     svc: &Checked,
     earlier: &[Seat],
     runs: bool,
     handler: u8,
+    held: &mut Lockset,
 ) -> Result<u16, DecodeError>
     requires { handler < length svc.now.handlers }
     ensures read { ReadsOn result reader.new (allowed_at w16 (may_be_line svc.now earlier.now runs handler) reader.old) }
     ensures may { IfOk result (λ n. may_be_line svc.now earlier.now runs handler n ≡ true) }
+    ensures held { IfOk result (λ n. held.new ≡ held_by svc.now runs handler (n - 1)) }
 {
     let at = reader.at();
     let n = reader.u16()?;
-    if !may_be_line(svc, earlier, runs, handler, n) {
+    if !may_be_line(svc, earlier, runs, handler, n, held) {
         return Err(DecodeError::Bad { at });
     }
     Ok(n)
 }
 
-/// A frame's line, from 0.
+/// A frame's line, from 0, at which the lane holds what is filled in.
 #[tactic(auto, unfolding(crate::specs::Reading::line_at))]
 fn line(
     reader: &mut Reader,
@@ -78,12 +79,14 @@ fn line(
     earlier: &[Seat],
     runs: bool,
     handler: u8,
+    held: &mut Lockset,
 ) -> Result<u16, DecodeError>
     requires { handler < length svc.now.handlers }
     ensures read { ReadsOn result reader.new (line_at svc.now earlier.now runs handler reader.old) }
     ensures inside { IfOk result (λ place. place < length (lines_of svc.now handler)) }
+    ensures held { IfOk result (λ place. held.new ≡ held_by svc.now runs handler place) }
 {
-    let n = line_number(reader, svc, earlier, runs, handler)?;
+    let n = line_number(reader, svc, earlier, runs, handler, held)?;
     Ok(n - 1)
 }
 
@@ -124,19 +127,6 @@ fn turns(
         turns.push(turn);
     }
     Ok(turns)
-}
-
-/// What a lane holds at a line.
-fn held_by(svc: &Checked, runs: bool, handler: u8, place: u16) -> Lockset
-    requires handler { handler < length svc.now.handlers }
-    requires place { place < length (lines_of svc.now handler) }
-    ensures { result ≡ held_by svc.now runs handler place }
-{
-    if runs {
-        lockset_at(svc, handler, place)
-    } else {
-        Lockset::new()
-    }
 }
 
 fn phase_of(runs: bool) -> Phase
@@ -189,7 +179,8 @@ fn frame(
     let client = new_client(reader, earlier)?;
     let sequence = u32_between(reader, 1, SEQUENCES)?;
     let handler = handler(reader, svc)?;
-    let place = line(reader, svc, earlier, runs, handler)?;
+    let mut held = Lockset::new();
+    let place = line(reader, svc, earlier, runs, handler, &mut held)?;
     let locals = handler_locals(reader, svc, handler)?;
     let turns = open_turns(reader, svc, handler, place)?;
     Ok(Frame {
@@ -199,7 +190,7 @@ fn frame(
         place,
         locals,
         turns,
-        held: held_by(svc, runs, handler, place),
+        held,
         phase: phase_of(runs),
     })
 }
