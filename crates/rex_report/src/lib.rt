@@ -4,9 +4,9 @@
 mod effect;
 mod ends;
 mod events;
-mod phrases;
 mod pieces;
 mod rows;
+mod texts;
 mod trace;
 mod words;
 
