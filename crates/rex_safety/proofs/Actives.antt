@@ -1,45 +1,44 @@
 -- Each step keeps what active nodes work with.
-use Rattle.std.proofs.Common.{◌≡◌, ℕ, zero, suc, ◌<◌, ◌≤◌, Bool, true, false, List, [], ◌∷◌, length, Option, Some, None, refl, sym, ◌∙◌, ap, subst, arith, le_refl}
-use Rattle.std.specs.Prelude.{map, slice_get, nat_le}
+use Rattle.std.proofs.Common.{◌≡◌, ℕ, zero, suc, ◌<◌, ◌≤◌, Bool, true, List, [], ◌∷◌, length, Option, Some, None, refl, sym, ◌∙◌, ap, subst, le_refl}
+use Rattle.std.specs.Prelude.{map, slice_get}
 use Rattle.rex_ballot.specs.Limits.{most_nodes}
 use Rattle.rex_syntax.specs.declared.request.Request.{Request}
 use Rattle.rex_syntax.specs.declared.service.Declarations.{Declarations}
-use Rattle.rex_event.specs.declared.event.Event.{Event}
-use Rattle.rex_event.specs.Cuts.{below}
 use Rattle.rex_cut.specs.Greatest.{greatest_cut}
 use Rattle.rex_state.specs.Value.{StateValue}
 use Rattle.rex_schedule.specs.declared.scenario.ScheduleLine.{ScheduleLine}
 use Rattle.rex_schedule.specs.declared.scenario.ScheduleLine.TheVariants as line
 use Rattle.rex_cluster.specs.Records.{Proposal, known}
 use Rattle.rex_cluster.specs.Quorum.{IsNode}
-use Rattle.rex_cluster.specs.Node.{Service, Lead, Role, is_active}
-use Rattle.rex_cluster.specs.Node.Role.{Follower, Leads}
+use Rattle.rex_cluster.specs.Node.{Service, Lead, is_active}
+use Rattle.rex_cluster.specs.Node.Role.{Leads}
 use Rattle.rex_cluster.specs.Calls.{enough}
 use Rattle.rex_cluster.specs.Values.{Value, service_of}
-use Rattle.rex_cluster.specs.Lanes.{Here, CallHere, active_only, submit_request, lane_turn, cut_live, cut_lead, cut_role, cut, value_at, no_limits, with_limits}
-use Rattle.rex_cluster.specs.World.{World, node_at, beginning, after, at_node, step, waiting_from, flush_steps, steps_of, steps, row, after_lines}
+use Rattle.rex_cluster.specs.Lanes.{Here, CallHere, active_only, submit_request, lane_turn, cut, value_at, no_limits, with_limits}
+use Rattle.rex_cluster.specs.World.{World, node_at, beginning, after, step, waiting_from, flush_steps, steps_of, steps, row, after_lines}
 use Rattle.std.specs.Prelude.{is_some}
 use Rattle.std.specs.List.{All}
 use Rattle.std.proofs.lemmas.List.Elements.{All-head, All-tail}
 use Rattle.std.proofs.lemmas.Option.{same_Some}
 use Rattle.rex_syntax.specs.Service.{IsService}
 use Rattle.rex_syntax.specs.Check.{IsChecked}
-use Rattle.rex_event.specs.Cuts.{count_at}
 use Rattle.rex_cut.specs.Greatest.{IsCutOf}
 use Rattle.rex_state.specs.Counts.{counts_of}
 use Rattle.rex_schedule.specs.Fits.{RequestFits}
 use Rattle.rex_cluster.specs.Records.{proposal_of}
-use Rattle.rex_cluster.specs.Lanes.{is_faithful, known_state, limits_between, turn_in}
+use Rattle.rex_cluster.specs.Lanes.{known_state, limits_between, turn_in}
 use Rattle.rex_cluster.specs.Acting.{IsActing, HasLane}
 use Rattle.rex_cluster.specs.Agreed.{world_after}
 use Rattle.rex_safety.specs.Laws.{ActsRightly}
+use Rattle.rex_safety.proofs.Lanes.{cut_keeps}
+use Rattle.rex_safety.proofs.Lawful.{LanesKeep}
 use Rattle.rex_safety.proofs.Nodes.{fresh_at}
 use Rattle.rex_safety.proofs.Worlds.{IsWorld, node_of_lead}
 use Rattle.rex_safety.proofs.Moments.{known_run}
 use Rattle.rex_safety.proofs.Steps.{step_ok, row_ok, beginning_ok, reached_ok}
 use Rattle.rex_cluster.proofs.Acting.{acting_new, acting_known, acting_answered, acting_turned, acting_proposed, IsLiveCut, live_cut, firsts_long, rises, known_is, live_is, live_runs}
-use Rattle.rex_safety.proofs.WorkingWorlds.{AllWorks, only_works, after_works, at_works, LanesWork, step_works, fresh_works}
-use Rattle.rex_cluster.proofs.Working.{Works, if_works, propose_works, settle_works}
+use Rattle.rex_safety.proofs.WorkingWorlds.{AllWorks, only_works, after_works, step_works, fresh_works}
+use Rattle.rex_cluster.proofs.Working.{Works, propose_works, settle_works}
 use Rattle.rex_cluster.proofs.Between.{between_long, between_from, between_to}
 
 -- ---- calls
@@ -69,31 +68,12 @@ module _ (service : Declarations) (good : IsService service) (checked : IsChecke
       (record { each = λ l e a g. acting_turned service good checked (known d.node.log) l.proposal d.node.work (w.each l e a g) lane _ _ _ (turn_in service d.node done lane) there refl })
 
   pub cut_works : (counts : List ℕ) (d : CallHere) → ((o : Option (Proposal Value)) → IsActing service (known d.node.log) o d.node.work → IsCutOf d.node.work.live counts) → WorksHere d → WorksHere (cut service seed n me counts d)
-  cut_works counts d is w = by d.node.role refl
-    where
-      live : (l : Lead Value) → d.node.role ≡ Leads l → l.proposal ≡ None → (es : List Event) → WorksHere (cut_live service seed n me (greatest_cut counts d.node.work.live) l es d)
-      live l e p [] = record { each = w.each }
-      live l e p (y ∷ ys) =
-          if_works n (service_of service seed) me (IsActing service) (acting_new service good checked) (acting_known service good checked seed) (is_faithful service seed (known d.node.log) (greatest_cut counts d.node.work.live) d.node.work.live)
-          (λ f. propose_works n (service_of service seed) me (IsActing service) (acting_new service good checked) (acting_known service good checked seed) _ d l (suc (length (known d.node.log))) (value_at (greatest_cut counts d.node.work.live) d.node.work.live) _
-          (λ a g. let h = subst (λ (o : Option (Proposal Value)). IsActing service (known d.node.log) o d.node.work) p (w.each l e a g) in
-          acting_proposed service good checked (known d.node.log) None d.node.work h seed counts (proposal_of l.ballot (suc (length (known d.node.log))) (value_at (greatest_cut counts d.node.work.live) d.node.work.live)) (is None h) refl f)
-          (settle_works n (service_of service seed) me (IsActing service) (acting_new service good checked) (acting_known service good checked seed) (enough l.reported)))
-          (λ _. record { each = w.each })
-
-      led : (l : Lead Value) → d.node.role ≡ Leads l → (o : Option (Proposal Value)) → l.proposal ≡ o → WorksHere (cut_lead service seed n me counts l o d)
-      led l e (Some p) q = record { each = w.each }
-      led l e None q =
-          if_works n (service_of service seed) me (IsActing service) (acting_new service good checked) (acting_known service good checked seed) (nat_le 65535 (length (known d.node.log))) (λ _. record { each = w.each })
-          (λ _. live l e q (below (greatest_cut counts d.node.work.live) d.node.work.live))
-
-      active : (l : Lead Value) → d.node.role ≡ Leads l → (t : Bool) → WorksHere (active_only t d (cut_lead service seed n me counts l l.proposal d))
-      active l e true = led l e l.proposal refl
-      active l e false = record { each = w.each }
-
-      by : (r : Role Value) → d.node.role ≡ r → WorksHere (cut_role service seed n me counts r d)
-      by Follower e = record { each = w.each }
-      by (Leads l) e = active l e l.active
+  cut_works counts d is w =
+      cut_keeps WorksHere service seed n me counts d (record { each = w.each }) (λ i. record { each = w.each }) (record { each = w.each }) (record { each = w.each })
+      (λ l e t p i f. propose_works n (service_of service seed) me (IsActing service) (acting_new service good checked) (acting_known service good checked seed) _ d l (suc (length (known d.node.log))) (value_at (greatest_cut counts d.node.work.live) d.node.work.live) _
+      (λ a g. let h = subst (λ (o : Option (Proposal Value)). IsActing service (known d.node.log) o d.node.work) p (w.each l e a g) in
+      acting_proposed service good checked (known d.node.log) None d.node.work h seed counts (proposal_of l.ballot (suc (length (known d.node.log))) (value_at (greatest_cut counts d.node.work.live) d.node.work.live)) (is None h) refl f)
+      (settle_works n (service_of service seed) me (IsActing service) (acting_new service good checked) (acting_known service good checked seed) (enough l.reported)))
 
 -- ---- a cut's counts
 
@@ -134,18 +114,15 @@ module _ (service : Declarations) (good : IsService service) (checked : IsChecke
   pub after_work : (w : World) → length w.nodes ≡ n → AllWork w → (m : ℕ) (d : CallHere) → WorksHere service good checked seed n m d → AllWork (after w m d).world
   after_work = after_works service seed n (IsActing service) (acting_new service good checked) (acting_known service good checked seed)
 
-  at_node_work : (w : World) → length w.nodes ≡ n → AllWork w → (m : ℕ) (call : CallHere → CallHere) → ((d : CallHere) → WorksHere service good checked seed n m d → WorksHere service good checked seed n m (call d)) → AllWork (at_node w m call).world
-  at_node_work = at_works service seed n (IsActing service) (acting_new service good checked) (acting_known service good checked seed)
-
-  lanes_work : (w : World) → length w.nodes ≡ n → AllWork w → (x : ScheduleLine) → HasLane service x → LanesWork service seed n (IsActing service) (acting_new service good checked) (acting_known service good checked seed) requests w x
-  lanes_work w many h (line.Submit m r) l = at_node_work w many h m _ (λ d k. submit_works service good checked seed n m requests fit r d k)
-  lanes_work w many h (line.Lane m lane) l = at_node_work w many h m _ (λ d k. turn_works service good checked seed n m w.done lane l d k)
-  lanes_work w many h (line.Cut m) l = at_node_work w many h m _ (λ d k. cut_works service good checked seed n m (no_limits service d.node) d (λ o a. no_limits_cut service good checked d.node o a) k)
-  lanes_work w many h (line.CutBelow m limits) l = at_node_work w many h m _ (λ d k. cut_works service good checked seed n m (with_limits service d.node limits) d (λ o a. with_limits_cut service good checked d.node o a limits l) k)
-  lanes_work w many h _ l = tt
+  lanes_work : (w : World) (x : ScheduleLine) → HasLane service x → LanesKeep service requests seed n w (WorksHere service good checked seed n) x
+  lanes_work w (line.Submit m r) l = submit_works service good checked seed n m requests fit r
+  lanes_work w (line.Lane m lane) l = turn_works service good checked seed n m w.done lane l
+  lanes_work w (line.Cut m) l = λ d. cut_works service good checked seed n m (no_limits service d.node) d (no_limits_cut service good checked d.node)
+  lanes_work w (line.CutBelow m limits) l = λ d. cut_works service good checked seed n m (with_limits service d.node limits) d (λ o a. with_limits_cut service good checked d.node o a limits l)
+  lanes_work w _ l = tt
 
   pub step_work : (w : World) → length w.nodes ≡ n → AllWork w → (x : ScheduleLine) → HasLane service x → AllWork (step service requests seed n w x).world
-  step_work w many h x l = step_works service seed n (IsActing service) (acting_new service good checked) (acting_known service good checked seed) requests w many h x (lanes_work w many h x l)
+  step_work w many h x l = step_works service seed n (IsActing service) (acting_new service good checked) (acting_known service good checked seed) requests w many h x (lanes_work w x l)
 
   -- the steps of a line name lanes that are there
   abbrev HaveLanes : List ScheduleLine → Type 0
@@ -162,20 +139,7 @@ module _ (service : Declarations) (good : IsService service) (checked : IsChecke
 
   steps_lanes : (w : World) (x : ScheduleLine) → HasLane service x → HaveLanes (steps_of w x)
   steps_lanes w line.Flush l = flush_lanes (waiting_from 1 w.handed)
-  steps_lanes w (line.Elect m) l = (l, tt)
-  steps_lanes w (line.Submit m r) l = (l, tt)
-  steps_lanes w (line.Lane m lane) l = (l, tt)
-  steps_lanes w (line.Cut m) l = (l, tt)
-  steps_lanes w (line.CutBelow m limits) l = (l, tt)
-  steps_lanes w (line.Deliver number) l = (l, tt)
-  steps_lanes w (line.Replay m) l = (l, tt)
-  steps_lanes w (line.Ask m other) l = (l, tt)
-  steps_lanes w (line.Stop m) l = (l, tt)
-  steps_lanes w (line.Start m) l = (l, tt)
-  steps_lanes w (line.Checkpoint m version) l = (l, tt)
-  steps_lanes w (line.DropKnown m) l = (l, tt)
-  steps_lanes w (line.KeepFail m kept) l = (l, tt)
-  steps_lanes w (line.ReadVariable m client variable) l = (l, tt)
+  steps_lanes w x l = (l, tt)
 
   steps_work : (w : World) (xs : List ScheduleLine) → IsWorld n sv w → AllWork w → HaveLanes xs → AllWork (steps service requests seed n w xs).world
   steps_work w [] ok h l = h

@@ -13,7 +13,7 @@ use Rattle.rex_syntax.specs.declared.service.Declarations.{Declarations}
 use Rattle.rex_syntax.specs.Service.{IsService}
 use Rattle.rex_syntax.specs.Check.{IsChecked}
 use Rattle.rex_event.specs.declared.event.Event.{Event}
-use Rattle.rex_event.specs.Cuts.{is_below, below}
+use Rattle.rex_event.specs.Cuts.{is_below}
 use Rattle.rex_cut.specs.Greatest.{greatest_cut}
 use Rattle.rex_delta.specs.Spelling.{HasTypedKind}
 use Rattle.rex_state.specs.Value.{StateValue}
@@ -28,11 +28,10 @@ use Rattle.rex_schedule.specs.Fits.{RequestFits, LineFits}
 use Rattle.rex_schedule.specs.declared.scenario.ScheduleLine.{ScheduleLine}
 use Rattle.rex_schedule.specs.declared.scenario.ScheduleLine.TheVariants as line
 use Rattle.rex_cluster.specs.Records.{Proposal, known}
-use Rattle.rex_cluster.specs.Node.{Service, Lead, Role, Work, is_active}
-use Rattle.rex_cluster.specs.Node.Role.{Follower, Leads}
+use Rattle.rex_cluster.specs.Node.{Service, Work, is_active}
 use Rattle.rex_cluster.specs.Calls.{begin, settle, enough, work_known}
 use Rattle.rex_cluster.specs.Values.{Value, spells, runs, events_of, trace_of, state_after, values_fit, service_of}
-use Rattle.rex_cluster.specs.Lanes.{Here, CallHere, active_only, submit_request, queue_with, lane_turn, turn_in, live_state, is_faithful, cut_live, cut_lead, cut_role, cut, value_at, no_limits, with_limits}
+use Rattle.rex_cluster.specs.Lanes.{Here, CallHere, active_only, submit_request, queue_with, lane_turn, turn_in, live_state, cut, value_at, no_limits, with_limits}
 use Rattle.rex_cluster.specs.World.{World, node_at, beginning, if_up, at_node, message_at, step, waiting_from, flush_steps, steps_of, steps, row, after_lines}
 use Rattle.rex_safety.specs.Kept.{IsWorld, IsKept}
 use Rattle.rex_cluster.specs.Takes.{Doing, DoingFits, taken_in, take_event, take, after_doings}
@@ -46,12 +45,14 @@ use Rattle.rex_cluster.proofs.Acting.{fits_front}
 use Rattle.rex_safety.proofs.Keeps.{beginning_kept}
 use Rattle.rex_safety.proofs.Takes.{doings_kept}
 use Rattle.rex_cluster.proofs.Bytes.{spelled_delta}
+use Rattle.rex_safety.proofs.Lanes.{cut_keeps}
+use Rattle.rex_safety.proofs.Lawful.{LanesKeep}
 use Rattle.rex_safety.proofs.Nodes.{fresh_at}
 use Rattle.rex_safety.proofs.Worlds.{node_of_lead}
 use Rattle.rex_safety.proofs.Moments.{known_run}
 use Rattle.rex_safety.proofs.Steps.{step_ok, beginning_ok}
-use Rattle.rex_cluster.proofs.Working.{fresh_work, Works, if_works, propose_works, settle_works}
-use Rattle.rex_safety.proofs.WorkingWorlds.{AllWorks, only_works, at_works, deliver_works, LanesWork, step_works, fresh_works}
+use Rattle.rex_cluster.proofs.Working.{fresh_work, Works, propose_works, settle_works}
+use Rattle.rex_safety.proofs.WorkingWorlds.{AllWorks, only_works, at_works, deliver_works, step_works, fresh_works}
 use Rattle.rex_safety.proofs.Doings.{does_ok}
 use Rattle.rex_safety.proofs.Spelled.{kept_faithful}
 use Rattle.rex_safety.proofs.Typings.{StateIsTyped, TurnIsTyped, run_typed, start_typed, turn_typed, live_typed, queue_typed, word_fits}
@@ -150,30 +151,11 @@ module _ (service : Declarations) (good : IsService service) (checked : IsChecke
         taken_typed false false = tt
 
     cut_typed : (counts : List ℕ) (d : CallHere) → TypedHere d → TypedHere (cut service seed n me counts d)
-    cut_typed counts d w = by d.node.role refl
-      where
-        live : (c : List ℕ) (l : Lead Value) → d.node.role ≡ Leads l → (es : List Event) → TypedHere (cut_live service seed n me c l es d)
-        live c l e [] = record { each = w.each }
-        live c l e (y ∷ ys) =
-            if_works n sv me WorkIsTyped new_typed more_typed (is_faithful service seed (known d.node.log) c d.node.work.live)
-            (λ f. propose_works n sv me WorkIsTyped new_typed more_typed _ d l (suc (length (known d.node.log))) (value_at c d.node.work.live) (settle (enough l.reported) n sv me)
-            (λ a g. let h = w.each l e a g in record { live = h.live; queue = h.queue })
-            (settle_works n sv me WorkIsTyped new_typed more_typed (enough l.reported)))
-            (λ _. record { each = w.each })
-
-        led : (l : Lead Value) → d.node.role ≡ Leads l → (o : Option (Proposal Value)) → TypedHere (cut_lead service seed n me counts l o d)
-        led l e (Some p) = record { each = w.each }
-        led l e None =
-            if_works n sv me WorkIsTyped new_typed more_typed (nat_le 65535 (length (known d.node.log))) (λ _. record { each = w.each })
-            (λ _. live (greatest_cut counts d.node.work.live) l e (below (greatest_cut counts d.node.work.live) d.node.work.live))
-
-        active : (l : Lead Value) → d.node.role ≡ Leads l → (t : Bool) → TypedHere (active_only t d (cut_lead service seed n me counts l l.proposal d))
-        active l e true = led l e l.proposal
-        active l e false = record { each = w.each }
-
-        by : (r : Role Value) → d.node.role ≡ r → TypedHere (cut_role service seed n me counts r d)
-        by Follower e = record { each = w.each }
-        by (Leads l) e = active l e l.active
+    cut_typed counts d w =
+        cut_keeps TypedHere service seed n me counts d (record { each = w.each }) (λ i. record { each = w.each }) (record { each = w.each }) (record { each = w.each })
+        (λ l e t p i f. propose_works n sv me WorkIsTyped new_typed more_typed _ d l (suc (length (known d.node.log))) (value_at (greatest_cut counts d.node.work.live) d.node.work.live) (settle (enough l.reported) n sv me)
+        (λ a g. let h = w.each l e a g in record { live = h.live; queue = h.queue })
+        (settle_works n sv me WorkIsTyped new_typed more_typed (enough l.reported)))
 
   -- ---- worlds
 
@@ -185,15 +167,15 @@ module _ (service : Declarations) (good : IsService service) (checked : IsChecke
 
   module _ (requests : List Request) (typed : All RequestIsTyped requests) (few : n ≤ most_nodes) where
     -- a step at a moment at which the clock is of 64 bits
-    lanes_typed : (w : World) → length w.nodes ≡ n → w.done < 2 ^ 63 → AllTyped w → (x : ScheduleLine) → LanesWork service seed n WorkIsTyped new_typed more_typed requests w x
-    lanes_typed w many short h (line.Submit m r) = at_typed w many h m _ (λ d k. submit_typed m requests typed r d k)
-    lanes_typed w many short h (line.Lane m lane) = at_typed w many h m _ (λ d k. lane_typed m w.done lane short d k)
-    lanes_typed w many short h (line.Cut m) = at_typed w many h m _ (λ d k. cut_typed m (no_limits service d.node) d k)
-    lanes_typed w many short h (line.CutBelow m limits) = at_typed w many h m _ (λ d k. cut_typed m (with_limits service d.node limits) d k)
-    lanes_typed w many short h _ = tt
+    lanes_typed : (w : World) → w.done < 2 ^ 63 → (x : ScheduleLine) → LanesKeep service requests seed n w TypedHere x
+    lanes_typed w short (line.Submit m r) = submit_typed m requests typed r
+    lanes_typed w short (line.Lane m lane) = lane_typed m w.done lane short
+    lanes_typed w short (line.Cut m) = λ d. cut_typed m (no_limits service d.node) d
+    lanes_typed w short (line.CutBelow m limits) = λ d. cut_typed m (with_limits service d.node limits) d
+    lanes_typed w short _ = tt
 
     step_typed : (w : World) → length w.nodes ≡ n → w.done < 2 ^ 63 → AllTyped w → (x : ScheduleLine) → AllTyped (step service requests seed n w x).world
-    step_typed w many short h x = step_works service seed n WorkIsTyped new_typed more_typed requests w many h x (lanes_typed w many short h x)
+    step_typed w many short h x = step_works service seed n WorkIsTyped new_typed more_typed requests w many h x (lanes_typed w short x)
 
     -- ---- lines
 
@@ -208,20 +190,7 @@ module _ (service : Declarations) (good : IsService service) (checked : IsChecke
 
     steps_typed : (w : World) → IsWorld n sv w → w.done < 2 ^ 63 → AllTyped w → (x : ScheduleLine) → AllTyped (steps service requests seed n w (steps_of w x)).world
     steps_typed w ok short h line.Flush = flushed_typed w ok h (waiting_from 1 w.handed)
-    steps_typed w ok short h (line.Elect m) = step_typed w ok.many short h (line.Elect m)
-    steps_typed w ok short h (line.Submit m r) = step_typed w ok.many short h (line.Submit m r)
-    steps_typed w ok short h (line.Lane m lane) = step_typed w ok.many short h (line.Lane m lane)
-    steps_typed w ok short h (line.Cut m) = step_typed w ok.many short h (line.Cut m)
-    steps_typed w ok short h (line.CutBelow m limits) = step_typed w ok.many short h (line.CutBelow m limits)
-    steps_typed w ok short h (line.Deliver number) = step_typed w ok.many short h (line.Deliver number)
-    steps_typed w ok short h (line.Replay m) = step_typed w ok.many short h (line.Replay m)
-    steps_typed w ok short h (line.Ask m other) = step_typed w ok.many short h (line.Ask m other)
-    steps_typed w ok short h (line.Stop m) = step_typed w ok.many short h (line.Stop m)
-    steps_typed w ok short h (line.Start m) = step_typed w ok.many short h (line.Start m)
-    steps_typed w ok short h (line.Checkpoint m version) = step_typed w ok.many short h (line.Checkpoint m version)
-    steps_typed w ok short h (line.DropKnown m) = step_typed w ok.many short h (line.DropKnown m)
-    steps_typed w ok short h (line.KeepFail m kept) = step_typed w ok.many short h (line.KeepFail m kept)
-    steps_typed w ok short h (line.ReadVariable m client variable) = step_typed w ok.many short h (line.ReadVariable m client variable)
+    steps_typed w ok short h x = step_typed w ok.many short h x
 
     row_typed : (w : World) → IsWorld n sv w → w.done < 2 ^ 63 → AllTyped w → (x : ScheduleLine) → AllTyped (row service requests seed n w x).world
     row_typed w ok short h x = steps_typed w ok short h x

@@ -24,6 +24,7 @@ use Rattle.rex_cluster.specs.Acting.{IsActing, HasLane}
 use Rattle.rex_safety.specs.Kept.{roles, IsWorld, IsKept}
 use Rattle.rex_safety.specs.Keeping.{IsRight}
 use Rattle.rex_cluster.proofs.Acting.{live_runs}
+use Rattle.rex_safety.proofs.Lawful.{of_step}
 use Rattle.rex_safety.proofs.Steps.{step_ok, beginning_ok}
 use Rattle.rex_safety.proofs.Worlds.{node_of_lead}
 use Rattle.rex_safety.proofs.Moments.{known_run}
@@ -33,21 +34,9 @@ use Rattle.rex_safety.proofs.Nexts.{next_fits, values_short, values_bytes}
 
 -- a line that names what is there names a lane that is
 has_lane : (service : Declarations) (nodes requests : ℕ) (x : ScheduleLine) → LineFits nodes requests service.lanes x → HasLane service x
-has_lane service nodes requests (line.Elect m) l = tt
-has_lane service nodes requests (line.Submit m r) l = tt
 has_lane service nodes requests (line.Lane m lane) l = l.1
-has_lane service nodes requests (line.Cut m) l = tt
 has_lane service nodes requests (line.CutBelow m limits) l = l.1
-has_lane service nodes requests (line.Deliver number) l = tt
-has_lane service nodes requests line.Flush l = tt
-has_lane service nodes requests (line.Replay m) l = tt
-has_lane service nodes requests (line.Ask m other) l = tt
-has_lane service nodes requests (line.Stop m) l = tt
-has_lane service nodes requests (line.Start m) l = tt
-has_lane service nodes requests (line.Checkpoint m version) l = tt
-has_lane service nodes requests (line.DropKnown m) l = tt
-has_lane service nodes requests (line.KeepFail m kept) l = tt
-has_lane service nodes requests (line.ReadVariable m client variable) l = tt
+has_lane service nodes requests _ l = tt
 
 -- ---- the messages that were handed over
 
@@ -70,21 +59,16 @@ start_told sv w m true h = h
 start_told sv w m false h = after_told w m (start sv m (begin (node_at w.nodes m))) h
 
 step_told : (service : Declarations) (requests : List Request) (seed n : ℕ) (w : World) (x : ScheduleLine) → AreTold w → AreTold (step service requests seed n w x).world
-step_told service requests seed n w (line.Elect m) h = if_up_told (node_at w.nodes m).up w m _ h
-step_told service requests seed n w (line.Submit m r) h = if_up_told (node_at w.nodes m).up w m _ h
-step_told service requests seed n w (line.Lane m lane) h = if_up_told (node_at w.nodes m).up w m _ h
-step_told service requests seed n w (line.Cut m) h = if_up_told (node_at w.nodes m).up w m _ h
-step_told service requests seed n w (line.CutBelow m limits) h = if_up_told (node_at w.nodes m).up w m _ h
-step_told service requests seed n w (line.Deliver number) h = deliver_told service seed n w number (message_at w.messages number) h
-step_told service requests seed n w line.Flush h = h
-step_told service requests seed n w (line.Replay m) h = if_up_told (node_at w.nodes m).up w m _ h
-step_told service requests seed n w (line.Ask m other) h = if_up_told (node_at w.nodes m).up w m _ h
-step_told service requests seed n w (line.Stop m) h = if_up_told (node_at w.nodes m).up w m _ h
-step_told service requests seed n w (line.Start m) h = start_told (service_of service seed) w m (node_at w.nodes m).up h
-step_told service requests seed n w (line.Checkpoint m version) h = if_up_told (node_at w.nodes m).up w m _ h
-step_told service requests seed n w (line.DropKnown m) h = if_up_told (node_at w.nodes m).up w m _ h
-step_told service requests seed n w (line.KeepFail m kept) h = after_told w m (arm m kept (begin (node_at w.nodes m))) h
-step_told service requests seed n w (line.ReadVariable m client variable) h = h
+step_told service requests seed n w x h =
+    of_step service requests seed n w (λ y r. AreTold r.world)
+    (record {
+      calls = λ y m call k. if_up_told (node_at w.nodes m).up w m _ h;
+      delivers = λ number. deliver_told service seed n w number (message_at w.messages number) h;
+      flush = h;
+      starts = λ m. start_told (service_of service seed) w m (node_at w.nodes m).up h;
+      arms = λ m kept. after_told w m (arm m kept (begin (node_at w.nodes m))) h;
+      reads = λ m client variable. h;
+    }) x
 
 -- ---- steps
 

@@ -1,5 +1,7 @@
 pub mod Nodes
 pub mod Worlds
+pub mod Lanes
+pub mod Lawful
 pub mod Steps
 pub mod Agreeing
 pub mod Leaders

@@ -9,14 +9,13 @@ use Rattle.rex_state.specs.Value.{StateValue}
 use Rattle.rex_report.specs.declared.effect.Effect.{Effect}
 use Rattle.rex_report.specs.declared.effect.Effect.TheVariants as effect
 use Rattle.rex_schedule.specs.declared.scenario.ScheduleLine.{ScheduleLine}
-use Rattle.rex_schedule.specs.declared.scenario.ScheduleLine.TheVariants as line
 use Rattle.rex_cluster.specs.Records.{known}
 use Rattle.rex_cluster.specs.Quorum.{IsNode, Logs}
 use Rattle.rex_cluster.specs.Node.{Service, Message, Lead, Role, is_active, kind_of}
 use Rattle.rex_cluster.specs.Node.Role.{Follower, Leads}
-use Rattle.rex_cluster.specs.Calls.{begin, elect, receive, ask, replay, checkpoint, drop_known, stop}
+use Rattle.rex_cluster.specs.Calls.{begin, receive, arm}
 use Rattle.rex_cluster.specs.Values.{Value, service_of}
-use Rattle.rex_cluster.specs.Lanes.{Here, CallHere, no_limits, with_limits}
+use Rattle.rex_cluster.specs.Lanes.{Here, CallHere}
 use Rattle.rex_cluster.specs.World.{World, Row, node_at, put, logs, beginning, after, if_up, at_node, start_if, read_row, first_told, with_handed, deliver_found, message_at, step, steps_of, steps, row}
 use Rattle.rex_reads.specs.declared.seen.Read.{Read as Told}
 use Rattle.rex_reads.specs.declared.seen.Read.TheVariants as told
@@ -38,13 +37,14 @@ use Rattle.rex_cluster.specs.Releases.{IsAmong, Moment, receiver_of, node_in, st
 use Rattle.rex_cluster.proofs.Traces.{stands_more}
 use Rattle.rex_cluster.proofs.Grow.{grows_same, grows_trans}
 use Rattle.rex_cluster.proofs.Fronts.{fits_front}
+use Rattle.rex_safety.proofs.Lawful.{of_step}
 use Rattle.rex_safety.proofs.Leaders.{later_knows, earlier_knows}
 use Rattle.rex_safety.proofs.Nodes.{node_put, none_down}
 use Rattle.rex_safety.proofs.Worlds.{IsWorld, node_or_not, node_of_lead}
 use Rattle.rex_safety.proofs.Steps.{step_ok, row_ok, beginning_ok}
-use Rattle.rex_cluster.proofs.Saying.{Quiet, quiet_one, quiet_none, start_quiet, elect_says, receive_says, replay_says, checkpoint_says, drop_says, stop_says}
+use Rattle.rex_cluster.proofs.Saying.{Quiet, quiet_one, quiet_none, start_quiet, receive_says}
 use Rattle.rex_safety.proofs.Agreeing.{known_begins, agreed_grows}
-use Rattle.rex_cluster.proofs.Replies.{trace_both, stands_begins, StandsIn, replies_stand, SaysHere, quietly, submit_says, turn_says, cut_tells}
+use Rattle.rex_cluster.proofs.Replies.{trace_both, stands_begins, StandsIn, replies_stand, SaysHere}
 
 -- ---- a step
 
@@ -102,21 +102,16 @@ module _ (service : Declarations) (good : IsService service) (checked : IsChecke
   read_true w m client variable a = quiet_true m (read_row w m client variable a).world (read_row w m client variable a).effects (quiet_one (read_effect m client variable a) (read_quiet m client variable a))
 
   pub step_true : (requests : List Request) → All (RequestFits service) requests → (w : World) → length w.nodes ≡ n → (x : ScheduleLine) → IsTrue service good checked n (node_in w x) (step service requests seed n w x).world (step service requests seed n w x).effects
-  step_true requests fit w many (line.Elect m) = at_node_true w many m (elect n (service_of service seed) m) (λ d q. elect_says n (service_of service seed) m (StandsIn service good checked) (replies_stand service good checked) d q)
-  step_true requests fit w many (line.Submit m r) = at_node_true w many m _ (λ d q. submit_says service good checked seed n m requests fit r d q)
-  step_true requests fit w many (line.Lane m lane) = at_node_true w many m _ (λ d q. turn_says service good checked seed n m w.done lane d q)
-  step_true requests fit w many (line.Cut m) = at_node_true w many m _ (λ d q. cut_tells service good checked seed n m (no_limits service d.node) d q)
-  step_true requests fit w many (line.CutBelow m limits) = at_node_true w many m _ (λ d q. cut_tells service good checked seed n m (with_limits service d.node limits) d q)
-  step_true requests fit w many (line.Deliver number) = deliver_true w many number (message_at w.messages number)
-  step_true requests fit w many line.Flush = quiet_true 0 w (effect.Nothing ∷ []) (quiet_one effect.Nothing (λ c s x e. cc))
-  step_true requests fit w many (line.Replay m) = at_node_true w many m (replay m) (λ d q. replay_says n (service_of service seed) m (StandsIn service good checked) (replies_stand service good checked) d q)
-  step_true requests fit w many (line.Ask m other) = at_node_true w many m (ask m other) (λ d q. quietly service good checked seed n m (ask m other d) q)
-  step_true requests fit w many (line.Stop m) = at_node_true w many m (stop m) (λ d q. stop_says n (service_of service seed) m (StandsIn service good checked) (replies_stand service good checked) d q)
-  step_true requests fit w many (line.Start m) = start_true w m (node_at w.nodes m).up
-  step_true requests fit w many (line.Checkpoint m version) = at_node_true w many m (checkpoint version (service_of service seed) m) (λ d q. checkpoint_says n (service_of service seed) m (StandsIn service good checked) (replies_stand service good checked) version d q)
-  step_true requests fit w many (line.DropKnown m) = at_node_true w many m (drop_known m) (λ d q. drop_says n (service_of service seed) m (StandsIn service good checked) (replies_stand service good checked) d q)
-  step_true requests fit w many (line.KeepFail m kept) = quiet_true m (step service requests seed n w (line.KeepFail m kept)).world (step service requests seed n w (line.KeepFail m kept)).effects (quiet_one _ (λ c s x e. cc))
-  step_true requests fit w many (line.ReadVariable m client variable) = read_true w m client variable (read_at service (node_at w.nodes m) variable (get_or w.seen client 0))
+  step_true requests fit w many x =
+      of_step service requests seed n w (λ y r. IsTrue service good checked n (node_in w y) r.world r.effects)
+      (record {
+        calls = λ y m call k. subst (λ q. IsTrue service good checked n q (at_node w m call).world (at_node w m call).effects) (sym k.node) (at_node_true w many m call (k.says good checked fit));
+        delivers = λ number. deliver_true w many number (message_at w.messages number);
+        flush = quiet_true 0 w (effect.Nothing ∷ []) (quiet_one effect.Nothing (λ c s x e. cc));
+        starts = λ m. start_true w m (node_at w.nodes m).up;
+        arms = λ m kept. quiet_true m (after w m (arm m kept (begin (node_at w.nodes m)))).world (effect.WillFail m kept ∷ []) (quiet_one (effect.WillFail m kept) (λ c s x e. cc));
+        reads = λ m client variable. read_true w m client variable (read_at service (node_at w.nodes m) variable (get_or w.seen client 0));
+      }) x
 
 -- ---- the moments of a run
 

@@ -1,38 +1,35 @@
 -- Each line keeps numbers in their ranges.
+pub use Rattle.rex_safety.proofs.Lanes.{active_fits}
 use Rattle.std.proofs.Common.{◌≡◌, ℕ, zero, suc, ◌<◌, ◌≤◌, Bool, true, false, cond, ◌⊎◌, List, [], ◌∷◌, ◌++◌, length, Option, Some, None, eqb, refl, sym, ◌∙◌, ap, subst, inl, inr, arith, append-nil}
-use Rattle.std.specs.Prelude.{map, slice_get, nat_le}
+use Rattle.std.specs.Prelude.{map}
 use Rattle.std.proofs.lemmas.Bool.{false≢true}
 use Rattle.rex_ballot.specs.Limits.{most_nodes}
 use Rattle.rex_syntax.specs.declared.request.Request.{Request}
 use Rattle.rex_syntax.specs.declared.service.Declarations.{Declarations}
-use Rattle.rex_event.specs.declared.event.Event.{Event}
-use Rattle.rex_event.specs.Cuts.{below}
-use Rattle.rex_cut.specs.Greatest.{greatest_cut}
 use Rattle.rex_state.specs.Value.{StateValue}
 use Rattle.rex_schedule.specs.declared.scenario.ScheduleLine.{ScheduleLine}
 use Rattle.rex_schedule.specs.declared.scenario.ScheduleLine.TheVariants as line
-use Rattle.rex_cluster.specs.Records.{Proposal, known, base, has_old_base}
+use Rattle.rex_cluster.specs.Records.{known, base, has_old_base}
 use Rattle.rex_cluster.specs.Quorum.{IsNode}
-use Rattle.rex_cluster.specs.Node.{Service, Message, Lead, Role, is_active}
-use Rattle.rex_cluster.specs.Node.Role.{Follower, Leads}
-use Rattle.rex_cluster.specs.Calls.{begin, enough, elect, receive, ask, replay, checkpoint, drop_known, restart, stop, start, arm}
+use Rattle.rex_cluster.specs.Node.{Service, Message}
+use Rattle.rex_cluster.specs.Node.Role.{Follower}
+use Rattle.rex_cluster.specs.Calls.{begin, receive, restart, start, arm}
 use Rattle.rex_cluster.specs.Values.{Value, service_of}
-use Rattle.rex_cluster.specs.Lanes.{Here, CallHere, active_only, submit_request, lane_turn, cut_live, cut_lead, cut_role, cut, value_at, no_limits, with_limits}
+use Rattle.rex_cluster.specs.Lanes.{Here, CallHere}
 use Rattle.rex_cluster.specs.World.{World, node_at, put, beginning, after, if_up, at_node, start_if, with_handed, deliver_found, message_at, step, waiting_from, flush_steps, steps_of, steps, row, after_lines}
 use Rattle.rex_cluster.specs.Invariant.{IsIn}
-use Rattle.std.proofs.Common.{leb-false}
 use Rattle.std.specs.List.{All}
 use Rattle.std.proofs.lemmas.List.Elements.{All-head, All-tail}
 use Rattle.rex_schedule.specs.Fits.{LineFits}
-use Rattle.rex_cluster.specs.Lanes.{is_faithful}
 use Rattle.rex_cluster.specs.Agreed.{world_after}
-use Rattle.rex_cluster.specs.Ranges.{MessageFits, LogFits, LeadFits, RoleFits, NodeFits}
+use Rattle.rex_cluster.specs.Ranges.{MessageFits, LogFits, RoleFits, NodeFits}
 use Rattle.rex_safety.specs.Laws.{NumbersFit}
 use Rattle.rex_cluster.proofs.Lists.{in_cases}
+use Rattle.rex_safety.proofs.Lawful.{of_step}
 use Rattle.rex_safety.proofs.Nodes.{node_put, put_none, none_down, IsFresh, fresh_at}
 use Rattle.rex_safety.proofs.Worlds.{IsWorld, nth_in, node_or_not}
 use Rattle.rex_safety.proofs.Steps.{step_ok, row_ok, beginning_ok}
-use Rattle.rex_cluster.proofs.Ranged.{Fits, if_fits, elect_fits, receive_fits, ask_fits, replay_fits, checkpoint_fits, drop_fits, migrated_fits, proposed_fits}
+use Rattle.rex_cluster.proofs.Ranged.{Fits, receive_fits, migrated_fits}
 use Rattle.rex_cluster.proofs.Migrated.{migrated_sends}
 
 module _ (service : Declarations) (requests : List Request) (seed n : ℕ) (few : n ≤ most_nodes) where
@@ -41,41 +38,6 @@ module _ (service : Declarations) (requests : List Request) (seed n : ℕ) (few 
 
   abbrev FitsAt : (m : ℕ) → IsNode n m → CallHere → Type 0
   FitsAt m min d = Fits n few sv m min d
-
-  -- ---- calls of a node
-
-  module _ (m : ℕ) (min : IsNode n m) where
-    pub active_fits : (t : Bool) (d e : CallHere) → FitsAt m min d → FitsAt m min e → FitsAt m min (active_only t d e)
-    active_fits true d e h k = k
-    active_fits false d e h k = record { log = h.log; role = h.role; sends = h.sends }
-
-    submit_fits : (o : Option Request) (d : CallHere) → FitsAt m min d → FitsAt m min (submit_request service o d)
-    submit_fits None d h = record { log = h.log; role = h.role; sends = h.sends }
-    submit_fits (Some r) d h = record { log = h.log; role = h.role; sends = h.sends }
-
-    cut_fits : (counts : List ℕ) (d : CallHere) → FitsAt m min d → FitsAt m min (cut service seed n m counts d)
-    cut_fits counts d h = by d.node.role h.role
-      where
-        live : (c : List ℕ) (l : Lead Value) → LeadFits (length (known d.node.log)) l → length (known d.node.log) < 65535 → (es : List Event) → FitsAt m min (cut_live service seed n m c l es d)
-        live c l k i [] = record { log = h.log; role = h.role; sends = h.sends }
-        live c l k i (y ∷ ys) =
-            if_fits n few sv m min (is_faithful service seed (known d.node.log) c d.node.work.live)
-            (λ _. proposed_fits n few sv m min _ d l (value_at c d.node.work.live) (enough l.reported) h k i)
-            (λ _. record { log = h.log; role = h.role; sends = h.sends })
-
-        led : (l : Lead Value) → LeadFits (length (known d.node.log)) l → (o : Option (Proposal Value)) → FitsAt m min (cut_lead service seed n m counts l o d)
-        led l k (Some p) = record { log = h.log; role = h.role; sends = h.sends }
-        led l k None =
-            if_fits n few sv m min (nat_le 65535 (length (known d.node.log))) (λ _. record { log = h.log; role = h.role; sends = h.sends })
-            (λ e. live (greatest_cut counts d.node.work.live) l k (leb-false 65535 (length (known d.node.log)) e) (below (greatest_cut counts d.node.work.live) d.node.work.live))
-
-        active : (l : Lead Value) → LeadFits (length (known d.node.log)) l → (t : Bool) → FitsAt m min (active_only t d (cut_lead service seed n m counts l l.proposal d))
-        active l k true = led l k l.proposal
-        active l k false = record { log = h.log; role = h.role; sends = h.sends }
-
-        by : (r : Role Value) → RoleFits (length (known d.node.log)) r → FitsAt m min (cut_role service seed n m counts r d)
-        by Follower k = record { log = h.log; role = h.role; sends = h.sends }
-        by (Leads l) k = active l k l.active
 
   -- ---- worlds
 
@@ -154,21 +116,16 @@ module _ (service : Declarations) (requests : List Request) (seed n : ℕ) (few 
       go (inr none) = none_fits w many h m none (arm m kept (begin (node_at w.nodes m))) refl
 
   pub step_fits : (w : World) → IsWorld n sv w → AllFit w → (x : ScheduleLine) → LineFits n (length requests) service.lanes x → AllFit (step service requests seed n w x).world
-  step_fits w ok h (line.Elect m) l = any_fits w ok.many h m (elect n sv m) (λ min d k. elect_fits n few sv m min d k)
-  step_fits w ok h (line.Submit m r) l = any_fits w ok.many h m _ (λ min d k. active_fits m min (is_active d.node.role) d _ k (submit_fits m min (slice_get requests r) d k))
-  step_fits w ok h (line.Lane m lane) l = any_fits w ok.many h m _ (λ min d k. active_fits m min (is_active d.node.role) d (lane_turn service w.done lane d) k (record { log = k.log; role = k.role; sends = k.sends }))
-  step_fits w ok h (line.Cut m) l = any_fits w ok.many h m _ (λ min d k. cut_fits m min (no_limits service d.node) d k)
-  step_fits w ok h (line.CutBelow m limits) l = any_fits w ok.many h m _ (λ min d k. cut_fits m min (with_limits service d.node limits) d k)
-  step_fits w ok h (line.Deliver number) l = deliver_fits w ok h number (message_at w.messages number) refl
-  step_fits w ok h line.Flush l = record { nodes = h.nodes; messages = h.messages }
-  step_fits w ok h (line.Replay m) l = any_fits w ok.many h m (replay m) (λ min d k. replay_fits n few sv m min d k)
-  step_fits w ok h (line.Ask m other) l = any_fits w ok.many h m (ask m other) (λ min d k. ask_fits n few sv m min other l.1.0 l.1.1 d k)
-  step_fits w ok h (line.Stop m) l = any_fits w ok.many h m (stop m) (λ min d k. record { log = k.log; role = tt; sends = k.sends })
-  step_fits w ok h (line.Start m) l = start_fits w ok.many h m (node_at w.nodes m).up
-  step_fits w ok h (line.Checkpoint m version) l = any_fits w ok.many h m (checkpoint version sv m) (λ min d k. checkpoint_fits n few sv m min version d k)
-  step_fits w ok h (line.DropKnown m) l = any_fits w ok.many h m (drop_known m) (λ min d k. drop_fits n few sv m min d k)
-  step_fits w ok h (line.KeepFail m kept) l = arm_fits w ok.many h m kept
-  step_fits w ok h (line.ReadVariable m client variable) l = record { nodes = h.nodes; messages = h.messages }
+  step_fits w ok h =
+      of_step service requests seed n w (λ y r. LineFits n (length requests) service.lanes y → AllFit r.world)
+      (record {
+        calls = λ y m call k l. any_fits w ok.many h m call (k.fits l few);
+        delivers = λ number l. deliver_fits w ok h number (message_at w.messages number) refl;
+        flush = λ l. record { nodes = h.nodes; messages = h.messages };
+        starts = λ m l. start_fits w ok.many h m (node_at w.nodes m).up;
+        arms = λ m kept l. arm_fits w ok.many h m kept;
+        reads = λ m client variable l. record { nodes = h.nodes; messages = h.messages };
+      })
 
   -- ---- lines
 
@@ -187,20 +144,7 @@ module _ (service : Declarations) (requests : List Request) (seed n : ℕ) (few 
 
   pub steps_fit : (w : World) (x : ScheduleLine) → LineFits n (length requests) service.lanes x → AllLinesFit (steps_of w x)
   steps_fit w line.Flush l = flush_fit (waiting_from 1 w.handed) (waiting_fit 1 w.handed (omega arith))
-  steps_fit w (line.Elect m) l = (l, tt)
-  steps_fit w (line.Submit m r) l = (l, tt)
-  steps_fit w (line.Lane m lane) l = (l, tt)
-  steps_fit w (line.Cut m) l = (l, tt)
-  steps_fit w (line.CutBelow m limits) l = (l, tt)
-  steps_fit w (line.Deliver number) l = (l, tt)
-  steps_fit w (line.Replay m) l = (l, tt)
-  steps_fit w (line.Ask m other) l = (l, tt)
-  steps_fit w (line.Stop m) l = (l, tt)
-  steps_fit w (line.Start m) l = (l, tt)
-  steps_fit w (line.Checkpoint m version) l = (l, tt)
-  steps_fit w (line.DropKnown m) l = (l, tt)
-  steps_fit w (line.KeepFail m kept) l = (l, tt)
-  steps_fit w (line.ReadVariable m client variable) l = (l, tt)
+  steps_fit w x l = (l, tt)
 
   all_steps_fit : (w : World) (xs : List ScheduleLine) → IsWorld n sv w → AllFit w → AllLinesFit xs → AllFit (steps service requests seed n w xs).world
   all_steps_fit w [] ok h l = h

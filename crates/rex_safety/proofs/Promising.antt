@@ -1,26 +1,21 @@
 -- After any lines, and events that nodes are handed, candidacies are as they should be.
-use Rattle.std.proofs.Common.{◌≡◌, ℕ, zero, suc, ◌<◌, ◌≤◌, Bool, true, false, cond, ◌||◌, ◌⊎◌, List, [], ◌∷◌, ◌++◌, length, Option, Some, None, eqb, refl, sym, ◌∙◌, ap, subst, inl, inr, arith, eqb-true, eq-eqb}
-use Rattle.std.specs.Prelude.{slice_get, nat_le}
+use Rattle.std.proofs.Common.{◌≡◌, ℕ, zero, suc, ◌<◌, ◌≤◌, Bool, true, false, cond, ◌||◌, ◌⊎◌, List, [], ◌∷◌, ◌++◌, Option, Some, None, eqb, refl, sym, ◌∙◌, ap, subst, inl, inr, arith, eqb-true, eq-eqb}
 use Rattle.std.proofs.lemmas.Bool.{false≢true}
 use Rattle.rex_ballot.specs.Limits.{most_nodes}
 use Rattle.rex_syntax.specs.declared.request.Request.{Request}
 use Rattle.rex_syntax.specs.declared.service.Declarations.{Declarations}
 use Rattle.rex_event.specs.declared.event.Event.{Event}
-use Rattle.rex_event.specs.Cuts.{below}
-use Rattle.rex_cut.specs.Greatest.{greatest_cut}
 use Rattle.rex_state.specs.Value.{StateValue}
-use Rattle.rex_report.specs.declared.effect.Effect.TheVariants as effect
 use Rattle.rex_schedule.specs.declared.scenario.ScheduleLine.{ScheduleLine}
 use Rattle.rex_schedule.specs.declared.scenario.ScheduleLine.TheVariants as line
-use Rattle.rex_cluster.specs.Records.{Proposal, accepted, from_on, known, has_old_base, base, HasAccepted}
+use Rattle.rex_cluster.specs.Records.{Proposal, accepted, from_on, has_old_base, base, HasAccepted}
 use Rattle.rex_cluster.specs.Quorum.{IsNode, Logs, is_in}
-use Rattle.rex_cluster.specs.Node.{Service, Content, Message, Lead, Role, is_active}
+use Rattle.rex_cluster.specs.Node.{Service, Content, Message, is_active}
 use Rattle.rex_cluster.specs.Node.Content.{Prepare, Promise, Accept, Accepted as Voted, Chosen as Chose, Nack, Ask, Snapshot}
-use Rattle.rex_cluster.specs.Node.Role.{Follower, Leads}
-use Rattle.rex_cluster.specs.Calls.{begin, settle, enough, elect, receive, on_prepare, ask, replay, checkpoint, drop_known, restart, stop, start, arm}
+use Rattle.rex_cluster.specs.Calls.{begin, elect, receive, on_prepare, restart, start, arm}
 use Rattle.rex_cluster.specs.Invariant.{IsIn, IsRightPromise, IsJustified}
 use Rattle.rex_cluster.specs.Values.{Value, service_of}
-use Rattle.rex_cluster.specs.Lanes.{Here, CallHere, active_only, submit_request, lane_turn, is_faithful, cut_live, cut_lead, cut_role, cut, value_at, no_limits, with_limits}
+use Rattle.rex_cluster.specs.Lanes.{Here, CallHere}
 use Rattle.rex_cluster.specs.World.{World, node_at, logs, beginning, after, at_node, start_if, with_handed, deliver_found, message_at, step, steps_of, steps, row, after_lines}
 use Rattle.rex_cluster.specs.Agreed.{world_after}
 use Rattle.rex_safety.specs.Kept.{IsWorld}
@@ -28,12 +23,14 @@ use Rattle.rex_cluster.specs.Takes.{Doing, take_event, take, after_doings}
 use Rattle.rex_cluster.specs.Takes.Doing.{Does, Takes}
 use Rattle.rex_safety.specs.Doings.{world_after_doings}
 use Rattle.rex_cluster.proofs.Lists.{in_cases, is_in_push, from_on_late, accepted_covers, from_on_covers, in_left, in_right}
+use Rattle.rex_safety.proofs.Lanes.{active_cast}
+use Rattle.rex_safety.proofs.Lawful.{IsOther, of_step}
 use Rattle.rex_safety.proofs.Nodes.{node_put, IsFresh, fresh_at}
 use Rattle.rex_safety.proofs.Worlds.{GoesOnTo, nth_in}
 use Rattle.rex_safety.proofs.Steps.{step_ok, row_ok, beginning_ok}
 use Rattle.rex_cluster.proofs.Migrated.{migrated_sends}
 use Rattle.rex_safety.proofs.Doings.{does_ok}
-use Rattle.rex_safety.proofs.Candidacies.{RoleHas, IsPlain, AreSent, if_votes, propose_votes, settle_votes, Any, Cast, Brings, IsGiven, Answers, receive_cast, prepare_answers, ask_cast, replay_cast, checkpoint_cast, drop_cast, stop_cast, start_cast, arm_cast}
+use Rattle.rex_safety.proofs.Candidacies.{RoleHas, IsPlain, Cast, Brings, IsGiven, Answers, receive_cast, prepare_answers, start_cast, arm_cast}
 use Rattle.rex_safety.proofs.Asking.{CoversFrom, AreLater, OwnFrom, VotesCover, IsMeant, Candidacies, HasCandidacies, P, Q, plain, old_message, after_cand, begun, cast_cand, at_cand, at_cast, elect_cand}
 
 -- ---- a message that is handed over
@@ -140,48 +137,6 @@ module _ (service : Declarations) (seed n : ℕ) (few : n ≤ most_nodes) (w : W
     received (Ask i) c goes = counted (Ask i) goes tt
     received (Snapshot values) c goes = counted (Snapshot values) goes tt
 
--- ---- calls of clients and lanes
-
-module _ (P : ℕ → List ℕ → List (Proposal Value) → Type 0) (Q : Message Value → Type 0) (service : Declarations) (seed n m : ℕ) (plain : (x : Message Value) → IsPlain x.content → Q x) where
-  abbrev CastHere : CallHere → Type 0
-  CastHere d = Cast P Q n (service_of service seed) m plain d
-
-  active_cast : (t : Bool) (d e : CallHere) → CastHere d → CastHere e → CastHere (active_only t d e)
-  active_cast true d e h k = k
-  active_cast false d e h k = record { role = h.role; log = tt; sends = h.sends }
-
-  submit_cast : (o : Option Request) (d : CallHere) → CastHere d → CastHere (submit_request service o d)
-  submit_cast None d h = record { role = h.role; log = tt; sends = h.sends }
-  submit_cast (Some r) d h = record { role = h.role; log = tt; sends = h.sends }
-
-  cut_cast : (counts : List ℕ) (d : CallHere) → CastHere d → CastHere (cut service seed n m counts d)
-  cut_cast counts d h = by d.node.role h.role
-    where
-      same : {e : CallHere} → e.node.role ≡ d.node.role → e.sends ≡ d.sends → CastHere e
-      same r s = record { role = subst (RoleHas P) (sym r) h.role; log = tt; sends = subst (AreSent Q) (sym s) h.sends }
-
-      live : (c : List ℕ) (l : Lead Value) → P l.ballot l.counted l.reported → (es : List Event) → CastHere (cut_live service seed n m c l es d)
-      live c l p [] = same refl refl
-      live c l p (y ∷ ys) =
-          if_votes P (Any P Q n (service_of service seed) m plain) Q (is_faithful service seed (known d.node.log) c d.node.work.live)
-          (propose_votes P (Any P Q n (service_of service seed) m plain) Q n (service_of service seed) m plain (λ i v log t. tt) (λ b cs rs i v log q t. tt) (effect.Proposes m (suc (length (known d.node.log))) (length (below c d.node.work.live))) d l (suc (length (known d.node.log))) (value_at c d.node.work.live) (settle (enough l.reported) n (service_of service seed) m)
-          p h (settle_votes P (Any P Q n (service_of service seed) m plain) Q n (service_of service seed) m plain (λ i v log t. tt) (λ b cs rs i v log q t. tt) (enough l.reported)))
-          (same refl refl)
-
-      led : (l : Lead Value) → P l.ballot l.counted l.reported → (o : Option (Proposal Value)) → CastHere (cut_lead service seed n m counts l o d)
-      led l p (Some q) = same refl refl
-      led l p None =
-          if_votes P (Any P Q n (service_of service seed) m plain) Q (nat_le 65535 (length (known d.node.log))) (same refl refl)
-          (live (greatest_cut counts d.node.work.live) l p (below (greatest_cut counts d.node.work.live) d.node.work.live))
-
-      active : (l : Lead Value) → P l.ballot l.counted l.reported → (t : Bool) → CastHere (active_only t d (cut_lead service seed n m counts l l.proposal d))
-      active l p true = led l p l.proposal
-      active l p false = same refl refl
-
-      by : (r : Role Value) → RoleHas P r → CastHere (cut_role service seed n m counts r d)
-      by Follower p = same refl refl
-      by (Leads l) p = active l p l.active
-
 -- ---- steps
 
 module _ (service : Declarations) (requests : List Request) (seed n : ℕ) (few : n ≤ most_nodes) where
@@ -238,25 +193,22 @@ module _ (service : Declarations) (requests : List Request) (seed n : ℕ) (few 
       found zero e = absurd (cc)
       found (suc k) e = nth_in k w.messages x e
 
+  others_cand : (w : World) → IsWorld n (service_of service seed) w → HasCandidacies n w → (x : ScheduleLine) → IsOther x → HasCandidacies n (step service requests seed n w x).world
+  others_cand w ok has x o =
+      of_step service requests seed n w (λ y r. IsOther y → GoesOnTo n svc w r.world → HasCandidacies n r.world)
+      (record {
+        calls = λ y m call k o goes. each w ok has m call goes (k.cast o);
+        delivers = λ number o goes. deliver_cand w ok has number (message_at w.messages number) refl goes;
+        flush = λ o goes. has;
+        starts = λ m o goes. start_cand w ok has m (node_at w.nodes m).up goes;
+        arms = λ m kept o goes. any w ok has m (arm m kept) goes refl (λ P Q plain. arm_cast P Q n svc m plain kept);
+        reads = λ m client variable o goes. record { first = has.first; holds = record { messages = has.holds.messages; roles = has.holds.roles } };
+      }) x o (step_ok service requests seed n few w x ok)
+
   step_cand : (w : World) → IsWorld n (service_of service seed) w → HasCandidacies n w → (x : ScheduleLine) → HasCandidacies n (step service requests seed n w x).world
   step_cand w ok has (line.Elect m) =
       at_cand n svc w ok has.first has.holds m (elect n svc m) (step_ok service requests seed n few w (line.Elect m) ok) (λ g min. elect_cand n svc w ok has.first has.holds m min few g)
-  step_cand w ok has (line.Submit m r) =
-      each w ok has m _ (step_ok service requests seed n few w (line.Submit m r) ok) (λ P Q plain d h. active_cast P Q service seed n m plain (is_active d.node.role) d _ h (submit_cast P Q service seed n m plain (slice_get requests r) d h))
-  step_cand w ok has (line.Lane m lane) =
-      each w ok has m _ (step_ok service requests seed n few w (line.Lane m lane) ok) (λ P Q plain d h. active_cast P Q service seed n m plain (is_active d.node.role) d (lane_turn service w.done lane d) h (record { role = h.role; log = tt; sends = h.sends }))
-  step_cand w ok has (line.Cut m) = each w ok has m _ (step_ok service requests seed n few w (line.Cut m) ok) (λ P Q plain d h. cut_cast P Q service seed n m plain (no_limits service d.node) d h)
-  step_cand w ok has (line.CutBelow m limits) = each w ok has m _ (step_ok service requests seed n few w (line.CutBelow m limits) ok) (λ P Q plain d h. cut_cast P Q service seed n m plain (with_limits service d.node limits) d h)
-  step_cand w ok has (line.Deliver number) = deliver_cand w ok has number (message_at w.messages number) refl (step_ok service requests seed n few w (line.Deliver number) ok)
-  step_cand w ok has line.Flush = has
-  step_cand w ok has (line.Replay m) = each w ok has m (replay m) (step_ok service requests seed n few w (line.Replay m) ok) (λ P Q plain d h. replay_cast P Q n svc m plain d h)
-  step_cand w ok has (line.Ask m other) = each w ok has m (ask m other) (step_ok service requests seed n few w (line.Ask m other) ok) (λ P Q plain d h. ask_cast P Q n svc m plain other d h)
-  step_cand w ok has (line.Stop m) = each w ok has m (stop m) (step_ok service requests seed n few w (line.Stop m) ok) (λ P Q plain d h. stop_cast P Q n svc m plain d h)
-  step_cand w ok has (line.Start m) = start_cand w ok has m (node_at w.nodes m).up (step_ok service requests seed n few w (line.Start m) ok)
-  step_cand w ok has (line.Checkpoint m version) = each w ok has m (checkpoint version svc m) (step_ok service requests seed n few w (line.Checkpoint m version) ok) (λ P Q plain d h. checkpoint_cast P Q n svc m plain version d h)
-  step_cand w ok has (line.DropKnown m) = each w ok has m (drop_known m) (step_ok service requests seed n few w (line.DropKnown m) ok) (λ P Q plain d h. drop_cast P Q n svc m plain d h)
-  step_cand w ok has (line.KeepFail m kept) = any w ok has m (arm m kept) (step_ok service requests seed n few w (line.KeepFail m kept) ok) refl (λ P Q plain d h. arm_cast P Q n svc m plain kept d h)
-  step_cand w ok has (line.ReadVariable m client variable) = record { first = has.first; holds = record { messages = has.holds.messages; roles = has.holds.roles } }
+  step_cand w ok has x = others_cand w ok has x tt
 
   take_cand : (w : World) → IsWorld n (service_of service seed) w → HasCandidacies n w → (m : ℕ) (e : Event) → HasCandidacies n (take service w m e)
   take_cand w ok has m e =

@@ -1,33 +1,24 @@
 -- Rounds rise by at most one with each line, so that a run of no more lines than there are rounds never lacks one.
 use Rattle.std.proofs.Common.{◌≡◌, ℕ, zero, suc, ◌+◌, ◌*◌, ◌<◌, ◌≤◌, Bool, true, false, cond, ◌⊎◌, List, [], ◌∷◌, ◌++◌, length, drop, Option, Some, None, eqb, refl, sym, ◌∙◌, ap, subst, inl, inr, arith, lt_of_lt_of_le}
-use Rattle.std.specs.Prelude.{slice_get, get_or, nat_le, map}
+use Rattle.std.specs.Prelude.{slice_get, get_or, map}
 use Rattle.std.proofs.lemmas.Bool.{false≢true}
 use Rattle.std.proofs.lemmas.Option.{same_Some}
 use Rattle.rex_ballot.specs.Limits.{most_nodes}
 use Rattle.rex_syntax.specs.declared.request.Request.{Request}
 use Rattle.rex_syntax.specs.declared.service.Declarations.{Declarations}
 use Rattle.rex_event.specs.declared.event.Event.{Event}
-use Rattle.rex_event.specs.Cuts.{below}
-use Rattle.rex_cut.specs.Greatest.{greatest_cut}
 use Rattle.rex_state.specs.Value.{StateValue}
-use Rattle.rex_record.specs.declared.turns.Turn.{Turn}
-use Rattle.rex_record.specs.declared.turns.Turn.TheVariants as turn
-use Rattle.rex_record.specs.Value.{releases, queued_in}
-use Rattle.rex_gate.specs.declared.answer.Answer.{Answer}
-use Rattle.rex_gate.specs.declared.answer.Answer.TheVariants as answer
-use Rattle.rex_gate.specs.Answer.{answer_to}
 use Rattle.rex_report.specs.declared.effect.Effect.{Effect}
 use Rattle.rex_report.specs.declared.effect.Effect.TheVariants as effect
 use Rattle.rex_schedule.specs.declared.scenario.ScheduleLine.{ScheduleLine}
 use Rattle.rex_schedule.specs.declared.scenario.ScheduleLine.TheVariants as line
-use Rattle.rex_cluster.specs.Records.{Proposal, promise, known}
+use Rattle.rex_cluster.specs.Records.{promise}
 use Rattle.rex_cluster.specs.Quorum.{IsNode, round_of, ballot_above, node_of}
-use Rattle.rex_cluster.specs.Node.{Service, Content, Message, Lead, Role, is_active, role_name, own_ballot, kind_of}
+use Rattle.rex_cluster.specs.Node.{Service, Content, Message, is_active, own_ballot, kind_of}
 use Rattle.rex_cluster.specs.Node.Content.{Prepare, Promise, Accept, Accepted as Voted, Chosen as Chose, Nack, Ask, Snapshot}
-use Rattle.rex_cluster.specs.Node.Role.{Follower, Leads}
-use Rattle.rex_cluster.specs.Calls.{begin, say, settle, enough, elect, receive, ask, replay, checkpoint, drop_known, stop, start, arm}
-use Rattle.rex_cluster.specs.Values.{Value, trace_of, state_after, events_of, service_of}
-use Rattle.rex_cluster.specs.Lanes.{Here, CallHere, active_only, submit_request, effect_of, lane_turn, turn_effect, turn_in, is_faithful, cut_live, cut_lead, cut_role, cut, value_at, no_limits, with_limits, known_state, live_state}
+use Rattle.rex_cluster.specs.Calls.{begin, say, elect, receive, start, arm}
+use Rattle.rex_cluster.specs.Values.{Value, service_of}
+use Rattle.rex_cluster.specs.Lanes.{Here, CallHere, active_only}
 use Rattle.rex_cluster.specs.World.{World, Row, node_at, logs, beginning, after, only, if_up, at_node, start_if, read_row, first_told, with_handed, deliver_found, message_at, step, waiting_from, flush_steps, steps_of, steps, sent_from, row, after_lines, effects_of}
 use Rattle.rex_reads.specs.declared.seen.Read.{Read as Told}
 use Rattle.rex_reads.specs.declared.seen.Read.TheVariants as told
@@ -41,8 +32,10 @@ use Rattle.rex_cluster.specs.Takes.Doing.{Does, Takes}
 use Rattle.rex_safety.specs.Doings.{world_after_doings, moments_of_doings}
 use Rattle.rex_safety.specs.Rounds.{greatest_round, RoundsAreAtMost, NoneIsSpent, lines_among}
 use Rattle.rex_safety.proofs.Doings.{does_ok}
+use Rattle.rex_safety.proofs.Lanes.{calm_replies, LowHere, active_low}
+use Rattle.rex_safety.proofs.Lawful.{IsOther, of_step}
 use Rattle.rex_safety.proofs.Nodes.{node_put, put_none, none_down, IsFresh, fresh_at}
-use Rattle.rex_safety.proofs.Rounds.{Other, Low, calm_none, calm_one, calm_both, calm_push, calm_releases, next_low, say_low, if_low, propose_low, settle_low, elect_low, elect_either, replay_low, checkpoint_low, drop_low, stop_low, arm_low, start_low, ContentLow, receive_low}
+use Rattle.rex_safety.proofs.Rounds.{Other, calm_none, calm_one, calm_both, next_low, elect_low, elect_either, arm_low, start_low, ContentLow, receive_low}
 use Rattle.rex_cluster.proofs.Step.{acc_below}
 use Rattle.rex_safety.proofs.Steps.{step_ok, row_ok, beginning_ok}
 use Rattle.rex_safety.proofs.Worlds.{nth_in, node_or_not}
@@ -63,11 +56,6 @@ pub record StepLow (n limit : ℕ) (r : Row) : Type 0 where
   pub nodes : AreLow n limit r.world
   pub calm : NoneIsSpent r.effects
 
--- what is no election
-abbrev pub IsOther : ScheduleLine → Type 0
-IsOther (line.Elect m) = ⊥
-IsOther _ = Unit {0}
-
 abbrev pub AreOther : List ScheduleLine → Type 0
 AreOther [] = Unit {0}
 AreOther (x ∷ xs) = IsOther x × AreOther xs
@@ -79,71 +67,8 @@ module _ (service : Declarations) (requests : List Request) (seed n : ℕ) (few 
   abbrev sv : Service Value StateValue
   sv = service_of service seed
 
-  calm_replies : (before : List Value) (v : Value) → NoneIsSpent (sv.replies before v)
-  calm_replies before v = calm_releases (releases (state_after service (trace_of before)).clients (events_of v))
-
-  abbrev LowHere : ℕ → CallHere → Type 0
-  LowHere m d = Low n sv m limit some calm_replies d
-
-  -- ---- calls of clients and lanes
-
-  module _ (m : ℕ) where
-    says : (e : Effect) (d : CallHere) → Other e → LowHere m d → LowHere m (say e d)
-    says e d o h = say_low n sv m limit some calm_replies e d o h
-
-    active_low : (t : Bool) (d e : CallHere) → LowHere m d → LowHere m e → LowHere m (active_only t d e)
-    active_low true d e h k = k
-    active_low false d e h k = says (effect.NotActive (role_name d.node.role)) d (λ m e. cc) h
-
-    answer_other : (r : Request) (a : Answer) → Other (effect_of r a)
-    answer_other r answer.Queued m h = cc
-    answer_other r answer.Waiting m h = cc
-    answer_other r (answer.Released value) m h = cc
-    answer_other r (answer.Old last) m h = cc
-    answer_other r (answer.Gap expected) m h = cc
-
-    submit_low : (o : Option Request) (d : CallHere) → LowHere m d → LowHere m (submit_request service o d)
-    submit_low None d h = says effect.Nothing d (λ m e. cc) h
-    submit_low (Some r) d h =
-        let a = answer_to r (queued_in d.node.work.queue r.client) (live_state service d.node).clients (known_state service d.node).clients in
-        record { promised = h.promised; own = h.own; calm = calm_push d.effects (effect_of r a) h.calm (answer_other r a) }
-
-    turn_other : (lane : ℕ) (t : Turn) → Other (turn_effect lane t)
-    turn_other lane (turn.Done e) m h = cc
-    turn_other lane turn.Full m h = cc
-    turn_other lane turn.Idle m h = cc
-    turn_other lane (turn.Held by) m h = cc
-    turn_other lane (turn.Zero semaphore) m h = cc
-    turn_other lane turn.Unsignalled m h = cc
-    turn_other lane turn.Unfit m h = cc
-
-    turn_low : (done lane : ℕ) (d : CallHere) → LowHere m d → LowHere m (lane_turn service done lane d)
-    turn_low done lane d h = record { promised = h.promised; own = h.own; calm = calm_push d.effects (turn_effect lane (turn_in service d.node done lane)) h.calm (turn_other lane (turn_in service d.node done lane)) }
-
-    cut_low : (counts : List ℕ) (d : CallHere) → LowHere m d → LowHere m (cut service seed n m counts d)
-    cut_low counts d h = by d.node.role h.own
-      where
-        live : (c : List ℕ) (l : Lead Value) → l.ballot < limit → (es : List Event) → LowHere m (cut_live service seed n m c l es d)
-        live c l b [] = says effect.Nothing d (λ m e. cc) h
-        live c l b (y ∷ ys) =
-            if_low n sv m limit some calm_replies (is_faithful service seed (known d.node.log) c d.node.work.live)
-            (propose_low n sv m limit some calm_replies (effect.Proposes m (suc (length (known d.node.log))) (length (below c d.node.work.live))) d l (suc (length (known d.node.log))) (value_at c d.node.work.live) (settle (enough l.reported) n sv m)
-            (λ m e. cc) h b (settle_low n sv m limit some calm_replies (enough l.reported)))
-            (says effect.Nothing d (λ m e. cc) h)
-
-        led : (l : Lead Value) → l.ballot < limit → (o : Option (Proposal Value)) → LowHere m (cut_lead service seed n m counts l o d)
-        led l b (Some p) = says (effect.Open p.instance) d (λ m e. cc) h
-        led l b None =
-            if_low n sv m limit some calm_replies (nat_le 65535 (length (known d.node.log))) (says effect.Ended d (λ m e. cc) h)
-            (live (greatest_cut counts d.node.work.live) l b (below (greatest_cut counts d.node.work.live) d.node.work.live))
-
-        active : (l : Lead Value) → l.ballot < limit → (t : Bool) → LowHere m (active_only t d (cut_lead service seed n m counts l l.proposal d))
-        active l b true = led l b l.proposal
-        active l b false = says (effect.NotActive (role_name d.node.role)) d (λ m e. cc) h
-
-        by : (r : Role Value) → own_ballot r < limit → LowHere m (cut_role service seed n m counts r d)
-        by Follower b = says (effect.NotActive (role_name d.node.role)) d (λ m e. cc) h
-        by (Leads l) b = active l b l.active
+  abbrev LowAt : ℕ → CallHere → Type 0
+  LowAt = LowHere service seed n limit some
 
   -- ---- steps
 
@@ -154,10 +79,10 @@ module _ (service : Declarations) (requests : List Request) (seed n : ℕ) (few 
       place true = k
       place false = h q qin
 
-  after_low : (w : World) → length w.nodes ≡ n → AreLow n limit w → (m : ℕ) → IsNode n m → (d : CallHere) → LowHere m d → StepLow n limit (after w m d)
+  after_low : (w : World) → length w.nodes ≡ n → AreLow n limit w → (m : ℕ) → IsNode n m → (d : CallHere) → LowAt m d → StepLow n limit (after w m d)
   after_low w many h m min d k = record { nodes = nodes_after w many h m min d (record { promised = k.promised; own = k.own }); calm = k.calm }
 
-  begun : (w : World) → AreLow n limit w → (m : ℕ) → IsNode n m → LowHere m (begin (node_at w.nodes m))
+  begun : (w : World) → AreLow n limit w → (m : ℕ) → IsNode n m → LowAt m (begin (node_at w.nodes m))
   begun w h m min = let x = h m min in record { promised = x.promised; own = x.own; calm = calm_none }
 
   only_low : (w : World) → AreLow n limit w → (e : Effect) → Other e → StepLow n limit (only w e)
@@ -166,7 +91,7 @@ module _ (service : Declarations) (requests : List Request) (seed n : ℕ) (few 
   not_up : (w : World) → length w.nodes ≡ n → (m : ℕ) → (IsNode n m → ⊥) → (node_at w.nodes m).up ≡ false
   not_up w many m none = ap (λ (x : Here). x.up) (none_down w.nodes m (λ l. none (subst (λ k. IsNode k m) many l)))
 
-  at_low : (w : World) → length w.nodes ≡ n → AreLow n limit w → (m : ℕ) (call : CallHere → CallHere) → (IsNode n m → LowHere m (call (begin (node_at w.nodes m)))) → StepLow n limit (at_node w m call)
+  at_low : (w : World) → length w.nodes ≡ n → AreLow n limit w → (m : ℕ) (call : CallHere → CallHere) → (IsNode n m → LowAt m (call (begin (node_at w.nodes m)))) → StepLow n limit (at_node w m call)
   at_low w many h m call k = go (node_at w.nodes m).up refl (node_or_not n m)
     where
       go : (t : Bool) → (node_at w.nodes m).up ≡ t → IsNode n m ⊎ (IsNode n m → ⊥) → StepLow n limit (if_up t w m (call (begin (node_at w.nodes m))))
@@ -174,13 +99,13 @@ module _ (service : Declarations) (requests : List Request) (seed n : ℕ) (few 
       go true e (inl min) = after_low w many h m min (call (begin (node_at w.nodes m))) (k min)
       go true e (inr none) = absurd (false≢true (sym (not_up w many m none) ∙ e))
 
-  each_low : (w : World) → length w.nodes ≡ n → AreLow n limit w → (m : ℕ) (call : CallHere → CallHere) → ((d : CallHere) → LowHere m d → LowHere m (call d)) → StepLow n limit (at_node w m call)
+  each_low : (w : World) → length w.nodes ≡ n → AreLow n limit w → (m : ℕ) (call : CallHere → CallHere) → ((d : CallHere) → LowAt m d → LowAt m (call d)) → StepLow n limit (at_node w m call)
   each_low w many h m call k = at_low w many h m call (λ min. k (begin (node_at w.nodes m)) (begun w h m min))
 
   told_low : (e : Effect) (r : Row) → Other e → StepLow n limit r → StepLow n limit (first_told e r)
   told_low e r o h = record { nodes = h.nodes; calm = calm_both (e ∷ []) r.effects (calm_one e o) h.calm }
 
-  content_low : (w : World) → IsWorld n sv w → AreLow n limit w → (from m : ℕ) (c : Content Value) → IsJustified n (logs w) from c → ContentLow n sv m limit some calm_replies c
+  content_low : (w : World) → IsWorld n sv w → AreLow n limit w → (from m : ℕ) (c : Content Value) → IsJustified n (logs w) from c → ContentLow n sv m limit some (calm_replies service seed) c
   content_low w ok h from m (Prepare b first) j = let p = (h (node_of b) j.1).promised in omega (arith, j.2, p)
   content_low w ok h from m (Promise b ps) j = tt
   content_low w ok h from m (Accept b i v) j = let p = (h (node_of b) j.0).promised in let a = acc_below b i v (logs w (node_of b)) j.1 in omega (arith, a, p)
@@ -195,7 +120,7 @@ module _ (service : Declarations) (requests : List Request) (seed n : ℕ) (few 
   deliver_low w ok h number (Some x) e =
       told_low (effect.Delivered number (kind_of x.content) x.from x.to) (at_node (with_handed w number) x.to (receive n sv x.to x.from x.content)) (λ m e. cc)
       (at_low (with_handed w number) ok.many h x.to (receive n sv x.to x.from x.content)
-      (λ min. receive_low n sv x.to limit some calm_replies x.from x.content (content_low w ok h x.from x.to x.content (ok.cluster.messages x (found number e))) (begin (node_at w.nodes x.to)) (begun w h x.to min)))
+      (λ min. receive_low n sv x.to limit some (calm_replies service seed) x.from x.content (content_low w ok h x.from x.to x.content (ok.cluster.messages x (found number e))) (begin (node_at w.nodes x.to)) (begun w h x.to min)))
     where
       found : (k : ℕ) → message_at w.messages k ≡ Some x → IsIn x w.messages
       found zero e = absurd (cc)
@@ -209,7 +134,7 @@ module _ (service : Declarations) (requests : List Request) (seed n : ℕ) (few 
   }
 
   -- a number of no node is that of one without records
-  no_node : (w : World) → length w.nodes ≡ n → (m : ℕ) → (IsNode n m → ⊥) → LowHere m (begin (node_at w.nodes m))
+  no_node : (w : World) → length w.nodes ≡ n → (m : ℕ) → (IsNode n m → ⊥) → LowAt m (begin (node_at w.nodes m))
   no_node w many m none =
       let e = none_down w.nodes m (λ l. none (subst (λ k. IsNode k m) many l)) in
       record {
@@ -218,7 +143,7 @@ module _ (service : Declarations) (requests : List Request) (seed n : ℕ) (few 
         calm = calm_none;
       }
 
-  any_low : (w : World) → length w.nodes ≡ n → AreLow n limit w → (m : ℕ) (call : CallHere → CallHere) → ((d : CallHere) → LowHere m d → LowHere m (call d)) → StepLow n limit (after w m (call (begin (node_at w.nodes m))))
+  any_low : (w : World) → length w.nodes ≡ n → AreLow n limit w → (m : ℕ) (call : CallHere → CallHere) → ((d : CallHere) → LowAt m d → LowAt m (call d)) → StepLow n limit (after w m (call (begin (node_at w.nodes m))))
   any_low w many h m call k = go (node_or_not n m)
     where
       go : IsNode n m ⊎ (IsNode n m → ⊥) → StepLow n limit (after w m (call (begin (node_at w.nodes m))))
@@ -227,7 +152,7 @@ module _ (service : Declarations) (requests : List Request) (seed n : ℕ) (few 
 
   start_if_low : (w : World) → length w.nodes ≡ n → AreLow n limit w → (m : ℕ) (t : Bool) → StepLow n limit (start_if sv t w m)
   start_if_low w many h m true = only_low w h (effect.IsUp m) (λ m e. cc)
-  start_if_low w many h m false = any_low w many h m (start sv m) (start_low n sv m limit some calm_replies)
+  start_if_low w many h m false = any_low w many h m (start sv m) (start_low n sv m limit some (calm_replies service seed))
 
   read_low : (w : World) → AreLow n limit w → (m client variable : ℕ) (a : Told) → StepLow n limit (read_row w m client variable a)
   read_low w h m client variable a = record { nodes = h; calm = calm_one (read_effect m client variable a) (other a) }
@@ -239,24 +164,19 @@ module _ (service : Declarations) (requests : List Request) (seed n : ℕ) (few 
       other (told.Value value number) k e = cc
 
   pub step_low : (w : World) → IsWorld n sv w → AreLow n limit w → (x : ScheduleLine) → IsOther x → StepLow n limit (step service requests seed n w x)
-  step_low w ok h (line.Elect m) o = absurd o
-  step_low w ok h (line.Submit m r) o = each_low w ok.many h m _ (λ d b. active_low m (is_active d.node.role) d _ b (submit_low m (slice_get requests r) d b))
-  step_low w ok h (line.Lane m lane) o = each_low w ok.many h m _ (λ d b. active_low m (is_active d.node.role) d _ b (turn_low m w.done lane d b))
-  step_low w ok h (line.Cut m) o = each_low w ok.many h m _ (λ d b. cut_low m (no_limits service d.node) d b)
-  step_low w ok h (line.CutBelow m limits) o = each_low w ok.many h m _ (λ d b. cut_low m (with_limits service d.node limits) d b)
-  step_low w ok h (line.Deliver number) o = deliver_low w ok h number (message_at w.messages number) refl
-  step_low w ok h line.Flush o = only_low w h effect.Nothing (λ m e. cc)
-  step_low w ok h (line.Replay m) o = each_low w ok.many h m (replay m) (replay_low n sv m limit some calm_replies)
-  step_low w ok h (line.Ask m other) o = each_low w ok.many h m (ask m other) (λ d b. record { promised = b.promised; own = b.own; calm = b.calm })
-  step_low w ok h (line.Stop m) o = each_low w ok.many h m (stop m) (stop_low n sv m limit some calm_replies)
-  step_low w ok h (line.Start m) o = start_if_low w ok.many h m (node_at w.nodes m).up
-  step_low w ok h (line.Checkpoint m version) o = each_low w ok.many h m (checkpoint version sv m) (checkpoint_low n sv m limit some calm_replies version)
-  step_low w ok h (line.DropKnown m) o = each_low w ok.many h m (drop_known m) (drop_low n sv m limit some calm_replies)
-  step_low w ok h (line.KeepFail m kept) o = any_low w ok.many h m (arm m kept) (arm_low n sv m limit some calm_replies kept)
-  step_low w ok h (line.ReadVariable m client variable) o = read_low w h m client variable (read_at service (node_at w.nodes m) variable (get_or w.seen client 0))
+  step_low w ok h =
+      of_step service requests seed n w (λ y r. IsOther y → StepLow n limit r)
+      (record {
+        calls = λ y m call k o. each_low w ok.many h m call (k.low o limit some);
+        delivers = λ number o. deliver_low w ok h number (message_at w.messages number) refl;
+        flush = λ o. only_low w h effect.Nothing (λ m e. cc);
+        starts = λ m o. start_if_low w ok.many h m (node_at w.nodes m).up;
+        arms = λ m kept o. any_low w ok.many h m (arm m kept) (arm_low n sv m limit some (calm_replies service seed) kept);
+        reads = λ m client variable o. read_low w h m client variable (read_at service (node_at w.nodes m) variable (get_or w.seen client 0));
+      })
 
   take_low : (w : World) → IsWorld n sv w → AreLow n limit w → (m : ℕ) (e : Event) → StepLow n limit (at_node w m (λ d. active_only (is_active d.node.role) d (take_event service e d)))
-  take_low w ok h m e = each_low w ok.many h m _ (λ d b. active_low m (is_active d.node.role) d (take_event service e d) b (record { promised = b.promised; own = b.own; calm = b.calm }))
+  take_low w ok h m e = each_low w ok.many h m _ (λ d b. active_low service seed n limit some m (is_active d.node.role) d (take_event service e d) b (record { promised = b.promised; own = b.own; calm = b.calm }))
 
   -- an election whose ballot is below the limit
   abbrev pub CallsLow : World → ℕ → Type 0
@@ -269,16 +189,16 @@ module _ (service : Declarations) (requests : List Request) (seed n : ℕ) (few 
       x = begin (node_at w.nodes m)
 
       stood : (min : IsNode n m) → (round_of (ballot_above m (promise (logs w m))) ≤ greatest_round) ⊎ (elect n sv m (begin (node_at w.nodes m)) ≡ say (effect.Spent m) (begin (node_at w.nodes m))) → IsLow limit (elect n sv m (begin (node_at w.nodes m))).node
-      stood min (inl r) = let k = elect_low n sv m limit some calm_replies (begin (node_at w.nodes m)) (begun w h m min) (b min) r in record { promised = k.promised; own = k.own }
+      stood min (inl r) = let k = elect_low n sv m limit some (calm_replies service seed) (begin (node_at w.nodes m)) (begun w h m min) (b min) r in record { promised = k.promised; own = k.own }
       stood min (inr e) = subst (λ (d : CallHere). IsLow limit d.node) (sym e) (h m min)
 
       go : (t : Bool) → (node_at w.nodes m).up ≡ t → IsNode n m ⊎ (IsNode n m → ⊥) → AreLow n limit (if_up t w m (elect n sv m (begin (node_at w.nodes m)))).world
       go false e o = h
-      go true e (inl min) = nodes_after w many h m min (elect n sv m (begin (node_at w.nodes m))) (stood min (elect_either n sv m limit some calm_replies (begin (node_at w.nodes m))))
+      go true e (inl min) = nodes_after w many h m min (elect n sv m (begin (node_at w.nodes m))) (stood min (elect_either n sv m limit some (calm_replies service seed) (begin (node_at w.nodes m))))
       go true e (inr none) = absurd (false≢true (sym (not_up w many m none) ∙ e))
 
   elected_low : (w : World) → length w.nodes ≡ n → AreLow n limit w → (m : ℕ) → (IsNode n m → CallsLow w m) → (IsNode n m → round_of (ballot_above m (promise (logs w m))) ≤ greatest_round) → StepLow n limit (at_node w m (elect n sv m))
-  elected_low w many h m b r = at_low w many h m (elect n sv m) (λ min. elect_low n sv m limit some calm_replies (begin (node_at w.nodes m)) (begun w h m min) (b min) (r min))
+  elected_low w many h m b r = at_low w many h m (elect n sv m) (λ min. elect_low n sv m limit some (calm_replies service seed) (begin (node_at w.nodes m)) (begun w h m min) (b min) (r min))
 
   -- ---- lines but elections
 
@@ -308,19 +228,7 @@ flush_other (k ∷ ks) = (tt, delivers ks)
 elects_or_not : (w : World) (x : ScheduleLine) → ((m : ℕ) × (x ≡ line.Elect m)) ⊎ AreOther (steps_of w x)
 elects_or_not w (line.Elect m) = inl (m, refl)
 elects_or_not w line.Flush = inr (flush_other (waiting_from 1 w.handed))
-elects_or_not w (line.Submit m r) = inr (tt, tt)
-elects_or_not w (line.Lane m lane) = inr (tt, tt)
-elects_or_not w (line.Cut m) = inr (tt, tt)
-elects_or_not w (line.CutBelow m limits) = inr (tt, tt)
-elects_or_not w (line.Deliver number) = inr (tt, tt)
-elects_or_not w (line.Replay m) = inr (tt, tt)
-elects_or_not w (line.Ask m other) = inr (tt, tt)
-elects_or_not w (line.Stop m) = inr (tt, tt)
-elects_or_not w (line.Start m) = inr (tt, tt)
-elects_or_not w (line.Checkpoint m version) = inr (tt, tt)
-elects_or_not w (line.DropKnown m) = inr (tt, tt)
-elects_or_not w (line.KeepFail m kept) = inr (tt, tt)
-elects_or_not w (line.ReadVariable m client variable) = inr (tt, tt)
+elects_or_not w _ = inr (tt, tt)
 
 -- below the ballots of the rounds above this one
 abbrev pub end_of : ℕ → ℕ

@@ -26,6 +26,7 @@ use Rattle.rex_cluster.specs.Takes.{Doing, does, after_doings}
 use Rattle.rex_cluster.specs.Takes.Doing.{Does, Takes}
 use Rattle.rex_safety.specs.Seeing.{IsTold}
 use Rattle.rex_cluster.proofs.Saying.{quiet_one}
+use Rattle.rex_safety.proofs.Lawful.{of_step}
 use Rattle.rex_safety.proofs.Nodes.{node_put}
 use Rattle.rex_safety.proofs.Moments.{read_quiet}
 
@@ -137,21 +138,16 @@ module _ (service : Declarations) (requests : List Request) (seed n : ℕ) where
       set_rises w.seen client _ (answer_rises x.up (is_active x.role) x.replayed (value_in (state_after service (trace_of (take x.replayed (known x.log)))) variable) (get_or w.seen client 0))
 
   pub step_rises : (w : World) (x : ScheduleLine) → Rises w.seen (step service requests seed n w x).world.seen
-  step_rises w (line.Elect m) = if_up_rises (node_at w.nodes m).up w m _
-  step_rises w (line.Submit m r) = if_up_rises (node_at w.nodes m).up w m _
-  step_rises w (line.Lane m lane) = if_up_rises (node_at w.nodes m).up w m _
-  step_rises w (line.Cut m) = if_up_rises (node_at w.nodes m).up w m _
-  step_rises w (line.CutBelow m limits) = if_up_rises (node_at w.nodes m).up w m _
-  step_rises w (line.Deliver number) = deliver_rises w number (message_at w.messages number)
-  step_rises w line.Flush = rises_same w.seen
-  step_rises w (line.Replay m) = if_up_rises (node_at w.nodes m).up w m _
-  step_rises w (line.Ask m other) = if_up_rises (node_at w.nodes m).up w m _
-  step_rises w (line.Stop m) = if_up_rises (node_at w.nodes m).up w m _
-  step_rises w (line.Start m) = start_rises w m (node_at w.nodes m).up
-  step_rises w (line.Checkpoint m version) = if_up_rises (node_at w.nodes m).up w m _
-  step_rises w (line.DropKnown m) = if_up_rises (node_at w.nodes m).up w m _
-  step_rises w (line.KeepFail m kept) = releases_rise (stamp_at (arm m kept (begin (node_at w.nodes m))).node) (arm m kept (begin (node_at w.nodes m))).effects w.seen
-  step_rises w (line.ReadVariable m client variable) = read_rises w m client variable
+  step_rises w =
+      of_step service requests seed n w (λ y r. Rises w.seen r.world.seen)
+      (record {
+        calls = λ y m call k. if_up_rises (node_at w.nodes m).up w m _;
+        delivers = λ number. deliver_rises w number (message_at w.messages number);
+        flush = rises_same w.seen;
+        starts = λ m. start_rises w m (node_at w.nodes m).up;
+        arms = λ m kept. releases_rise (stamp_at (arm m kept (begin (node_at w.nodes m))).node) (arm m kept (begin (node_at w.nodes m))).effects w.seen;
+        reads = λ m client variable. read_rises w m client variable;
+      })
 
   pub steps_rise : (w : World) (xs : List ScheduleLine) → Rises w.seen (steps service requests seed n w xs).world.seen
   steps_rise w [] = rises_same w.seen
@@ -215,18 +211,13 @@ module _ (service : Declarations) (requests : List Request) (seed n : ℕ) where
   read_stamps w m client variable a = quiet_stamps m (read_row w m client variable a) (quiet_one (read_effect m client variable a) (read_quiet m client variable a))
 
   pub step_stamps : (w : World) → length w.nodes ≡ n → length w.seen ≡ 257 → (x : ScheduleLine) → IsNode n (node_in w x) → Stamps (node_in w x) (step service requests seed n w x)
-  step_stamps w many long (line.Elect m) min = if_up_stamps w many long m min (node_at w.nodes m).up _
-  step_stamps w many long (line.Submit m r) min = if_up_stamps w many long m min (node_at w.nodes m).up _
-  step_stamps w many long (line.Lane m lane) min = if_up_stamps w many long m min (node_at w.nodes m).up _
-  step_stamps w many long (line.Cut m) min = if_up_stamps w many long m min (node_at w.nodes m).up _
-  step_stamps w many long (line.CutBelow m limits) min = if_up_stamps w many long m min (node_at w.nodes m).up _
-  step_stamps w many long (line.Deliver number) min = deliver_stamps w many long number (message_at w.messages number) min
-  step_stamps w many long line.Flush min = absurd (omega (arith, min.0))
-  step_stamps w many long (line.Replay m) min = if_up_stamps w many long m min (node_at w.nodes m).up _
-  step_stamps w many long (line.Ask m other) min = if_up_stamps w many long m min (node_at w.nodes m).up _
-  step_stamps w many long (line.Stop m) min = if_up_stamps w many long m min (node_at w.nodes m).up _
-  step_stamps w many long (line.Start m) min = start_stamps w many long m min (node_at w.nodes m).up
-  step_stamps w many long (line.Checkpoint m version) min = if_up_stamps w many long m min (node_at w.nodes m).up _
-  step_stamps w many long (line.DropKnown m) min = if_up_stamps w many long m min (node_at w.nodes m).up _
-  step_stamps w many long (line.KeepFail m kept) min = after_stamps w many long m min (arm m kept (begin (node_at w.nodes m)))
-  step_stamps w many long (line.ReadVariable m client variable) min = read_stamps w m client variable _
+  step_stamps w many long =
+      of_step service requests seed n w (λ y r. IsNode n (node_in w y) → Stamps (node_in w y) r)
+      (record {
+        calls = λ y m call k min. subst (λ q. Stamps q (at_node w m call)) (sym k.node) (if_up_stamps w many long m (subst (IsNode n) k.node min) (node_at w.nodes m).up _);
+        delivers = λ number min. deliver_stamps w many long number (message_at w.messages number) min;
+        flush = λ min. absurd (omega (arith, min.0));
+        starts = λ m min. start_stamps w many long m min (node_at w.nodes m).up;
+        arms = λ m kept min. after_stamps w many long m min (arm m kept (begin (node_at w.nodes m)));
+        reads = λ m client variable min. read_stamps w m client variable _;
+      })

@@ -5,17 +5,17 @@ use Rattle.rex_syntax.specs.declared.request.Request.{Request}
 use Rattle.rex_syntax.specs.declared.service.Declarations.{Declarations}
 use Rattle.rex_state.specs.Value.{StateValue}
 use Rattle.rex_schedule.specs.declared.scenario.ScheduleLine.{ScheduleLine}
-use Rattle.rex_schedule.specs.declared.scenario.ScheduleLine.TheVariants as line
 use Rattle.rex_cluster.specs.Records.{Proposal}
 use Rattle.rex_cluster.specs.Quorum.{IsNode}
 use Rattle.rex_cluster.specs.Node.{Service, Message, Work}
-use Rattle.rex_cluster.specs.Calls.{begin, elect, receive, ask, replay, checkpoint, drop_known, stop, start, arm, work_known}
+use Rattle.rex_cluster.specs.Calls.{begin, receive, start, arm, work_known}
 use Rattle.rex_cluster.specs.Values.{Value, service_of}
 use Rattle.rex_cluster.specs.Lanes.{Here, CallHere, active_only}
 use Rattle.rex_cluster.specs.World.{World, node_at, put, after, if_up, at_node, start_if, with_handed, deliver_found, message_at, step}
+use Rattle.rex_safety.proofs.Lawful.{LanesKeep, of_step}
 use Rattle.rex_safety.proofs.Nodes.{node_put, put_none, IsFresh}
 use Rattle.rex_safety.proofs.Worlds.{node_or_not}
-use Rattle.rex_cluster.proofs.Working.{fresh_work, Works, passive, elect_works, receive_works, replay_works, checkpoint_works, drop_works, start_works}
+use Rattle.rex_cluster.proofs.Working.{fresh_work, Works, passive, receive_works, start_works}
 
 module _ (service : Declarations) (seed n : ℕ) (A : List Value → Option (Proposal Value) → Work → Type 0)
     (new : (vs : List Value) (dice : Lcg) → (service_of service seed).fits vs ≡ true → A vs None (fresh_work dice))
@@ -60,30 +60,17 @@ module _ (service : Declarations) (seed n : ℕ) (A : List Value → Option (Pro
   restart_works w many h m true = h
   restart_works w many h m false = after_works w many h m (start sv m (begin (node_at w.nodes m))) (start_works n sv m A new more (begin (node_at w.nodes m)))
 
-  -- what a line of clients and lanes makes of a world; any other line is like this
-  abbrev pub LanesWork : List Request → World → ScheduleLine → Type 0
-  LanesWork requests w (line.Submit m r) = AllWorks (step service requests seed n w (line.Submit m r)).world
-  LanesWork requests w (line.Lane m lane) = AllWorks (step service requests seed n w (line.Lane m lane)).world
-  LanesWork requests w (line.Cut m) = AllWorks (step service requests seed n w (line.Cut m)).world
-  LanesWork requests w (line.CutBelow m limits) = AllWorks (step service requests seed n w (line.CutBelow m limits)).world
-  LanesWork requests w _ = Unit {0}
-
-  pub step_works : (requests : List Request) (w : World) → length w.nodes ≡ n → AllWorks w → (x : ScheduleLine) → LanesWork requests w x → AllWorks (step service requests seed n w x).world
-  step_works requests w many h (line.Elect m) l = at_works w many h m (elect n sv m) (λ d k. elect_works n sv m A new more d k)
-  step_works requests w many h (line.Submit m r) l = l
-  step_works requests w many h (line.Lane m lane) l = l
-  step_works requests w many h (line.Cut m) l = l
-  step_works requests w many h (line.CutBelow m limits) l = l
-  step_works requests w many h (line.Deliver number) l = deliver_works w many h number (message_at w.messages number)
-  step_works requests w many h line.Flush l = h
-  step_works requests w many h (line.Replay m) l = at_works w many h m (replay m) (λ d k. replay_works n sv m A new more d k)
-  step_works requests w many h (line.Ask m other) l = at_works w many h m (ask m other) (λ d k. record { each = k.each })
-  step_works requests w many h (line.Stop m) l = at_works w many h m (stop m) (λ d k. passive n sv m A new more _ refl)
-  step_works requests w many h (line.Start m) l = restart_works w many h m (node_at w.nodes m).up
-  step_works requests w many h (line.Checkpoint m version) l = at_works w many h m (checkpoint version sv m) (λ d k. checkpoint_works n sv m A new more version d k)
-  step_works requests w many h (line.DropKnown m) l = at_works w many h m (drop_known m) (λ d k. drop_works n sv m A new more d k)
-  step_works requests w many h (line.KeepFail m kept) l = after_works w many h m (arm m kept (begin (node_at w.nodes m))) (record { each = (h m).each })
-  step_works requests w many h (line.ReadVariable m client variable) l = h
+  pub step_works : (requests : List Request) (w : World) → length w.nodes ≡ n → AllWorks w → (x : ScheduleLine) → LanesKeep service requests seed n w WorksAt x → AllWorks (step service requests seed n w x).world
+  step_works requests w many h =
+      of_step service requests seed n w (λ y r. LanesKeep service requests seed n w WorksAt y → AllWorks r.world)
+      (record {
+        calls = λ y m call k l. at_works w many h m call (k.works A new more l);
+        delivers = λ number l. deliver_works w many h number (message_at w.messages number);
+        flush = λ l. h;
+        starts = λ m l. restart_works w many h m (node_at w.nodes m).up;
+        arms = λ m kept l. after_works w many h m (arm m kept (begin (node_at w.nodes m))) (record { each = (h m).each });
+        reads = λ m client variable l. h;
+      })
 
   pub fresh_works : (m : ℕ) (x : Here) → IsFresh x → WorksAt m (begin x)
   fresh_works m x (inl e) = subst (λ (y : Here). WorksAt m (begin y)) (sym e) (passive n sv m A new more _ refl)
