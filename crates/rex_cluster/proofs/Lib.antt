@@ -8,6 +8,7 @@ pub mod Settle
 pub mod TellNone
 pub mod Migrated
 pub mod Calls
+pub mod Cutting
 pub mod Fronts
 pub mod Traces
 pub mod Told

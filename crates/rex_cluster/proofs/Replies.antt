@@ -1,22 +1,20 @@
 -- A reply that a step releases stands in what its node knows, and the node is active.
 use Rattle.std.proofs.Common.{◌≡◌, ℕ, zero, suc, Bool, true, false, ◌⊎◌, List, [], ◌∷◌, ◌++◌, length, Option, Some, None, refl, sym, ◌∙◌, ap, subst, inl, inr, append-nil, append_assoc}
-use Rattle.std.specs.Prelude.{map, slice_get, nat_le}
+use Rattle.std.specs.Prelude.{map, slice_get}
 use Rattle.std.proofs.lemmas.Bool.{false≢true}
 use Rattle.rex_syntax.specs.declared.request.Request.{Request}
 use Rattle.rex_syntax.specs.declared.service.Declarations.{Declarations}
 use Rattle.rex_event.specs.declared.event.Event.{Event}
-use Rattle.rex_event.specs.Cuts.{below}
 use Rattle.rex_cut.specs.Greatest.{greatest_cut}
 use Rattle.rex_state.specs.Value.{StateValue}
 use Rattle.rex_record.specs.declared.turns.Turn.{Turn}
 use Rattle.rex_report.specs.declared.effect.Effect.{Effect}
 use Rattle.rex_report.specs.declared.effect.Effect.TheVariants as effect
-use Rattle.rex_cluster.specs.Records.{Proposal, known}
-use Rattle.rex_cluster.specs.Node.{Lead, Role, is_active, role_name}
-use Rattle.rex_cluster.specs.Node.Role.{Follower, Leads}
+use Rattle.rex_cluster.specs.Records.{known}
+use Rattle.rex_cluster.specs.Node.{is_active, role_name}
 use Rattle.rex_cluster.specs.Calls.{say, enough}
 use Rattle.rex_cluster.specs.Values.{Value, service_of}
-use Rattle.rex_cluster.specs.Lanes.{CallHere, active_only, submit_request, effect_of, lane_turn, is_faithful, cut_live, cut_lead, cut_role, cut, value_at}
+use Rattle.rex_cluster.specs.Lanes.{CallHere, active_only, submit_request, effect_of, lane_turn, cut, value_at}
 use Rattle.std.specs.Prelude.{ℤ, is_some, unwrap_or}
 use Rattle.std.specs.List.{All, list_all}
 use Rattle.std.proofs.lemmas.Bool.{and_parts}
@@ -41,7 +39,8 @@ use Rattle.rex_cluster.specs.Invariant.{Begins}
 use Rattle.rex_cluster.proofs.Traces.{stands_more}
 use Rattle.rex_cluster.proofs.Released.{releases_stand, answer_released, answer_stands}
 use Rattle.rex_cluster.proofs.Told.{AreTold, told_from_start}
-use Rattle.rex_cluster.proofs.Saying.{Quiet, Other, Says, quiet_push, quiet_says, say_says, if_says, cut_says, among_either}
+use Rattle.rex_cluster.proofs.Cutting.{cut_keeps}
+use Rattle.rex_cluster.proofs.Saying.{Quiet, Other, Says, quiet_push, quiet_says, say_says, cut_says, among_either}
 
 -- ---- traces of values
 
@@ -160,28 +159,9 @@ module _ (service : Declarations) (good : IsService service) (checked : IsChecke
       by true = quietly (lane_turn service done lane d) (quiet_push d.effects (turn_effect lane (turn_in service d.node done lane)) q (turn_other lane (turn_in service d.node done lane)))
 
   pub cut_tells : (counts : List ℕ) (d : CallHere) → Quiet d.effects → SaysHere (cut service seed n me counts d)
-  cut_tells counts d q = by d.node.role
+  cut_tells counts d q =
+      cut_keeps SaysHere service seed n me counts d (tells effect.Nothing (λ c s x e. cc)) (λ i. tells (effect.Open i) (λ c s x e. cc)) (tells effect.Ended (λ c s x e. cc)) (not_active_says d q)
+      (λ l r a p i f. cut_says n (service_of service seed) me (StandsIn service good checked) (replies_stand service good checked) _ d l (suc (length (known d.node.log))) (value_at (greatest_cut counts d.node.work.live) d.node.work.live) (enough l.reported) (λ c s x e. cc) q)
     where
       tells : (e : Effect) → Other e → SaysHere (say e d)
       tells e o = say_says n (service_of service seed) me (StandsIn service good checked) (replies_stand service good checked) e d q o
-
-      live : (c : List ℕ) (l : Lead Value) (es : List Event) → SaysHere (cut_live service seed n me c l es d)
-      live c l [] = tells effect.Nothing (λ c s x e. cc)
-      live c l (y ∷ ys) =
-          if_says n (service_of service seed) me (StandsIn service good checked) (replies_stand service good checked) (is_faithful service seed (known d.node.log) c d.node.work.live)
-          (cut_says n (service_of service seed) me (StandsIn service good checked) (replies_stand service good checked) _ d l (suc (length (known d.node.log))) (value_at c d.node.work.live) (enough l.reported) (λ c s x e. cc) q)
-          (tells effect.Nothing (λ c s x e. cc))
-
-      led : (l : Lead Value) (o : Option (Proposal Value)) → SaysHere (cut_lead service seed n me counts l o d)
-      led l (Some p) = tells (effect.Open p.instance) (λ c s x e. cc)
-      led l None =
-          if_says n (service_of service seed) me (StandsIn service good checked) (replies_stand service good checked) (nat_le 65535 (length (known d.node.log))) (tells effect.Ended (λ c s x e. cc))
-          (live (greatest_cut counts d.node.work.live) l (below (greatest_cut counts d.node.work.live) d.node.work.live))
-
-      active : (l : Lead Value) (t : Bool) → SaysHere (active_only t d (cut_lead service seed n me counts l l.proposal d))
-      active l true = led l l.proposal
-      active l false = not_active_says d q
-
-      by : (r : Role Value) → SaysHere (cut_role service seed n me counts r d)
-      by Follower = not_active_says d q
-      by (Leads l) = active l l.active

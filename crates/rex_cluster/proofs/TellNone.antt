@@ -2,8 +2,6 @@
 use Rattle.std.proofs.Common.{ℕ, zero, suc, Bool, true, false, cond, List, [], ◌∷◌, ◌++◌, length, Option, Some, None, eqb}
 use Rattle.std.specs.Prelude.{◌==◌, nat_lt, nat_le}
 use Rattle.rex_syntax.specs.declared.service.Declarations.{Declarations}
-use Rattle.rex_event.specs.declared.event.Event.{Event}
-use Rattle.rex_event.specs.Cuts.{below}
 use Rattle.rex_cut.specs.Greatest.{greatest_cut}
 use Rattle.rex_report.specs.declared.effect.Effect.{Effect}
 use Rattle.rex_report.specs.declared.effect.Effect.TheVariants as effect
@@ -15,8 +13,9 @@ use Rattle.rex_cluster.specs.Node.Failure.{After}
 use Rattle.rex_cluster.specs.Node.Content.{Prepare, Promise, Accept, Accepted as Voted, Chosen as Chose, Nack, Ask, Snapshot}
 use Rattle.rex_cluster.specs.Node.Role.{Follower, Leads}
 use Rattle.rex_cluster.specs.Calls.{Call, others, append, logged, propose, decide, best, choose, lead, turn, settle, enough, own_reports, stand, elect, heard, on_own_promise, on_promise, voted, on_own_vote, on_voted, on_nack, receive}
-use Rattle.rex_cluster.specs.Values.{Value, service_of}
-use Rattle.rex_cluster.specs.Lanes.{CallHere, active_only, is_faithful, cut_live, cut_lead, cut_role, cut, value_at}
+use Rattle.rex_cluster.specs.Values.{service_of}
+use Rattle.rex_cluster.specs.Lanes.{CallHere, cut, value_at}
+use Rattle.rex_cluster.proofs.Cutting.{cut_keeps}
 use Rattle.rex_cluster.specs.Telling.{TellsNoState, TellNoState, AsksNoState}
 
 module _ {V : Type 0} where
@@ -131,25 +130,6 @@ module _ {V S : Type 0} where
 -- ---- cuts
 
 pub cut_tells_none : (service : Declarations) (seed n me : ℕ) (counts : List ℕ) (d : CallHere) → TellNoState d.sends → TellNoState (cut service seed n me counts d).sends
-cut_tells_none service seed n me counts d h = by d.node.role
-  where
-    live : (c : List ℕ) (l : Lead Value) (es : List Event) → TellNoState (cut_live service seed n me c l es d).sends
-    live c l [] = h
-    live c l (e ∷ es) =
-        if_tells_none (is_faithful service seed (known d.node.log) c d.node.work.live) _ _
-        (propose_tells_none n (service_of service seed) me (effect.Proposes me (suc (length (known d.node.log))) (length (below c d.node.work.live))) d l (suc (length (known d.node.log))) (value_at c d.node.work.live) (settle (enough l.reported) n (service_of service seed) me) (settle_tells_none n (service_of service seed) me (enough l.reported)) h)
-        h
-
-    led : (l : Lead Value) (o : Option (Proposal Value)) → TellNoState (cut_lead service seed n me counts l o d).sends
-    led l (Some p) = h
-    led l None =
-        if_tells_none (nat_le 65535 (length (known d.node.log))) _ _ h
-        (live (greatest_cut counts d.node.work.live) l (below (greatest_cut counts d.node.work.live) d.node.work.live))
-
-    active : (l : Lead Value) (t : Bool) → TellNoState (active_only t d (cut_lead service seed n me counts l l.proposal d)).sends
-    active l true = led l l.proposal
-    active l false = h
-
-    by : (r : Role Value) → TellNoState (cut_role service seed n me counts r d).sends
-    by Follower = h
-    by (Leads l) = active l l.active
+cut_tells_none service seed n me counts d h =
+    cut_keeps (λ e. TellNoState e.sends) service seed n me counts d h (λ i. h) h h
+    (λ l r a p i f. propose_tells_none n (service_of service seed) me _ d l (suc (length (known d.node.log))) (value_at (greatest_cut counts d.node.work.live) d.node.work.live) (settle (enough l.reported) n (service_of service seed) me) (settle_tells_none n (service_of service seed) me (enough l.reported)) h)

@@ -30,7 +30,7 @@ use Rattle.rex_cluster.specs.Lanes.{known_state, limits_between, turn_in}
 use Rattle.rex_cluster.specs.Acting.{IsActing, HasLane}
 use Rattle.rex_cluster.specs.Agreed.{world_after}
 use Rattle.rex_safety.specs.Laws.{ActsRightly}
-use Rattle.rex_safety.proofs.Lanes.{cut_keeps}
+use Rattle.rex_cluster.proofs.Cutting.{cut_keeps}
 use Rattle.rex_safety.proofs.Lawful.{LanesKeep}
 use Rattle.rex_safety.proofs.Nodes.{fresh_at}
 use Rattle.rex_safety.proofs.Worlds.{IsWorld, node_of_lead}

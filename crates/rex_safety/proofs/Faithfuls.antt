@@ -45,7 +45,7 @@ use Rattle.rex_cluster.proofs.Acting.{fits_front}
 use Rattle.rex_safety.proofs.Keeps.{beginning_kept}
 use Rattle.rex_safety.proofs.Takes.{doings_kept}
 use Rattle.rex_cluster.proofs.Bytes.{spelled_delta}
-use Rattle.rex_safety.proofs.Lanes.{cut_keeps}
+use Rattle.rex_cluster.proofs.Cutting.{cut_keeps}
 use Rattle.rex_safety.proofs.Lawful.{LanesKeep}
 use Rattle.rex_safety.proofs.Nodes.{fresh_at}
 use Rattle.rex_safety.proofs.Worlds.{node_of_lead}

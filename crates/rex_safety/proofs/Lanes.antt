@@ -1,12 +1,9 @@
 -- What calls of clients and lanes keep: a request that is submitted, a turn of a lane, and a cut.
-use Rattle.std.proofs.Common.{◌≡◌, ℕ, suc, ◌<◌, ◌≤◌, Bool, true, false, List, [], ◌∷◌, length, Option, Some, None, refl, sym, subst, leb-false}
-use Rattle.std.specs.Prelude.{nat_le}
+use Rattle.std.proofs.Common.{◌≡◌, ℕ, suc, ◌<◌, ◌≤◌, Bool, true, false, List, length, Option, Some, None, refl, sym, subst}
 use Rattle.std.proofs.lemmas.Bool.{and_parts}
 use Rattle.rex_ballot.specs.Limits.{most_nodes}
 use Rattle.rex_syntax.specs.declared.request.Request.{Request}
 use Rattle.rex_syntax.specs.declared.service.Declarations.{Declarations}
-use Rattle.rex_event.specs.declared.event.Event.{Event}
-use Rattle.rex_event.specs.Cuts.{below}
 use Rattle.rex_cut.specs.Greatest.{greatest_cut}
 use Rattle.rex_state.specs.Value.{StateValue}
 use Rattle.rex_record.specs.declared.turns.Turn.{Turn}
@@ -19,44 +16,18 @@ use Rattle.rex_report.specs.declared.effect.Effect.{Effect}
 use Rattle.rex_report.specs.declared.effect.Effect.TheVariants as effect
 use Rattle.rex_cluster.specs.Records.{Proposal, known}
 use Rattle.rex_cluster.specs.Quorum.{IsNode, Logs}
-use Rattle.rex_cluster.specs.Node.{Message, Lead, Role, Work, is_active, role_name, own_ballot}
-use Rattle.rex_cluster.specs.Node.Role.{Follower, Leads}
+use Rattle.rex_cluster.specs.Node.{Message, Role, Work, is_active, role_name, own_ballot}
 use Rattle.rex_cluster.specs.Calls.{say, settle, enough}
 use Rattle.rex_cluster.specs.Invariant.{with_log, IsRightRole, KeepsAll}
 use Rattle.rex_cluster.specs.Ranges.{RoleFits}
 use Rattle.rex_cluster.specs.Values.{Value, trace_of, state_after, events_of, service_of}
-use Rattle.rex_cluster.specs.Lanes.{CallHere, active_only, submit_request, effect_of, worked, lane_turn, turn_effect, turn_in, is_faithful, propose_cut, cut_live, cut_lead, cut_role, cut, value_at, known_state, live_state}
-use Rattle.rex_cluster.proofs.Calls.{if_good, say_good, good_with, active_proposes}
+use Rattle.rex_cluster.specs.Lanes.{CallHere, active_only, submit_request, effect_of, worked, lane_turn, turn_effect, turn_in, cut, value_at, known_state, live_state}
+use Rattle.rex_cluster.proofs.Calls.{say_good, good_with, active_proposes}
+use Rattle.rex_cluster.proofs.Cutting.{cut_keeps}
 use Rattle.rex_cluster.proofs.Ranged.{Fits, proposed_fits}
 use Rattle.rex_safety.specs.Rounds.{NoneIsSpent}
 use Rattle.rex_safety.proofs.Candidacies.{RoleHas, IsPlain, AreSent, propose_votes, settle_votes, Any, Cast}
 use Rattle.rex_safety.proofs.Rounds.{Other, Low, calm_push, calm_releases, say_low, propose_low, settle_low}
-
--- a cut proposes what is faithful, or says why it doesn't
-pub cut_keeps : (K : CallHere → Type 0) (service : Declarations) (seed n m : ℕ) (counts : List ℕ) (d : CallHere)
-    → K (say effect.Nothing d) → ((i : ℕ) → K (say (effect.Open i) d)) → K (say effect.Ended d) → K (say (effect.NotActive (role_name d.node.role)) d)
-    → ((l : Lead Value) → d.node.role ≡ Leads l → l.active ≡ true → l.proposal ≡ None → length (known d.node.log) < 65535
-    → is_faithful service seed (known d.node.log) (greatest_cut counts d.node.work.live) d.node.work.live ≡ true → K (propose_cut service seed n m (greatest_cut counts d.node.work.live) l d))
-    → K (cut service seed n m counts d)
-cut_keeps K service seed n m counts d nothing opened ended passive proposes = by d.node.role refl
-  where
-    live : (l : Lead Value) → d.node.role ≡ Leads l → l.active ≡ true → l.proposal ≡ None → length (known d.node.log) < 65535 → (es : List Event) → K (cut_live service seed n m (greatest_cut counts d.node.work.live) l es d)
-    live l r a p i [] = nothing
-    live l r a p i (y ∷ ys) = if_good K (is_faithful service seed (known d.node.log) (greatest_cut counts d.node.work.live) d.node.work.live) (λ f. proposes l r a p i f) (λ _. nothing)
-
-    led : (l : Lead Value) → d.node.role ≡ Leads l → l.active ≡ true → (o : Option (Proposal Value)) → l.proposal ≡ o → K (cut_lead service seed n m counts l o d)
-    led l r a (Some p) e = opened p.instance
-    led l r a None e =
-        if_good K (nat_le 65535 (length (known d.node.log))) (λ _. ended)
-        (λ i. live l r a e (leb-false 65535 (length (known d.node.log)) i) (below (greatest_cut counts d.node.work.live) d.node.work.live))
-
-    active : (l : Lead Value) → d.node.role ≡ Leads l → (t : Bool) → l.active ≡ t → K (active_only t d (cut_lead service seed n m counts l l.proposal d))
-    active l r true a = led l r a l.proposal refl
-    active l r false a = passive
-
-    by : (r : Role Value) → d.node.role ≡ r → K (cut_role service seed n m counts r d)
-    by Follower r = passive
-    by (Leads l) r = active l r l.active refl
 
 -- ---- records
 

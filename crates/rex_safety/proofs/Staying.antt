@@ -1,5 +1,5 @@
 -- A node that is up before a call, and active after it, is up after it too.
-use Rattle.std.proofs.Common.{◌≡◌, ℕ, zero, suc, ◌==◌, Bool, true, false, cond, List, [], ◌∷◌, Option, Some, None}
+use Rattle.std.proofs.Common.{◌≡◌, ℕ, zero, suc, ◌==◌, Bool, true, false, cond, List, Option, Some, None}
 use Rattle.std.specs.Prelude.{nat_lt, nat_le, length}
 use Rattle.std.proofs.lemmas.Bool.{false≢true}
 use Rattle.rex_report.specs.declared.effect.Effect.{Effect}
@@ -11,12 +11,11 @@ use Rattle.rex_cluster.specs.Node.Content.{Prepare, Promise, Accept, Accepted as
 use Rattle.rex_cluster.specs.Node.Role.{Follower, Leads}
 use Rattle.rex_syntax.specs.declared.request.Request.{Request}
 use Rattle.rex_syntax.specs.declared.service.Declarations.{Declarations}
-use Rattle.rex_event.specs.declared.event.Event.{Event}
-use Rattle.rex_event.specs.Cuts.{below}
 use Rattle.rex_cut.specs.Greatest.{greatest_cut}
 use Rattle.rex_state.specs.Value.{StateValue}
 use Rattle.rex_cluster.specs.Values.{Value, service_of}
-use Rattle.rex_cluster.specs.Lanes.{CallHere, active_only, cut, cut_lead, cut_live, cut_role, is_faithful, submit_request, value_at}
+use Rattle.rex_cluster.specs.Lanes.{CallHere, active_only, cut, submit_request, value_at}
+use Rattle.rex_cluster.proofs.Cutting.{cut_keeps}
 use Rattle.rex_cluster.specs.Calls.{Call, append, best, choose, decide, elect, enough, has_last, hear, heard, count_vote, voted, lead, logged, on_accept, on_ask, on_chosen, on_nack, on_own_promise, on_own_vote, on_prepare, on_promise, on_snapshot, on_voted, own_reports, propose, receive, settle, turn}
 
 module _ {V S : Type 0} (n : ℕ) (sv : Service V S) (me : ℕ) where
@@ -136,22 +135,7 @@ module _ (service : Declarations) (seed n me : ℕ) where
   submit_up None d u = record { at = λ t. u }
   submit_up (Some r) d u = record { at = λ t. u }
 
-  live_up : (cut : List ℕ) (l : Lead Value) (es : List Event) (d : CallHere) → d.node.up ≡ true → IsStill (cut_live service seed n me cut l es d)
-  live_up cut l [] d u = record { at = λ t. u }
-  live_up cut l (e ∷ es) d u =
-      if_up n (service_of service seed) me (is_faithful service seed (known d.node.log) cut d.node.work.live)
-      (propose_up n (service_of service seed) me _ d l (suc (length (known d.node.log))) (value_at cut d.node.work.live) (settle (enough l.reported) n (service_of service seed) me) u (settle_up n (service_of service seed) me (enough l.reported)))
-      (record { at = λ t. u })
-
-  open_up : (counts : List ℕ) (l : Lead Value) (o : Option (Proposal Value)) (d : CallHere) → d.node.up ≡ true → IsStill (cut_lead service seed n me counts l o d)
-  open_up counts l (Some p) d u = record { at = λ t. u }
-  open_up counts l None d u =
-      if_up n (service_of service seed) me (nat_le 65535 (length (known d.node.log))) (record { at = λ t. u })
-      (live_up (greatest_cut counts d.node.work.live) l (below (greatest_cut counts d.node.work.live) d.node.work.live) d u)
-
-  role_up : (counts : List ℕ) (r : Role Value) (d : CallHere) → d.node.up ≡ true → IsStill (cut_role service seed n me counts r d)
-  role_up counts Follower d u = record { at = λ t. u }
-  role_up counts (Leads l) d u = active_up l.active d (cut_lead service seed n me counts l l.proposal d) u (open_up counts l l.proposal d u)
-
   pub cut_up : (counts : List ℕ) (d : CallHere) → d.node.up ≡ true → IsStill (cut service seed n me counts d)
-  cut_up counts d u = role_up counts d.node.role d u
+  cut_up counts d u =
+      cut_keeps IsStill service seed n me counts d (record { at = λ t. u }) (λ i. record { at = λ t. u }) (record { at = λ t. u }) (record { at = λ t. u })
+      (λ l r a p i f. propose_up n (service_of service seed) me _ d l (suc (length (known d.node.log))) (value_at (greatest_cut counts d.node.work.live) d.node.work.live) (settle (enough l.reported) n (service_of service seed) me) u (settle_up n (service_of service seed) me (enough l.reported)))
