@@ -1,18 +1,16 @@
 -- What calls do to the votes of a candidacy and to the messages that ask for votes or give them.
-use Rattle.std.proofs.Common.{◌≡◌, ℕ, zero, suc, ◌<◌, Bool, true, false, cond, ◌||◌, ◌⊎◌, List, [], ◌∷◌, ◌++◌, length, Option, Some, None, eqb, refl, sym, ap, subst, inl, inr, eqb-true, leb-false}
+use Rattle.std.proofs.Common.{◌≡◌, ℕ, zero, suc, ◌<◌, Bool, true, false, cond, ◌⊎◌, List, [], ◌∷◌, ◌++◌, length, Option, Some, None, eqb, refl, sym, ap, subst, inl, inr, eqb-true, leb-false}
 use Rattle.std.specs.Prelude.{take, ◌==◌, nat_lt, nat_le}
 use Rattle.rex_report.specs.declared.effect.Effect.{Effect}
 use Rattle.rex_report.specs.declared.effect.Effect.TheVariants as effect
-use Rattle.rex_syntax.specs.declared.version.Version.{Version}
-use Rattle.rex_syntax.specs.declared.version.Version.TheVariants.{Two}
-use Rattle.rex_cluster.specs.Records.{Rec, Proposal, promise, accepted, from_on, offset, known, base, has_old_base, HasAccepted}
-use Rattle.rex_cluster.specs.Records.Rec.{Promised, Accepted, Known, Checkpoint, Dropped, Transferred}
+use Rattle.rex_cluster.specs.Records.{Rec, Proposal, promise, accepted, from_on, offset, known, base, HasAccepted}
+use Rattle.rex_cluster.specs.Records.Rec.{Promised, Accepted, Known, Transferred}
 use Rattle.rex_cluster.specs.Quorum.{is_in, is_majority, ballot_above, round_of}
-use Rattle.rex_cluster.specs.Node.{Service, Content, Message, Lead, Role, Failure, is_active}
+use Rattle.rex_cluster.specs.Node.{Service, Content, Message, Lead, Role, Failure}
 use Rattle.rex_cluster.specs.Node.Failure.{After}
 use Rattle.rex_cluster.specs.Node.Content.{Prepare, Promise, Accept, Accepted as Voted, Chosen as Chose, Nack, Ask, Snapshot}
 use Rattle.rex_cluster.specs.Node.Role.{Follower, Leads}
-use Rattle.rex_cluster.specs.Calls.{Call, say, send, others, append, logged, with_role, follow, propose, decide, best, choose, lead, turn, settle, enough, own_reports, candidacy, stand, elect, promised, on_prepare, heard, on_own_promise, on_promise, has_last, on_accept, voted, on_own_vote, on_voted, tell, on_chosen, on_nack, on_snapshot, receive, ask, replay, checkpoint, drop_known, restart, stop, start, arm}
+use Rattle.rex_cluster.specs.Calls.{Call, say, send, others, append, logged, with_role, follow, propose, decide, best, choose, lead, turn, settle, enough, own_reports, candidacy, stand, elect, promised, on_prepare, heard, on_own_promise, on_promise, has_last, on_accept, voted, on_own_vote, on_voted, tell, on_chosen, on_nack, on_snapshot, receive}
 use Rattle.rex_cluster.specs.Invariant.{IsIn}
 use Rattle.rex_cluster.proofs.Lists.{in_cases}
 use Rattle.rex_cluster.proofs.Calls.{if_good}
@@ -175,7 +173,7 @@ module _ {V S : Type 0} (P : ℕ → List ℕ → List (Proposal V) → Type 0) 
   pub plain_cast : (d : Call V S) (ms : List (Message V)) → AreSent (λ x. IsPlain x.content) ms → Cast d → Cast (send d ms)
   plain_cast d ms p h = record { role = h.role; log = tt; sends = sent_both Q d.sends ms h.sends (λ x i. plain x (p x i)) }
 
-  one_cast : (d : Call V S) (to : ℕ) (c : Content V) → IsPlain c → Cast d → Cast (send d (record { from = me; to = to; content = c } ∷ []))
+  pub one_cast : (d : Call V S) (to : ℕ) (c : Content V) → IsPlain c → Cast d → Cast (send d (record { from = me; to = to; content = c } ∷ []))
   one_cast d to c p h = plain_cast d (record { from = me; to = to; content = c } ∷ []) (sent_one (λ x. IsPlain x.content) (record { from = me; to = to; content = c }) p) h
 
   -- ---- messages
@@ -277,35 +275,3 @@ module _ {V S : Type 0} (P : ℕ → List ℕ → List (Proposal V) → Type 0) 
       gives young None = record { role = tt; sends = given (follow me (effect.Promised me b ∷ []) (logged (Promised b) None d)) young h.sends (λ c i v a. a) }
       gives young (Some (After (suc before) kept)) = record { role = tt; sends = given (follow me (effect.Promised me b ∷ []) (logged (Promised b) (Some (After before kept)) d)) young h.sends (λ c i v a. a) }
       gives young (Some (After zero kept)) = record { role = tt; sends = λ x i. absurd i }
-
-  -- ---- schedule lines
-
-  pub ask_cast : (other : ℕ) (d : Call V S) → Cast d → Cast (ask me other d)
-  ask_cast other d h = one_cast d other (Ask (suc (length (known d.node.log)))) tt h
-
-  pub replay_cast : (d : Call V S) → Cast d → Cast (replay me d)
-  replay_cast d h =
-      if_votes P Any Q (is_active d.node.role || d.node.replayed == length (known d.node.log)) (record { role = h.role; log = tt; sends = h.sends }) (record { role = h.role; log = tt; sends = h.sends })
-
-  pub checkpoint_cast : (version : Version) (d : Call V S) → Cast d → Cast (checkpoint version sv me d)
-  checkpoint_cast version d h =
-      if_votes P Any Q (d.node.replayed == base d.node.log) (record { role = h.role; log = tt; sends = h.sends })
-      (if_votes P Any Q (nat_lt 0 (length d.node.work.live)) (record { role = h.role; log = tt; sends = h.sends })
-      (append_cast d.node.armed (Checkpoint version d.node.replayed (sv.state (take d.node.replayed (known d.node.log)))) d _ h (λ a. record { role = h.role; log = tt; sends = h.sends })))
-
-  pub drop_cast : (d : Call V S) → Cast d → Cast (drop_known me d)
-  drop_cast d h =
-      if_votes P Any Q (base d.node.log == offset d.node.log) (record { role = h.role; log = tt; sends = h.sends })
-      (append_cast d.node.armed (Dropped (base d.node.log)) d _ h (λ a. record { role = h.role; log = tt; sends = h.sends }))
-
-  pub stop_cast : (d : Call V S) → Cast d → Cast (stop me d)
-  stop_cast d h = record { role = tt; log = tt; sends = h.sends }
-
-  pub arm_cast : (kept : Bool) (d : Call V S) → Cast d → Cast (arm me kept d)
-  arm_cast kept d h = record { role = h.role; log = tt; sends = h.sends }
-
-  pub start_cast : (d : Call V S) → Cast d → Cast (start sv me d)
-  start_cast d h =
-      if_votes P Any Q (has_old_base d.node.log)
-      (append_cast d.node.armed (Checkpoint Two (base d.node.log) (sv.state (take (base d.node.log) (known d.node.log)))) (restart me d) _ (record { role = tt; log = tt; sends = h.sends }) (λ a. record { role = tt; log = tt; sends = h.sends }))
-      (record { role = tt; log = tt; sends = h.sends })

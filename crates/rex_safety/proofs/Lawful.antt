@@ -29,9 +29,8 @@ use Rattle.rex_cluster.proofs.Ranged.{Fits, elect_fits, ask_fits, replay_fits, c
 use Rattle.rex_cluster.proofs.Replies.{StandsIn, replies_stand, SaysHere, quietly, submit_says, turn_says, cut_tells}
 use Rattle.rex_cluster.proofs.Saying.{Quiet, elect_says, replay_says, checkpoint_says, drop_says, stop_says}
 use Rattle.rex_cluster.proofs.Working.{fresh_work, Works, passive, elect_works, replay_works, checkpoint_works, drop_works}
-use Rattle.rex_safety.proofs.Candidacies.{IsPlain, Cast, ask_cast, replay_cast, checkpoint_cast, drop_cast, stop_cast}
-use Rattle.rex_safety.proofs.Lanes.{submits_good, turns_good, cut_good, calm_replies, LowHere, active_low, submit_low, turn_low, cut_low, active_cast, submit_cast, cut_cast, active_fits, submit_fits, cut_fits}
-use Rattle.rex_safety.proofs.Rounds.{replay_low, checkpoint_low, drop_low, stop_low}
+use Rattle.rex_safety.proofs.Candidacies.{IsPlain, Cast}
+use Rattle.rex_safety.proofs.LineCalls.{submits_good, turns_good, cut_good, LowHere, active_low, submit_low, turn_low, cut_low, replay_low, checkpoint_low, drop_low, stop_low, active_cast, submit_cast, cut_cast, ask_cast, replay_cast, checkpoint_cast, drop_cast, stop_cast, active_fits, submit_fits, cut_fits}
 
 -- what is no election
 abbrev pub IsOther : ScheduleLine → Type 0
@@ -125,8 +124,8 @@ module _ (service : Declarations) (requests : List Request) (seed n : ℕ) (w : 
     good = λ few L R ms min. replay_good n sv L R ms m min;
     says = λ sound checked fit. replay_says n sv m (StandsIn service sound checked) (replies_stand service sound checked);
     works = λ A new more l. replay_works n sv m A new more;
-    low = λ o limit some. replay_low n sv m limit some (calm_replies service seed);
-    cast = λ o P Q plain. replay_cast P Q n sv m plain;
+    low = λ o limit some. replay_low service seed n limit some m;
+    cast = λ o P Q plain. replay_cast P Q service seed n m plain;
     fits = λ l few min. replay_fits n few sv m min;
   }
 
@@ -137,7 +136,7 @@ module _ (service : Declarations) (requests : List Request) (seed n : ℕ) (w : 
     says = λ sound checked fit d. quietly service sound checked seed n m (ask m other d);
     works = λ A new more l d h. record { each = h.each };
     low = λ o limit some d h. record { promised = h.promised; own = h.own; calm = h.calm };
-    cast = λ o P Q plain. ask_cast P Q n sv m plain other;
+    cast = λ o P Q plain. ask_cast P Q service seed n m plain other;
     fits = λ l few min. ask_fits n few sv m min other l.1.0 l.1.1;
   }
 
@@ -147,8 +146,8 @@ module _ (service : Declarations) (requests : List Request) (seed n : ℕ) (w : 
     good = λ few L R ms min. stop_good n sv L R ms m min;
     says = λ sound checked fit. stop_says n sv m (StandsIn service sound checked) (replies_stand service sound checked);
     works = λ A new more l d h. passive n sv m A new more (stop m d) refl;
-    low = λ o limit some. stop_low n sv m limit some (calm_replies service seed);
-    cast = λ o P Q plain. stop_cast P Q n sv m plain;
+    low = λ o limit some. stop_low service seed n limit some m;
+    cast = λ o P Q plain. stop_cast P Q service seed n m plain;
     fits = λ l few min d h. record { log = h.log; role = tt; sends = h.sends };
   }
 
@@ -158,8 +157,8 @@ module _ (service : Declarations) (requests : List Request) (seed n : ℕ) (w : 
     good = λ few L R ms min. checkpoint_good n sv L R ms m min version;
     says = λ sound checked fit. checkpoint_says n sv m (StandsIn service sound checked) (replies_stand service sound checked) version;
     works = λ A new more l. checkpoint_works n sv m A new more version;
-    low = λ o limit some. checkpoint_low n sv m limit some (calm_replies service seed) version;
-    cast = λ o P Q plain. checkpoint_cast P Q n sv m plain version;
+    low = λ o limit some. checkpoint_low service seed n limit some m version;
+    cast = λ o P Q plain. checkpoint_cast P Q service seed n m plain version;
     fits = λ l few min. checkpoint_fits n few sv m min version;
   }
 
@@ -169,8 +168,8 @@ module _ (service : Declarations) (requests : List Request) (seed n : ℕ) (w : 
     good = λ few L R ms min. drop_good n sv L R ms m min;
     says = λ sound checked fit. drop_says n sv m (StandsIn service sound checked) (replies_stand service sound checked);
     works = λ A new more l. drop_works n sv m A new more;
-    low = λ o limit some. drop_low n sv m limit some (calm_replies service seed);
-    cast = λ o P Q plain. drop_cast P Q n sv m plain;
+    low = λ o limit some. drop_low service seed n limit some m;
+    cast = λ o P Q plain. drop_cast P Q service seed n m plain;
     fits = λ l few min. drop_fits n few sv m min;
   }
 

@@ -1,6 +1,6 @@
 pub mod Nodes
 pub mod Worlds
-pub mod Lanes
+pub mod LineCalls
 pub mod Lawful
 pub mod Steps
 pub mod Agreeing

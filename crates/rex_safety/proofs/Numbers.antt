@@ -1,5 +1,5 @@
 -- Each line keeps numbers in their ranges.
-pub use Rattle.rex_safety.proofs.Lanes.{active_fits}
+pub use Rattle.rex_safety.proofs.LineCalls.{active_fits}
 use Rattle.std.proofs.Common.{◌≡◌, ℕ, zero, suc, ◌<◌, ◌≤◌, Bool, true, false, cond, ◌⊎◌, List, [], ◌∷◌, ◌++◌, length, Option, Some, None, eqb, refl, sym, ◌∙◌, ap, subst, inl, inr, arith, append-nil}
 use Rattle.std.specs.Prelude.{map}
 use Rattle.std.proofs.lemmas.Bool.{false≢true}

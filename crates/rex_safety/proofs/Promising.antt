@@ -23,14 +23,14 @@ use Rattle.rex_cluster.specs.Takes.{Doing, take_event, take, after_doings}
 use Rattle.rex_cluster.specs.Takes.Doing.{Does, Takes}
 use Rattle.rex_safety.specs.Doings.{world_after_doings}
 use Rattle.rex_cluster.proofs.Lists.{in_cases, is_in_push, from_on_late, accepted_covers, from_on_covers, in_left, in_right}
-use Rattle.rex_safety.proofs.Lanes.{active_cast}
+use Rattle.rex_safety.proofs.LineCalls.{active_cast, arm_cast, start_cast}
 use Rattle.rex_safety.proofs.Lawful.{IsOther, of_step}
 use Rattle.rex_safety.proofs.Nodes.{node_put, IsFresh, fresh_at}
 use Rattle.rex_safety.proofs.Worlds.{GoesOnTo, nth_in}
 use Rattle.rex_safety.proofs.Steps.{step_ok, row_ok, beginning_ok}
 use Rattle.rex_cluster.proofs.Migrated.{migrated_sends}
 use Rattle.rex_safety.proofs.Doings.{does_ok}
-use Rattle.rex_safety.proofs.Candidacies.{RoleHas, IsPlain, Cast, Brings, IsGiven, Answers, receive_cast, prepare_answers, start_cast, arm_cast}
+use Rattle.rex_safety.proofs.Candidacies.{RoleHas, IsPlain, Cast, Brings, IsGiven, Answers, receive_cast, prepare_answers}
 use Rattle.rex_safety.proofs.Asking.{CoversFrom, AreLater, OwnFrom, VotesCover, IsMeant, Candidacies, HasCandidacies, P, Q, plain, old_message, after_cand, begun, cast_cand, at_cand, at_cast, elect_cand}
 
 -- ---- a message that is handed over
@@ -170,7 +170,7 @@ module _ (service : Declarations) (requests : List Request) (seed n : ℕ) (few 
     start_cand m true goes = has
     start_cand m false goes =
         any m (start svc m) goes (migrated_sends (has_old_base (node_at w.nodes m).log) m (restart m (begin (node_at w.nodes m))) (base (node_at w.nodes m).log) _ refl)
-        (λ P Q plain d h. start_cast P Q n svc m plain d h)
+        (λ P Q plain d h. start_cast P Q service seed n m plain d h)
 
     -- the same world with other flags
     flagged : (handed : List Bool) → Candidacies n has.first (record w { handed = handed })
@@ -201,7 +201,7 @@ module _ (service : Declarations) (requests : List Request) (seed n : ℕ) (few 
         delivers = λ number o goes. deliver_cand w ok has number (message_at w.messages number) refl goes;
         flush = λ o goes. has;
         starts = λ m o goes. start_cand w ok has m (node_at w.nodes m).up goes;
-        arms = λ m kept o goes. any w ok has m (arm m kept) goes refl (λ P Q plain. arm_cast P Q n svc m plain kept);
+        arms = λ m kept o goes. any w ok has m (arm m kept) goes refl (λ P Q plain. arm_cast P Q service seed n m plain kept);
         reads = λ m client variable o goes. record { first = has.first; holds = record { messages = has.holds.messages; roles = has.holds.roles } };
       }) x o (step_ok service requests seed n few w x ok)
 

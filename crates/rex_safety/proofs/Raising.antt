@@ -32,10 +32,10 @@ use Rattle.rex_cluster.specs.Takes.Doing.{Does, Takes}
 use Rattle.rex_safety.specs.Doings.{world_after_doings, moments_of_doings}
 use Rattle.rex_safety.specs.Rounds.{greatest_round, RoundsAreAtMost, NoneIsSpent, lines_among}
 use Rattle.rex_safety.proofs.Doings.{does_ok}
-use Rattle.rex_safety.proofs.Lanes.{calm_replies, LowHere, active_low}
+use Rattle.rex_safety.proofs.LineCalls.{calm_replies, LowHere, active_low, arm_low, start_low}
 use Rattle.rex_safety.proofs.Lawful.{IsOther, of_step}
 use Rattle.rex_safety.proofs.Nodes.{node_put, put_none, none_down, IsFresh, fresh_at}
-use Rattle.rex_safety.proofs.Rounds.{Other, calm_none, calm_one, calm_both, next_low, elect_low, elect_either, arm_low, start_low, ContentLow, receive_low}
+use Rattle.rex_safety.proofs.Rounds.{Other, calm_none, calm_one, calm_both, next_low, elect_low, elect_either, ContentLow, receive_low}
 use Rattle.rex_cluster.proofs.Step.{acc_below}
 use Rattle.rex_safety.proofs.Steps.{step_ok, row_ok, beginning_ok}
 use Rattle.rex_safety.proofs.Worlds.{nth_in, node_or_not}
@@ -152,7 +152,7 @@ module _ (service : Declarations) (requests : List Request) (seed n : ℕ) (few 
 
   start_if_low : (w : World) → length w.nodes ≡ n → AreLow n limit w → (m : ℕ) (t : Bool) → StepLow n limit (start_if sv t w m)
   start_if_low w many h m true = only_low w h (effect.IsUp m) (λ m e. cc)
-  start_if_low w many h m false = any_low w many h m (start sv m) (start_low n sv m limit some (calm_replies service seed))
+  start_if_low w many h m false = any_low w many h m (start sv m) (start_low service seed n limit some m)
 
   read_low : (w : World) → AreLow n limit w → (m client variable : ℕ) (a : Told) → StepLow n limit (read_row w m client variable a)
   read_low w h m client variable a = record { nodes = h; calm = calm_one (read_effect m client variable a) (other a) }
@@ -171,7 +171,7 @@ module _ (service : Declarations) (requests : List Request) (seed n : ℕ) (few 
         delivers = λ number o. deliver_low w ok h number (message_at w.messages number) refl;
         flush = λ o. only_low w h effect.Nothing (λ m e. cc);
         starts = λ m o. start_if_low w ok.many h m (node_at w.nodes m).up;
-        arms = λ m kept o. any_low w ok.many h m (arm m kept) (arm_low n sv m limit some (calm_replies service seed) kept);
+        arms = λ m kept o. any_low w ok.many h m (arm m kept) (arm_low service seed n limit some m kept);
         reads = λ m client variable o. read_low w h m client variable (read_at service (node_at w.nodes m) variable (get_or w.seen client 0));
       })
 

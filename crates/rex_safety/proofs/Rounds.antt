@@ -1,19 +1,17 @@
 -- Only an election raises rounds, by one, and only one that lacks a round says so.
-use Rattle.std.proofs.Common.{◌≡◌, ℕ, zero, suc, ◌+◌, ◌*◌, ◌/◌, ◌-◌, ◌<◌, ◌≤◌, Bool, true, false, cond, ◌||◌, ◌⊎◌, List, [], ◌∷◌, ◌++◌, length, Option, Some, None, ltb, refl, inl, inr, arith, ltb-true, ltb-false}
-use Rattle.std.specs.Prelude.{map, take, ◌==◌, nat_lt, nat_le}
+use Rattle.std.proofs.Common.{◌≡◌, ℕ, zero, suc, ◌+◌, ◌*◌, ◌/◌, ◌-◌, ◌<◌, ◌≤◌, Bool, true, false, cond, ◌⊎◌, List, [], ◌∷◌, ◌++◌, length, Option, Some, None, ltb, refl, inl, inr, arith, ltb-true, ltb-false}
+use Rattle.std.specs.Prelude.{map, ◌==◌, nat_lt, nat_le}
 use Rattle.rex_record.specs.declared.recorder.Release.{Release}
 use Rattle.rex_report.specs.declared.effect.Effect.{Effect}
 use Rattle.rex_report.specs.declared.effect.Effect.TheVariants as effect
-use Rattle.rex_syntax.specs.declared.version.Version.{Version}
-use Rattle.rex_syntax.specs.declared.version.Version.TheVariants.{Two}
-use Rattle.rex_cluster.specs.Records.{Rec, Proposal, promise, accepted, offset, known, base, has_old_base}
-use Rattle.rex_cluster.specs.Records.Rec.{Promised, Accepted, Known, Checkpoint, Dropped, Transferred}
+use Rattle.rex_cluster.specs.Records.{Rec, Proposal, promise, accepted, offset, known}
+use Rattle.rex_cluster.specs.Records.Rec.{Promised, Accepted, Known, Transferred}
 use Rattle.rex_cluster.specs.Quorum.{is_in, is_majority, ballot_above, round_of}
-use Rattle.rex_cluster.specs.Node.{Service, Content, Message, Lead, Role, Failure, own_ballot, is_active}
+use Rattle.rex_cluster.specs.Node.{Service, Content, Message, Lead, Role, Failure, own_ballot}
 use Rattle.rex_cluster.specs.Node.Failure.{After}
 use Rattle.rex_cluster.specs.Node.Content.{Prepare, Promise, Accept, Accepted as Voted, Chosen as Chose, Nack, Ask, Snapshot}
 use Rattle.rex_cluster.specs.Node.Role.{Follower, Leads}
-use Rattle.rex_cluster.specs.Calls.{Call, say, send, append, logged, followed, follow, led, propose, released, decide, best, choose, lead, turn, settle, enough, own_reports, stand, elect, on_prepare, heard, on_own_promise, on_promise, has_last, on_accept, voted, on_own_vote, on_voted, on_chosen, on_nack, with_replayed, on_snapshot, receive, replay, checkpoint, drop_known, restart, stop, start, arm}
+use Rattle.rex_cluster.specs.Calls.{Call, say, send, append, logged, followed, follow, led, propose, released, decide, best, choose, lead, turn, settle, enough, own_reports, stand, elect, on_prepare, heard, on_own_promise, on_promise, has_last, on_accept, voted, on_own_vote, on_voted, on_chosen, on_nack, with_replayed, on_snapshot, receive}
 use Rattle.rex_cluster.specs.Releases.{IsAmong}
 use Rattle.rex_safety.specs.Rounds.{NoneIsSpent, greatest_round}
 use Rattle.rex_cluster.specs.Values.{release_effect}
@@ -125,7 +123,7 @@ module _ {V S : Type 0} (n : ℕ) (sv : Service V S) (me limit : ℕ) (some : 0 
   settle_low zero d h = h
   settle_low (suc f) d h = turn_low d d.node.role (settle f n sv me) h h.own (settle_low f)
 
-  -- ---- schedule lines
+  -- ---- elections
 
   pub elect_low : (d : Call V S) → Low d → ballot_above me (promise d.node.log) < limit → round_of (ballot_above me (promise d.node.log)) ≤ greatest_round → Low (elect n sv me d)
   elect_low d h b few =
@@ -147,40 +145,6 @@ module _ {V S : Type 0} (n : ℕ) (sv : Service V S) (me limit : ℕ) (some : 0 
           → (round_of (ballot_above me (promise d.node.log)) ≤ greatest_round) ⊎ (cond t (say (effect.Spent me) d) (stand n sv me (ballot_above me (promise d.node.log)) d) ≡ say (effect.Spent me) d)
       go true e = inr refl
       go false e = inl (ltb-false 4294967296 (round_of (ballot_above me (promise d.node.log))) e)
-
-  pub replay_low : (d : Call V S) → Low d → Low (replay me d)
-  replay_low d h =
-      if_low (is_active d.node.role || d.node.replayed == length (known d.node.log)) (say_low (effect.UpToDate me) d (λ m e. cc) h)
-      (record { promised = h.promised; own = h.own; calm = calm_push d.effects (effect.Replayed me (length (known d.node.log))) h.calm (λ m e. cc) })
-
-  pub checkpoint_low : (version : Version) (d : Call V S) → Low d → Low (checkpoint version sv me d)
-  checkpoint_low version d h =
-      if_low (d.node.replayed == base d.node.log) (say_low effect.Nothing d (λ m e. cc) h)
-      (if_low (nat_lt 0 (length d.node.work.live)) (say_low (effect.Live (length d.node.work.live)) d (λ m e. cc) h)
-      (append_low d.node.armed (Checkpoint version d.node.replayed (sv.state (take d.node.replayed (known d.node.log)))) d _ h h.promised
-      (λ b. record { promised = h.promised; own = h.own; calm = calm_push d.effects (effect.Checkpointed me d.node.replayed) h.calm (λ m e. cc) })))
-
-  pub drop_low : (d : Call V S) → Low d → Low (drop_known me d)
-  drop_low d h =
-      if_low (base d.node.log == offset d.node.log) (say_low effect.Nothing d (λ m e. cc) h)
-      (append_low d.node.armed (Dropped (base d.node.log)) d _ h h.promised
-      (λ b. record { promised = h.promised; own = h.own; calm = calm_push d.effects (effect.Dropped me (base d.node.log)) h.calm (λ m e. cc) }))
-
-  pub stop_low : (d : Call V S) → Low d → Low (stop me d)
-  stop_low d h = record { promised = h.promised; own = some; calm = calm_push d.effects (effect.Stopped me) h.calm (λ m e. cc) }
-
-  pub arm_low : (kept : Bool) (d : Call V S) → Low d → Low (arm me kept d)
-  arm_low kept d h = record { promised = h.promised; own = h.own; calm = calm_push d.effects (effect.WillFail me kept) h.calm (λ m e. cc) }
-
-  pub start_low : (d : Call V S) → Low d → Low (start sv me d)
-  start_low d h =
-      if_low (has_old_base d.node.log)
-      (append_low d.node.armed (Checkpoint Two (base d.node.log) (sv.state (take (base d.node.log) (known d.node.log)))) (restart me d) _ back h.promised
-      (λ b. record { promised = h.promised; own = some; calm = calm_push (restart me d).effects (effect.Migrated me (base d.node.log)) back.calm (λ m e. cc) }))
-      back
-    where
-      back : Low (restart me d)
-      back = record { promised = h.promised; own = some; calm = calm_push d.effects (effect.Started me (promise d.node.log) (length (known d.node.log)) (base d.node.log)) h.calm (λ m e. cc) }
 
   -- ---- messages
 

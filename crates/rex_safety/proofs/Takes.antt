@@ -42,7 +42,7 @@ use Rattle.rex_safety.proofs.Actives.{WorksHere, AllWork, active_works, after_wo
 use Rattle.rex_cluster.proofs.Calls.{good_with}
 use Rattle.rex_cluster.proofs.Clients.{unused_next, next_client}
 use Rattle.rex_safety.proofs.Keeps.{if_up_told, acting_of, all_work, row_kept}
-use Rattle.rex_safety.proofs.Lanes.{active_good, active_fits}
+use Rattle.rex_safety.proofs.LineCalls.{active_good, active_fits}
 use Rattle.rex_safety.proofs.Numbers.{any_fits}
 use Rattle.rex_safety.proofs.Spelled.{lives}
 use Rattle.rex_safety.proofs.Worlds.{GoesOnTo, IsWorld, at_any_ok}
