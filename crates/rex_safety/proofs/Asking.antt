@@ -1,6 +1,6 @@
 -- Each candidacy asks from one instance on, and what is promised to it, and what it counted, covers what was accepted from there on.
 use Rattle.std.proofs.Common.{◌≡◌, ℕ, suc, ◌<◌, ◌≤◌, ◌≢◌, Bool, true, false, cond, ◌||◌, ◌⊎◌, List, [], ◌∷◌, length, eqb, refl, sym, ◌∙◌, ap, subst, inl, inr, arith, le_trans, le_refl, suc-le-suc, eqb-true, eq-eqb}
-use Rattle.std.proofs.lemmas.Bool.{false≢true, ne_eqb, eqb-false}
+use Rattle.std.proofs.lemmas.Bool.{ne_eqb, eqb-false}
 use Rattle.rex_ballot.specs.Limits.{most_nodes}
 use Rattle.rex_state.specs.Value.{StateValue}
 use Rattle.rex_report.specs.declared.effect.Effect.TheVariants as effect
@@ -14,15 +14,15 @@ use Rattle.rex_cluster.specs.Calls.{begin, say, own_reports, elect}
 use Rattle.rex_cluster.specs.Invariant.{IsIn, Covers, AreRecords, Grows, LeadsRightly, IsRightRole, IsJustified}
 use Rattle.rex_cluster.specs.Values.{Value}
 use Rattle.rex_cluster.specs.Lanes.{Here, CallHere}
-use Rattle.rex_cluster.specs.World.{World, node_at, put, logs, after, if_up, at_node}
+use Rattle.rex_cluster.specs.World.{World, node_at, put, logs, after, at_node}
 use Rattle.rex_safety.specs.Kept.{IsWorld}
 use Rattle.rex_cluster.proofs.Lists.{in_cases, in_from_on, from_on_late, offset_known, accepted_real, accepted_covers, from_on_covers}
 use Rattle.rex_cluster.proofs.Grow.{begins_length}
 use Rattle.rex_cluster.proofs.Step.{acc_below, has_below}
 use Rattle.rex_cluster.proofs.Roles.{heard_grows}
 use Rattle.rex_cluster.proofs.Calls.{above_promise, above_owned}
-use Rattle.rex_safety.proofs.Nodes.{node_put, put_none, none_down}
-use Rattle.rex_safety.proofs.Worlds.{GoesOnTo, node_or_not}
+use Rattle.rex_safety.proofs.Nodes.{node_put, put_none}
+use Rattle.rex_safety.proofs.Worlds.{GoesOnTo, node_or_not, at_either}
 use Rattle.rex_safety.proofs.Candidacies.{RoleHas, IsPlain, AreSent, Votes, elect_votes, Cast}
 
 module _ {V : Type 0} where
@@ -162,17 +162,10 @@ module _ (n : ℕ) (sv : Service Value StateValue) (w : World) (ok : IsWorld n s
 
   -- ---- steps
 
-  not_up : (m : ℕ) → (IsNode n m → ⊥) → (node_at w.nodes m).up ≡ false
-  not_up m none = ap (λ (x : Here). x.up) (none_down w.nodes m (λ l. none (subst (λ k. IsNode k m) ok.many l)))
-
   pub at_cand : (m : ℕ) (call : CallHere → CallHere) → GoesOnTo n sv w (at_node w m call).world
       → (GoesOnTo n sv w (after w m (call (begin (node_at w.nodes m)))).world → IsNode n m → HasCandidacies n (after w m (call (begin (node_at w.nodes m)))).world) → HasCandidacies n (at_node w m call).world
-  at_cand m call goes k = go (node_at w.nodes m).up refl (node_or_not n m) goes
-    where
-      go : (t : Bool) → (node_at w.nodes m).up ≡ t → IsNode n m ⊎ (IsNode n m → ⊥) → GoesOnTo n sv w (if_up t w m (call (begin (node_at w.nodes m)))).world → HasCandidacies n (if_up t w m (call (begin (node_at w.nodes m)))).world
-      go false e o g = record { first = first; holds = cand }
-      go true e (inl min) g = k g min
-      go true e (inr none) g = absurd (false≢true (sym (not_up m none) ∙ e))
+  at_cand m call goes k =
+      at_either n w ok.many m call (λ r. GoesOnTo n sv w r.world → HasCandidacies n r.world) (λ g. record { first = first; holds = cand }) (λ min g. k g min) goes
 
   -- of a call that asks for no promises and gives none
   pub at_cast : (m : ℕ) (call : CallHere → CallHere) → GoesOnTo n sv w (at_node w m call).world

@@ -16,7 +16,7 @@ use Rattle.rex_cluster.specs.Node.Role.{Follower, Leads}
 use Rattle.rex_cluster.specs.Calls.{begin, receive, arm}
 use Rattle.rex_cluster.specs.Values.{Value, service_of}
 use Rattle.rex_cluster.specs.Lanes.{Here, CallHere}
-use Rattle.rex_cluster.specs.World.{World, Row, node_at, put, logs, beginning, after, if_up, at_node, start_if, read_row, first_told, with_handed, deliver_found, message_at, step, steps_of, steps, row}
+use Rattle.rex_cluster.specs.World.{World, Row, node_at, put, logs, beginning, after, at_node, start_if, read_row, first_told, with_handed, deliver_found, message_at, step, steps_of, steps, row}
 use Rattle.rex_reads.specs.declared.seen.Read.{Read as Told}
 use Rattle.rex_reads.specs.declared.seen.Read.TheVariants as told
 use Rattle.rex_cluster.specs.Reading.{read_at, read_effect}
@@ -39,8 +39,8 @@ use Rattle.rex_cluster.proofs.Grow.{grows_same, grows_trans}
 use Rattle.rex_cluster.proofs.Fronts.{fits_front}
 use Rattle.rex_safety.proofs.Lawful.{of_step}
 use Rattle.rex_safety.proofs.Leaders.{later_knows, earlier_knows}
-use Rattle.rex_safety.proofs.Nodes.{node_put, none_down}
-use Rattle.rex_safety.proofs.Worlds.{IsWorld, node_or_not, node_of_lead}
+use Rattle.rex_safety.proofs.Nodes.{node_put}
+use Rattle.rex_safety.proofs.Worlds.{IsWorld, at_either, node_of_lead}
 use Rattle.rex_safety.proofs.Steps.{step_ok, row_ok, beginning_ok}
 use Rattle.rex_cluster.proofs.Saying.{Quiet, quiet_one, quiet_none, start_quiet, receive_says}
 use Rattle.rex_safety.proofs.Agreeing.{known_begins, agreed_grows}
@@ -73,15 +73,9 @@ module _ (service : Declarations) (good : IsService service) (checked : IsChecke
       place = node_put w.nodes m d.node m (subst (λ k. IsNode k m) (sym many) min) ∙ ap (λ t. cond t d.node (node_at w.nodes m)) (eq-eqb m m refl)
 
   at_node_true : (w : World) → length w.nodes ≡ n → (m : ℕ) (call : CallHere → CallHere) → ((d : CallHere) → Quiet d.effects → SaysHere service good checked seed n m (call d)) → IsTrue service good checked n m (at_node w m call).world (at_node w m call).effects
-  at_node_true w many m call says = go (node_at w.nodes m).up refl (node_or_not n m)
-    where
-      down : IsTrue service good checked n m w (effect.IsDown m ∷ [])
-      down = quiet_true m w (effect.IsDown m ∷ []) (quiet_one (effect.IsDown m) (λ c s x e. cc))
-
-      go : (t : Bool) → (node_at w.nodes m).up ≡ t → IsNode n m ⊎ (IsNode n m → ⊥) → IsTrue service good checked n m (if_up t w m (call (begin (node_at w.nodes m)))).world (if_up t w m (call (begin (node_at w.nodes m)))).effects
-      go false e h = down
-      go true e (inl min) = after_true w many m min (call (begin (node_at w.nodes m))) (says (begin (node_at w.nodes m)) quiet_none)
-      go true e (inr none) = absurd (false≢true (sym (ap (λ (x : Here). x.up) (none_down w.nodes m (λ l. none (subst (λ k. IsNode k m) many l)))) ∙ e))
+  at_node_true w many m call says =
+      at_either n w many m call (λ r. IsTrue service good checked n m r.world r.effects) (quiet_true m w (effect.IsDown m ∷ []) (quiet_one (effect.IsDown m) (λ c s x e. cc)))
+      (λ min. after_true w many m min (call (begin (node_at w.nodes m))) (says (begin (node_at w.nodes m)) quiet_none))
 
   first_true : (m : ℕ) (e : Effect) (r : Row) → ((c s : ℕ) (x : ℤ) → e ≡ effect.Released c s x → ⊥) → IsTrue service good checked n m r.world r.effects → IsTrue service good checked n m (first_told e r).world (first_told e r).effects
   first_true m e r o h = record { each = λ c s x. elim [ inl y ↦ absurd (o c s x y) | inr y ↦ h.each c s x y ] }

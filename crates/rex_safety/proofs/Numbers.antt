@@ -2,7 +2,6 @@
 pub use Rattle.rex_safety.proofs.LineCalls.{active_fits}
 use Rattle.std.proofs.Common.{◌≡◌, ℕ, zero, suc, ◌<◌, ◌≤◌, Bool, true, false, cond, ◌⊎◌, List, [], ◌∷◌, ◌++◌, length, Option, Some, None, eqb, refl, sym, ◌∙◌, ap, subst, inl, inr, arith, append-nil}
 use Rattle.std.specs.Prelude.{map}
-use Rattle.std.proofs.lemmas.Bool.{false≢true}
 use Rattle.rex_ballot.specs.Limits.{most_nodes}
 use Rattle.rex_syntax.specs.declared.request.Request.{Request}
 use Rattle.rex_syntax.specs.declared.service.Declarations.{Declarations}
@@ -16,7 +15,7 @@ use Rattle.rex_cluster.specs.Node.Role.{Follower}
 use Rattle.rex_cluster.specs.Calls.{begin, receive, restart, start, arm}
 use Rattle.rex_cluster.specs.Values.{Value, service_of}
 use Rattle.rex_cluster.specs.Lanes.{Here, CallHere}
-use Rattle.rex_cluster.specs.World.{World, node_at, put, beginning, after, if_up, at_node, start_if, with_handed, deliver_found, message_at, step, waiting_from, flush_steps, steps_of, steps, row, after_lines}
+use Rattle.rex_cluster.specs.World.{World, node_at, put, beginning, after, at_node, start_if, with_handed, deliver_found, message_at, step, waiting_from, flush_steps, steps_of, steps, row, after_lines}
 use Rattle.rex_cluster.specs.Invariant.{IsIn}
 use Rattle.std.specs.List.{All}
 use Rattle.std.proofs.lemmas.List.Elements.{All-head, All-tail}
@@ -26,8 +25,8 @@ use Rattle.rex_cluster.specs.Ranges.{MessageFits, LogFits, RoleFits, NodeFits}
 use Rattle.rex_safety.specs.Laws.{NumbersFit}
 use Rattle.rex_cluster.proofs.Lists.{in_cases}
 use Rattle.rex_safety.proofs.Lawful.{of_step}
-use Rattle.rex_safety.proofs.Nodes.{node_put, put_none, none_down, IsFresh, fresh_at}
-use Rattle.rex_safety.proofs.Worlds.{IsWorld, nth_in, node_or_not}
+use Rattle.rex_safety.proofs.Nodes.{node_put, put_none, IsFresh, fresh_at}
+use Rattle.rex_safety.proofs.Worlds.{IsWorld, nth_in, node_or_not, at_either}
 use Rattle.rex_safety.proofs.Steps.{step_ok, row_ok, beginning_ok}
 use Rattle.rex_cluster.proofs.Ranged.{Fits, receive_fits, migrated_fits}
 use Rattle.rex_cluster.proofs.Migrated.{migrated_sends}
@@ -70,12 +69,8 @@ module _ (service : Declarations) (requests : List Request) (seed n : ℕ) (few 
 
   -- the same of one node, and of any
   here_fits : (w : World) → length w.nodes ≡ n → AllFit w → (m : ℕ) (call : CallHere → CallHere) → ((min : IsNode n m) → FitsAt m min (begin (node_at w.nodes m)) → FitsAt m min (call (begin (node_at w.nodes m)))) → AllFit (at_node w m call).world
-  here_fits w many h m call k = go (node_at w.nodes m).up refl (node_or_not n m)
-    where
-      go : (t : Bool) → (node_at w.nodes m).up ≡ t → IsNode n m ⊎ (IsNode n m → ⊥) → AllFit (if_up t w m (call (begin (node_at w.nodes m)))).world
-      go false e o = record { nodes = h.nodes; messages = h.messages }
-      go true e (inl min) = after_fits w many h m min (call (begin (node_at w.nodes m))) (k min (begun w h m min))
-      go true e (inr none) = absurd (false≢true (sym (ap (λ (x : Here). x.up) (none_down w.nodes m (λ l. none (subst (λ k. IsNode k m) many l)))) ∙ e))
+  here_fits w many h m call k =
+      at_either n w many m call (λ r. AllFit r.world) (record { nodes = h.nodes; messages = h.messages }) (λ min. after_fits w many h m min (call (begin (node_at w.nodes m))) (k min (begun w h m min)))
 
   pub any_fits : (w : World) → length w.nodes ≡ n → AllFit w → (m : ℕ) (call : CallHere → CallHere) → ((min : IsNode n m) (d : CallHere) → FitsAt m min d → FitsAt m min (call d)) → AllFit (at_node w m call).world
   any_fits w many h m call k = here_fits w many h m call (λ min f. k min (begin (node_at w.nodes m)) f)

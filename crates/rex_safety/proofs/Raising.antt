@@ -1,7 +1,6 @@
 -- Rounds rise by at most one with each line, so that a run of no more lines than there are rounds never lacks one.
-use Rattle.std.proofs.Common.{◌≡◌, ℕ, zero, suc, ◌+◌, ◌*◌, ◌<◌, ◌≤◌, Bool, true, false, cond, ◌⊎◌, List, [], ◌∷◌, ◌++◌, length, drop, Option, Some, None, eqb, refl, sym, ◌∙◌, ap, subst, inl, inr, arith, lt_of_lt_of_le}
+use Rattle.std.proofs.Common.{◌≡◌, ℕ, zero, suc, ◌+◌, ◌*◌, ◌<◌, ◌≤◌, Bool, true, false, cond, ◌⊎◌, List, [], ◌∷◌, ◌++◌, length, drop, Option, Some, None, eqb, refl, sym, subst, inl, inr, arith, lt_of_lt_of_le}
 use Rattle.std.specs.Prelude.{slice_get, get_or, map}
-use Rattle.std.proofs.lemmas.Bool.{false≢true}
 use Rattle.std.proofs.lemmas.Option.{same_Some}
 use Rattle.rex_ballot.specs.Limits.{most_nodes}
 use Rattle.rex_syntax.specs.declared.request.Request.{Request}
@@ -19,7 +18,7 @@ use Rattle.rex_cluster.specs.Node.Content.{Prepare, Promise, Accept, Accepted as
 use Rattle.rex_cluster.specs.Calls.{begin, say, elect, receive, start, arm}
 use Rattle.rex_cluster.specs.Values.{Value, service_of}
 use Rattle.rex_cluster.specs.Lanes.{Here, CallHere, active_only}
-use Rattle.rex_cluster.specs.World.{World, Row, node_at, logs, beginning, after, only, if_up, at_node, start_if, read_row, first_told, with_handed, deliver_found, message_at, step, waiting_from, flush_steps, steps_of, steps, sent_from, row, after_lines, effects_of}
+use Rattle.rex_cluster.specs.World.{World, Row, node_at, logs, beginning, after, only, at_node, start_if, read_row, first_told, with_handed, deliver_found, message_at, step, waiting_from, flush_steps, steps_of, steps, sent_from, row, after_lines, effects_of}
 use Rattle.rex_reads.specs.declared.seen.Read.{Read as Told}
 use Rattle.rex_reads.specs.declared.seen.Read.TheVariants as told
 use Rattle.rex_cluster.specs.Reading.{read_at, read_effect}
@@ -38,7 +37,7 @@ use Rattle.rex_safety.proofs.Nodes.{node_put, put_none, none_down, IsFresh, fres
 use Rattle.rex_safety.proofs.Rounds.{Other, calm_none, calm_one, calm_both, next_low, elect_low, elect_either, ContentLow, receive_low}
 use Rattle.rex_cluster.proofs.Step.{acc_below}
 use Rattle.rex_safety.proofs.Steps.{step_ok, row_ok, beginning_ok}
-use Rattle.rex_safety.proofs.Worlds.{nth_in, node_or_not}
+use Rattle.rex_safety.proofs.Worlds.{nth_in, node_or_not, at_either}
 
 -- ---- nodes
 
@@ -88,16 +87,8 @@ module _ (service : Declarations) (requests : List Request) (seed n : ℕ) (few 
   only_low : (w : World) → AreLow n limit w → (e : Effect) → Other e → StepLow n limit (only w e)
   only_low w h e o = record { nodes = h; calm = calm_one e o }
 
-  not_up : (w : World) → length w.nodes ≡ n → (m : ℕ) → (IsNode n m → ⊥) → (node_at w.nodes m).up ≡ false
-  not_up w many m none = ap (λ (x : Here). x.up) (none_down w.nodes m (λ l. none (subst (λ k. IsNode k m) many l)))
-
   at_low : (w : World) → length w.nodes ≡ n → AreLow n limit w → (m : ℕ) (call : CallHere → CallHere) → (IsNode n m → LowAt m (call (begin (node_at w.nodes m)))) → StepLow n limit (at_node w m call)
-  at_low w many h m call k = go (node_at w.nodes m).up refl (node_or_not n m)
-    where
-      go : (t : Bool) → (node_at w.nodes m).up ≡ t → IsNode n m ⊎ (IsNode n m → ⊥) → StepLow n limit (if_up t w m (call (begin (node_at w.nodes m))))
-      go false e o = only_low w h (effect.IsDown m) (λ m e. cc)
-      go true e (inl min) = after_low w many h m min (call (begin (node_at w.nodes m))) (k min)
-      go true e (inr none) = absurd (false≢true (sym (not_up w many m none) ∙ e))
+  at_low w many h m call k = at_either n w many m call (StepLow n limit) (only_low w h (effect.IsDown m) (λ m e. cc)) (λ min. after_low w many h m min (call (begin (node_at w.nodes m))) (k min))
 
   each_low : (w : World) → length w.nodes ≡ n → AreLow n limit w → (m : ℕ) (call : CallHere → CallHere) → ((d : CallHere) → LowAt m d → LowAt m (call d)) → StepLow n limit (at_node w m call)
   each_low w many h m call k = at_low w many h m call (λ min. k (begin (node_at w.nodes m)) (begun w h m min))
@@ -183,19 +174,13 @@ module _ (service : Declarations) (requests : List Request) (seed n : ℕ) (few 
   CallsLow w m = ballot_above m (promise (logs w m)) < limit
 
   elected_nodes : (w : World) → length w.nodes ≡ n → AreLow n limit w → (m : ℕ) → (IsNode n m → CallsLow w m) → AreLow n limit (at_node w m (elect n sv m)).world
-  elected_nodes w many h m b = go (node_at w.nodes m).up refl (node_or_not n m)
+  elected_nodes w many h m b =
+      at_either n w many m (elect n sv m) (λ r. AreLow n limit r.world) h
+      (λ min. nodes_after w many h m min (elect n sv m (begin (node_at w.nodes m))) (stood min (elect_either n sv m limit some (calm_replies service seed) (begin (node_at w.nodes m)))))
     where
-      x : CallHere
-      x = begin (node_at w.nodes m)
-
       stood : (min : IsNode n m) → (round_of (ballot_above m (promise (logs w m))) ≤ greatest_round) ⊎ (elect n sv m (begin (node_at w.nodes m)) ≡ say (effect.Spent m) (begin (node_at w.nodes m))) → IsLow limit (elect n sv m (begin (node_at w.nodes m))).node
       stood min (inl r) = let k = elect_low n sv m limit some (calm_replies service seed) (begin (node_at w.nodes m)) (begun w h m min) (b min) r in record { promised = k.promised; own = k.own }
       stood min (inr e) = subst (λ (d : CallHere). IsLow limit d.node) (sym e) (h m min)
-
-      go : (t : Bool) → (node_at w.nodes m).up ≡ t → IsNode n m ⊎ (IsNode n m → ⊥) → AreLow n limit (if_up t w m (elect n sv m (begin (node_at w.nodes m)))).world
-      go false e o = h
-      go true e (inl min) = nodes_after w many h m min (elect n sv m (begin (node_at w.nodes m))) (stood min (elect_either n sv m limit some (calm_replies service seed) (begin (node_at w.nodes m))))
-      go true e (inr none) = absurd (false≢true (sym (not_up w many m none) ∙ e))
 
   elected_low : (w : World) → length w.nodes ≡ n → AreLow n limit w → (m : ℕ) → (IsNode n m → CallsLow w m) → (IsNode n m → round_of (ballot_above m (promise (logs w m))) ≤ greatest_round) → StepLow n limit (at_node w m (elect n sv m))
   elected_low w many h m b r = at_low w many h m (elect n sv m) (λ min. elect_low n sv m limit some (calm_replies service seed) (begin (node_at w.nodes m)) (begun w h m min) (b min) (r min))

@@ -1,5 +1,5 @@
 -- A node that is handed an event keeps what is kept.
-use Rattle.std.proofs.Common.{◌≡◌, ℕ, ◌+◌, ◌<◌, ◌≤◌, ◌^◌, Bool, true, false, List, [], ◌∷◌, ◌++◌, length, Option, refl, subst, arith, leb-false}
+use Rattle.std.proofs.Common.{◌≡◌, ℕ, ◌+◌, ◌<◌, ◌≤◌, ◌^◌, true, List, [], ◌∷◌, ◌++◌, length, Option, refl, subst, arith, leb-false}
 use Rattle.std.specs.List.{All, list_all}
 use Rattle.std.proofs.lemmas.Bool.{and_parts}
 use Rattle.std.proofs.lemmas.List.Elements.{All-push, All-head, All-tail}
@@ -29,8 +29,8 @@ use Rattle.rex_cluster.specs.Quorum.{IsNode}
 use Rattle.rex_cluster.specs.Node.{Work, is_active}
 use Rattle.rex_cluster.specs.Calls.{begin}
 use Rattle.rex_cluster.specs.Values.{Value, spells, runs, trace_of, state_after, service_of}
-use Rattle.rex_cluster.specs.Lanes.{CallHere, active_only}
-use Rattle.rex_cluster.specs.World.{World, node_at, if_up}
+use Rattle.rex_cluster.specs.Lanes.{active_only}
+use Rattle.rex_cluster.specs.World.{World, node_at}
 use Rattle.rex_cluster.specs.Acting.{IsActing}
 use Rattle.rex_cluster.specs.Clients.{HasClient}
 use Rattle.rex_safety.specs.Kept.{IsKept}
@@ -45,7 +45,7 @@ use Rattle.rex_safety.proofs.Keeps.{if_up_told, acting_of, all_work, row_kept}
 use Rattle.rex_safety.proofs.LineCalls.{active_good, active_fits}
 use Rattle.rex_safety.proofs.Numbers.{any_fits}
 use Rattle.rex_safety.proofs.Spelled.{lives}
-use Rattle.rex_safety.proofs.Worlds.{GoesOnTo, IsWorld, at_any_ok}
+use Rattle.rex_safety.proofs.Worlds.{GoesOnTo, IsWorld, at_either, at_any_ok}
 
 -- ---- what an active node works with
 
@@ -107,10 +107,6 @@ take_ok service seed n w m e ok =
 
 module _ (service : Declarations) (good : IsService service) (checked : IsChecked service) (requests : List Request) (fit : All (RequestFits service) requests) (seed n : ℕ) (few : n ≤ most_nodes) where
   module _ (w : World) (k : IsKept service seed n w) (m : ℕ) (min : IsNode n m) (e : Event) (range : BeginsInRange e) where
-    -- the call of the node
-    call : CallHere
-    call = active_only (is_active (node_at w.nodes m).role) (begin (node_at w.nodes m)) (take_event service e (begin (node_at w.nodes m)))
-
     call_works : WorksHere service good checked seed n m (active_only (is_active (node_at w.nodes m).role) (begin (node_at w.nodes m)) (take_event service e (begin (node_at w.nodes m))))
     call_works =
         active_works service good checked seed n m (is_active (node_at w.nodes m).role) (begin (node_at w.nodes m)) (take_event service e (begin (node_at w.nodes m))) (all_work service good checked requests fit seed n few w k m)
@@ -121,11 +117,9 @@ module _ (service : Declarations) (good : IsService service) (checked : IsChecke
         })
 
     take_works : AllWork service good checked requests fit seed n few (take service w m e)
-    take_works = go (node_at w.nodes m).up
-      where
-        go : (t : Bool) → AllWork service good checked requests fit seed n few (if_up t w m (active_only (is_active (node_at w.nodes m).role) (begin (node_at w.nodes m)) (take_event service e (begin (node_at w.nodes m))))).world
-        go true = after_work service good checked requests fit seed n few w k.world.many (all_work service good checked requests fit seed n few w k) m _ call_works
-        go false = all_work service good checked requests fit seed n few w k
+    take_works =
+        at_either n w k.world.many m (λ d. active_only (is_active d.node.role) d (take_event service e d)) (λ r. AllWork service good checked requests fit seed n few r.world) (all_work service good checked requests fit seed n few w k)
+        (λ here. after_work service good checked requests fit seed n few w k.world.many (all_work service good checked requests fit seed n few w k) m _ call_works)
 
     take_fits : NumbersFit n (take service w m e)
     take_fits =

@@ -11,10 +11,10 @@ use Rattle.rex_cluster.specs.Node.{Service, Message, Work}
 use Rattle.rex_cluster.specs.Calls.{begin, receive, start, arm, work_known}
 use Rattle.rex_cluster.specs.Values.{Value, service_of}
 use Rattle.rex_cluster.specs.Lanes.{Here, CallHere, active_only}
-use Rattle.rex_cluster.specs.World.{World, node_at, put, after, if_up, at_node, start_if, with_handed, deliver_found, message_at, step}
+use Rattle.rex_cluster.specs.World.{World, node_at, put, after, at_node, start_if, with_handed, deliver_found, message_at, step}
 use Rattle.rex_safety.proofs.Lawful.{LanesKeep, of_step}
 use Rattle.rex_safety.proofs.Nodes.{node_put, put_none, IsFresh}
-use Rattle.rex_safety.proofs.Worlds.{node_or_not}
+use Rattle.rex_safety.proofs.Worlds.{node_or_not, at_either}
 use Rattle.rex_cluster.proofs.Working.{fresh_work, Works, passive, receive_works, start_works}
 
 module _ (service : Declarations) (seed n : ℕ) (A : List Value → Option (Proposal Value) → Work → Type 0)
@@ -46,11 +46,7 @@ module _ (service : Declarations) (seed n : ℕ) (A : List Value → Option (Pro
       go (inr none) = subst (λ (xs : List Here). WorksAt q (begin (node_at xs q))) (sym (put_none w.nodes m d.node (λ l. none (subst (λ k. IsNode k m) many l)))) (h q)
 
   pub at_works : (w : World) → length w.nodes ≡ n → AllWorks w → (m : ℕ) (call : CallHere → CallHere) → ((d : CallHere) → WorksAt m d → WorksAt m (call d)) → AllWorks (at_node w m call).world
-  at_works w many h m call k = go (node_at w.nodes m).up
-    where
-      go : (t : Bool) → AllWorks (if_up t w m (call (begin (node_at w.nodes m)))).world
-      go true = after_works w many h m (call (begin (node_at w.nodes m))) (k (begin (node_at w.nodes m)) (h m))
-      go false = h
+  at_works w many h m call k = at_either n w many m call (λ r. AllWorks r.world) h (λ min. after_works w many h m (call (begin (node_at w.nodes m))) (k (begin (node_at w.nodes m)) (h m)))
 
   pub deliver_works : (w : World) → length w.nodes ≡ n → AllWorks w → (number : ℕ) (o : Option (Message Value)) → AllWorks (deliver_found service seed n w number o).world
   deliver_works w many h number None = h

@@ -2,16 +2,17 @@
 pub use Rattle.rex_safety.specs.Kept.{roles, IsWorld}
 use Rattle.std.proofs.Common.{◌≡◌, ℕ, zero, suc, ◌<◌, ◌≤◌, ◌≢◌, Bool, true, false, cond, ◌⊎◌, List, [], ◌∷◌, ◌++◌, length, Some, eqb, refl, sym, ◌∙◌, ap, subst, inl, inr, arith, eqb-true, append-nil}
 use Rattle.std.specs.Prelude.{replicate, slice_get}
-use Rattle.std.proofs.lemmas.Bool.{cases_lt, eqb-false}
+use Rattle.std.proofs.lemmas.Bool.{cases_lt, eqb-false, false≢true}
 use mathlib.Core.Path.{fun_ext}
 use Rattle.rex_state.specs.Value.{StateValue}
+use Rattle.rex_report.specs.declared.effect.Effect.TheVariants as effect
 use Rattle.rex_cluster.specs.Quorum.{IsNode}
 use Rattle.rex_cluster.specs.Node.{Service, Message, Lead}
 use Rattle.rex_cluster.specs.Node.Role.{Follower, Leads}
 use Rattle.rex_cluster.specs.Calls.{begin}
 use Rattle.rex_cluster.specs.Values.{Value}
 use Rattle.rex_cluster.specs.Lanes.{Here, CallHere}
-use Rattle.rex_cluster.specs.World.{World, node_at, put, logs, after, if_up, at_node}
+use Rattle.rex_cluster.specs.World.{World, Row, node_at, put, logs, after, only, if_up, at_node}
 use Rattle.rex_cluster.specs.Invariant.{IsIn, with_log, AreSafe, Grows, IsRightRole, IsReplayed, AreJustified, KeepsAll}
 use Rattle.rex_cluster.proofs.Grow.{grows_same}
 use Rattle.rex_cluster.proofs.Roles.{just_both}
@@ -84,13 +85,6 @@ module _ (n : ℕ) (sv : Service Value StateValue) (w : World) (ok : IsWorld n s
   pub called : (call : CallHere → CallHere) → ((d : CallHere) → KeepsAll n sv (logs w) (roles w) w.messages m d → KeepsAll n sv (logs w) (roles w) w.messages m (call d)) → GoesOnTo n sv w (after w m (call (begin (node_at w.nodes m)))).world
   called call keeps = row_after (call (begin (node_at w.nodes m))) (keeps (begin (node_at w.nodes m)) enter)
 
-  pub at_node_ok : (call : CallHere → CallHere) → ((d : CallHere) → KeepsAll n sv (logs w) (roles w) w.messages m d → KeepsAll n sv (logs w) (roles w) w.messages m (call d)) → GoesOnTo n sv w (at_node w m call).world
-  at_node_ok call keeps = go (node_at w.nodes m).up
-    where
-      go : (t : Bool) → GoesOnTo n sv w (if_up t w m (call (begin (node_at w.nodes m)))).world
-      go true = called call keeps
-      go false = row_same n sv w ok
-
 -- a number is a node's or not
 pub node_or_not : (n m : ℕ) → IsNode n m ⊎ (IsNode n m → ⊥)
 node_or_not n m = go (cases_lt 0 m) (cases_lt n m)
@@ -99,6 +93,16 @@ node_or_not n m = go (cases_lt 0 m) (cases_lt n m)
     go (inl a) (inr b) = inl (a, b)
     go (inl a) (inl b) = inr (λ h. absurd (omega (arith, h.1)))
     go (inr a) b = inr (λ h. absurd (omega (arith, h.0)))
+
+-- what holds of a call of a node that is up, and of the report that it is down, holds of a call of any number: that of no node is down
+pub at_either : (n : ℕ) (w : World) → length w.nodes ≡ n → (m : ℕ) (call : CallHere → CallHere) (P : Row → Type 0)
+    → P (only w (effect.IsDown m)) → (IsNode n m → P (after w m (call (begin (node_at w.nodes m))))) → P (at_node w m call)
+at_either n w many m call P down up = go (node_at w.nodes m).up refl (node_or_not n m)
+  where
+    go : (t : Bool) → (node_at w.nodes m).up ≡ t → IsNode n m ⊎ (IsNode n m → ⊥) → P (if_up t w m (call (begin (node_at w.nodes m))))
+    go false e h = down
+    go true e (inl min) = up min
+    go true e (inr none) = absurd (false≢true (sym (ap (λ (x : Here). x.up) (none_down w.nodes m (λ l. none (subst (λ k. IsNode k m) many l)))) ∙ e))
 
 -- a call of a number of no node that sends nothing changes nothing
 pub none_same : (n : ℕ) (sv : Service Value StateValue) (w : World) → IsWorld n sv w → (m : ℕ) → (IsNode n m → ⊥) → (d : CallHere) → d.sends ≡ [] → GoesOnTo n sv w (after w m d).world
@@ -120,12 +124,7 @@ none_same n sv w ok m none d e =
 
 -- a call of any number keeps it, where it does of a node's
 pub at_any_ok : (n : ℕ) (sv : Service Value StateValue) (w : World) → IsWorld n sv w → (m : ℕ) (call : CallHere → CallHere) → (IsNode n m → (d : CallHere) → KeepsAll n sv (logs w) (roles w) w.messages m d → KeepsAll n sv (logs w) (roles w) w.messages m (call d)) → GoesOnTo n sv w (at_node w m call).world
-at_any_ok n sv w ok m call keeps = go (node_or_not n m)
-  where
-    go : IsNode n m ⊎ (IsNode n m → ⊥) → GoesOnTo n sv w (at_node w m call).world
-    go (inl min) = at_node_ok n sv w ok m min call (keeps min)
-    go (inr none) =
-        subst (λ (t : Bool). GoesOnTo n sv w (if_up t w m (call (begin (node_at w.nodes m)))).world) (sym (ap (λ (x : Here). x.up) (none_down w.nodes m (λ l. none (subst (λ k. IsNode k m) ok.many l))))) (row_same n sv w ok)
+at_any_ok n sv w ok m call keeps = at_either n w ok.many m call (λ r. GoesOnTo n sv w r.world) (row_same n sv w ok) (λ min. called n sv w ok m min call (keeps min))
 
 -- who leads is a node
 pub node_of_lead : (n : ℕ) (sv : Service Value StateValue) (w : World) → IsWorld n sv w → (m : ℕ) (l : Lead Value) → roles w m ≡ Leads l → IsNode n m
