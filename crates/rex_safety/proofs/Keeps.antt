@@ -15,10 +15,10 @@ use Rattle.rex_schedule.specs.declared.scenario.ScheduleLine.TheVariants as line
 use Rattle.rex_schedule.specs.Fits.{RequestFits, LineFits}
 use Rattle.rex_cluster.specs.Node.{Service, Message, Lead}
 use Rattle.rex_cluster.specs.Node.Role.{Leads}
-use Rattle.rex_cluster.specs.Calls.{begin, start, arm}
+use Rattle.rex_cluster.specs.Calls.{begin}
 use Rattle.rex_cluster.specs.Values.{Value, service_of}
 use Rattle.rex_cluster.specs.Lanes.{CallHere}
-use Rattle.rex_cluster.specs.World.{World, node_at, beginning, after, if_up, start_if, with_handed, deliver_found, message_at, step, steps_of, steps, row}
+use Rattle.rex_cluster.specs.World.{World, node_at, beginning, after, if_up, with_handed, deliver_found, message_at, step, steps_of, steps, row}
 use Rattle.rex_cluster.specs.Agreed.{known_at}
 use Rattle.rex_cluster.specs.Acting.{IsActing, HasLane}
 use Rattle.rex_safety.specs.Kept.{roles, IsWorld, IsKept}
@@ -54,19 +54,15 @@ deliver_told : (service : Declarations) (seed n : ℕ) (w : World) (number : ℕ
 deliver_told service seed n w number None h = h
 deliver_told service seed n w number (Some y) h = if_up_told (node_at w.nodes y.to).up (with_handed w number) y.to _ (length-set w.handed (number - 1) true ∙ h)
 
-start_told : (sv : Service Value StateValue) (w : World) (m : ℕ) (t : Bool) → AreTold w → AreTold (start_if sv t w m).world
-start_told sv w m true h = h
-start_told sv w m false h = after_told w m (start sv m (begin (node_at w.nodes m))) h
-
 step_told : (service : Declarations) (requests : List Request) (seed n : ℕ) (w : World) (x : ScheduleLine) → AreTold w → AreTold (step service requests seed n w x).world
 step_told service requests seed n w x h =
     of_step service requests seed n w (λ y r. AreTold r.world)
     (record {
       calls = λ y m call k. if_up_told (node_at w.nodes m).up w m _ h;
+      silent = λ y m call k s. after_told w m (call (begin (node_at w.nodes m))) h;
+      is_up = λ m. h;
       delivers = λ number. deliver_told service seed n w number (message_at w.messages number) h;
       flush = h;
-      starts = λ m. start_told (service_of service seed) w m (node_at w.nodes m).up h;
-      arms = λ m kept. after_told w m (arm m kept (begin (node_at w.nodes m))) h;
       reads = λ m client variable. h;
     }) x
 

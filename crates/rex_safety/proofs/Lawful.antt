@@ -1,5 +1,5 @@
 -- What a schedule line does: a call of a node that keeps what every step keeps, or one of a few others.
-use Rattle.std.proofs.Common.{◌≡◌, ℕ, ◌<◌, ◌≤◌, Bool, true, List, [], ◌∷◌, ◌++◌, length, Option, Some, None, refl}
+use Rattle.std.proofs.Common.{◌≡◌, ℕ, ◌<◌, ◌≤◌, Bool, true, false, List, [], ◌∷◌, ◌++◌, length, Option, Some, None, refl}
 use Rattle.std.specs.Prelude.{slice_get, get_or}
 use Rattle.std.specs.List.{All}
 use Rattle.rand_pcg.specs.Lcg.{Lcg}
@@ -14,23 +14,24 @@ use Rattle.rex_report.specs.declared.effect.Effect.TheVariants as effect
 use Rattle.rex_schedule.specs.Fits.{RequestFits, LineFits}
 use Rattle.rex_schedule.specs.declared.scenario.ScheduleLine.{ScheduleLine}
 use Rattle.rex_schedule.specs.declared.scenario.ScheduleLine.TheVariants as line
-use Rattle.rex_cluster.specs.Records.{Proposal}
+use Rattle.rex_cluster.specs.Records.{Proposal, base, has_old_base}
 use Rattle.rex_cluster.specs.Quorum.{IsNode, Logs}
 use Rattle.rex_cluster.specs.Node.{Service, Message, Role, Work, is_active}
-use Rattle.rex_cluster.specs.Calls.{begin, elect, ask, replay, checkpoint, drop_known, stop, arm, work_known}
+use Rattle.rex_cluster.specs.Calls.{begin, elect, ask, replay, checkpoint, drop_known, restart, stop, start, arm, work_known}
 use Rattle.rex_cluster.specs.Invariant.{KeepsAll}
 use Rattle.rex_cluster.specs.Values.{Value, service_of}
-use Rattle.rex_cluster.specs.Lanes.{CallHere, active_only, submit_request, lane_turn, cut, no_limits, with_limits}
+use Rattle.rex_cluster.specs.Lanes.{Here, CallHere, active_only, submit_request, lane_turn, cut, no_limits, with_limits}
 use Rattle.rex_cluster.specs.World.{World, Row, node_at, after, only, at_node, start_if, read_row, deliver_found, message_at, step}
 use Rattle.rex_cluster.specs.Reading.{read_at}
 use Rattle.rex_cluster.specs.Releases.{node_in}
-use Rattle.rex_cluster.proofs.Calls.{elect_good, ask_good, replay_good, checkpoint_good, drop_good, stop_good}
-use Rattle.rex_cluster.proofs.Ranged.{Fits, elect_fits, ask_fits, replay_fits, checkpoint_fits, drop_fits}
+use Rattle.rex_cluster.proofs.Calls.{elect_good, ask_good, replay_good, checkpoint_good, drop_good, stop_good, start_good, arm_good}
+use Rattle.rex_cluster.proofs.Migrated.{migrated_sends}
+use Rattle.rex_cluster.proofs.Ranged.{Fits, elect_fits, ask_fits, replay_fits, checkpoint_fits, drop_fits, migrated_fits}
 use Rattle.rex_cluster.proofs.Replies.{StandsIn, replies_stand, SaysHere, quietly, submit_says, turn_says, cut_tells}
-use Rattle.rex_cluster.proofs.Saying.{Quiet, elect_says, replay_says, checkpoint_says, drop_says, stop_says}
-use Rattle.rex_cluster.proofs.Working.{fresh_work, Works, passive, elect_works, replay_works, checkpoint_works, drop_works}
+use Rattle.rex_cluster.proofs.Saying.{Quiet, quiet_one, quiet_none, quiet_push, start_quiet, elect_says, replay_says, checkpoint_says, drop_says, stop_says}
+use Rattle.rex_cluster.proofs.Working.{fresh_work, Works, passive, elect_works, replay_works, checkpoint_works, drop_works, start_works}
 use Rattle.rex_safety.proofs.Candidacies.{IsPlain, Cast}
-use Rattle.rex_safety.proofs.LineCalls.{submits_good, turns_good, cut_good, LowHere, active_low, submit_low, turn_low, cut_low, replay_low, checkpoint_low, drop_low, stop_low, active_cast, submit_cast, cut_cast, ask_cast, replay_cast, checkpoint_cast, drop_cast, stop_cast, active_fits, submit_fits, cut_fits}
+use Rattle.rex_safety.proofs.LineCalls.{submits_good, turns_good, cut_good, LowHere, active_low, submit_low, turn_low, cut_low, replay_low, checkpoint_low, drop_low, stop_low, start_low, arm_low, active_cast, submit_cast, cut_cast, ask_cast, replay_cast, checkpoint_cast, drop_cast, stop_cast, start_cast, arm_cast, active_fits, submit_fits, cut_fits}
 
 -- what is no election
 abbrev pub IsOther : ScheduleLine → Type 0
@@ -173,15 +174,50 @@ module _ (service : Declarations) (requests : List Request) (seed n : ℕ) (w : 
     fits = λ l few min. drop_fits n few sv m min;
   }
 
+  -- ---- calls of nodes that may be down
+
+  -- it sends nothing and releases nothing
+  pub record IsSilent (call : CallHere → CallHere) : Type 0 where
+    pub sends : (x : Here) → (call (begin x)).sends ≡ []
+    pub quiet : (x : Here) → Quiet (call (begin x)).effects
+
+  starts : (m : ℕ) → IsLawful (line.Start m) m (start sv m)
+  starts m = record {
+    node = refl;
+    good = λ few L R ms min. start_good n sv L R ms m min;
+    says = λ sound checked fit d q. quietly service sound checked seed n m (start sv m d) (start_quiet sv m d q);
+    works = λ A new more l d h. start_works n sv m A new more d;
+    low = λ o limit some. start_low service seed n limit some m;
+    cast = λ o P Q plain. start_cast P Q service seed n m plain;
+    fits = λ l few min d h. migrated_fits n few sv m min (restart m d) (record { log = h.log; role = tt; sends = h.sends });
+  }
+
+  silent_start : (m : ℕ) → IsSilent (start sv m)
+  silent_start m = record { sends = λ x. migrated_sends (has_old_base x.log) m (restart m (begin x)) (base x.log) _ refl; quiet = λ x. start_quiet sv m (begin x) quiet_none }
+
+  arms : (m : ℕ) (kept : Bool) → IsLawful (line.KeepFail m kept) m (arm m kept)
+  arms m kept = record {
+    node = refl;
+    good = λ few L R ms min. arm_good n sv L R ms m min kept;
+    says = λ sound checked fit d q. quietly service sound checked seed n m (arm m kept d) (quiet_push d.effects (effect.WillFail m kept) q (λ c s x e. cc));
+    works = λ A new more l d h. record { each = h.each };
+    low = λ o limit some. arm_low service seed n limit some m kept;
+    cast = λ o P Q plain. arm_cast P Q service seed n m plain kept;
+    fits = λ l few min d h. record { log = h.log; role = h.role; sends = h.sends };
+  }
+
+  silent_arm : (m : ℕ) (kept : Bool) → IsSilent (arm m kept)
+  silent_arm m kept = record { sends = λ x. refl; quiet = λ x. quiet_one (effect.WillFail m kept) (λ c s y e. cc) }
+
   -- ---- lines
 
-  -- what has to be shown of lines: of each that makes a lawful call, and of each other one
+  -- what has to be shown of lines: of each that makes a lawful call, of each that makes a silent one whether the node is up or not, and of each other one
   pub record OfSteps (P : ScheduleLine → Row → Type 0) : Type 1 where
     pub calls : (x : ScheduleLine) (m : ℕ) (call : CallHere → CallHere) → IsLawful x m call → P x (at_node w m call)
+    pub silent : (x : ScheduleLine) (m : ℕ) (call : CallHere → CallHere) → IsLawful x m call → IsSilent call → P x (after w m (call (begin (node_at w.nodes m))))
     pub delivers : (number : ℕ) → P (line.Deliver number) (deliver_found service seed n w number (message_at w.messages number))
     pub flush : P line.Flush (only w effect.Nothing)
-    pub starts : (m : ℕ) → P (line.Start m) (start_if sv (node_at w.nodes m).up w m)
-    pub arms : (m : ℕ) (kept : Bool) → P (line.KeepFail m kept) (after w m (arm m kept (begin (node_at w.nodes m))))
+    pub is_up : (m : ℕ) → P (line.Start m) (only w (effect.IsUp m))
     pub reads : (m client variable : ℕ) → P (line.ReadVariable m client variable) (read_row w m client variable (read_at service (node_at w.nodes m) variable (get_or w.seen client 0)))
 
   -- it holds of the step of each line
@@ -196,8 +232,12 @@ module _ (service : Declarations) (requests : List Request) (seed n : ℕ) (w : 
   of_step P h (line.Replay m) = h.calls (line.Replay m) m _ (replays m)
   of_step P h (line.Ask m other) = h.calls (line.Ask m other) m _ (asks m other)
   of_step P h (line.Stop m) = h.calls (line.Stop m) m _ (stops m)
-  of_step P h (line.Start m) = h.starts m
+  of_step P h (line.Start m) = by (node_at w.nodes m).up
+    where
+      by : (t : Bool) → P (line.Start m) (start_if sv t w m)
+      by true = h.is_up m
+      by false = h.silent (line.Start m) m (start sv m) (starts m) (silent_start m)
   of_step P h (line.Checkpoint m version) = h.calls (line.Checkpoint m version) m _ (checkpoints m version)
   of_step P h (line.DropKnown m) = h.calls (line.DropKnown m) m _ (drops m)
-  of_step P h (line.KeepFail m kept) = h.arms m kept
+  of_step P h (line.KeepFail m kept) = h.silent (line.KeepFail m kept) m (arm m kept) (arms m kept) (silent_arm m kept)
   of_step P h (line.ReadVariable m client variable) = h.reads m client variable

@@ -1,5 +1,5 @@
 -- Each released reply stands in the trace of every later leader.
-use Rattle.std.proofs.Common.{◌≡◌, ℕ, zero, suc, ◌+◌, ◌<◌, ◌≤◌, Bool, true, false, cond, ◌⊎◌, List, [], ◌∷◌, ◌++◌, length, Option, Some, None, refl, sym, ◌∙◌, ap, subst, inl, inr, arith, eq-eqb}
+use Rattle.std.proofs.Common.{◌≡◌, ℕ, zero, suc, ◌+◌, ◌<◌, ◌≤◌, true, cond, ◌⊎◌, List, [], ◌∷◌, ◌++◌, length, Option, Some, None, refl, sym, ◌∙◌, ap, subst, inl, inr, arith, eq-eqb}
 use Rattle.std.specs.Prelude.{take, slice_get, get_or}
 use Rattle.std.proofs.lemmas.Bool.{cases_lt, false≢true}
 use Rattle.rex_ballot.specs.Limits.{most_nodes}
@@ -13,10 +13,10 @@ use Rattle.rex_cluster.specs.Records.{known}
 use Rattle.rex_cluster.specs.Quorum.{IsNode, Logs}
 use Rattle.rex_cluster.specs.Node.{Service, Message, Lead, Role, is_active, kind_of}
 use Rattle.rex_cluster.specs.Node.Role.{Follower, Leads}
-use Rattle.rex_cluster.specs.Calls.{begin, receive, arm}
+use Rattle.rex_cluster.specs.Calls.{begin, receive}
 use Rattle.rex_cluster.specs.Values.{Value, service_of}
 use Rattle.rex_cluster.specs.Lanes.{Here, CallHere}
-use Rattle.rex_cluster.specs.World.{World, Row, node_at, put, logs, beginning, after, at_node, start_if, read_row, first_told, with_handed, deliver_found, message_at, step, steps_of, steps, row}
+use Rattle.rex_cluster.specs.World.{World, Row, node_at, put, logs, beginning, after, at_node, read_row, first_told, with_handed, deliver_found, message_at, step, steps_of, steps, row}
 use Rattle.rex_reads.specs.declared.seen.Read.{Read as Told}
 use Rattle.rex_reads.specs.declared.seen.Read.TheVariants as told
 use Rattle.rex_cluster.specs.Reading.{read_at, read_effect}
@@ -42,7 +42,7 @@ use Rattle.rex_safety.proofs.Leaders.{later_knows, earlier_knows}
 use Rattle.rex_safety.proofs.Nodes.{node_put}
 use Rattle.rex_safety.proofs.Worlds.{IsWorld, at_either, node_of_lead}
 use Rattle.rex_safety.proofs.Steps.{step_ok, row_ok, beginning_ok}
-use Rattle.rex_cluster.proofs.Saying.{Quiet, quiet_one, quiet_none, start_quiet, receive_says}
+use Rattle.rex_cluster.proofs.Saying.{Quiet, quiet_one, quiet_none, receive_says}
 use Rattle.rex_safety.proofs.Agreeing.{known_begins, agreed_grows}
 use Rattle.rex_cluster.proofs.Replies.{trace_both, stands_begins, StandsIn, replies_stand, SaysHere}
 
@@ -87,10 +87,6 @@ module _ (service : Declarations) (good : IsService service) (checked : IsChecke
       (at_node_true (with_handed w number) many y.to (receive n (service_of service seed) y.to y.from y.content)
       (λ d q. receive_says n (service_of service seed) y.to (StandsIn service good checked) (replies_stand service good checked) y.from y.content d q))
 
-  start_true : (w : World) (m : ℕ) (t : Bool) → IsTrue service good checked n m (start_if (service_of service seed) t w m).world (start_if (service_of service seed) t w m).effects
-  start_true w m true = quiet_true m w (effect.IsUp m ∷ []) (quiet_one (effect.IsUp m) (λ c s x e. cc))
-  start_true w m false = quiet_true m (start_if (service_of service seed) false w m).world (start_if (service_of service seed) false w m).effects (start_quiet (service_of service seed) m (begin (node_at w.nodes m)) quiet_none)
-
   -- an answer to a client that reads releases nothing
   read_true : (w : World) (m client variable : ℕ) (a : Told) → IsTrue service good checked n m (read_row w m client variable a).world (read_row w m client variable a).effects
   read_true w m client variable a = quiet_true m (read_row w m client variable a).world (read_row w m client variable a).effects (quiet_one (read_effect m client variable a) (read_quiet m client variable a))
@@ -100,10 +96,10 @@ module _ (service : Declarations) (good : IsService service) (checked : IsChecke
       of_step service requests seed n w (λ y r. IsTrue service good checked n (node_in w y) r.world r.effects)
       (record {
         calls = λ y m call k. subst (λ q. IsTrue service good checked n q (at_node w m call).world (at_node w m call).effects) (sym k.node) (at_node_true w many m call (k.says good checked fit));
+        silent = λ y m call k s. quiet_true (node_in w y) (after w m (call (begin (node_at w.nodes m)))).world (call (begin (node_at w.nodes m))).effects (s.quiet (node_at w.nodes m));
+        is_up = λ m. quiet_true m w (effect.IsUp m ∷ []) (quiet_one (effect.IsUp m) (λ c s x e. cc));
         delivers = λ number. deliver_true w many number (message_at w.messages number);
         flush = quiet_true 0 w (effect.Nothing ∷ []) (quiet_one effect.Nothing (λ c s x e. cc));
-        starts = λ m. start_true w m (node_at w.nodes m).up;
-        arms = λ m kept. quiet_true m (after w m (arm m kept (begin (node_at w.nodes m)))).world (effect.WillFail m kept ∷ []) (quiet_one (effect.WillFail m kept) (λ c s x e. cc));
         reads = λ m client variable. read_true w m client variable (read_at service (node_at w.nodes m) variable (get_or w.seen client 0));
       }) x
 

@@ -1,6 +1,6 @@
 -- Each line keeps numbers in their ranges.
 pub use Rattle.rex_safety.proofs.LineCalls.{active_fits}
-use Rattle.std.proofs.Common.{◌≡◌, ℕ, zero, suc, ◌<◌, ◌≤◌, Bool, true, false, cond, ◌⊎◌, List, [], ◌∷◌, ◌++◌, length, Option, Some, None, eqb, refl, sym, ◌∙◌, ap, subst, inl, inr, arith, append-nil}
+use Rattle.std.proofs.Common.{◌≡◌, ℕ, suc, ◌<◌, ◌≤◌, Bool, true, false, cond, ◌⊎◌, List, [], ◌∷◌, ◌++◌, length, Option, Some, None, eqb, refl, sym, ◌∙◌, ap, subst, inl, inr, arith, append-nil}
 use Rattle.std.specs.Prelude.{map}
 use Rattle.rex_ballot.specs.Limits.{most_nodes}
 use Rattle.rex_syntax.specs.declared.request.Request.{Request}
@@ -8,28 +8,25 @@ use Rattle.rex_syntax.specs.declared.service.Declarations.{Declarations}
 use Rattle.rex_state.specs.Value.{StateValue}
 use Rattle.rex_schedule.specs.declared.scenario.ScheduleLine.{ScheduleLine}
 use Rattle.rex_schedule.specs.declared.scenario.ScheduleLine.TheVariants as line
-use Rattle.rex_cluster.specs.Records.{known, base, has_old_base}
 use Rattle.rex_cluster.specs.Quorum.{IsNode}
 use Rattle.rex_cluster.specs.Node.{Service, Message}
-use Rattle.rex_cluster.specs.Node.Role.{Follower}
-use Rattle.rex_cluster.specs.Calls.{begin, receive, restart, start, arm}
+use Rattle.rex_cluster.specs.Calls.{begin, receive}
 use Rattle.rex_cluster.specs.Values.{Value, service_of}
 use Rattle.rex_cluster.specs.Lanes.{Here, CallHere}
-use Rattle.rex_cluster.specs.World.{World, node_at, put, beginning, after, at_node, start_if, with_handed, deliver_found, message_at, step, waiting_from, flush_steps, steps_of, steps, row, after_lines}
+use Rattle.rex_cluster.specs.World.{World, node_at, put, beginning, after, at_node, with_handed, deliver_found, message_at, step, waiting_from, flush_steps, steps_of, steps, row, after_lines}
 use Rattle.rex_cluster.specs.Invariant.{IsIn}
 use Rattle.std.specs.List.{All}
 use Rattle.std.proofs.lemmas.List.Elements.{All-head, All-tail}
 use Rattle.rex_schedule.specs.Fits.{LineFits}
 use Rattle.rex_cluster.specs.Agreed.{world_after}
-use Rattle.rex_cluster.specs.Ranges.{MessageFits, LogFits, RoleFits, NodeFits}
+use Rattle.rex_cluster.specs.Ranges.{MessageFits, NodeFits}
 use Rattle.rex_safety.specs.Laws.{NumbersFit}
 use Rattle.rex_cluster.proofs.Lists.{in_cases}
 use Rattle.rex_safety.proofs.Lawful.{of_step}
 use Rattle.rex_safety.proofs.Nodes.{node_put, put_none, IsFresh, fresh_at}
-use Rattle.rex_safety.proofs.Worlds.{IsWorld, nth_in, node_or_not, at_either}
+use Rattle.rex_safety.proofs.Worlds.{IsWorld, message_in, node_or_not, at_either}
 use Rattle.rex_safety.proofs.Steps.{step_ok, row_ok, beginning_ok}
-use Rattle.rex_cluster.proofs.Ranged.{Fits, receive_fits, migrated_fits}
-use Rattle.rex_cluster.proofs.Migrated.{migrated_sends}
+use Rattle.rex_cluster.proofs.Ranged.{Fits, receive_fits}
 
 module _ (service : Declarations) (requests : List Request) (seed n : ℕ) (few : n ≤ most_nodes) where
   abbrev sv : Service Value StateValue
@@ -78,47 +75,26 @@ module _ (service : Declarations) (requests : List Request) (seed n : ℕ) (few 
   deliver_fits : (w : World) → IsWorld n sv w → AllFit w → (number : ℕ) (o : Option (Message Value)) → message_at w.messages number ≡ o → AllFit (deliver_found service seed n w number o).world
   deliver_fits w ok h number None e = record { nodes = h.nodes; messages = h.messages }
   deliver_fits w ok h number (Some x) e =
-      let f = h.messages x (found number e) in
+      let f = h.messages x (message_in w.messages number x e) in
       here_fits (with_handed w number) ok.many (record { nodes = h.nodes; messages = h.messages }) x.to (receive n sv x.to x.from x.content)
       (λ min k. receive_fits n few sv x.to min x.from f.from (λ s. f.apart (sym s)) x.content f.content (begin (node_at w.nodes x.to)) (ok.cluster.safe.sorted x.to min) k)
-    where
-      found : (k : ℕ) → message_at w.messages k ≡ Some x → IsIn x w.messages
-      found zero e = absurd (cc)
-      found (suc k) e = nth_in k w.messages x e
 
-  down_fits : (w : World) → AllFit w → (m : ℕ) (min : IsNode n m) → (d : CallHere) → d.node.log ≡ (node_at w.nodes m).log → d.node.role ≡ Follower → d.sends ≡ [] → FitsAt m min d
-  down_fits w h m min d l r s = record {
-    log = subst LogFits (sym l) (h.nodes m min).log;
-    role = subst (RoleFits (length (known d.node.log))) (sym r) tt;
-    sends = λ x i. absurd (subst (IsIn x) s i);
-  }
-
-  start_fits : (w : World) → length w.nodes ≡ n → AllFit w → (m : ℕ) (t : Bool) → AllFit (start_if sv t w m).world
-  start_fits w many h m true = record { nodes = h.nodes; messages = h.messages }
-  start_fits w many h m false = go (node_or_not n m)
+  silent_fits : (w : World) → length w.nodes ≡ n → AllFit w → (m : ℕ) (call : CallHere → CallHere) → ((min : IsNode n m) (d : CallHere) → FitsAt m min d → FitsAt m min (call d)) → (call (begin (node_at w.nodes m))).sends ≡ [] → AllFit (after w m (call (begin (node_at w.nodes m)))).world
+  silent_fits w many h m call k s = go (node_or_not n m)
     where
-      go : IsNode n m ⊎ (IsNode n m → ⊥) → AllFit (after w m (start sv m (begin (node_at w.nodes m)))).world
-      go (inl min) =
-          let d = restart m (begin (node_at w.nodes m)) in
-          after_fits w many h m min (start sv m (begin (node_at w.nodes m))) (migrated_fits n few sv m min d (down_fits w h m min d refl refl refl))
-      go (inr none) = none_fits w many h m none (start sv m (begin (node_at w.nodes m))) (migrated_sends (has_old_base (node_at w.nodes m).log) m (restart m (begin (node_at w.nodes m))) (base (node_at w.nodes m).log) _ refl)
-
-  arm_fits : (w : World) → length w.nodes ≡ n → AllFit w → (m : ℕ) (kept : Bool) → AllFit (after w m (arm m kept (begin (node_at w.nodes m)))).world
-  arm_fits w many h m kept = go (node_or_not n m)
-    where
-      go : IsNode n m ⊎ (IsNode n m → ⊥) → AllFit (after w m (arm m kept (begin (node_at w.nodes m)))).world
-      go (inl min) = let x = h.nodes m min in after_fits w many h m min (arm m kept (begin (node_at w.nodes m))) (record { log = x.log; role = x.role; sends = λ y i. absurd i })
-      go (inr none) = none_fits w many h m none (arm m kept (begin (node_at w.nodes m))) refl
+      go : IsNode n m ⊎ (IsNode n m → ⊥) → AllFit (after w m (call (begin (node_at w.nodes m)))).world
+      go (inl min) = after_fits w many h m min (call (begin (node_at w.nodes m))) (k min (begin (node_at w.nodes m)) (begun w h m min))
+      go (inr none) = none_fits w many h m none (call (begin (node_at w.nodes m))) s
 
   pub step_fits : (w : World) → IsWorld n sv w → AllFit w → (x : ScheduleLine) → LineFits n (length requests) service.lanes x → AllFit (step service requests seed n w x).world
   step_fits w ok h =
       of_step service requests seed n w (λ y r. LineFits n (length requests) service.lanes y → AllFit r.world)
       (record {
         calls = λ y m call k l. any_fits w ok.many h m call (k.fits l few);
+        silent = λ y m call k s l. silent_fits w ok.many h m call (k.fits l few) (s.sends (node_at w.nodes m));
+        is_up = λ m l. record { nodes = h.nodes; messages = h.messages };
         delivers = λ number l. deliver_fits w ok h number (message_at w.messages number) refl;
         flush = λ l. record { nodes = h.nodes; messages = h.messages };
-        starts = λ m l. start_fits w ok.many h m (node_at w.nodes m).up;
-        arms = λ m kept l. arm_fits w ok.many h m kept;
         reads = λ m client variable l. record { nodes = h.nodes; messages = h.messages };
       })
 

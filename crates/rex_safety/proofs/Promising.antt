@@ -1,5 +1,5 @@
 -- After any lines, and events that nodes are handed, candidacies are as they should be.
-use Rattle.std.proofs.Common.{◌≡◌, ℕ, zero, suc, ◌<◌, ◌≤◌, Bool, true, false, cond, ◌||◌, ◌⊎◌, List, [], ◌∷◌, ◌++◌, Option, Some, None, eqb, refl, sym, ◌∙◌, ap, subst, inl, inr, arith, eqb-true, eq-eqb}
+use Rattle.std.proofs.Common.{◌≡◌, ℕ, suc, ◌<◌, ◌≤◌, Bool, true, false, cond, ◌||◌, ◌⊎◌, List, [], ◌∷◌, ◌++◌, Option, Some, None, eqb, refl, sym, ◌∙◌, ap, subst, inl, inr, arith, eqb-true, eq-eqb}
 use Rattle.std.proofs.lemmas.Bool.{false≢true}
 use Rattle.rex_ballot.specs.Limits.{most_nodes}
 use Rattle.rex_syntax.specs.declared.request.Request.{Request}
@@ -8,27 +8,26 @@ use Rattle.rex_event.specs.declared.event.Event.{Event}
 use Rattle.rex_state.specs.Value.{StateValue}
 use Rattle.rex_schedule.specs.declared.scenario.ScheduleLine.{ScheduleLine}
 use Rattle.rex_schedule.specs.declared.scenario.ScheduleLine.TheVariants as line
-use Rattle.rex_cluster.specs.Records.{Proposal, accepted, from_on, has_old_base, base, HasAccepted}
+use Rattle.rex_cluster.specs.Records.{Proposal, accepted, from_on, HasAccepted}
 use Rattle.rex_cluster.specs.Quorum.{IsNode, Logs, is_in}
 use Rattle.rex_cluster.specs.Node.{Service, Content, Message, is_active}
 use Rattle.rex_cluster.specs.Node.Content.{Prepare, Promise, Accept, Accepted as Voted, Chosen as Chose, Nack, Ask, Snapshot}
-use Rattle.rex_cluster.specs.Calls.{begin, elect, receive, on_prepare, restart, start, arm}
+use Rattle.rex_cluster.specs.Calls.{begin, elect, receive, on_prepare}
 use Rattle.rex_cluster.specs.Invariant.{IsIn, IsRightPromise, IsJustified}
 use Rattle.rex_cluster.specs.Values.{Value, service_of}
 use Rattle.rex_cluster.specs.Lanes.{Here, CallHere}
-use Rattle.rex_cluster.specs.World.{World, node_at, logs, beginning, after, at_node, start_if, with_handed, deliver_found, message_at, step, steps_of, steps, row, after_lines}
+use Rattle.rex_cluster.specs.World.{World, node_at, logs, beginning, after, at_node, with_handed, deliver_found, message_at, step, steps_of, steps, row, after_lines}
 use Rattle.rex_cluster.specs.Agreed.{world_after}
 use Rattle.rex_safety.specs.Kept.{IsWorld}
 use Rattle.rex_cluster.specs.Takes.{Doing, take_event, take, after_doings}
 use Rattle.rex_cluster.specs.Takes.Doing.{Does, Takes}
 use Rattle.rex_safety.specs.Doings.{world_after_doings}
 use Rattle.rex_cluster.proofs.Lists.{in_cases, is_in_push, from_on_late, accepted_covers, from_on_covers, in_left, in_right}
-use Rattle.rex_safety.proofs.LineCalls.{active_cast, arm_cast, start_cast}
+use Rattle.rex_safety.proofs.LineCalls.{active_cast}
 use Rattle.rex_safety.proofs.Lawful.{IsOther, of_step}
 use Rattle.rex_safety.proofs.Nodes.{node_put, IsFresh, fresh_at}
-use Rattle.rex_safety.proofs.Worlds.{GoesOnTo, nth_in}
+use Rattle.rex_safety.proofs.Worlds.{GoesOnTo, message_in}
 use Rattle.rex_safety.proofs.Steps.{step_ok, row_ok, beginning_ok}
-use Rattle.rex_cluster.proofs.Migrated.{migrated_sends}
 use Rattle.rex_safety.proofs.Doings.{does_ok}
 use Rattle.rex_safety.proofs.Candidacies.{RoleHas, IsPlain, Cast, Brings, IsGiven, Answers, receive_cast, prepare_answers}
 use Rattle.rex_safety.proofs.Asking.{CoversFrom, AreLater, OwnFrom, VotesCover, IsMeant, Candidacies, HasCandidacies, P, Q, plain, old_message, after_cand, begun, cast_cand, at_cand, at_cast, elect_cand}
@@ -166,12 +165,6 @@ module _ (service : Declarations) (requests : List Request) (seed n : ℕ) (few 
           (inl s);
     }
 
-    start_cand : (m : ℕ) (t : Bool) → GoesOnTo n svc w (start_if svc t w m).world → HasCandidacies n (start_if svc t w m).world
-    start_cand m true goes = has
-    start_cand m false goes =
-        any m (start svc m) goes (migrated_sends (has_old_base (node_at w.nodes m).log) m (restart m (begin (node_at w.nodes m))) (base (node_at w.nodes m).log) _ refl)
-        (λ P Q plain d h. start_cast P Q service seed n m plain d h)
-
     -- the same world with other flags
     flagged : (handed : List Bool) → Candidacies n has.first (record w { handed = handed })
     flagged handed = record { messages = has.holds.messages; roles = has.holds.roles }
@@ -181,7 +174,7 @@ module _ (service : Declarations) (requests : List Request) (seed n : ℕ) (few 
   deliver_cand w ok has number None e goes = has
   deliver_cand w ok has number (Some x) e goes =
       at_cand n svc flags flagged_ok has.first (flagged w ok has flags.handed) x.to (receive n svc x.to x.from x.content) (goes.0, goes.1)
-      (λ g min. received service seed n few flags flagged_ok has.first (flagged w ok has flags.handed) x (found number e) min x.content refl g)
+      (λ g min. received service seed n few flags flagged_ok has.first (flagged w ok has flags.handed) x (message_in w.messages number x e) min x.content refl g)
     where
       flags : World
       flags = with_handed w number
@@ -189,19 +182,15 @@ module _ (service : Declarations) (requests : List Request) (seed n : ℕ) (few 
       flagged_ok : IsWorld n (service_of service seed) (with_handed w number)
       flagged_ok = record { many = ok.many; cluster = ok.cluster; nodes = ok.nodes }
 
-      found : (k : ℕ) → message_at w.messages k ≡ Some x → IsIn x w.messages
-      found zero e = absurd (cc)
-      found (suc k) e = nth_in k w.messages x e
-
   others_cand : (w : World) → IsWorld n (service_of service seed) w → HasCandidacies n w → (x : ScheduleLine) → IsOther x → HasCandidacies n (step service requests seed n w x).world
   others_cand w ok has x o =
       of_step service requests seed n w (λ y r. IsOther y → GoesOnTo n svc w r.world → HasCandidacies n r.world)
       (record {
         calls = λ y m call k o goes. each w ok has m call goes (k.cast o);
+        silent = λ y m call k s o goes. any w ok has m call goes (s.sends (node_at w.nodes m)) (k.cast o);
+        is_up = λ m o goes. has;
         delivers = λ number o goes. deliver_cand w ok has number (message_at w.messages number) refl goes;
         flush = λ o goes. has;
-        starts = λ m o goes. start_cand w ok has m (node_at w.nodes m).up goes;
-        arms = λ m kept o goes. any w ok has m (arm m kept) goes refl (λ P Q plain. arm_cast P Q service seed n m plain kept);
         reads = λ m client variable o goes. record { first = has.first; holds = record { messages = has.holds.messages; roles = has.holds.roles } };
       }) x o (step_ok service requests seed n few w x ok)
 

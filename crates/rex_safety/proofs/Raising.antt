@@ -15,14 +15,14 @@ use Rattle.rex_cluster.specs.Records.{promise}
 use Rattle.rex_cluster.specs.Quorum.{IsNode, round_of, ballot_above, node_of}
 use Rattle.rex_cluster.specs.Node.{Service, Content, Message, is_active, own_ballot, kind_of}
 use Rattle.rex_cluster.specs.Node.Content.{Prepare, Promise, Accept, Accepted as Voted, Chosen as Chose, Nack, Ask, Snapshot}
-use Rattle.rex_cluster.specs.Calls.{begin, say, elect, receive, start, arm}
+use Rattle.rex_cluster.specs.Calls.{begin, say, elect, receive}
 use Rattle.rex_cluster.specs.Values.{Value, service_of}
 use Rattle.rex_cluster.specs.Lanes.{Here, CallHere, active_only}
-use Rattle.rex_cluster.specs.World.{World, Row, node_at, logs, beginning, after, only, at_node, start_if, read_row, first_told, with_handed, deliver_found, message_at, step, waiting_from, flush_steps, steps_of, steps, sent_from, row, after_lines, effects_of}
+use Rattle.rex_cluster.specs.World.{World, Row, node_at, logs, beginning, after, only, at_node, read_row, first_told, with_handed, deliver_found, message_at, step, waiting_from, flush_steps, steps_of, steps, sent_from, row, after_lines, effects_of}
 use Rattle.rex_reads.specs.declared.seen.Read.{Read as Told}
 use Rattle.rex_reads.specs.declared.seen.Read.TheVariants as told
 use Rattle.rex_cluster.specs.Reading.{read_at, read_effect}
-use Rattle.rex_cluster.specs.Invariant.{IsIn, IsJustified}
+use Rattle.rex_cluster.specs.Invariant.{IsJustified}
 use Rattle.rex_cluster.specs.Agreed.{world_after}
 use Rattle.rex_safety.specs.Kept.{IsWorld}
 use Rattle.rex_cluster.specs.Releases.{Moment, step_moments}
@@ -31,13 +31,13 @@ use Rattle.rex_cluster.specs.Takes.Doing.{Does, Takes}
 use Rattle.rex_safety.specs.Doings.{world_after_doings, moments_of_doings}
 use Rattle.rex_safety.specs.Rounds.{greatest_round, RoundsAreAtMost, NoneIsSpent, lines_among}
 use Rattle.rex_safety.proofs.Doings.{does_ok}
-use Rattle.rex_safety.proofs.LineCalls.{calm_replies, LowHere, active_low, arm_low, start_low}
+use Rattle.rex_safety.proofs.LineCalls.{calm_replies, LowHere, active_low}
 use Rattle.rex_safety.proofs.Lawful.{IsOther, of_step}
 use Rattle.rex_safety.proofs.Nodes.{node_put, put_none, none_down, IsFresh, fresh_at}
 use Rattle.rex_safety.proofs.Rounds.{Other, calm_none, calm_one, calm_both, next_low, elect_low, elect_either, ContentLow, receive_low}
 use Rattle.rex_cluster.proofs.Step.{acc_below}
 use Rattle.rex_safety.proofs.Steps.{step_ok, row_ok, beginning_ok}
-use Rattle.rex_safety.proofs.Worlds.{nth_in, node_or_not, at_either}
+use Rattle.rex_safety.proofs.Worlds.{message_in, node_or_not, at_either}
 
 -- ---- nodes
 
@@ -111,11 +111,7 @@ module _ (service : Declarations) (requests : List Request) (seed n : ℕ) (few 
   deliver_low w ok h number (Some x) e =
       told_low (effect.Delivered number (kind_of x.content) x.from x.to) (at_node (with_handed w number) x.to (receive n sv x.to x.from x.content)) (λ m e. cc)
       (at_low (with_handed w number) ok.many h x.to (receive n sv x.to x.from x.content)
-      (λ min. receive_low n sv x.to limit some (calm_replies service seed) x.from x.content (content_low w ok h x.from x.to x.content (ok.cluster.messages x (found number e))) (begin (node_at w.nodes x.to)) (begun w h x.to min)))
-    where
-      found : (k : ℕ) → message_at w.messages k ≡ Some x → IsIn x w.messages
-      found zero e = absurd (cc)
-      found (suc k) e = nth_in k w.messages x e
+      (λ min. receive_low n sv x.to limit some (calm_replies service seed) x.from x.content (content_low w ok h x.from x.to x.content (ok.cluster.messages x (message_in w.messages number x e))) (begin (node_at w.nodes x.to)) (begun w h x.to min)))
 
   -- a number of no node has none that could change
   none_low : (w : World) → length w.nodes ≡ n → AreLow n limit w → (m : ℕ) → (IsNode n m → ⊥) → (d : CallHere) → NoneIsSpent d.effects → StepLow n limit (after w m d)
@@ -141,10 +137,6 @@ module _ (service : Declarations) (requests : List Request) (seed n : ℕ) (few 
       go (inl min) = after_low w many h m min (call (begin (node_at w.nodes m))) (k (begin (node_at w.nodes m)) (begun w h m min))
       go (inr none) = none_low w many h m none (call (begin (node_at w.nodes m))) (k (begin (node_at w.nodes m)) (no_node w many m none)).calm
 
-  start_if_low : (w : World) → length w.nodes ≡ n → AreLow n limit w → (m : ℕ) (t : Bool) → StepLow n limit (start_if sv t w m)
-  start_if_low w many h m true = only_low w h (effect.IsUp m) (λ m e. cc)
-  start_if_low w many h m false = any_low w many h m (start sv m) (start_low service seed n limit some m)
-
   read_low : (w : World) → AreLow n limit w → (m client variable : ℕ) (a : Told) → StepLow n limit (read_row w m client variable a)
   read_low w h m client variable a = record { nodes = h; calm = calm_one (read_effect m client variable a) (other a) }
     where
@@ -159,10 +151,10 @@ module _ (service : Declarations) (requests : List Request) (seed n : ℕ) (few 
       of_step service requests seed n w (λ y r. IsOther y → StepLow n limit r)
       (record {
         calls = λ y m call k o. each_low w ok.many h m call (k.low o limit some);
+        silent = λ y m call k s o. any_low w ok.many h m call (k.low o limit some);
+        is_up = λ m o. only_low w h (effect.IsUp m) (λ m e. cc);
         delivers = λ number o. deliver_low w ok h number (message_at w.messages number) refl;
         flush = λ o. only_low w h effect.Nothing (λ m e. cc);
-        starts = λ m o. start_if_low w ok.many h m (node_at w.nodes m).up;
-        arms = λ m kept o. any_low w ok.many h m (arm m kept) (arm_low service seed n limit some m kept);
         reads = λ m client variable o. read_low w h m client variable (read_at service (node_at w.nodes m) variable (get_or w.seen client 0));
       })
 

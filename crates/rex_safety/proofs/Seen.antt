@@ -15,10 +15,10 @@ use Rattle.rex_schedule.specs.declared.scenario.ScheduleLine.TheVariants as line
 use Rattle.rex_cluster.specs.Records.{known, offset}
 use Rattle.rex_cluster.specs.Quorum.{IsNode}
 use Rattle.rex_cluster.specs.Node.{Message, is_active, kind_of}
-use Rattle.rex_cluster.specs.Calls.{begin, receive, start, arm}
+use Rattle.rex_cluster.specs.Calls.{begin, receive}
 use Rattle.rex_cluster.specs.Values.{Value, trace_of, state_after, service_of}
 use Rattle.rex_cluster.specs.Lanes.{Here, CallHere}
-use Rattle.rex_cluster.specs.World.{World, Row, node_at, put, after, only, if_up, at_node, start_if, read_row, first_told, with_handed, deliver_found, message_at, step, steps_of, steps, row, after_lines}
+use Rattle.rex_cluster.specs.World.{World, Row, node_at, put, after, only, if_up, at_node, read_row, first_told, with_handed, deliver_found, message_at, step, steps_of, steps, row, after_lines}
 use Rattle.rex_cluster.specs.Reading.{last_reply, stamp_at, released_to, seen_by_release, seen_by_releases, value_in, read_effect}
 use Rattle.rex_cluster.specs.Agreed.{known_at}
 use Rattle.rex_cluster.specs.Releases.{IsAmong, receiver_of, node_in}
@@ -128,10 +128,6 @@ module _ (service : Declarations) (requests : List Request) (seed n : ℕ) where
   deliver_rises w number None = rises_same w.seen
   deliver_rises w number (Some y) = if_up_rises (node_at w.nodes y.to).up (with_handed w number) y.to (receive n (service_of service seed) y.to y.from y.content (begin (node_at w.nodes y.to)))
 
-  start_rises : (w : World) (m : ℕ) (t : Bool) → Rises w.seen (start_if (service_of service seed) t w m).world.seen
-  start_rises w m true = rises_same w.seen
-  start_rises w m false = releases_rise (stamp_at (start (service_of service seed) m (begin (node_at w.nodes m))).node) (start (service_of service seed) m (begin (node_at w.nodes m))).effects w.seen
-
   read_rises : (w : World) (m client variable : ℕ) → Rises w.seen (step service requests seed n w (line.ReadVariable m client variable)).world.seen
   read_rises w m client variable =
       let x : Here = node_at w.nodes m in
@@ -142,10 +138,10 @@ module _ (service : Declarations) (requests : List Request) (seed n : ℕ) where
       of_step service requests seed n w (λ y r. Rises w.seen r.world.seen)
       (record {
         calls = λ y m call k. if_up_rises (node_at w.nodes m).up w m _;
+        silent = λ y m call k s. releases_rise (stamp_at (call (begin (node_at w.nodes m))).node) (call (begin (node_at w.nodes m))).effects w.seen;
+        is_up = λ m. rises_same w.seen;
         delivers = λ number. deliver_rises w number (message_at w.messages number);
         flush = rises_same w.seen;
-        starts = λ m. start_rises w m (node_at w.nodes m).up;
-        arms = λ m kept. releases_rise (stamp_at (arm m kept (begin (node_at w.nodes m))).node) (arm m kept (begin (node_at w.nodes m))).effects w.seen;
         reads = λ m client variable. read_rises w m client variable;
       })
 
@@ -203,10 +199,6 @@ module _ (service : Declarations) (requests : List Request) (seed n : ℕ) where
       told_stamps y.to (effect.Delivered number (kind_of y.content) y.from y.to) (at_node (with_handed w number) y.to (receive n (service_of service seed) y.to y.from y.content)) (λ c s x e. cc)
       (if_up_stamps (with_handed w number) many long y.to min (node_at w.nodes y.to).up (receive n (service_of service seed) y.to y.from y.content (begin (node_at w.nodes y.to))))
 
-  start_stamps : (w : World) → length w.nodes ≡ n → length w.seen ≡ 257 → (m : ℕ) → IsNode n m → (t : Bool) → Stamps m (start_if (service_of service seed) t w m)
-  start_stamps w many long m min true = quiet_stamps m (only w (effect.IsUp m)) (quiet_one (effect.IsUp m) (λ c s x e. cc))
-  start_stamps w many long m min false = after_stamps w many long m min (start (service_of service seed) m (begin (node_at w.nodes m)))
-
   read_stamps : (w : World) (m client variable : ℕ) (a : Answer) → Stamps m (read_row w m client variable a)
   read_stamps w m client variable a = quiet_stamps m (read_row w m client variable a) (quiet_one (read_effect m client variable a) (read_quiet m client variable a))
 
@@ -215,9 +207,9 @@ module _ (service : Declarations) (requests : List Request) (seed n : ℕ) where
       of_step service requests seed n w (λ y r. IsNode n (node_in w y) → Stamps (node_in w y) r)
       (record {
         calls = λ y m call k min. subst (λ q. Stamps q (at_node w m call)) (sym k.node) (if_up_stamps w many long m (subst (IsNode n) k.node min) (node_at w.nodes m).up _);
+        silent = λ y m call k s min. quiet_stamps (node_in w y) (after w m (call (begin (node_at w.nodes m)))) (s.quiet (node_at w.nodes m));
+        is_up = λ m min. quiet_stamps m (only w (effect.IsUp m)) (quiet_one (effect.IsUp m) (λ c s x e. cc));
         delivers = λ number min. deliver_stamps w many long number (message_at w.messages number) min;
         flush = λ min. absurd (omega (arith, min.0));
-        starts = λ m min. start_stamps w many long m min (node_at w.nodes m).up;
-        arms = λ m kept min. after_stamps w many long m min (arm m kept (begin (node_at w.nodes m)));
         reads = λ m client variable min. read_stamps w m client variable _;
       })

@@ -8,14 +8,14 @@ use Rattle.rex_schedule.specs.declared.scenario.ScheduleLine.{ScheduleLine}
 use Rattle.rex_cluster.specs.Records.{Proposal}
 use Rattle.rex_cluster.specs.Quorum.{IsNode}
 use Rattle.rex_cluster.specs.Node.{Service, Message, Work}
-use Rattle.rex_cluster.specs.Calls.{begin, receive, start, arm, work_known}
+use Rattle.rex_cluster.specs.Calls.{begin, receive, work_known}
 use Rattle.rex_cluster.specs.Values.{Value, service_of}
 use Rattle.rex_cluster.specs.Lanes.{Here, CallHere, active_only}
-use Rattle.rex_cluster.specs.World.{World, node_at, put, after, at_node, start_if, with_handed, deliver_found, message_at, step}
+use Rattle.rex_cluster.specs.World.{World, node_at, put, after, at_node, with_handed, deliver_found, message_at, step}
 use Rattle.rex_safety.proofs.Lawful.{LanesKeep, of_step}
 use Rattle.rex_safety.proofs.Nodes.{node_put, put_none, IsFresh}
 use Rattle.rex_safety.proofs.Worlds.{node_or_not, at_either}
-use Rattle.rex_cluster.proofs.Working.{fresh_work, Works, passive, receive_works, start_works}
+use Rattle.rex_cluster.proofs.Working.{fresh_work, Works, passive, receive_works}
 
 module _ (service : Declarations) (seed n : ℕ) (A : List Value → Option (Proposal Value) → Work → Type 0)
     (new : (vs : List Value) (dice : Lcg) → (service_of service seed).fits vs ≡ true → A vs None (fresh_work dice))
@@ -52,19 +52,15 @@ module _ (service : Declarations) (seed n : ℕ) (A : List Value → Option (Pro
   deliver_works w many h number None = h
   deliver_works w many h number (Some y) = at_works (with_handed w number) many h y.to (receive n sv y.to y.from y.content) (λ d k. receive_works n sv y.to A new more y.from y.content d k)
 
-  restart_works : (w : World) → length w.nodes ≡ n → AllWorks w → (m : ℕ) (t : Bool) → AllWorks (start_if sv t w m).world
-  restart_works w many h m true = h
-  restart_works w many h m false = after_works w many h m (start sv m (begin (node_at w.nodes m))) (start_works n sv m A new more (begin (node_at w.nodes m)))
-
   pub step_works : (requests : List Request) (w : World) → length w.nodes ≡ n → AllWorks w → (x : ScheduleLine) → LanesKeep service requests seed n w WorksAt x → AllWorks (step service requests seed n w x).world
   step_works requests w many h =
       of_step service requests seed n w (λ y r. LanesKeep service requests seed n w WorksAt y → AllWorks r.world)
       (record {
         calls = λ y m call k l. at_works w many h m call (k.works A new more l);
+        silent = λ y m call k s l. after_works w many h m (call (begin (node_at w.nodes m))) (k.works A new more l (begin (node_at w.nodes m)) (h m));
+        is_up = λ m l. h;
         delivers = λ number l. deliver_works w many h number (message_at w.messages number);
         flush = λ l. h;
-        starts = λ m l. restart_works w many h m (node_at w.nodes m).up;
-        arms = λ m kept l. after_works w many h m (arm m kept (begin (node_at w.nodes m))) (record { each = (h m).each });
         reads = λ m client variable l. h;
       })
 

@@ -12,7 +12,7 @@ use Rattle.rex_cluster.specs.Node.Role.{Follower, Leads}
 use Rattle.rex_cluster.specs.Calls.{begin}
 use Rattle.rex_cluster.specs.Values.{Value}
 use Rattle.rex_cluster.specs.Lanes.{Here, CallHere}
-use Rattle.rex_cluster.specs.World.{World, Row, node_at, put, logs, after, only, if_up, at_node}
+use Rattle.rex_cluster.specs.World.{World, Row, node_at, put, logs, after, only, if_up, at_node, message_at}
 use Rattle.rex_cluster.specs.Invariant.{IsIn, with_log, AreSafe, Grows, IsRightRole, IsReplayed, AreJustified, KeepsAll}
 use Rattle.rex_cluster.proofs.Grow.{grows_same}
 use Rattle.rex_cluster.proofs.Roles.{just_both}
@@ -29,6 +29,11 @@ pub nth_in : {A : Type 0} (k : ℕ) (xs : List A) (x : A) → slice_get xs k ≡
 nth_in k [] x e = absurd (cc)
 nth_in zero (y ∷ xs) x e = inl (cc)
 nth_in (suc k) (y ∷ xs) x e = inr (nth_in k xs x e)
+
+-- a message that has a number was sent
+pub message_in : (messages : List (Message Value)) (number : ℕ) (x : Message Value) → message_at messages number ≡ Some x → IsIn x messages
+message_in messages zero x e = absurd (cc)
+message_in messages (suc k) x e = nth_in k messages x e
 
 module _ (n : ℕ) (sv : Service Value StateValue) (w : World) (ok : IsWorld n sv w) (m : ℕ) (min : IsNode n m) where
   here-in : IsNode (length w.nodes) m
