@@ -125,7 +125,6 @@ module _ {V S : Type 0} where
     receive_tells_none from (Ask first) a d h = absurd a
     receive_tells_none from (Snapshot values) a d h =
         if_tells_none (nat_le (length values) (length (known d.node.log))) _ _ h (append_tells_none d.node.armed me (Transferred values (sv.state values)) d _ (λ b. h))
-    -- ---- schedule lines
 
 -- ---- cuts
 

@@ -50,7 +50,7 @@ module _ (service : Declarations) (requests : List Request) (seed n : ℕ) (w : 
   LanesKeep K (line.CutBelow m limits) = (d : CallHere) → K m d → K m (cut service seed n m (with_limits service d.node limits) d)
   LanesKeep K _ = Unit {0}
 
-  -- the call of node m that the line makes keeps the invariant, releases only replies that stand, keeps what an active node works with where clients and lanes keep it, leaves rounds and votes alone where it is no election, and keeps numbers in their ranges
+  -- the call of node m that a line makes keeps the invariant, releases only replies that stand, keeps a fact of what active nodes work with where clients and lanes keep it, keeps rounds and votes where it is no election, and keeps numbers in their ranges where what the line names is there
   pub record IsLawful (x : ScheduleLine) (m : ℕ) (call : CallHere → CallHere) : Type 1 where
     pub node : node_in w x ≡ m
     pub good : n ≤ most_nodes → (L : Logs Value StateValue) (R : ℕ → Role Value) (ms : List (Message Value)) → IsNode n m → (d : CallHere) → KeepsAll n sv L R ms m d → KeepsAll n sv L R ms m (call d)

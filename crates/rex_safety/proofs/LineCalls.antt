@@ -38,6 +38,7 @@ use Rattle.rex_safety.proofs.Rounds.{Other, Low, calm_push, calm_releases, if_lo
 
 -- calls of clients and lanes touch no record, and a cut proposes what fits
 module _ (service : Declarations) (seed n : ℕ) (L : Logs Value StateValue) (R : ℕ → Role Value) (ms : List (Message Value)) (m : ℕ) (min : IsNode n m) where
+  -- what every step keeps, in a call of node m
   abbrev G : CallHere → Type 0
   G d = KeepsAll n (service_of service seed) L R ms m d
 
@@ -76,7 +77,7 @@ module _ (service : Declarations) (seed n limit : ℕ) (some : 0 < limit) where
   abbrev sv : Service Value StateValue
   sv = service_of service seed
 
-  -- rounds stay as they are in a call of a node
+  -- in a call of node m its promise and own ballot are below the limit, and nothing that it said lacks a round
   abbrev pub LowHere : ℕ → CallHere → Type 0
   LowHere m d = Low n sv m limit some (calm_replies service seed) d
 
@@ -159,6 +160,7 @@ module _ (P : ℕ → List ℕ → List (Proposal Value) → Type 0) (Q : Messag
   abbrev svc : Service Value StateValue
   svc = service_of service seed
 
+  -- its votes and what it sends, in a call of node m
   abbrev CastHere : CallHere → Type 0
   CastHere d = Cast P Q n svc m plain d
 
@@ -212,6 +214,7 @@ module _ (P : ℕ → List ℕ → List (Proposal Value) → Type 0) (Q : Messag
 -- ---- ranges
 
 module _ (service : Declarations) (requests : List Request) (seed n : ℕ) (few : n ≤ most_nodes) (m : ℕ) (min : IsNode n m) where
+  -- its numbers are in their ranges, in a call of node m
   abbrev FitsAt : CallHere → Type 0
   FitsAt d = Fits n few (service_of service seed) m min d
 

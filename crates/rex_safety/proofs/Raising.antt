@@ -66,6 +66,7 @@ module _ (service : Declarations) (requests : List Request) (seed n : ℕ) (few 
   abbrev sv : Service Value StateValue
   sv = service_of service seed
 
+  -- in a call of a node its promise and own ballot are below this limit, and nothing that it said lacks a round
   abbrev LowAt : ℕ → CallHere → Type 0
   LowAt = LowHere service seed n limit some
 
