@@ -1,5 +1,5 @@
 -- What holds of a line that no code fits.
-use Rattle.std.proofs.Common.{◌≡◌, ℕ, ◌<◌, ◌≤◌, Bool, true, false, cond, not, ◌&&◌, List, [], ◌∷◌, length, get_or, Option, Some, None, refl, arith}
+use Rattle.std.proofs.Common.{◌≡◌, ◌≤◌, Bool, true, false, cond, not, ◌&&◌, List, [], ◌∷◌, length, get_or, Option, Some, None, refl, arith}
 use Rattle.std.specs.Borrow.{Bor}
 use Rattle.rex_text.specs.Text.{Word}
 use Rattle.rex_parse.specs.Answers.{texts}

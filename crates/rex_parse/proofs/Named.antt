@@ -1,4 +1,5 @@
 -- What a word names is there, where no code fits it.
+use Rattle.std.specs.Option.{option_or}
 use Rattle.std.proofs.Common.{◌≡◌, ℕ, ℤ, ◌<◌, Bool, true, false, cond, not, ◌||◌, List, [], ◌∷◌, ◌++◌, length, Option, Some, None, refl, arith}
 use Rattle.std.specs.Prelude.{find, option_map, slice_get}
 use Rattle.std.proofs.lemmas.Bool.{not-false}
@@ -15,7 +16,7 @@ use Rattle.rex_syntax.specs.declared.service.LockKind.{LockKind}
 use Rattle.rex_syntax.specs.declared.service.LockKind.TheVariants.{Plain, ReadersWriter}
 use Rattle.rex_syntax.specs.Service.{IsLock}
 use Rattle.rex_syntax.specs.Expr.{OperandFits, ExprFits}
-use Rattle.rex_parse.specs.Words.{is_name, least}
+use Rattle.rex_parse.specs.Words.{is_name, least, fits}
 use Rattle.rex_parse.specs.Above.{meaning_in, meaning_of, is_local, local_place}
 use Rattle.rex_parse.specs.Table.{lock_kind_code, lock_code, semaphore_kind_code, semaphore_code, is_same_kind, is_of_kind, lock_of_kind_code, lock_of_code, condition_kind_code, condition_code, variable_kind_code, variable_code, begins_number, number_code, operand_code, operator_code, expr_code, whole_expr_code}
 use Rattle.rex_parse.specs.After.{service_of, lock_number, semaphore_number, condition_number, variable_number, operand_of, terms_of, expr_of, with_local}
@@ -94,7 +95,7 @@ lock_of_at a kind (Some (meaning.Condition n)) e = absurd cc
 lock_of_at a kind (Some (meaning.Variable n)) e = absurd cc
 lock_of_at a kind (Some (meaning.Handler n)) e = absurd cc
 
-by_kind : (named local : Bool) (kind : Option ServiceCode) → cond named (cond local (Some WrongKind) kind) (Some NoName) ≡ None → kind ≡ None
+by_kind : (named local : Bool) (kind : Option ServiceCode) → option_or (cond named (fits local WrongKind) (Some NoName)) kind ≡ None → kind ≡ None
 by_kind true true kind e = absurd cc
 by_kind true false kind e = e
 by_kind false local kind e = absurd cc

@@ -1,4 +1,5 @@
 -- The least of the codes that fit the places of a line.
+use Rattle.std.specs.Option.{option_or}
 use Rattle.std.proofs.Common.{◌≡◌, ℕ, zero, suc, ◌≤◌, ◌⊎◌, List, [], ◌∷◌, Option, Some, None, Bool, true, false, refl, sym, ap, subst, ◌∙◌, arith, inl, inr}
 use Rattle.std.specs.Prelude.{◌&&◌, ◌||◌, ◌==◌, not, IsTrue, is_some, if◌then◌else◌, option_map}
 use Rattle.std.specs.Bool.{IsFalse, Decides}
@@ -234,7 +235,7 @@ named a kind w = name_by a kind w (is_name w) refl
 -- ---- the codes of the kinds of names
 
 lock_by : (a : Above) (w : Word) (n l : Bool) (m : Option Meaning)
-    → (if n then kind_code a AnyLock (if l then Some OwnLocal else option_map Declared m) else Some NoName) ≡ (if n then (if l then Some WrongKind else lock_kind_code m) else Some NoName)
+    → (if n then kind_code a AnyLock (if l then Some OwnLocal else option_map Declared m) else Some NoName) ≡ option_or (if n then fits l WrongKind else Some NoName) (lock_kind_code m)
 lock_by a w false l m = refl
 lock_by a w true true m = refl
 lock_by a w true false None = refl
@@ -246,7 +247,7 @@ unfolding lock_code
 lock_place a w = lock_by a w (is_name w) (is_local a w) (meaning_of a w)
 
 lock_of_by : (a : Above) (k : LockKind) (w : Word) (n l : Bool) (m : Option Meaning)
-    → (if n then kind_code a (LockOfKind k) (if l then Some OwnLocal else option_map Declared m) else Some NoName) ≡ (if n then (if l then Some WrongKind else lock_of_kind_code a k m) else Some NoName)
+    → (if n then kind_code a (LockOfKind k) (if l then Some OwnLocal else option_map Declared m) else Some NoName) ≡ option_or (if n then fits l WrongKind else Some NoName) (lock_of_kind_code a k m)
 lock_of_by a k w false l m = refl
 lock_of_by a k w true true m = refl
 lock_of_by a k w true false None = refl
@@ -258,7 +259,7 @@ unfolding lock_of_code
 lock_of_place a k w = lock_of_by a k w (is_name w) (is_local a w) (meaning_of a w)
 
 semaphore_by : (a : Above) (w : Word) (n l : Bool) (m : Option Meaning)
-    → (if n then kind_code a ASemaphore (if l then Some OwnLocal else option_map Declared m) else Some NoName) ≡ (if n then (if l then Some WrongKind else semaphore_kind_code m) else Some NoName)
+    → (if n then kind_code a ASemaphore (if l then Some OwnLocal else option_map Declared m) else Some NoName) ≡ option_or (if n then fits l WrongKind else Some NoName) (semaphore_kind_code m)
 semaphore_by a w false l m = refl
 semaphore_by a w true true m = refl
 semaphore_by a w true false None = refl
@@ -270,7 +271,7 @@ unfolding semaphore_code
 semaphore_place a w = semaphore_by a w (is_name w) (is_local a w) (meaning_of a w)
 
 condition_by : (a : Above) (w : Word) (n l : Bool) (m : Option Meaning)
-    → (if n then kind_code a ACondition (if l then Some OwnLocal else option_map Declared m) else Some NoName) ≡ (if n then (if l then Some WrongKind else condition_kind_code m) else Some NoName)
+    → (if n then kind_code a ACondition (if l then Some OwnLocal else option_map Declared m) else Some NoName) ≡ option_or (if n then fits l WrongKind else Some NoName) (condition_kind_code m)
 condition_by a w false l m = refl
 condition_by a w true true m = refl
 condition_by a w true false None = refl
@@ -282,7 +283,7 @@ unfolding condition_code
 condition_place a w = condition_by a w (is_name w) (is_local a w) (meaning_of a w)
 
 variable_by : (a : Above) (w : Word) (n l : Bool) (m : Option Meaning)
-    → (if n then kind_code a AVariable (if l then Some OwnLocal else option_map Declared m) else Some NoName) ≡ (if n then (if l then Some WrongKind else variable_kind_code m) else Some NoName)
+    → (if n then kind_code a AVariable (if l then Some OwnLocal else option_map Declared m) else Some NoName) ≡ option_or (if n then fits l WrongKind else Some NoName) (variable_kind_code m)
 variable_by a w false l m = refl
 variable_by a w true true m = refl
 variable_by a w true false None = refl

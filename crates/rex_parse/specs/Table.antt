@@ -1,5 +1,6 @@
 -- The table of lines: which words a line has, and which codes fit.
 use Rattle.std.specs.Prelude.{◌==◌, ◌&&◌, ◌||◌, ℕ, Bool, true, false, not, List, [], ◌∷◌, ◌++◌, length, nat_lt, nat_le, Option, Some, None, is_some, codes, find, if◌then◌else◌, option_map, option_and_then, slice_get, count_by}
+use Rattle.std.specs.Option.{option_or}
 use Rattle.std.specs.Str.{bytes_eq}
 use Rattle.std.specs.List.{list_any}
 use Rattle.rex_text.specs.Text.{Word}
@@ -175,6 +176,10 @@ parameters_code a before (w ∷ ws) = least (parameter_code a before w) (paramet
 abbrev pub heading_code : Above → Word → List Word → Option ServiceCode
 heading_code a w ws = least (new_code a w) (parameters_code a (w ∷ []) ws)
 
+-- a word that is due to stand for something declared, whatever that is: a name, and no local
+abbrev pub named_code : Above → Word → Option ServiceCode
+named_code a w = if is_name w then fits (is_local a w) WrongKind else Some NoName
+
 -- a name that is due to stand for a lock stands for this
 abbrev pub lock_kind_code : Option Meaning → Option ServiceCode
 lock_kind_code None = Some Undeclared
@@ -186,7 +191,7 @@ lock_kind_code (Some (meaning.Handler n)) = Some WrongKind
 
 -- a lock's name
 unfoldable pub lock_code : Above → Word → Option ServiceCode
-lock_code a w = if is_name w then (if is_local a w then Some WrongKind else lock_kind_code (meaning_of a w)) else Some NoName
+lock_code a w = option_or (named_code a w) (lock_kind_code (meaning_of a w))
 
 -- both kinds are the same
 abbrev pub is_same_kind : LockKind → LockKind → Bool
@@ -210,7 +215,7 @@ lock_of_kind_code a kind (Some (meaning.Handler n)) = Some WrongKind
 
 -- the name of a lock of a kind
 unfoldable pub lock_of_code : Above → LockKind → Word → Option ServiceCode
-lock_of_code a kind w = if is_name w then (if is_local a w then Some WrongKind else lock_of_kind_code a kind (meaning_of a w)) else Some NoName
+lock_of_code a kind w = option_or (named_code a w) (lock_of_kind_code a kind (meaning_of a w))
 
 -- a name that is due to stand for a semaphore stands for this
 abbrev pub semaphore_kind_code : Option Meaning → Option ServiceCode
@@ -223,7 +228,7 @@ semaphore_kind_code (Some (meaning.Handler n)) = Some WrongKind
 
 -- a semaphore's name
 unfoldable pub semaphore_code : Above → Word → Option ServiceCode
-semaphore_code a w = if is_name w then (if is_local a w then Some WrongKind else semaphore_kind_code (meaning_of a w)) else Some NoName
+semaphore_code a w = option_or (named_code a w) (semaphore_kind_code (meaning_of a w))
 
 -- a name that is due to stand for a condition stands for this
 abbrev pub condition_kind_code : Option Meaning → Option ServiceCode
@@ -236,7 +241,7 @@ condition_kind_code (Some (meaning.Handler n)) = Some WrongKind
 
 -- a condition's name
 unfoldable pub condition_code : Above → Word → Option ServiceCode
-condition_code a w = if is_name w then (if is_local a w then Some WrongKind else condition_kind_code (meaning_of a w)) else Some NoName
+condition_code a w = option_or (named_code a w) (condition_kind_code (meaning_of a w))
 
 -- a name that is due to stand for a variable stands for this
 abbrev pub variable_kind_code : Option Meaning → Option ServiceCode
@@ -249,7 +254,7 @@ variable_kind_code (Some (meaning.Handler n)) = Some WrongKind
 
 -- a variable's name
 unfoldable pub variable_code : Above → Word → Option ServiceCode
-variable_code a w = if is_name w then (if is_local a w then Some WrongKind else variable_kind_code (meaning_of a w)) else Some NoName
+variable_code a w = option_or (named_code a w) (variable_kind_code (meaning_of a w))
 
 -- a local's name, which may be new
 unfoldable pub local_code : Above → Word → Option ServiceCode

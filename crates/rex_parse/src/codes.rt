@@ -1,9 +1,10 @@
 //! The codes that fit the words of a line.
 
-ghost use Rattle.std.specs.Prelude.{◌≡◌, ◌∷◌, [], ◌<◌, length, slice_get, count_by};
+ghost use Rattle.std.specs.Prelude.{◌≡◌, ◌∷◌, [], ◌<◌, length, slice_get, count_by, true, IfSome};
 ghost use Rattle.rex_parse.specs.Table as table;
 ghost use Rattle.rex_parse.specs.Above.{meaning_of, blocks_of};
 ghost use Rattle.rex_parse.specs.Answers.{texts};
+ghost use Rattle.rex_parse.specs.Words.{is_name};
 
 use crate::language::{Above, Form, Meaning, ServiceCode};
 use crate::least::{fits, least};
@@ -38,23 +39,24 @@ impl Above {
         fits(is_taken, ServiceCode::Taken)
     }
 
+    // Of a word that is due to name something declared, whatever that is, given what it stands for.
+    fn named_code(&self, word: &[u8], meaning: Option<Meaning>) -> Option<ServiceCode>
+        requires { IfSome meaning (λ _. is_name word.now ≡ true) }
+        ensures { result ≡ table.named_code self.now word.now }
+    {
+        if !is_name_of(word, meaning) {
+            return Some(ServiceCode::NoName);
+        }
+        fits(self.is_local(word), ServiceCode::WrongKind)
+    }
+
     /// Of a lock's name.
     #[tactic(auto, unfolding(crate::specs::Table::lock_code))]
     pub(crate) fn lock_code(&self, word: &[u8]) -> Option<ServiceCode>
         ensures { result ≡ table.lock_code self.now word.now }
     {
         let meaning = self.meaning_of(word);
-        if !is_name_of(word, meaning) {
-            return Some(ServiceCode::NoName);
-        }
-        if self.is_local(word) {
-            return Some(ServiceCode::WrongKind);
-        }
-        match meaning {
-            None => Some(ServiceCode::Undeclared),
-            Some(Meaning::Lock(_)) => None,
-            Some(_) => Some(ServiceCode::WrongKind),
-        }
+        self.named_code(word, meaning).or(lock_kind_code(meaning))
     }
 
     // Whether a lock is there and of the kind.
@@ -67,18 +69,10 @@ impl Above {
         }
     }
 
-    /// Of the name of a lock of a kind.
-    #[tactic(auto, unfolding(crate::specs::Table::lock_of_code))]
-    pub(crate) fn lock_of_code(&self, kind: LockKind, word: &[u8]) -> Option<ServiceCode>
-        ensures { result ≡ table.lock_of_code self.now kind word.now }
+    // Of what is due to be the name of a lock of a kind, by what it stands for.
+    fn lock_of_kind_code(&self, kind: LockKind, meaning: Option<Meaning>) -> Option<ServiceCode>
+        ensures { result ≡ table.lock_of_kind_code self.now kind meaning }
     {
-        let meaning = self.meaning_of(word);
-        if !is_name_of(word, meaning) {
-            return Some(ServiceCode::NoName);
-        }
-        if self.is_local(word) {
-            return Some(ServiceCode::WrongKind);
-        }
         match meaning {
             None => Some(ServiceCode::Undeclared),
             Some(Meaning::Lock(lock)) => {
@@ -88,23 +82,24 @@ impl Above {
         }
     }
 
+    /// Of the name of a lock of a kind.
+    #[tactic(auto, unfolding(crate::specs::Table::lock_of_code))]
+    pub(crate) fn lock_of_code(&self, kind: LockKind, word: &[u8]) -> Option<ServiceCode>
+        ensures { result ≡ table.lock_of_code self.now kind word.now }
+    {
+        let meaning = self.meaning_of(word);
+        self.named_code(word, meaning)
+            .or(self.lock_of_kind_code(kind, meaning))
+    }
+
     /// Of a semaphore's name.
     #[tactic(auto, unfolding(crate::specs::Table::semaphore_code))]
     pub(crate) fn semaphore_code(&self, word: &[u8]) -> Option<ServiceCode>
         ensures { result ≡ table.semaphore_code self.now word.now }
     {
         let meaning = self.meaning_of(word);
-        if !is_name_of(word, meaning) {
-            return Some(ServiceCode::NoName);
-        }
-        if self.is_local(word) {
-            return Some(ServiceCode::WrongKind);
-        }
-        match meaning {
-            None => Some(ServiceCode::Undeclared),
-            Some(Meaning::Semaphore(_)) => None,
-            Some(_) => Some(ServiceCode::WrongKind),
-        }
+        self.named_code(word, meaning)
+            .or(semaphore_kind_code(meaning))
     }
 
     /// Of a condition's name.
@@ -113,17 +108,8 @@ impl Above {
         ensures { result ≡ table.condition_code self.now word.now }
     {
         let meaning = self.meaning_of(word);
-        if !is_name_of(word, meaning) {
-            return Some(ServiceCode::NoName);
-        }
-        if self.is_local(word) {
-            return Some(ServiceCode::WrongKind);
-        }
-        match meaning {
-            None => Some(ServiceCode::Undeclared),
-            Some(Meaning::Condition(_)) => None,
-            Some(_) => Some(ServiceCode::WrongKind),
-        }
+        self.named_code(word, meaning)
+            .or(condition_kind_code(meaning))
     }
 
     /// Of a variable's name.
@@ -132,13 +118,8 @@ impl Above {
         ensures { result ≡ table.variable_code self.now word.now }
     {
         let meaning = self.meaning_of(word);
-        if !is_name_of(word, meaning) {
-            return Some(ServiceCode::NoName);
-        }
-        if self.is_local(word) {
-            return Some(ServiceCode::WrongKind);
-        }
-        variable_kind_code(meaning)
+        self.named_code(word, meaning)
+            .or(variable_kind_code(meaning))
     }
 
     /// Of a local's name, which may be new.
@@ -271,6 +252,39 @@ pub(crate) fn count_code(least: u64, most: u64, word: &[u8]) -> Option<ServiceCo
     ensures { result ≡ table.count_code least most word.now }
 {
     fits(count_of(least, most, word).is_none(), ServiceCode::NoNumber)
+}
+
+// Of what is due to be a lock's name, by what it stands for.
+fn lock_kind_code(meaning: Option<Meaning>) -> Option<ServiceCode>
+    ensures { result ≡ table.lock_kind_code meaning }
+{
+    match meaning {
+        None => Some(ServiceCode::Undeclared),
+        Some(Meaning::Lock(_)) => None,
+        Some(_) => Some(ServiceCode::WrongKind),
+    }
+}
+
+// Of what is due to be a semaphore's name, by what it stands for.
+fn semaphore_kind_code(meaning: Option<Meaning>) -> Option<ServiceCode>
+    ensures { result ≡ table.semaphore_kind_code meaning }
+{
+    match meaning {
+        None => Some(ServiceCode::Undeclared),
+        Some(Meaning::Semaphore(_)) => None,
+        Some(_) => Some(ServiceCode::WrongKind),
+    }
+}
+
+// Of what is due to be a condition's name, by what it stands for.
+fn condition_kind_code(meaning: Option<Meaning>) -> Option<ServiceCode>
+    ensures { result ≡ table.condition_kind_code meaning }
+{
+    match meaning {
+        None => Some(ServiceCode::Undeclared),
+        Some(Meaning::Condition(_)) => None,
+        Some(_) => Some(ServiceCode::WrongKind),
+    }
 }
 
 /// Of what is due to be a variable's name, by what it stands for.

@@ -8,11 +8,11 @@ ghost use Rattle.rex_text.specs.Text as text;
 use crate::cuts::is_blank;
 use std::alloc::AllocError;
 
-/// Puts the words of a line in place of what a list held. It takes memory only where there are more words than the list
-/// has room for.
+/// Puts the words of a line in place of what a list held.
 pub fn find_words<'a>(found: &mut Vec<&'a [u8]>, line: &'a [u8]) -> Result<(), AllocError>
     ensures { OnOk result (map (λ word. word.now) found.new.items ≡ words_of line.now) }
 {
+    // The list's room is used again, so that few lines take memory.
     found.clear();
     let mut start = 0;
     for (at, byte) in line.iter().enumerate() {
