@@ -180,14 +180,19 @@ heading_code a w ws = least (new_code a w) (parameters_code a (w ∷ []) ws)
 abbrev pub named_code : Above → Word → Option ServiceCode
 named_code a w = if is_name w then fits (is_local a w) WrongKind else Some NoName
 
+-- a name that is due to stand for something of a kind stands for this, which is of that kind or not
+abbrev pub of_kind_code : Bool → Option Meaning → Option ServiceCode
+of_kind_code is_of_it None = Some Undeclared
+of_kind_code is_of_it (Some m) = fits (not is_of_it) WrongKind
+
+-- a name stands for a lock
+abbrev pub is_lock : Option Meaning → Bool
+is_lock (Some (meaning.Lock n)) = true
+is_lock _ = false
+
 -- a name that is due to stand for a lock stands for this
 abbrev pub lock_kind_code : Option Meaning → Option ServiceCode
-lock_kind_code None = Some Undeclared
-lock_kind_code (Some (meaning.Lock n)) = None
-lock_kind_code (Some (meaning.Semaphore n)) = Some WrongKind
-lock_kind_code (Some (meaning.Condition n)) = Some WrongKind
-lock_kind_code (Some (meaning.Variable n)) = Some WrongKind
-lock_kind_code (Some (meaning.Handler n)) = Some WrongKind
+lock_kind_code m = of_kind_code (is_lock m) m
 
 -- a lock's name
 unfoldable pub lock_code : Above → Word → Option ServiceCode
@@ -204,53 +209,53 @@ abbrev pub is_of_kind : LockKind → Option Lock → Bool
 is_of_kind kind None = false
 is_of_kind kind (Some l) = is_same_kind kind l.kind
 
+-- a name stands for a lock of a kind
+abbrev pub is_lock_of : Above → LockKind → Option Meaning → Bool
+is_lock_of a kind (Some (meaning.Lock n)) = is_of_kind kind (slice_get a.locks n)
+is_lock_of a kind _ = false
+
 -- a name that is due to stand for a lock of a kind stands for this
 abbrev pub lock_of_kind_code : Above → LockKind → Option Meaning → Option ServiceCode
-lock_of_kind_code a kind None = Some Undeclared
-lock_of_kind_code a kind (Some (meaning.Lock n)) = fits (not (is_of_kind kind (slice_get a.locks n))) WrongKind
-lock_of_kind_code a kind (Some (meaning.Semaphore n)) = Some WrongKind
-lock_of_kind_code a kind (Some (meaning.Condition n)) = Some WrongKind
-lock_of_kind_code a kind (Some (meaning.Variable n)) = Some WrongKind
-lock_of_kind_code a kind (Some (meaning.Handler n)) = Some WrongKind
+lock_of_kind_code a kind m = of_kind_code (is_lock_of a kind m) m
 
 -- the name of a lock of a kind
 unfoldable pub lock_of_code : Above → LockKind → Word → Option ServiceCode
 lock_of_code a kind w = option_or (named_code a w) (lock_of_kind_code a kind (meaning_of a w))
 
+-- a name stands for a semaphore
+abbrev pub is_semaphore : Option Meaning → Bool
+is_semaphore (Some (meaning.Semaphore n)) = true
+is_semaphore _ = false
+
 -- a name that is due to stand for a semaphore stands for this
 abbrev pub semaphore_kind_code : Option Meaning → Option ServiceCode
-semaphore_kind_code None = Some Undeclared
-semaphore_kind_code (Some (meaning.Semaphore n)) = None
-semaphore_kind_code (Some (meaning.Lock n)) = Some WrongKind
-semaphore_kind_code (Some (meaning.Condition n)) = Some WrongKind
-semaphore_kind_code (Some (meaning.Variable n)) = Some WrongKind
-semaphore_kind_code (Some (meaning.Handler n)) = Some WrongKind
+semaphore_kind_code m = of_kind_code (is_semaphore m) m
 
 -- a semaphore's name
 unfoldable pub semaphore_code : Above → Word → Option ServiceCode
 semaphore_code a w = option_or (named_code a w) (semaphore_kind_code (meaning_of a w))
 
+-- a name stands for a condition
+abbrev pub is_condition : Option Meaning → Bool
+is_condition (Some (meaning.Condition n)) = true
+is_condition _ = false
+
 -- a name that is due to stand for a condition stands for this
 abbrev pub condition_kind_code : Option Meaning → Option ServiceCode
-condition_kind_code None = Some Undeclared
-condition_kind_code (Some (meaning.Condition n)) = None
-condition_kind_code (Some (meaning.Semaphore n)) = Some WrongKind
-condition_kind_code (Some (meaning.Lock n)) = Some WrongKind
-condition_kind_code (Some (meaning.Variable n)) = Some WrongKind
-condition_kind_code (Some (meaning.Handler n)) = Some WrongKind
+condition_kind_code m = of_kind_code (is_condition m) m
 
 -- a condition's name
 unfoldable pub condition_code : Above → Word → Option ServiceCode
 condition_code a w = option_or (named_code a w) (condition_kind_code (meaning_of a w))
 
+-- a name stands for a variable
+abbrev pub is_variable : Option Meaning → Bool
+is_variable (Some (meaning.Variable n)) = true
+is_variable _ = false
+
 -- a name that is due to stand for a variable stands for this
 abbrev pub variable_kind_code : Option Meaning → Option ServiceCode
-variable_kind_code None = Some Undeclared
-variable_kind_code (Some (meaning.Variable n)) = None
-variable_kind_code (Some (meaning.Semaphore n)) = Some WrongKind
-variable_kind_code (Some (meaning.Lock n)) = Some WrongKind
-variable_kind_code (Some (meaning.Condition n)) = Some WrongKind
-variable_kind_code (Some (meaning.Handler n)) = Some WrongKind
+variable_kind_code m = of_kind_code (is_variable m) m
 
 -- a variable's name
 unfoldable pub variable_code : Above → Word → Option ServiceCode

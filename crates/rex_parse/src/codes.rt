@@ -56,7 +56,8 @@ impl Above {
         ensures { result ≡ table.lock_code self.now word.now }
     {
         let meaning = self.meaning_of(word);
-        self.named_code(word, meaning).or(lock_kind_code(meaning))
+        self.named_code(word, meaning)
+            .or(of_kind_code(is_lock(meaning), meaning))
     }
 
     // Whether a lock is there and of the kind.
@@ -69,16 +70,13 @@ impl Above {
         }
     }
 
-    // Of what is due to be the name of a lock of a kind, by what it stands for.
-    fn lock_of_kind_code(&self, kind: LockKind, meaning: Option<Meaning>) -> Option<ServiceCode>
-        ensures { result ≡ table.lock_of_kind_code self.now kind meaning }
+    // Whether a name stands for a lock of a kind.
+    fn is_lock_of(&self, kind: LockKind, meaning: Option<Meaning>) -> bool
+        ensures { result ≡ table.is_lock_of self.now kind meaning }
     {
         match meaning {
-            None => Some(ServiceCode::Undeclared),
-            Some(Meaning::Lock(lock)) => {
-                fits(!self.is_of_kind(kind, lock), ServiceCode::WrongKind)
-            }
-            Some(_) => Some(ServiceCode::WrongKind),
+            Some(Meaning::Lock(lock)) => self.is_of_kind(kind, lock),
+            _ => false,
         }
     }
 
@@ -89,7 +87,7 @@ impl Above {
     {
         let meaning = self.meaning_of(word);
         self.named_code(word, meaning)
-            .or(self.lock_of_kind_code(kind, meaning))
+            .or(of_kind_code(self.is_lock_of(kind, meaning), meaning))
     }
 
     /// Of a semaphore's name.
@@ -99,7 +97,7 @@ impl Above {
     {
         let meaning = self.meaning_of(word);
         self.named_code(word, meaning)
-            .or(semaphore_kind_code(meaning))
+            .or(of_kind_code(is_semaphore(meaning), meaning))
     }
 
     /// Of a condition's name.
@@ -109,7 +107,7 @@ impl Above {
     {
         let meaning = self.meaning_of(word);
         self.named_code(word, meaning)
-            .or(condition_kind_code(meaning))
+            .or(of_kind_code(is_condition(meaning), meaning))
     }
 
     /// Of a variable's name.
@@ -254,48 +252,45 @@ pub(crate) fn count_code(least: u64, most: u64, word: &[u8]) -> Option<ServiceCo
     fits(count_of(least, most, word).is_none(), ServiceCode::NoNumber)
 }
 
-// Of what is due to be a lock's name, by what it stands for.
-fn lock_kind_code(meaning: Option<Meaning>) -> Option<ServiceCode>
-    ensures { result ≡ table.lock_kind_code meaning }
+// Of a name that is due to stand for something of a kind, by what it stands for and whether that is of the kind.
+fn of_kind_code(is_of_it: bool, meaning: Option<Meaning>) -> Option<ServiceCode>
+    ensures { result ≡ table.of_kind_code is_of_it meaning }
 {
     match meaning {
         None => Some(ServiceCode::Undeclared),
-        Some(Meaning::Lock(_)) => None,
-        Some(_) => Some(ServiceCode::WrongKind),
+        Some(_) => fits(!is_of_it, ServiceCode::WrongKind),
     }
 }
 
-// Of what is due to be a semaphore's name, by what it stands for.
-fn semaphore_kind_code(meaning: Option<Meaning>) -> Option<ServiceCode>
-    ensures { result ≡ table.semaphore_kind_code meaning }
+fn is_lock(meaning: Option<Meaning>) -> bool
+    ensures { result ≡ table.is_lock meaning }
 {
-    match meaning {
-        None => Some(ServiceCode::Undeclared),
-        Some(Meaning::Semaphore(_)) => None,
-        Some(_) => Some(ServiceCode::WrongKind),
-    }
+    matches!(meaning, Some(Meaning::Lock(_)))
 }
 
-// Of what is due to be a condition's name, by what it stands for.
-fn condition_kind_code(meaning: Option<Meaning>) -> Option<ServiceCode>
-    ensures { result ≡ table.condition_kind_code meaning }
+fn is_semaphore(meaning: Option<Meaning>) -> bool
+    ensures { result ≡ table.is_semaphore meaning }
 {
-    match meaning {
-        None => Some(ServiceCode::Undeclared),
-        Some(Meaning::Condition(_)) => None,
-        Some(_) => Some(ServiceCode::WrongKind),
-    }
+    matches!(meaning, Some(Meaning::Semaphore(_)))
 }
 
-/// Of what is due to be a variable's name, by what it stands for.
+fn is_condition(meaning: Option<Meaning>) -> bool
+    ensures { result ≡ table.is_condition meaning }
+{
+    matches!(meaning, Some(Meaning::Condition(_)))
+}
+
+fn is_variable(meaning: Option<Meaning>) -> bool
+    ensures { result ≡ table.is_variable meaning }
+{
+    matches!(meaning, Some(Meaning::Variable(_)))
+}
+
+/// Of a name that is due to stand for a variable, by what it stands for.
 pub(crate) fn variable_kind_code(meaning: Option<Meaning>) -> Option<ServiceCode>
     ensures { result ≡ table.variable_kind_code meaning }
 {
-    match meaning {
-        None => Some(ServiceCode::Undeclared),
-        Some(Meaning::Variable(_)) => None,
-        Some(_) => Some(ServiceCode::WrongKind),
-    }
+    of_kind_code(is_variable(meaning), meaning)
 }
 
 /// Of an operator.

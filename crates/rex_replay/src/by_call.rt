@@ -1,5 +1,7 @@
 //! Replay by a call.
 
+ghost use Rattle.std.specs.Prelude.{◌≡◌};
+
 use crate::{ReplayCall, Replayer};
 use rex_event::Event;
 use rex_state::state::State;
@@ -17,6 +19,7 @@ impl<C: ReplayCall> ByCall<C> {
     /// The replayer by a call that replays.
     pub fn new(call: C) -> ByCall<C>
         requires { C.replays call }
+        ensures { result.call ≡ call }
     {
         ByCall { call }
     }

@@ -129,7 +129,8 @@ fn serve_piece<W: Sink, K: Flush>(
     requires process { IsProcess K.records K.faults process.old }
     requires up { process.old.node.up ≡ true }
     requires settled { IsSettled K.records K.kept process.old }
-    ensures served { IsServed K.records K.kept K.faults process.old process.new (held.old.items ++ piece.now) held.new.items (W.taken sink.old) (W.taken sink.new) result }
+    ensures served { IsServed K.records K.kept K.faults process.old process.new (held.old.items ++ piece.now) held.new.items
+        (W.taken sink.old) (W.taken sink.new) result }
     ensures ok { OnOk result (IsProcess K.records K.faults process.new) }
     ensures err { IfErr result (λ e. IsClean e → IsProcess K.records K.faults process.new) }
     ensures unwritten { IsErrOf result ended.Unwritten → Rose (W.faults sink.old) (W.faults sink.new) }

@@ -90,8 +90,8 @@ impl<S: Store> World<S> {
         requires members { AreMembers svc.now self.old.agreed self.old.seed (nodes_of self.old) 1 self.old.nodes.items }
         requires clients { length self.old.seen.items ≡ CLIENT_ENTRIES }
         requires releases { AreReleased (node_at (heres svc.now self.old.agreed self.old.nodes.items) node) effects.now }
-        ensures seen { OnOk result (self.new.seen.items ≡ seen_by_releases (stamp_at (node_at (heres svc.now self.old.agreed self.old.nodes.items) node)) effects.now
-            self.old.seen.items) }
+        ensures seen { OnOk result (self.new.seen.items
+            ≡ seen_by_releases (stamp_at (node_at (heres svc.now self.old.agreed self.old.nodes.items) node)) effects.now self.old.seen.items) }
         ensures rest { self.new ≡ record self.old { seen = self.new.seen } }
     {
         show::<Brand, S>(

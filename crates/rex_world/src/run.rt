@@ -72,7 +72,8 @@ impl<S: Store> World<S> {
     ) -> Result<(), RunFault>
         ensures written { OnOk result (IsWritten (K.taken sink.old) (K.taken sink.new) waiting.new.items []
             (waiting.old.items ++ effects_text svc.now self.old.done effects.now)) }
-        ensures front { OnErr result (GrowsByFront (K.taken sink.old) (K.taken sink.new) (waiting.old.items ++ effects_text svc.now self.old.done effects.now)) }
+        ensures front { OnErr result (GrowsByFront (K.taken sink.old) (K.taken sink.new)
+            (waiting.old.items ++ effects_text svc.now self.old.done effects.now)) }
         ensures same { OnOk result (self.new ≡ self.old) }
         ensures broken { OnErr result (self.new.broken ≡ true) }
         ensures later { K.faults sink.old ≤ K.faults sink.new }

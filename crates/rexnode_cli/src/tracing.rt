@@ -46,7 +46,8 @@ fn trace_process<K: Keeper + Drop, W: Sink>(
 ) -> HandedBack<K>
     requires fits { Fits command.now }
     requires count { K.faults keeper < 2 ^ 64 - 1 }
-    ensures traces { Traces K.records K.faults svc.now command.now.id command.now.nodes command.now.seed keeper (W.taken sink.old) (W.taken sink.new) result.status }
+    ensures traces { Traces K.records K.faults svc.now command.now.id command.now.nodes command.now.seed keeper
+        (W.taken sink.old) (W.taken sink.new) result.status }
     ensures keeper { result.back ≡ keeper }
     ensures unwritten { result.status ≡ WRITE_FAILED → Rose (W.faults sink.old) (W.faults sink.new) }
 {
