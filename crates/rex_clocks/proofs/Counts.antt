@@ -1,11 +1,11 @@
 -- Counts that are merged, and counts with one more event.
-use Rattle.std.proofs.Common.{◌≡◌, ◌≢◌, ⊎_elim, ℕ, zero, suc, max, ◌+◌, ◌<◌, ◌≤◌, cond, List, [], ◌∷◌, length, refl, sym, subst, arith}
+use Rattle.std.proofs.Common.{◌≡◌, ◌≢◌, ⊎_elim, ℕ, zero, suc, max, ◌+◌, ◌-◌, ◌<◌, ◌≤◌, cond, List, [], ◌∷◌, length, set, refl, ap, sym, subst, arith}
 use Rattle.std.specs.Prelude.{nat_eq}
 use Rattle.std.proofs.lemmas.Bool.{cases_eq, cases_lt, eq-eqb}
 use Rattle.std.proofs.lemmas.List.{ext_get_or, get_or_past, get_or-replicate, get_or-set_same, get_or-set_other, length-set}
 use Rattle.rex_event.specs.Cuts.{count_at}
 use Rattle.rex_event.specs.declared.event.TheConstants.{LANES}
-use Rattle.rex_clocks.specs.Counts.{none, ticked, merged}
+use Rattle.rex_clocks.specs.Counts.{none, ticked, unticked, merged}
 
 pub count_none : (lane : ℕ) → count_at none lane ≡ 0
 count_none lane =
@@ -58,3 +58,28 @@ ticked_more counts lane other l =
     ⊎_elim (λ (q : other ≡ lane). subst (λ (x : ℕ). count_at counts x ≤ count_at (ticked counts lane) x) (sym q) (let s = ticked_same counts lane l in omega arith))
     (λ (q : other ≡ lane → ⊥). let o = ticked_other counts lane other q in omega arith)
     (cases_eq other lane)
+
+-- ---- one less
+
+pub unticked_long : (counts : List ℕ) (lane : ℕ) → length (unticked counts lane) ≡ length counts
+unticked_long counts lane = length-set counts lane (count_at counts lane - 1)
+
+pub unticked_within : (counts : List ℕ) (lane other : ℕ) → count_at (unticked counts lane) other ≤ count_at counts other
+unticked_within [] lane other = omega arith
+unticked_within (x ∷ counts) zero zero = omega arith
+unticked_within (x ∷ counts) zero (suc other) = omega arith
+unticked_within (x ∷ counts) (suc lane) zero = omega arith
+unticked_within (x ∷ counts) (suc lane) (suc other) = unticked_within counts lane other
+
+-- one more and one less
+pub unticked_ticked : (counts : List ℕ) (lane : ℕ) → lane < length counts → unticked (ticked counts lane) lane ≡ counts
+unticked_ticked [] lane l = absurd (omega (arith, l))
+unticked_ticked (x ∷ counts) zero l = let e : x + 1 - 1 ≡ x = omega arith in ap (λ (n : ℕ). n ∷ counts) e
+unticked_ticked (x ∷ counts) (suc lane) l = ap (λ (xs : List ℕ). x ∷ xs) (unticked_ticked counts lane (omega (arith, l)))
+
+-- one less is merged as all are, but for its lane
+pub merged_unticked : (a b : List ℕ) (lane : ℕ) → lane < length b → set (merged a b) lane (max (count_at a lane) (count_at b lane - 1)) ≡ merged a (unticked b lane)
+merged_unticked a [] lane l = absurd (omega (arith, l))
+merged_unticked [] (y ∷ b) lane l = let e : max 0 (count_at (y ∷ b) lane - 1) ≡ count_at (y ∷ b) lane - 1 = omega arith in ap (set (y ∷ b) lane) e
+merged_unticked (x ∷ a) (y ∷ b) zero l = refl
+merged_unticked (x ∷ a) (y ∷ b) (suc lane) l = ap (λ (xs : List ℕ). max x y ∷ xs) (merged_unticked a b lane (omega (arith, l)))

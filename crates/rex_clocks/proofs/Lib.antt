@@ -1,6 +1,6 @@
 pub mod Leads
 pub mod Numbered
 pub mod Counts
-pub mod Used
+pub mod First
 pub mod Past
 pub mod Order

@@ -1,5 +1,5 @@
 pub mod Lanes
 pub mod Counts
-pub mod Used
+pub mod First
 pub mod Clocks
 pub mod Laws

@@ -11,15 +11,16 @@ use Rattle.rex_event.specs.declared.delta.Cause.{Cause}
 use Rattle.rex_event.specs.Conflict.{same_name, conflict}
 use Rattle.rex_event.specs.Order.{Has}
 use Rattle.rex_event.specs.Cuts.{count_at, AreNumbered}
-use Rattle.rex_clocks.specs.Clocks.{merged_clocks}
-use Rattle.rex_clocks.proofs.Counts.{count_none}
+use Rattle.rex_clocks.specs.Counts.{ticked, unticked}
+use Rattle.rex_clocks.specs.Clocks.{merged_clocks, clock_before, clock_of}
+use Rattle.rex_clocks.proofs.Counts.{count_none, unticked_ticked}
 use Rattle.rex_clocks.proofs.Leads.{all_from_has, has_left, has_right}
 use Rattle.rex_clocks.proofs.Numbered.{numbered_lane}
 use Rattle.rex_clocks.proofs.Past.{tally, latest_of, has_reverse, is_split}
-use Rattle.rex_clocks.proofs.Order.{counts_within}
+use Rattle.rex_clocks.proofs.Order.{clocks_long, counts_within}
 use Rattle.rex_reduce.specs.declared.summary.Summary.{Summary}
 use Rattle.rex_reduce.specs.declared.uses.Uses.{Uses}
-use Rattle.rex_reduce.specs.Summaries.{joined, next, summary_of}
+use Rattle.rex_reduce.specs.Summaries.{joined, alone, summary_of}
 use Rattle.rex_reduce.specs.Names.{waker_slot, is_waker_at}
 use Rattle.rex_reduce.specs.Tables.{at, AreAddedAt, AreAddedWoken}
 use Rattle.rex_reduce.specs.Uses.{met, AreAdded}
@@ -28,7 +29,7 @@ use Rattle.rex_reduce.specs.Reduced.{HasNext, IsTrace}
 use Rattle.rex_reduce.specs.Reduction.{first_indices, uncovered, reduced_causes, reduced_from}
 use Rattle.rex_reduce.proofs.Joined.{joined_twice}
 use Rattle.rex_reduce.proofs.Conflicts.{or_false}
-use Rattle.rex_reduce.proofs.Kept.{KeepAll, met_is, more_all}
+use Rattle.rex_reduce.proofs.Kept.{KeepAll, met_is, own_of, more_all}
 use Rattle.rex_reduce.proofs.Beneath.{stands}
 use Rattle.rex_event.specs.declared.event.TheConstants.{LANES}
 use Rattle.rex_reduce.proofs.First.{first_long, numbered_first}
@@ -130,11 +131,18 @@ pub turn_met : (es : List Event) (i : ℕ) (e : Event) (u : Uses) (m : Summary) 
 turn_met es i e u m t r k q =
     q ∙ met_is (reverse (take i es)) u e k (turn_lane es i e t r) (past_lanes es (reverse (take i es)) (e ∷ drop (i + 1) es) t r.split)
 
+-- the clock of the event tells its summary
+pub turn_own : (es : List Event) (i : ℕ) (e : Event) (m : Summary) (own : List ℕ) → IsTrace es → IsTurn es i e → m ≡ summary_of (λ (d : Event). conflict d e) (reverse (take i es)) → own ≡ ticked m.clocks e.lane → alone own e.lane ≡ own_of (reverse (take i es)) e
+turn_own es i e m own t r q o =
+    let past = reverse (take i es) in
+    let long = clocks_long (λ (d : Event). conflict d e) past in
+    let clock : own ≡ clock_of past e = o ∙ ap (λ (x : Summary). ticked x.clocks e.lane) q in
+    let before : unticked own e.lane ≡ clock_before past e = ap (λ (x : List ℕ). unticked x e.lane) clock ∙ unticked_ticked (clock_before past e) e.lane (omega (arith, long, turn_lane es i e t r)) in
+    λ j. record { clocks = clock j; befores = before j }
+
 -- the tables keep one more
-pub turn_kept : (es : List Event) (i : ℕ) (e : Event) (u more : Uses) (m own : Summary) → IsTurn es i e → KeepAll (reverse (take i es)) u → m ≡ summary_of (λ (d : Event). conflict d e) (reverse (take i es)) → own ≡ next m e.lane → AreAdded u e own more → KeepAll (reverse (take (i + 1) es)) more
-turn_kept es i e u more m own r k q o a =
-    subst (λ (x : List Event). KeepAll x more) (sym r.past)
-    (more_all (reverse (take i es)) e own u more (o ∙ ap (λ (x : Summary). next x e.lane) q) k a)
+pub turn_kept : (es : List Event) (i : ℕ) (e : Event) (u more : Uses) (own : Summary) → IsTurn es i e → KeepAll (reverse (take i es)) u → own ≡ own_of (reverse (take i es)) e → AreAdded u e own more → KeepAll (reverse (take (i + 1) es)) more
+turn_kept es i e u more own r k q a = subst (λ (x : List Event). KeepAll x more) (sym r.past) (more_all (reverse (take i es)) e own u more q k a)
 
 -- the causes of one more event
 pub turn_causes : (es : List Event) (first : List ℕ) (i : ℕ) (e : Event) (m : Summary) (causes : List (List Cause)) (own : List Cause) → IsTurn es i e → m ≡ summary_of (λ (d : Event). conflict d e) (reverse (take i es)) → own ≡ uncovered first m.clocks m.befores e.lane LANES → (causes ++ own ∷ []) ++ reduced_from first (reverse (take (i + 1) es)) (drop (i + 1) es) ≡ causes ++ reduced_from first (reverse (take i es)) (drop i es)

@@ -1,7 +1,12 @@
 -- Rows of summaries, found by the numbers of places.
-use Rattle.std.specs.Prelude.{◌≡◌, ℕ, zero, suc, ◌<◌, ◌≤◌, List, map, slice_index_or}
+use Rattle.std.specs.Prelude.{◌≡◌, ℕ, zero, suc, ◌<◌, ◌≤◌, List, Option, Some, None, map, slice_index_or}
 use Rattle.rex_reduce.specs.declared.summary.Summary.{Summary}
-use Rattle.rex_reduce.specs.Summaries.{nothing}
+use Rattle.rex_reduce.specs.Summaries.{nothing, alone}
+
+-- what a row keeps: a summary, or with a lane the clock of an event of that lane alone
+abbrev pub kept_of : Summary → Option ℕ → Summary
+kept_of kept None = kept
+kept_of kept (Some lane) = alone kept.clocks lane
 
 -- the summary of the row of a number, from 1; 0 is no row's
 abbrev pub numbered : List Summary → ℕ → Summary

@@ -4,6 +4,7 @@
 pub mod laws;
 mod names;
 mod reduction;
+mod row;
 mod rows;
 mod summary;
 mod tables;

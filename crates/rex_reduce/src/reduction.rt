@@ -30,8 +30,25 @@ fn first_indices(events: &[Event]) -> [u32; LANES]
 }
 
 /// The causes of an event of a lane, by the summary of what conflicts with it: in each other lane the last event before it,
-/// unless that comes before something that conflicts with it.
+/// unless that comes before something that conflicts with it. Most events have none.
 fn causes_of(
+    alloc: Global,
+    first: &[u32; LANES],
+    own: u8,
+    met: &Summary,
+) -> Result<Causes, AllocError>
+    requires { (lane : ℕ) → count_at first.now lane + count_at met.now.clocks lane ≤ 4294967296 }
+    ensures { IfOk result (λ causes. causes ≡ spec.uncovered first.now met.now.clocks met.now.befores own LANES) }
+{
+    if met.clocks.is_ahead(&met.befores, own) {
+        causes_by_lane(alloc, first, own, met)
+    } else {
+        Ok(List::new(alloc))
+    }
+}
+
+/// The same, a lane after the other.
+fn causes_by_lane(
     alloc: Global,
     first: &[u32; LANES],
     own: u8,
@@ -73,8 +90,8 @@ fn causes_by_uses(alloc: Global, events: &[Event]) -> Result<Vec<Causes>, AllocE
     for event in events {
         uses.met(event, &mut summary);
         causes.push(causes_of(alloc, &first, event.lane, &summary)?)?;
-        summary.next(event.lane);
-        uses.add(event, &summary)?;
+        summary.clocks.tick(event.lane);
+        uses.add(event, &summary.clocks)?;
     }
     Ok(causes)
 }

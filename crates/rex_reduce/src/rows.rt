@@ -1,11 +1,13 @@
 //! Summaries by place, of few places among many.
 
-ghost use Rattle.std.specs.Prelude.{◌≡◌, ℕ, ◌+◌, ◌≤◌, [], length, slice_index_or, option_copied, unwrap_or, Some, OnOk, IfOk};
+ghost use Rattle.std.specs.Prelude.{◌≡◌, ℕ, ◌+◌, ◌<◌, ◌≤◌, [], length, slice_index_or, option_copied, unwrap_or, Some, OnOk, IfOk};
 ghost use Rattle.rex_reduce.specs.Summaries as spec;
 ghost use Rattle.rex_reduce.specs.Tables.{at, Covers, AreAddedAt};
 ghost use Rattle.rex_reduce.specs.Rows.{row_at, AreApart};
 
-use crate::summary::Summary;
+use crate::row::Row;
+use rex_clocks::Clock;
+use rex_event::LANES;
 use std::alloc::{AllocError, Global};
 use std::marker::Model;
 
@@ -16,7 +18,7 @@ pub(crate) struct Rows {
     /// By place, which row is its own, from 1; 0 is none.
     numbers: Vec<u32>,
     /// In the order in which their places were named.
-    rows: Vec<Summary>,
+    rows: Vec<Row>,
 }
 
 impl Model for Rows {
@@ -43,7 +45,7 @@ impl Rows {
     }
 
     /// What stands at a place, if it has a row.
-    pub fn get(&self, place: u32) -> Option<&Summary>
+    pub fn get(&self, place: u32) -> Option<&Row>
         ensures { unwrap_or (option_copied result) spec.nothing ≡ at self.now place }
     {
         match number_of(&self.numbers, place) {
@@ -52,22 +54,24 @@ impl Rows {
         }
     }
 
-    /// Adds an event at a place.
-    pub fn add(&mut self, place: u32, own: &Summary) -> Result<(), AllocError>
-        ensures { OnOk result (AreAddedAt self.old (Some place) own.now self.new) }
+    /// Adds an event of a lane at a place.
+    pub fn add(&mut self, place: u32, own: &Clock, lane: u8) -> Result<(), AllocError>
+        requires { lane < LANES }
+        ensures { OnOk result (AreAddedAt self.old (Some place) (spec.alone own.now lane) self.new) }
     {
         let index = index_of(&mut self.numbers, &mut self.rows, place)?;
-        self.rows[index].merge(own);
+        self.rows[index].add(own, lane);
         Ok(())
     }
 
-    /// Adds an event whose summary covers what stands at a place.
-    pub fn put(&mut self, place: u32, own: &Summary) -> Result<(), AllocError>
-        requires { Covers own.now self.old (Some place) }
-        ensures { OnOk result (AreAddedAt self.old (Some place) own.now self.new) }
+    /// Adds an event of a lane whose summary covers what stands at a place.
+    pub fn put(&mut self, place: u32, own: &Clock, lane: u8) -> Result<(), AllocError>
+        requires lane { lane < LANES }
+        requires covers { Covers (spec.alone own.now lane) self.old (Some place) }
+        ensures { OnOk result (AreAddedAt self.old (Some place) (spec.alone own.now lane) self.new) }
     {
         let index = index_of(&mut self.numbers, &mut self.rows, place)?;
-        self.rows[index].copy_from(own);
+        self.rows[index].put(own, lane);
         Ok(())
     }
 }
@@ -83,11 +87,7 @@ fn number_of(numbers: &[u32], place: u32) -> u32
 }
 
 /// The index of a place's row, which is made if it has none.
-fn index_of(
-    numbers: &mut Vec<u32>,
-    rows: &mut Vec<Summary>,
-    place: u32,
-) -> Result<usize, AllocError>
+fn index_of(numbers: &mut Vec<u32>, rows: &mut Vec<Row>, place: u32) -> Result<usize, AllocError>
     requires { AreApart (length rows.old.items) numbers.old.items }
     ensures apart { AreApart (length rows.new.items) numbers.new.items }
     ensures number { IfOk result (λ index. slice_index_or numbers.new.items place 0 ≡ index + 1) }
@@ -101,7 +101,7 @@ fn index_of(
 
 /// Makes the row of a place that has none.
 #[inline(never)]
-fn add_row(numbers: &mut Vec<u32>, rows: &mut Vec<Summary>, place: u32) -> Result<usize, AllocError>
+fn add_row(numbers: &mut Vec<u32>, rows: &mut Vec<Row>, place: u32) -> Result<usize, AllocError>
     requires apart { AreApart (length rows.old.items) numbers.old.items }
     requires none { slice_index_or numbers.old.items place 0 ≡ 0 }
     ensures apart { AreApart (length rows.new.items) numbers.new.items }
@@ -114,7 +114,7 @@ fn add_row(numbers: &mut Vec<u32>, rows: &mut Vec<Summary>, place: u32) -> Resul
         return Err(AllocError);
     };
     stretch(numbers, place as usize + 1)?;
-    rows.push(Summary::new())?;
+    rows.push(Row::new())?;
     numbers[place as usize] = number;
     Ok(index)
 }

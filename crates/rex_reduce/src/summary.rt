@@ -1,14 +1,13 @@
 //! Summaries of events: a clock that covers them and what comes before, and one that covers only what comes before.
 
 ghost use Rattle.std.specs.Prelude.{◌≡◌, ◌<◌};
-ghost use Rattle.rex_event.specs.Cuts.{count_at};
 ghost use Rattle.rex_reduce.specs.Summaries as spec;
 
 use rex_clocks::Clock;
 use rex_event::LANES;
 
 /// What is kept of some events of a trace.
-#[derive(Clone, Copy)]
+#[derive(Drop)]
 pub(crate) struct Summary {
     /// Covers these events, and what comes before one of them.
     pub clocks: Clock,
@@ -35,6 +34,15 @@ impl Summary {
         self.befores.copy_from(&other.befores);
     }
 
+    /// Keeps just an event of a lane, which has this clock.
+    pub fn copy_alone(&mut self, clock: &Clock, lane: u8)
+        requires { lane < LANES }
+        ensures { self.new ≡ spec.alone clock.now lane }
+    {
+        self.clocks.copy_from(clock);
+        self.befores.copy_before(clock, lane);
+    }
+
     /// Adds other events.
     pub fn merge(&mut self, other: &Summary)
         ensures { self.new ≡ spec.joined self.old other.now }
@@ -43,13 +51,12 @@ impl Summary {
         self.befores.merge(&other.befores);
     }
 
-    /// Turns the summary of what conflicts with an event of a lane before it into that event's.
-    pub fn next(&mut self, lane: u8)
-        requires lane { lane < LANES }
-        requires room { count_at self.old.clocks lane < u32.MAX }
-        ensures { self.new ≡ spec.next self.old lane }
+    /// Adds an event of a lane, which has this clock.
+    pub fn add(&mut self, clock: &Clock, lane: u8)
+        requires { lane < LANES }
+        ensures { self.new ≡ spec.joined self.old (spec.alone clock.now lane) }
     {
-        self.befores.copy_from(&self.clocks);
-        self.clocks.tick(lane);
+        self.clocks.merge(clock);
+        self.befores.merge_before(clock, lane);
     }
 }

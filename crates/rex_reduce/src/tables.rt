@@ -1,11 +1,13 @@
 //! What is looked up in tables of summaries, and added there, by the places that events name.
 
 ghost use Rattle.std.specs.Prelude.{◌≡◌, ◌<◌, OnOk};
+ghost use Rattle.rex_reduce.specs.Summaries.{alone};
 ghost use Rattle.rex_reduce.specs.Tables.{at, with_at, with_woken, Covers, AreAddedAt, AreAddedWoken};
 
 use crate::names::{is_waker, waker_slot};
 use crate::rows::Rows;
 use crate::summary::Summary;
+use rex_clocks::Clock;
 use rex_event::{Event, LANES};
 use std::alloc::AllocError;
 
@@ -14,7 +16,7 @@ pub(crate) fn copy_at(met: &mut Summary, rows: &Rows, place: u32)
     ensures { met.new ≡ at rows.now place }
 {
     match rows.get(place) {
-        Some(summary) => met.copy_from(summary),
+        Some(row) => row.copy_to(met),
         None => met.copy_from(&Summary::new()),
     }
 }
@@ -27,7 +29,7 @@ pub(crate) fn merge_at(met: &mut Summary, rows: &Rows, place: Option<u32>)
         return;
     };
     match rows.get(place) {
-        Some(summary) => met.merge(summary),
+        Some(row) => row.merge_into(met),
         None => met.merge(&Summary::new()),
     }
 }
@@ -50,30 +52,43 @@ fn merge_each_woken(met: &mut Summary, rows: &Rows, event: &Event)
     }
 }
 
-/// Adds an event at a place, if there is one.
-pub(crate) fn add_at(rows: &mut Rows, place: Option<u32>, own: &Summary) -> Result<(), AllocError>
-    ensures { OnOk result (AreAddedAt rows.old place own.now rows.new) }
+/// Adds an event of a lane, which has this clock, at a place, if there is one.
+pub(crate) fn add_at(
+    rows: &mut Rows,
+    place: Option<u32>,
+    own: &Clock,
+    lane: u8,
+) -> Result<(), AllocError>
+    requires { lane < LANES }
+    ensures { OnOk result (AreAddedAt rows.old place (alone own.now lane) rows.new) }
 {
     if let Some(place) = place {
-        rows.add(place, own)?;
+        rows.add(place, own, lane)?;
     }
     Ok(())
 }
 
-/// Adds an event whose summary covers what stands at a place, if there is one.
-pub(crate) fn put_at(rows: &mut Rows, place: Option<u32>, own: &Summary) -> Result<(), AllocError>
-    requires { Covers own.now rows.old place }
-    ensures { OnOk result (AreAddedAt rows.old place own.now rows.new) }
+/// Adds an event of a lane, which has this clock and covers what stands at a place, if there is one.
+pub(crate) fn put_at(
+    rows: &mut Rows,
+    place: Option<u32>,
+    own: &Clock,
+    lane: u8,
+) -> Result<(), AllocError>
+    requires lane { lane < LANES }
+    requires covers { Covers (alone own.now lane) rows.old place }
+    ensures { OnOk result (AreAddedAt rows.old place (alone own.now lane) rows.new) }
 {
     if let Some(place) = place {
-        rows.put(place, own)?;
+        rows.put(place, own, lane)?;
     }
     Ok(())
 }
 
-/// Adds an event at the places of a signal or broadcast.
-pub(crate) fn add_woken(rows: &mut Rows, event: &Event, own: &Summary) -> Result<(), AllocError>
-    ensures { OnOk result (AreAddedWoken rows.old event.now.kind own.now LANES rows.new) }
+/// Adds an event, which has this clock, at the places of a signal or broadcast.
+pub(crate) fn add_woken(rows: &mut Rows, event: &Event, own: &Clock) -> Result<(), AllocError>
+    requires { event.now.lane < LANES }
+    ensures { OnOk result (AreAddedWoken rows.old event.now.kind (alone own.now event.now.lane) LANES rows.new) }
 {
     if is_waker(event) {
         add_each_woken(rows, event, own)?;
@@ -82,11 +97,12 @@ pub(crate) fn add_woken(rows: &mut Rows, event: &Event, own: &Summary) -> Result
 }
 
 /// The same, a lane after the other.
-fn add_each_woken(rows: &mut Rows, event: &Event, own: &Summary) -> Result<(), AllocError>
-    ensures { OnOk result (AreAddedWoken rows.old event.now.kind own.now LANES rows.new) }
+fn add_each_woken(rows: &mut Rows, event: &Event, own: &Clock) -> Result<(), AllocError>
+    requires { event.now.lane < LANES }
+    ensures { OnOk result (AreAddedWoken rows.old event.now.kind (alone own.now event.now.lane) LANES rows.new) }
 {
     for lane in 0..LANES as u8 {
-        add_at(rows, waker_slot(event, lane), own)?;
+        add_at(rows, waker_slot(event, lane), own, event.lane)?;
     }
     Ok(())
 }

@@ -1,15 +1,16 @@
-use Rattle.std.proofs.Common.{◌≡◌, sym, ◌∙◌, ap, max, arith, rules}
-use Rattle.rex_clocks.specs.Used.{used}
-use Rattle.rex_clocks.proofs.Used.{used_few, beyond_used, used_merged}
+use Rattle.std.proofs.Common.{◌≡◌, ℕ, max, sym, subst, arith, rules}
+use Rattle.rex_clocks.specs.First.{HasFirst}
+use Rattle.rex_clocks.proofs.First.{first_merged}
 use Rattle.rex_clocks.proofs.clock.Clock.merge.Goals as goal
 
-pub merge_counts-requires-clause-few : goal.merge_counts-requires-clause-few
-merge_counts-requires-clause-few c = omega (arith, c.other.invariant, c.other.told, used_few c.other.inside.counts)
+pub at_once-requires : goal.at_once-requires
+at_once-requires c = c.other.invariant.few
 
 pub merge_counts-requires-clause-beyond : goal.merge_counts-requires-clause-beyond
-merge_counts-requires-clause-beyond c = λ lane past. beyond_used c.other.inside.counts lane (omega (arith, c.other.invariant, past))
+merge_counts-requires-clause-beyond c = λ lane past. c.other.invariant.beyond lane (omega (arith, c.at_once.ensures.all, past))
 
 pub invariant_of-self : goal.invariant_of-self
 invariant_of-self c =
     let m : c.max-self-inside.result ≡ max c.self.inside.lanes c.other.inside.lanes = search rules in
-    m ∙ ((λ i. max (c.self.invariant i) (c.other.invariant i)) ∙ (sym (used_merged c.self.inside.counts c.other.inside.counts) ∙ ap used (sym c.merge_counts.ensures)))
+    let h = first_merged c.self.inside.counts c.other.inside.counts c.self.inside.lanes c.other.inside.lanes c.self.invariant c.other.invariant in
+    subst (λ (lanes : ℕ). HasFirst lanes c.merge_counts.new.counts) (sym m) (subst (HasFirst (max c.self.inside.lanes c.other.inside.lanes)) (sym c.merge_counts.ensures) h)
