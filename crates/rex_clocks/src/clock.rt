@@ -53,6 +53,7 @@ impl Clock {
     }
 
     /// Covers what another clock covers, too.
+    #[inline(always)]
     pub fn merge(&mut self, other: &Clock)
         ensures { self.new ≡ spec.merged self.old other.now }
     {
@@ -131,7 +132,13 @@ fn at_once(lanes: u8) -> u8
     ensures few { result ≤ LANES }
     ensures all { lanes ≤ result }
 {
-    if lanes <= FEW { FEW } else { LANES as u8 }
+    if lanes == 0 {
+        0
+    } else if lanes <= FEW {
+        FEW
+    } else {
+        LANES as u8
+    }
 }
 
 /// Raises each count to the other's, where that is greater. The others are 0 but for so many first ones.

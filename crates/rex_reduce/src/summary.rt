@@ -44,6 +44,7 @@ impl Summary {
     }
 
     /// Adds other events.
+    #[inline(always)]
     pub fn merge(&mut self, other: &Summary)
         ensures { self.new ≡ spec.joined self.old other.now }
     {
