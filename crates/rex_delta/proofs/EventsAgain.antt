@@ -24,8 +24,7 @@ use Rattle.rex_delta.specs.Spelling.{is_between, IsBetween, greatest_base, code_
 use Rattle.rex_delta.specs.Reading.{may_be_cause, may_be_index, cause_at, causes_at, event_at, Before, least_kind, first_before, after_event, next_event_at, events_at, bases_at, kind_at, delta_at, delta_in}
 use Rattle.rex_delta.specs.Laws.{NoSpellingBeginsAnother}
 use Rattle.rex_delta.proofs.Lists.{base_at, bases_in, bases_repeated, after_cause, causes_in, causes_repeated}
-use Rattle.rex_delta.proofs.KindLaws.{kind_bytes}
-use Rattle.rex_delta.proofs.KindsAgain.{kind_again}
+use Rattle.rex_delta.proofs.KindLaws.{kind_bytes, kind_again}
 use Rattle.rex_delta.proofs.Counting.{counted-small, others_few}
 use Rattle.rex_delta.proofs.Versions.{Suits, suits_range, suits_rest, version_between, version_suits}
 use Rattle.rex_delta.proofs.EventLaws.{IsCauseFrom, event_parts, delta_parts}

@@ -4,7 +4,6 @@ pub mod Counting
 pub mod KindLaws
 pub mod Versions
 pub mod EventLaws
-pub mod KindsAgain
 pub mod EventsAgain
 pub mod Written
 pub mod CanWrite

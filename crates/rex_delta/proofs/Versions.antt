@@ -5,11 +5,12 @@ use Rattle.std.specs.Prelude.{◌&&◌, ◌||◌, ◌==◌, not, is_some, if◌t
 use Rattle.std.specs.List.{All}
 use Rattle.std.proofs.lemmas.List.Elements.{All-head, All-tail, All-cons, All-nil}
 use Rattle.rex_event.specs.declared.event.Kind.{Kind}
-use Rattle.rex_event.specs.declared.event.Kind.TheVariants.{Begin, AcqEx, AcqSh, RelEx, RelSh, TryOk, TryBusy, Wait, Wake, Signal, Broadcast, Clock, Random, Reply, Down, Up}
+use Rattle.rex_event.specs.declared.event.Kind.TheVariants.{Down, Up}
 use Rattle.rex_event.specs.declared.event.Event.{Event}
 use Rattle.rex_event.specs.Conflict.{named_semaphore}
 use Rattle.rex_delta.specs.Spelling.{IsBetween, code_of, has_counting, version_of}
 use Rattle.rex_delta.specs.Reading.{least_kind, most_kind}
+use Rattle.rex_delta.proofs.KindLaws.{code_between}
 
 -- the event is on a semaphore
 abbrev pub is_counting : Kind → Bool
@@ -25,45 +26,7 @@ counting_code _ h = absurd (true≢false (sym h))
 pub other_code : (kind : Kind) → is_counting kind ≡ false → code_of kind ≤ 14
 other_code (Down semaphore) h = absurd (true≢false h)
 other_code (Up semaphore) h = absurd (true≢false h)
-other_code (Begin client sequence handler arguments) h = omega arith
-other_code (AcqEx lock) h = omega arith
-other_code (AcqSh lock) h = omega arith
-other_code (RelEx lock) h = omega arith
-other_code (RelSh lock) h = omega arith
-other_code (TryOk lock) h = omega arith
-other_code (TryBusy lock) h = omega arith
-other_code (Wait condition lock) h = omega arith
-other_code (Wake condition lock) h = omega arith
-other_code (Signal condition woken) h = omega arith
-other_code (Broadcast condition woken) h = omega arith
-other_code (Clock value) h = omega arith
-other_code (Random value) h = omega arith
-other_code (Reply client value) h = omega arith
-
--- a kind's number is from 1 to 16
-pub code_from : (kind : Kind) → 1 ≤ code_of kind
-code_from kind = by (is_counting kind) refl
-  where
-    at_least : (kind : Kind) → 1 ≤ code_of kind
-    at_least (Begin client sequence handler arguments) = omega arith
-    at_least (AcqEx lock) = omega arith
-    at_least (AcqSh lock) = omega arith
-    at_least (RelEx lock) = omega arith
-    at_least (RelSh lock) = omega arith
-    at_least (TryOk lock) = omega arith
-    at_least (TryBusy lock) = omega arith
-    at_least (Wait condition lock) = omega arith
-    at_least (Wake condition lock) = omega arith
-    at_least (Signal condition woken) = omega arith
-    at_least (Broadcast condition woken) = omega arith
-    at_least (Clock value) = omega arith
-    at_least (Random value) = omega arith
-    at_least (Reply client value) = omega arith
-    at_least (Down semaphore) = omega arith
-    at_least (Up semaphore) = omega arith
-
-    by : (b : Bool) → is_counting kind ≡ b → 1 ≤ code_of kind
-    by b e = at_least kind
+other_code _ h = omega arith
 
 -- ---- the range of a kind
 
@@ -120,8 +83,8 @@ suits_rest most due e es h = record {
 
 range_by : (most : ℕ) (due counting : Bool) (later : ℕ) (e : Event) (es : List Event) → is_counting e.kind ≡ counting → later ≡ length es → Suits most due (e ∷ es) → least_kind due later ≤ code_of e.kind
 range_by most due true later e es is l h = omega (arith, counting_code e.kind is, least_most due later)
-range_by most false false later e es is l h = omega (arith, code_from e.kind)
-range_by most true false (suc n) e es is l h = omega (arith, code_from e.kind, least_free true (suc n) (inr (omega arith)))
+range_by most false false later e es is l h = omega (arith, (code_between e.kind).0)
+range_by most true false (suc n) e es is l h = omega (arith, (code_between e.kind).0, least_free true (suc n) (inr (omega arith)))
 range_by most true false zero e [] is l h = absurd (true≢false (sym (either (is_counting e.kind) false (h.some refl) is)))
 range_by most true false zero e (x ∷ xs) is l h = absurd (omega arith)
 

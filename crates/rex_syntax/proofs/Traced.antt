@@ -3,13 +3,13 @@ use Rattle.std.proofs.Common.{◌≡◌, ℕ, ◌+◌, ◌-◌, ◌<◌, Bool, t
 use Rattle.std.specs.Prelude.{Option, Some, Ok, Err, IfSome, slice_get, if◌then◌else◌}
 use Rattle.std.proofs.lemmas.Option.{same_Some}
 use Rattle.rex_syntax.specs.declared.line.Line.{Line}
-use Rattle.rex_syntax.specs.declared.line.Line.TheVariants.{Acquire, Share, Release, Try, Busy, EndTry, Wait, Signal, Broadcast, Down, Up, Set, Let, Clock, Random, If, Else, EndIf, Repeat, EndRepeat, Reply}
+use Rattle.rex_syntax.specs.declared.line.Line.TheVariants.{Try, Busy, Wait, Set, If, Else, Repeat, Reply}
 use Rattle.rex_syntax.specs.declared.locks.Lockset.{Lockset}
 use Rattle.rex_syntax.specs.declared.service.Declarations.{Declarations}
 use Rattle.rex_syntax.specs.declared.flow.CheckCode.{CheckCode}
 use Rattle.rex_syntax.specs.declared.flow.Leads.{Leads}
 use Rattle.rex_syntax.specs.declared.flow.Target.{Target}
-use Rattle.rex_syntax.specs.Leads.{leads_of, only_if}
+use Rattle.rex_syntax.specs.Leads.{leads_of, only_if, on, fork, jump, nowhere}
 use Rattle.rex_syntax.specs.Blocks.{is_reply_line}
 use Rattle.rex_syntax.specs.Shape.{branch_of, is_divider, IsBranch}
 use Rattle.rex_syntax.specs.Flow.{entry, IsRightAt, IsFlow}
@@ -26,43 +26,45 @@ both_ok : (a b : Bool) (there : Leads) (code other : CheckCode) (leads : Leads) 
 both_ok true b there code other leads e = only_ok b there code leads e
 both_ok false b there code other leads e = absurd (cc)
 
+-- where a line leads that isn't refused
+abbrev pub led : Line → Lockset → Leads
+led (If test otherwise) held = fork held otherwise held
+led (Try lock busy) held = fork (held_after (Try lock busy) held) busy held
+led (Repeat turns after) held = fork held (after - 1) held
+led (Else end) held = jump held end
+led (Busy end) held = jump held end
+led (Reply value) held = nowhere
+led line held = on (held_after line held)
+
+pub is_led : (service : Declarations) (line : Line) (held : Lockset) (leads : Leads) → leads_of service line held ≡ Ok leads → leads ≡ led line held
+is_led service (Wait condition test) held leads e = both_ok _ _ _ _ _ leads e
+is_led service (Set variable value) held leads e = both_ok _ _ _ _ _ leads e
+is_led service (Reply value) held leads e = both_ok _ _ _ _ _ leads e
+is_led service _ held leads e = first_of (cc, search (only_ok, e))
+
 next_is : {there : Leads} (leads : Leads) → leads ≡ there → leads.next ≡ there.next
 next_is leads e = ap (λ (l : Leads). l.next) e
 
 other_is : {there : Leads} (leads : Leads) → leads ≡ there → leads.other ≡ there.other
 other_is leads e = ap (λ (l : Leads). l.other) e
 
+next_by : (line : Line) (held : Lockset) (leads : Leads) → leads ≡ led line held → is_divider line ≡ false → is_reply_line line ≡ false → leads.next ≡ Some (held_after line held)
+next_by (Else end) held leads e d r = absurd (cc)
+next_by (Busy end) held leads e d r = absurd (cc)
+next_by (Reply value) held leads e d r = absurd (cc)
+next_by _ held leads e d r = next_is leads e
+
 -- a line that neither divides branches nor ends the handler leads to the next one
 leads_next : (service : Declarations) (line : Line) (held : Lockset) (leads : Leads) → leads_of service line held ≡ Ok leads → is_divider line ≡ false → is_reply_line line ≡ false → leads.next ≡ Some (held_after line held)
-leads_next service (Acquire lock) held leads e d r = next_is leads (only_ok _ _ _ leads e)
-leads_next service (Share lock) held leads e d r = next_is leads (only_ok _ _ _ leads e)
-leads_next service (Release lock) held leads e d r = next_is leads (only_ok _ _ _ leads e)
-leads_next service (Try lock busy) held leads e d r = next_is leads (only_ok _ _ _ leads e)
-leads_next service (Wait condition test) held leads e d r = next_is leads (both_ok _ _ _ _ _ leads e)
-leads_next service (Signal condition) held leads e d r = next_is leads (only_ok _ _ _ leads e)
-leads_next service (Broadcast condition) held leads e d r = next_is leads (only_ok _ _ _ leads e)
-leads_next service (Down semaphore) held leads e d r = next_is leads (only_ok _ _ _ leads e)
-leads_next service (Up semaphore) held leads e d r = cc
-leads_next service (Set variable value) held leads e d r = next_is leads (both_ok _ _ _ _ _ leads e)
-leads_next service (Let local value) held leads e d r = next_is leads (only_ok _ _ _ leads e)
-leads_next service (If test otherwise) held leads e d r = next_is leads (only_ok _ _ _ leads e)
-leads_next service (Else end) held leads e d r = absurd (cc)
-leads_next service (Busy end) held leads e d r = absurd (cc)
-leads_next service (Reply value) held leads e d r = absurd (cc)
-leads_next service (Repeat turns after) held leads e d r = cc
-leads_next service (Clock local) held leads e d r = cc
-leads_next service (Random local) held leads e d r = cc
-leads_next service EndIf held leads e d r = cc
-leads_next service EndTry held leads e d r = cc
-leads_next service EndRepeat held leads e d r = cc
+leads_next service line held leads e d r = next_by line held leads (is_led service line held leads e) d r
 
 target_is : (target place : ℕ) (held : Lockset) (o : Target) → o ≡ record { line = target; held = Some held } → (let b : Option ℕ = Some target in b) ≡ Some place → o ≡ record { line = place; held = Some held }
 target_is target place held o e b = e ∙ ap (λ (n : ℕ). let t : Target = record { line = n; held = Some held } in t) (same_Some target place b)
 
 -- an `if` or a `try` leads to its second branch with what it is come to with
 leads_branch : (service : Declarations) (line : Line) (held : Lockset) (leads : Leads) (place : ℕ) → leads_of service line held ≡ Ok leads → branch_of line ≡ Some place → leads.other ≡ record { line = place; held = Some held }
-leads_branch service (If test otherwise) held leads place e b = target_is otherwise place held _ (other_is leads (only_ok _ _ _ leads e)) b
-leads_branch service (Try lock busy) held leads place e b = target_is busy place held _ (other_is leads (only_ok _ _ _ leads e)) b
+leads_branch service (If test otherwise) held leads place e b = target_is otherwise place held _ (other_is leads (is_led service (If test otherwise) held leads e)) b
+leads_branch service (Try lock busy) held leads place e b = target_is busy place held _ (other_is leads (is_led service (Try lock busy) held leads e)) b
 leads_branch service _ held leads place e b = absurd (cc)
 
 -- ---- what is held
