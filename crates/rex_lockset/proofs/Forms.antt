@@ -1,16 +1,16 @@
 -- The forms in which lines lead on.
-use Rattle.std.proofs.Common.{◌≡◌, ℕ, ◌+◌, ◌-◌, ◌<◌, ◌⊎◌, List, length, get_or, arith, refl, sym, subst, Bool, true, false, Ok, Err, inl, inr}
+use Rattle.std.proofs.Common.{◌≡◌, ℕ, ◌+◌, ◌-◌, ◌<◌, ◌⊎◌, List, length, get_or, arith, refl, sym, subst, Ok, inl, inr}
 use Rattle.std.specs.Prelude.{Option, Some, None, IfSome, slice_get, if◌then◌else◌}
 use Rattle.rex_syntax.specs.declared.line.Line.{Line}
-use Rattle.rex_syntax.specs.declared.line.Line.TheVariants.{Acquire, Share, Release, Try, Busy, EndTry, Wait, Signal, Broadcast, Down, Up, Set, Let, Clock, Random, If, Else, EndIf, Repeat, EndRepeat, Reply}
+use Rattle.rex_syntax.specs.declared.line.Line.TheVariants.{Try, Busy, If, Else, Repeat, EndRepeat, Reply}
 use Rattle.rex_syntax.specs.declared.locks.Lockset.{Lockset}
-use Rattle.rex_syntax.specs.declared.flow.CheckCode.{CheckCode}
 use Rattle.rex_syntax.specs.declared.flow.Leads.{Leads}
 use Rattle.rex_syntax.specs.declared.service.Declarations.{Declarations}
-use Rattle.rex_syntax.specs.Leads.{leads_of, only_if, on, fork, jump, nowhere}
+use Rattle.rex_syntax.specs.Leads.{leads_of, on, fork, jump, nowhere}
 use Rattle.rex_syntax.specs.declared.service.Handler.{Handler}
 use Rattle.rex_syntax.specs.Service.{IsHandler}
 use Rattle.rex_syntax.specs.Shape.{LeadsOn}
+use Rattle.rex_syntax.proofs.Traced.{led, is_led}
 use Rattle.std.proofs.lemmas.Option.{slice_get_read}
 use Rattle.rex_lockset.specs.declared.known.Known.{Known}
 use Rattle.rex_lockset.specs.declared.known.Known.TheVariants.{Nothing, Held, Differs}
@@ -26,37 +26,17 @@ HasForm (Busy end) held leads = leads ≡ jump held end
 HasForm (Reply value) held leads = leads ≡ nowhere
 HasForm _ held leads = (after : Lockset) × (leads ≡ on after)
 
-only_ok : (b : Bool) (there : Leads) (code : CheckCode) (leads : Leads) → only_if b there code ≡ Ok leads → leads ≡ there
-only_ok true there code leads e = cc
-only_ok false there code leads e = absurd (cc)
-
-both_ok : (a b : Bool) (there : Leads) (code other : CheckCode) (leads : Leads) → (if a then only_if b there code else Err other) ≡ Ok leads → leads ≡ there
-both_ok true b there code other leads e = only_ok b there code leads e
-both_ok false b there code other leads e = absurd (cc)
+form_by : (line : Line) (held : Lockset) (leads : Leads) → leads ≡ led line held → HasForm line held leads
+form_by (If test otherwise) held leads e = e
+form_by (Repeat turns after) held leads e = e
+form_by (Else end) held leads e = e
+form_by (Busy end) held leads e = e
+form_by (Reply value) held leads e = e
+form_by _ held leads e = (_, e)
 
 -- a line that isn't refused leads on in its form
 pub has_form : (service : Declarations) (line : Line) (held : Lockset) (leads : Leads) → leads_of service line held ≡ Ok leads → HasForm line held leads
-has_form service (Acquire lock) held leads e = (_, only_ok _ _ _ leads e)
-has_form service (Share lock) held leads e = (_, only_ok _ _ _ leads e)
-has_form service (Release lock) held leads e = (_, only_ok _ _ _ leads e)
-has_form service (Try lock busy) held leads e = (_, only_ok _ _ _ leads e)
-has_form service (Wait condition test) held leads e = (_, both_ok _ _ _ _ _ leads e)
-has_form service (Signal condition) held leads e = (_, only_ok _ _ _ leads e)
-has_form service (Broadcast condition) held leads e = (_, only_ok _ _ _ leads e)
-has_form service (Down semaphore) held leads e = (_, only_ok _ _ _ leads e)
-has_form service (Up semaphore) held leads e = (held, cc)
-has_form service (Set variable value) held leads e = (_, both_ok _ _ _ _ _ leads e)
-has_form service (Let local value) held leads e = (_, only_ok _ _ _ leads e)
-has_form service (If test otherwise) held leads e = only_ok _ _ _ leads e
-has_form service (Else end) held leads e = cc
-has_form service (Busy end) held leads e = cc
-has_form service (Repeat turns after) held leads e = cc
-has_form service (Clock local) held leads e = (held, cc)
-has_form service (Random local) held leads e = (held, cc)
-has_form service EndIf held leads e = (held, cc)
-has_form service EndTry held leads e = (held, cc)
-has_form service EndRepeat held leads e = (held, cc)
-has_form service (Reply value) held leads e = both_ok _ _ _ _ _ leads e
+has_form service line held leads e = form_by line held leads (is_led service line held leads e)
 
 -- a line further on, or the line itself with what is held there
 abbrev pub IsAhead : ℕ → Lockset → ℕ → Lockset → Type 0

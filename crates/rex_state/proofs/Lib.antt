@@ -1,4 +1,5 @@
 pub mod Walks
+pub mod Events
 pub mod Fits
 pub mod Modes
 pub mod Keep

@@ -15,7 +15,7 @@ use Rattle.rex_syntax.specs.Service.{IsService}
 use Rattle.rex_frame.specs.declared.frame.Frame.{Frame}
 use Rattle.rex_event.specs.declared.event.Kind.{Kind}
 use Rattle.rex_event.specs.declared.event.Event.{Event}
-use Rattle.rex_event.specs.declared.event.Kind.TheVariants.{Begin, AcqEx, AcqSh, RelEx, RelSh, TryOk, TryBusy, Wait, Wake, Signal, Broadcast, Clock, Random, Reply, Down, Up}
+use Rattle.rex_event.specs.declared.event.Kind.TheVariants.{Begin, AcqEx, AcqSh, RelEx, RelSh, TryOk, TryBusy, Wait, Wake, Clock, Random, Reply, Down, Up}
 use Rattle.rex_state.specs.declared.lane.Lane.{Lane}
 use Rattle.rex_state.specs.declared.lane.Queue.{Queue}
 use Rattle.rex_state.specs.Value.{StateValue}
@@ -25,9 +25,11 @@ use Rattle.rex_state.specs.Own.{started}
 use Rattle.rex_state.specs.Machine.{lane_of, frame_at, can_go, own_can, no_queue, queue_at, queues_after, client_allows, next}
 use Rattle.rex_state.specs.Flows.{CheckedFlows}
 use Rattle.rex_state.specs.Sound.{Has, IsOnce, IsQueued, AreServed, with_flows, IsSound}
-use Rattle.rex_state.specs.Room.{IsQueueSmall, IsSmall, FitsIn, HasNextPlace, HasLock, HasLocal, CanMove, HasHandler, CanStart, HasQueue, HasEntry, CanApply}
+use Rattle.rex_state.specs.Room.{IsQueueSmall, IsSmall, FitsIn, HasNextPlace, HasLock, HasLocal, CanMove, HasHandler, CanStart, HasEntry, CanApply}
 use Rattle.rex_state.specs.Names.{KindNames}
-use Rattle.rex_state.proofs.Fits.{clock_line, random_line, no_handler, takes_there, IsRight, starts_fit}
+use Rattle.rex_state.proofs.Events.{clock_line, random_line, has_queue, Later, Change, change}
+use Rattle.rex_state.proofs.Events.Change.{unchanged, changes}
+use Rattle.rex_state.proofs.Fits.{no_handler, takes_there, IsRight, starts_fit}
 use Rattle.rex_state.proofs.Keep.{IsNext, next_is}
 use Rattle.rex_state.proofs.Names.{lane_in, handler_at, lines_are, locals_are, names_line, waiting_there, events_name}
 use Rattle.rex_state.proofs.Queued.{not_queued}
@@ -54,14 +56,11 @@ module _ (service : Declarations) (good : IsService service) where
   can_move (TryBusy lock) f vs fits names h = tt
   can_move (Wait condition lock) f vs fits names h = omega (arith, good.locks, names.1)
   can_move (Wake condition lock) f vs fits names h = omega (arith, good.locks, names.1)
-  can_move (Signal condition woken) f vs fits names h = next_place f fits
-  can_move (Broadcast condition woken) f vs fits names h = next_place f fits
-  can_move (Down semaphore) f vs fits names h = next_place f fits
-  can_move (Up semaphore) f vs fits names h = next_place f fits
   can_move (Clock value) f vs fits names h = let t = clock_line _ (and_parts _ _ h).1 in has_local f (ClockAt t.0) t.0 fits (names_line service good f (ClockAt t.0) fits t.1) t.1 refl
   can_move (Random value) f vs fits names h = let t = random_line _ (and_parts _ _ h).1 in has_local f (RandomAt t.0) t.0 fits (names_line service good f (RandomAt t.0) fits t.1) t.1 refl
   can_move (Begin client sequence handler arguments) f vs fits names h = tt
   can_move (Reply client value) f vs fits names h = tt
+  can_move _ f vs fits names h = next_place f fits
 
   has_handler : (handler count : ℕ) → (handler < length service.handlers) × ((get_or service.handlers handler no_handler).parameters ≡ count) → HasHandler service handler count
   has_handler handler count t = (t.0, omega (arith, t.1, locals_are service good handler t.0, (handler_at service good handler t.0).fewer))
@@ -72,14 +71,6 @@ module _ (service : Declarations) (good : IsService service) where
   can_start (Reply client value) o vs fits names h = tt
   can_start kind None vs fits names h = tt
   can_start kind (Some f) vs fits names h = (fits, can_move kind f vs fits names h)
-
--- the condition that an event names has its queue
-has_queue : (service : Declarations) (kind : Kind) → KindNames service kind → (queues : List Queue) → length queues ≡ length service.conditions
-    → ((condition lock : ℕ) → kind ≡ Wait condition lock → length (queue_at queues condition) < most_lanes) → HasQueue kind queues
-has_queue service (Wait condition lock) names queues long room = (subst (λ (n : ℕ). condition < n) (sym long) names.0, room condition lock refl)
-has_queue service (Signal condition woken) names queues long room = omega (arith, long, names.0)
-has_queue service (Broadcast condition woken) names queues long room = omega (arith, long, names.0)
-has_queue service _ names queues long room = tt
 
 -- the semaphore that an event names has its value
 has_semaphore : (service : Declarations) (kind : Kind) → KindNames service kind → (values : List ℕ) → length values ≡ length service.semaphores → HasSemaphore kind values
@@ -167,11 +158,17 @@ queue_small queues condition h = by (cases_lt condition (length queues))
     by (inl l) = h condition no_queue l
     by (inr l) = subst (λ (q : Queue). All (λ lane. lane < most_lanes) q.lanes.items) (sym (get_or_past queues condition no_queue l)) (λ k d z. absurd (omega arith))
 
+small_in : (kind : Kind) (lane c : ℕ) (old new : List ℕ) → Later kind lane c old new → lane < most_lanes → All (λ x. x < most_lanes) old → All (λ x. x < most_lanes) new
+small_in kind lane c old new (inl j) l h = subst (All (λ x. x < most_lanes)) (sym j.2) (All-push (λ x. x < most_lanes) old lane h l)
+small_in kind lane c old new (inr j) l h = subst (All (λ x. x < most_lanes)) (sym j.1) (All-drop (λ x. x < most_lanes) j.0 old h)
+
+small_by : (kind : Kind) (lane : ℕ) (queues : List Queue) → Change kind lane → lane < most_lanes → All IsQueueSmall queues → All IsQueueSmall (queues_after kind lane queues)
+small_by kind lane queues (unchanged e) l h = subst (All IsQueueSmall) (sym (e queues)) h
+small_by kind lane queues (changes c new n e later) l h =
+    subst (All IsQueueSmall) (sym (e queues)) (All-set IsQueueSmall queues c _ (small_in kind lane c (queue_at queues c) _ (later (queue_at queues c)) l (queue_small queues c h)) h)
+
 pub queues_small : (kind : Kind) (lane : ℕ) (queues : List Queue) → lane < most_lanes → All IsQueueSmall queues → All IsQueueSmall (queues_after kind lane queues)
-queues_small (Wait condition lock) lane queues l h = All-set IsQueueSmall queues condition _ (All-push (λ x. x < most_lanes) (queue_at queues condition) lane (queue_small queues condition h) l) h
-queues_small (Signal condition woken) lane queues l h = All-set IsQueueSmall queues condition _ (All-drop (λ x. x < most_lanes) 1 (queue_at queues condition) (queue_small queues condition h)) h
-queues_small (Broadcast condition woken) lane queues l h = All-set IsQueueSmall queues condition _ (λ k d z. absurd (omega arith)) h
-queues_small _ lane queues l h = h
+queues_small kind lane queues l h = small_by kind lane queues (change kind lane) l h
 
 -- an element is among the list's
 has_at : {X : Type 0} (xs : List X) (i : ℕ) (d : X) → i < length xs → Has (get_or xs i d) xs
