@@ -8,7 +8,7 @@ use Rattle.rex_syntax.specs.declared.expr.Operand.TheVariants.{Number, Local, Va
 use Rattle.rex_syntax.specs.declared.expr.Term.{Term}
 use Rattle.rex_syntax.specs.declared.expr.Expr.{Expr}
 use Rattle.rex_syntax.specs.declared.line.Line.{Line}
-use Rattle.rex_syntax.specs.declared.line.Line.TheVariants.{Acquire, Share, Release, Try, Busy, EndTry, Wait, Signal, Broadcast, Down, Up, Set, Let, Clock, Random, If, Else, EndIf, Repeat, EndRepeat, Reply}
+use Rattle.rex_syntax.specs.declared.line.Line.TheVariants.{Share, Try, Busy, EndTry, Wait, Set, Let, If, Else, EndIf, Repeat, EndRepeat, Reply}
 use Rattle.rex_syntax.specs.declared.service.Lock.{Lock}
 use Rattle.rex_syntax.specs.declared.service.LockKind.{LockKind}
 use Rattle.rex_syntax.specs.declared.service.Handler.{Handler}
@@ -42,27 +42,20 @@ expr_more l m v w few less e h =
     (operand_more l m v w few less e.first h.0, All-weaker (λ (t : Term). OperandFits l v t.operand) (λ (t : Term). OperandFits m w t.operand) (λ t q. operand_more l m v w few less t.operand q) e.rest h.1)
 
 pub line_more : (old new : Declarations) → Extends old new → (l m : ℕ) → l ≤ m → (line : Line) → LineNames old l line → LineNames new m line
-line_more old new x l m few (Acquire lock) h = omega (arith, x.more_locks)
 line_more old new x l m few (Share lock) h = IsLock-more old new x _ lock h
-line_more old new x l m few (Release lock) h = omega (arith, x.more_locks)
 line_more old new x l m few (Try lock busy) h = IsLock-more old new x _ lock h
 line_more old new x l m few (Busy end) h = tt
 line_more old new x l m few EndTry h = tt
 line_more old new x l m few (Wait condition test) h = (omega (arith, x.more_conditions, h.0), expr_more l m _ _ few x.more_variables test h.1)
-line_more old new x l m few (Signal condition) h = omega (arith, x.more_conditions)
-line_more old new x l m few (Broadcast condition) h = omega (arith, x.more_conditions)
-line_more old new x l m few (Down semaphore) h = omega (arith, x.more_semaphores)
-line_more old new x l m few (Up semaphore) h = omega (arith, x.more_semaphores)
 line_more old new x l m few (Set variable value) h = (omega (arith, x.more_variables, h.0), expr_more l m _ _ few x.more_variables value h.1)
 line_more old new x l m few (Let local value) h = (omega (arith, h.0), expr_more l m _ _ few x.more_variables value h.1)
-line_more old new x l m few (Clock local) h = omega arith
-line_more old new x l m few (Random local) h = omega arith
 line_more old new x l m few (If test otherwise) h = expr_more l m _ _ few x.more_variables test h
 line_more old new x l m few (Else end) h = tt
 line_more old new x l m few EndIf h = tt
 line_more old new x l m few (Repeat turns after) h = h
 line_more old new x l m few EndRepeat h = tt
 line_more old new x l m few (Reply value) h = expr_more l m _ _ few x.more_variables value h
+line_more old new x l m few _ h = omega (arith, x.more_locks, x.more_semaphores, x.more_conditions)
 
 pub lines_more : (old new : Declarations) → Extends old new → (l m : ℕ) → l ≤ m → (lines : List Line) → All (LineNames old l) lines → All (LineNames new m) lines
 lines_more old new x l m few lines h = All-weaker (LineNames old l) (LineNames new m) (λ line q. line_more old new x l m few line q) lines h

@@ -4,7 +4,7 @@ use Rattle.std.specs.Prelude.{slice_get, slice_set, slice_index}
 use Rattle.std.proofs.lemmas.List.{length-set, set-append_left}
 use Rattle.std.proofs.lemmas.Option.{same_Some, slice_get_within}
 use Rattle.rex_syntax.specs.declared.line.Line.{Line}
-use Rattle.rex_syntax.specs.declared.line.Line.TheVariants.{Acquire, Share, Release, Try, Busy, EndTry, Wait, Signal, Broadcast, Down, Up, Set, Let, Clock, Random, If, Else, EndIf, Repeat, EndRepeat, Reply}
+use Rattle.rex_syntax.specs.declared.line.Line.TheVariants.{Try, Busy, If, Else, Repeat, EndRepeat, Reply}
 use Rattle.rex_syntax.specs.declared.service.Declarations.{Declarations}
 use Rattle.rex_syntax.specs.Service.{LineNames}
 use Rattle.rex_syntax.specs.Blocks.{Block, blocks_after, is_reply_line}
@@ -122,26 +122,7 @@ module _ (old new : List Line) (on : GoesOn old new) where
   repeat_stays : (i : ℕ) (o : Option Line) → slice_get old i ≡ o → 0 < after_repeat o → after_repeat (slice_get new i) ≡ after_repeat o
   repeat_stays i None e known = absurd (omega arith)
   repeat_stays i (Some (Repeat turns after)) e known = rw (on.stays i (Repeat turns after) e known) refl
-  repeat_stays i (Some (Acquire lock)) e known = absurd (omega arith)
-  repeat_stays i (Some (Share lock)) e known = absurd (omega arith)
-  repeat_stays i (Some (Release lock)) e known = absurd (omega arith)
-  repeat_stays i (Some (Try lock busy)) e known = absurd (omega arith)
-  repeat_stays i (Some (Busy end)) e known = absurd (omega arith)
-  repeat_stays i (Some EndTry) e known = absurd (omega arith)
-  repeat_stays i (Some (Wait condition test)) e known = absurd (omega arith)
-  repeat_stays i (Some (Signal condition)) e known = absurd (omega arith)
-  repeat_stays i (Some (Broadcast condition)) e known = absurd (omega arith)
-  repeat_stays i (Some (Down semaphore)) e known = absurd (omega arith)
-  repeat_stays i (Some (Up semaphore)) e known = absurd (omega arith)
-  repeat_stays i (Some (Set variable value)) e known = absurd (omega arith)
-  repeat_stays i (Some (Let local value)) e known = absurd (omega arith)
-  repeat_stays i (Some (Clock local)) e known = absurd (omega arith)
-  repeat_stays i (Some (Random local)) e known = absurd (omega arith)
-  repeat_stays i (Some (If test otherwise)) e known = absurd (omega arith)
-  repeat_stays i (Some (Else end)) e known = absurd (omega arith)
-  repeat_stays i (Some EndIf) e known = absurd (omega arith)
-  repeat_stays i (Some EndRepeat) e known = absurd (omega arith)
-  repeat_stays i (Some (Reply value)) e known = absurd (omega arith)
+  repeat_stays i (Some _) e known = absurd (omega arith)
 
   loop_stays : (place body : ℕ) (loops : List ℕ) → open_at old place ≡ loops → open_at new place ≡ loops → EndsLoop old place → slice_index loops (length loops - 1) ≡ body → EndsLoop new place
   loop_stays place body loops was is h at =
@@ -173,20 +154,7 @@ module _ (old new : List Line) (on : GoesOn old new) where
   }
   leads_on place EndRepeat lt h = loop_stays place _ (open_at old place) refl (on.loops place (omega arith)) h refl
   leads_on place (Reply value) lt h = on.loops place (omega arith) ∙ h
-  leads_on place (Acquire lock) lt h = omega (arith, on.longer)
-  leads_on place (Share lock) lt h = omega (arith, on.longer)
-  leads_on place (Release lock) lt h = omega (arith, on.longer)
-  leads_on place EndTry lt h = omega (arith, on.longer)
-  leads_on place (Wait condition test) lt h = omega (arith, on.longer)
-  leads_on place (Signal condition) lt h = omega (arith, on.longer)
-  leads_on place (Broadcast condition) lt h = omega (arith, on.longer)
-  leads_on place (Down semaphore) lt h = omega (arith, on.longer)
-  leads_on place (Up semaphore) lt h = omega (arith, on.longer)
-  leads_on place (Set variable value) lt h = omega (arith, on.longer)
-  leads_on place (Let local value) lt h = omega (arith, on.longer)
-  leads_on place (Clock local) lt h = omega (arith, on.longer)
-  leads_on place (Random local) lt h = omega (arith, on.longer)
-  leads_on place EndIf lt h = omega (arith, on.longer)
+  leads_on place _ lt h = omega (arith, on.longer)
 
   fork_known : (l : Line) (n : ℕ) → branch_of l ≡ Some n → target_of l ≡ n
   fork_known (If test otherwise) n e = same_Some otherwise n e

@@ -13,7 +13,7 @@ use Rattle.rex_syntax.specs.Service.{IsService}
 use Rattle.rex_parse.specs.Words.{least, fits}
 use Rattle.rex_parse.specs.Above.{nothing, meaning_of, is_open, local_place, blocks_in, blocks_of}
 use Rattle.rex_parse.specs.Table.{form_of, found_code, line_code, full_code, lines_of_open, locals_code, whole_expr_code, is_loop, loops_code, inside_code, in_range, count_of, count_code}
-use Rattle.rex_parse.specs.After.{service_of, lock_number, semaphore_number, first_of, condition_number, variable_number, with_open, opening, with_line, with_local, expr_of, after_form, after_found, after}
+use Rattle.rex_parse.specs.After.{service_of, lock_number, first_of, condition_number, variable_number, with_open, opening, with_line, with_local, expr_of, after_form, after_found, after}
 use Rattle.rex_parse.specs.Reading.{raw_code, raw_after, end_code}
 use Rattle.rex_parse.specs.Good.{IsOpen, IsGood}
 use Rattle.rex_parse.specs.Answers.{Takes}
@@ -116,41 +116,27 @@ first_fits w = first_found (u64_at w)
 
 -- ---- each form
 
+first_none : (c d : Option ServiceCode) → least c d ≡ None → c ≡ None
+first_none c d e = (least_both c d e).0
+
 good_form : (a : Above) (number : ℕ) (f : Form) (ws : List Word) → IsFine a f ws → IsGood a → IsGood (after_form a number f ws)
-good_form a number form.Lanes [] fine good = good
 good_form a number form.Lanes (w ∷ ws) fine good = good_lanes a w ws fine good
-good_form a number form.Lock [] fine good = good
 good_form a number form.Lock (w ∷ ws) fine good = good_lock a Plain w (closed_by _ fine.placed) fine.limits (began a form.Lock refl fine.order) good
-good_form a number form.RwLock [] fine good = good
 good_form a number form.RwLock (w ∷ ws) fine good = good_lock a ReadersWriter w (closed_by _ fine.placed) fine.limits (began a form.RwLock refl fine.order) good
-good_form a number form.Sem [] fine good = good
 good_form a number form.Sem (w ∷ []) fine good = good
 good_form a number form.Sem (w ∷ e ∷ []) fine good = good
 good_form a number form.Sem (w ∷ e ∷ v ∷ ws) fine good = good_sem a w (first_of v) (w ∷ e ∷ v ∷ ws) fine (first_fits v) good
-good_form a number form.Cond [] fine good = good
 good_form a number form.Cond (w ∷ []) fine good = good
 good_form a number form.Cond (w ∷ o ∷ []) fine good = good
 good_form a number form.Cond (w ∷ o ∷ l ∷ ws) fine good =
     good_cond a w _ (w ∷ o ∷ l ∷ ws) fine (lock_of_there a Plain l (least_both _ _ (least_both _ _ fine.places).1).0) good
-good_form a number form.Var [] fine good = good
 good_form a number form.Var (w ∷ []) fine good = good
 good_form a number form.Var (w ∷ o ∷ []) fine good = good
 good_form a number form.Var (w ∷ o ∷ l ∷ []) fine good = good
 good_form a number form.Var (w ∷ o ∷ l ∷ e ∷ []) fine good = good
 good_form a number form.Var (w ∷ o ∷ l ∷ e ∷ v ∷ ws) fine good =
     good_var a w _ _ (w ∷ o ∷ l ∷ e ∷ v ∷ ws) fine (lock_there a l good (least_both _ _ (least_both _ _ fine.places).1).0) good
-good_form a number form.Handler [] fine good = good
 good_form a number form.Handler (w ∷ ws) fine good = good_heading a number w ws fine good
-good_form a number form.Acquire [] fine good = good
-good_form a number form.Acquire (w ∷ ws) fine good =
-    good_line a number (line.Acquire (lock_number (meaning_of a w))) refl (lock_there a w good (least_both _ _ fine.places).0) fine.limits (began a form.Acquire refl fine.order) good
-good_form a number form.Share [] fine good = good
-good_form a number form.Share (w ∷ ws) fine good =
-    good_line a number (line.Share (lock_number (meaning_of a w))) refl (lock_of_there a ReadersWriter w (least_both _ _ fine.places).0) fine.limits (began a form.Share refl fine.order) good
-good_form a number form.Release [] fine good = good
-good_form a number form.Release (w ∷ ws) fine good =
-    good_line a number (line.Release (lock_number (meaning_of a w))) refl (lock_there a w good (least_both _ _ fine.places).0) fine.limits (began a form.Release refl fine.order) good
-good_form a number form.Try [] fine good = good
 good_form a number form.Try (w ∷ ws) fine good =
     good_opening a block.Got number (line.Try (lock_number (meaning_of a w)) 0) (try_opens (lock_number (meaning_of a w))) (omega (arith, few_always a good)) (lock_of_there a Plain w (least_both _ _ fine.places).0) fine.limits
     (began a form.Try refl fine.order) good
@@ -158,39 +144,22 @@ good_form a number form.Busy [] fine good = good_dividing a form.Busy block.Miss
 good_form a number form.Busy (w ∷ ws) fine good = good
 good_form a number form.EndTry [] fine good = good_closing a form.EndTry number line.EndTry endtry_suits refl fine.suited tt fine.limits (began a form.EndTry refl fine.order) good
 good_form a number form.EndTry (w ∷ ws) fine good = good
-good_form a number form.Wait [] fine good = good
 good_form a number form.Wait (w ∷ []) fine good = good
 good_form a number form.Wait (w ∷ e ∷ []) fine good = absurd (unshaped _ fine.shaped)
 good_form a number form.Wait (w ∷ e ∷ v ∷ ws) fine good =
     let places = least_both _ _ fine.places in
     good_line a number (line.Wait (condition_number (meaning_of a w)) (expr_of a (v ∷ ws))) refl
     (condition_there a w good places.0, whole_expr_fits a (v ∷ ws) good (least_both _ _ places.1).0) fine.limits (began a form.Wait refl fine.order) good
-good_form a number form.Signal [] fine good = good
-good_form a number form.Signal (w ∷ ws) fine good =
-    good_line a number (line.Signal (condition_number (meaning_of a w))) refl (condition_there a w good (least_both _ _ fine.places).0) fine.limits (began a form.Signal refl fine.order) good
-good_form a number form.Broadcast [] fine good = good
-good_form a number form.Broadcast (w ∷ ws) fine good =
-    good_line a number (line.Broadcast (condition_number (meaning_of a w))) refl (condition_there a w good (least_both _ _ fine.places).0) fine.limits (began a form.Broadcast refl fine.order) good
-good_form a number form.Down [] fine good = good
-good_form a number form.Down (w ∷ ws) fine good =
-    good_line a number (line.Down (semaphore_number (meaning_of a w))) refl (semaphore_there a w good (least_both _ _ fine.places).0) fine.limits (began a form.Down refl fine.order) good
-good_form a number form.Up [] fine good = good
-good_form a number form.Up (w ∷ ws) fine good =
-    good_line a number (line.Up (semaphore_number (meaning_of a w))) refl (semaphore_there a w good (least_both _ _ fine.places).0) fine.limits (began a form.Up refl fine.order) good
-good_form a number form.Set [] fine good = good
 good_form a number form.Set (w ∷ []) fine good = good
 good_form a number form.Set (w ∷ e ∷ []) fine good = absurd (unshaped _ fine.shaped)
 good_form a number form.Set (w ∷ e ∷ v ∷ ws) fine good =
     let places = least_both _ _ fine.places in
     good_line a number (line.Set (variable_number (meaning_of a w)) (expr_of a (v ∷ ws))) refl
     (variable_there a w good places.0, whole_expr_fits a (v ∷ ws) good (least_both _ _ places.1).0) fine.limits (began a form.Set refl fine.order) good
-good_form a number form.Let [] fine good = good
 good_form a number form.Let (w ∷ []) fine good = good
 good_form a number form.Let (w ∷ e ∷ []) fine good = absurd (unshaped _ fine.shaped)
 good_form a number form.Let (w ∷ e ∷ v ∷ ws) fine good = good_let a number w e v ws fine good
-good_form a number form.Clock [] fine good = good
 good_form a number form.Clock (w ∷ ws) fine good = good_clock a number w ws fine good
-good_form a number form.Random [] fine good = good
 good_form a number form.Random (w ∷ ws) fine good = good_random a number w ws fine good
 good_form a number form.If [] fine good = let h : true ≡ false = fine.shaped in absurd cc
 good_form a number form.If (w ∷ ws) fine good =
@@ -200,7 +169,6 @@ good_form a number form.Else [] fine good = good_dividing a form.Else block.Othe
 good_form a number form.Else (w ∷ ws) fine good = good
 good_form a number form.EndIf [] fine good = good_closing a form.EndIf number line.EndIf endif_suits refl fine.suited tt fine.limits (began a form.EndIf refl fine.order) good
 good_form a number form.EndIf (w ∷ ws) fine good = good
-good_form a number form.Repeat [] fine good = good
 good_form a number form.Repeat (w ∷ ws) fine good = good_repeat a number w ws fine good
 good_form a number form.EndRepeat [] fine good = good_loop_end a number fine.suited fine.limits (began a form.EndRepeat refl fine.order) good
 good_form a number form.EndRepeat (w ∷ ws) fine good = good
@@ -208,6 +176,9 @@ good_form a number form.Reply [] fine good = let h : true ≡ false = fine.shape
 good_form a number form.Reply (w ∷ ws) fine good =
     let limits = least_both (full_code a) (inside_code a) fine.limits in
     good_reply a number (expr_of a (w ∷ ws)) fine.placed limits.1 limits.0 (whole_expr_fits a (w ∷ ws) good (least_both _ _ fine.places).0) (began a form.Reply refl fine.order) good
+good_form a number f [] fine good = good
+good_form a number f (w ∷ ws) fine good =
+    good_line a number _ refl (search (lock_there, semaphore_there, condition_there, lock_of_there, first_none, good, fine.places)) fine.limits (began a f refl fine.order) good
 
 good_found : (a : Above) (number : ℕ) (o : Option Form) (ws : List Word) → found_code a o ws ≡ None → IsGood a → IsGood (after_found a number o ws)
 good_found a number None ws e good = good

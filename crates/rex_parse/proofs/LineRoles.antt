@@ -1,7 +1,7 @@
 -- What a line does to the blocks around it.
 use Rattle.std.proofs.Common.{◌≡◌, ℕ, ◌<◌, Bool, true, false, List, [], ◌∷◌, ◌++◌, Some, refl, sym, append-nil}
 use Rattle.rex_syntax.specs.declared.line.Line.{Line}
-use Rattle.rex_syntax.specs.declared.line.Line.TheVariants.{Acquire, Share, Release, Try, Busy, EndTry, Wait, Signal, Broadcast, Down, Up, Set, Let, Clock, Random, If, Else, EndIf, Repeat, EndRepeat, Reply}
+use Rattle.rex_syntax.specs.declared.line.Line.TheVariants.{Try, Busy, EndTry, If, Else, EndIf, Repeat, EndRepeat, Reply}
 use Rattle.rex_syntax.specs.declared.expr.Expr.{Expr}
 use Rattle.rex_syntax.specs.Blocks.{Block, blocks_after, is_reply_line}
 use Rattle.rex_syntax.specs.Shape.{open_after, HasNext, LeadsOn, is_divider, branch_of}
@@ -36,27 +36,16 @@ pub record IsStraight (l : Line) : Type 0 where
   pub leads : (lines : List Line) (place : ℕ) → HasNext lines place → LeadsOn lines place l
 
 pub straight : (l : Line) → is_plain l ≡ true → IsStraight l
-straight (Acquire lock) e = record { no_reply = refl; undivided = refl; blocks = λ bs. refl; loops = λ p ls. refl; leads = λ ls p h. h }
-straight (Share lock) e = record { no_reply = refl; undivided = refl; blocks = λ bs. refl; loops = λ p ls. refl; leads = λ ls p h. h }
-straight (Release lock) e = record { no_reply = refl; undivided = refl; blocks = λ bs. refl; loops = λ p ls. refl; leads = λ ls p h. h }
 straight (Try lock busy) e = absurd cc
 straight (Busy end) e = absurd cc
 straight EndTry e = absurd cc
-straight (Wait condition test) e = record { no_reply = refl; undivided = refl; blocks = λ bs. refl; loops = λ p ls. refl; leads = λ ls p h. h }
-straight (Signal condition) e = record { no_reply = refl; undivided = refl; blocks = λ bs. refl; loops = λ p ls. refl; leads = λ ls p h. h }
-straight (Broadcast condition) e = record { no_reply = refl; undivided = refl; blocks = λ bs. refl; loops = λ p ls. refl; leads = λ ls p h. h }
-straight (Down semaphore) e = record { no_reply = refl; undivided = refl; blocks = λ bs. refl; loops = λ p ls. refl; leads = λ ls p h. h }
-straight (Up semaphore) e = record { no_reply = refl; undivided = refl; blocks = λ bs. refl; loops = λ p ls. refl; leads = λ ls p h. h }
-straight (Set variable value) e = record { no_reply = refl; undivided = refl; blocks = λ bs. refl; loops = λ p ls. refl; leads = λ ls p h. h }
-straight (Let local value) e = record { no_reply = refl; undivided = refl; blocks = λ bs. refl; loops = λ p ls. refl; leads = λ ls p h. h }
-straight (Clock local) e = record { no_reply = refl; undivided = refl; blocks = λ bs. refl; loops = λ p ls. refl; leads = λ ls p h. h }
-straight (Random local) e = record { no_reply = refl; undivided = refl; blocks = λ bs. refl; loops = λ p ls. refl; leads = λ ls p h. h }
 straight (If test otherwise) e = absurd cc
 straight (Else end) e = absurd cc
 straight EndIf e = absurd cc
 straight (Repeat turns after) e = absurd cc
 straight EndRepeat e = absurd cc
 straight (Reply value) e = absurd cc
+straight _ e = record { no_reply = refl; undivided = refl; blocks = λ bs. refl; loops = λ p ls. refl; leads = λ ls p h. h }
 
 -- ---- lines that open a block
 

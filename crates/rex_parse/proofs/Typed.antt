@@ -14,7 +14,7 @@ use Rattle.rex_syntax.specs.declared.line.Line.{Line}
 use Rattle.rex_syntax.specs.declared.line.Line.TheVariants as line
 use Rattle.rex_syntax.specs.declared.service.Variable.{Variable}
 use Rattle.rex_syntax.specs.declared.service.Handler.{Handler}
-use Rattle.rex_syntax.specs.Typed.{OperandIsTyped, TermIsTyped, ExprIsTyped, LineIsTyped, HandlerIsTyped, VariableIsTyped, ServiceIsTyped}
+use Rattle.rex_syntax.specs.Typed.{NumbersAreTyped, OperandIsTyped, TermIsTyped, ExprIsTyped, LineIsTyped, HandlerIsTyped, VariableIsTyped, ServiceIsTyped}
 use Rattle.rex_parse.specs.Above.{nothing, meaning_of, is_local, local_place}
 use Rattle.rex_parse.specs.Table.{form_of, begins_number}
 use Rattle.rex_parse.specs.After.{service_of, variable_number, operand_of, terms_of, expr_of, more_lines, with_line, led_to, with_block_target, block_opens, block_ends, opening, dividing, closing, with_open, with_local, with_handler, closed, after_form, after_found, after}
@@ -112,6 +112,9 @@ target_typed lines (b ∷ rest) target t = All-set LineIsTyped lines b.line _ (l
 line_typed : (a : Above) (number : ℕ) (l : Line) → LineIsTyped l → AboveIsTyped a → AboveIsTyped (with_line a number l)
 line_typed a number l t = change_typed a (more_lines number l) (λ h o. more_typed number l h t o)
 
+plain_typed : (a : Above) (number : ℕ) (l : Line) → NumbersAreTyped l → AboveIsTyped a → AboveIsTyped (with_line a number l)
+plain_typed a number l n t = line_typed a number l (record { numbers = n }) t
+
 opening_typed : (a : Above) (kind : BlockKind) (number : ℕ) (l : Line) → LineIsTyped l → AboveIsTyped a → AboveIsTyped (with_open a (opening kind number l))
 opening_typed a kind number l t = change_typed a (opening kind number l) (λ h o. more_typed number l (block_opens kind h) t o)
 
@@ -149,17 +152,10 @@ form_typed a number form.Sem (w ∷ e ∷ v ∷ ws) t = t
 form_typed a number form.Cond (w ∷ o ∷ l ∷ ws) t = t
 form_typed a number form.Var (w ∷ o ∷ l ∷ e ∷ v ∷ ws) t = record { first = All-push VariableIsTyped a.variables _ t.first (record { first = number_fits v }); whole = t.whole; opened = t.opened }
 form_typed a number form.Handler (w ∷ ws) t = record { first = t.first; whole = t.whole; opened = All-nil LineIsTyped }
-form_typed a number form.Acquire (w ∷ ws) t = line_typed a number _ (record { numbers = tt }) t
-form_typed a number form.Share (w ∷ ws) t = line_typed a number _ (record { numbers = tt }) t
-form_typed a number form.Release (w ∷ ws) t = line_typed a number _ (record { numbers = tt }) t
 form_typed a number form.Try (w ∷ ws) t = opening_typed a block.Got number _ (record { numbers = tt }) t
 form_typed a number form.Busy [] t = dividing_typed a block.Missed number _ (record { numbers = tt }) t
 form_typed a number form.EndTry [] t = closing_typed a 0 number _ (record { numbers = tt }) t
 form_typed a number form.Wait (w ∷ e ∷ ws) t = line_typed a number _ (record { numbers = expr_typed a ws }) t
-form_typed a number form.Signal (w ∷ ws) t = line_typed a number _ (record { numbers = tt }) t
-form_typed a number form.Broadcast (w ∷ ws) t = line_typed a number _ (record { numbers = tt }) t
-form_typed a number form.Down (w ∷ ws) t = line_typed a number _ (record { numbers = tt }) t
-form_typed a number form.Up (w ∷ ws) t = line_typed a number _ (record { numbers = tt }) t
 form_typed a number form.Set (w ∷ e ∷ ws) t = line_typed a number _ (record { numbers = expr_typed a ws }) t
 form_typed a number form.Let (w ∷ e ∷ ws) t = line_typed (with_local a w) number _ (record { numbers = expr_typed a ws }) (local_typed a w t)
 form_typed a number form.Clock (w ∷ ws) t = line_typed (with_local a w) number _ (record { numbers = tt }) (local_typed a w t)
@@ -170,6 +166,7 @@ form_typed a number form.EndIf [] t = closing_typed a 0 number _ (record { numbe
 form_typed a number form.Repeat (w ∷ ws) t = opening_typed a block.Loop number _ (record { numbers = tt }) t
 form_typed a number form.EndRepeat [] t = closing_typed a 1 number _ (record { numbers = tt }) t
 form_typed a number form.Reply ws t = closed_typed (with_line a number (line.Reply (expr_of a ws))) (line_typed a number (line.Reply (expr_of a ws)) (record { numbers = expr_typed a ws }) t)
+form_typed a number f (w ∷ ws) t = first_of (assumption t, search (plain_typed, t))
 form_typed a number f ws t = t
 
 -- ---- whole texts
