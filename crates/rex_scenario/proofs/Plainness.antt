@@ -122,9 +122,6 @@ misshapen false e h = absurd cc
 
 -- a line of a form that no code fits: after it a service is plain as before, unless it declares what is beyond lock words
 form_plain : (a : Above) (n : ℕ) (f : Form) (ws : List Word) → is_misshapen (slots f) ws ≡ false → is_plain (after_form a n f ws) ≡ cond (is_beyond_form f) false (is_plain a)
-form_plain a n form.Lanes [] e = refl
-form_plain a n form.Lanes (w ∷ ws) e = refl
-form_plain a n form.Lock [] e = refl
 form_plain a n form.Lock (w ∷ ws) e = more_plain a.locks a.conditions a.semaphores (record { name = w; kind = Plain }) refl
 form_plain a n form.RwLock [] e = misshapen true e refl
 form_plain a n form.RwLock (w ∷ ws) e = more_shared a.locks a.conditions a.semaphores (record { name = w; kind = ReadersWriter }) refl
@@ -136,57 +133,17 @@ form_plain a n form.Cond [] e = misshapen true e refl
 form_plain a n form.Cond (w ∷ []) e = misshapen true e refl
 form_plain a n form.Cond (w ∷ o ∷ []) e = misshapen _ e (or_true _)
 form_plain a n form.Cond (w ∷ o ∷ l ∷ ws) e = more_conditions a.locks a.conditions a.semaphores _
-form_plain a n form.Var [] e = refl
-form_plain a n form.Var (w ∷ []) e = refl
 form_plain a n form.Var (w ∷ o ∷ []) e = refl
 form_plain a n form.Var (w ∷ o ∷ l ∷ []) e = refl
 form_plain a n form.Var (w ∷ o ∷ l ∷ q ∷ []) e = refl
 form_plain a n form.Var (w ∷ o ∷ l ∷ q ∷ v ∷ ws) e = refl
-form_plain a n form.Handler [] e = refl
-form_plain a n form.Handler (w ∷ ws) e = refl
-form_plain a n form.Acquire [] e = refl
-form_plain a n form.Acquire (w ∷ ws) e = refl
-form_plain a n form.Share [] e = refl
-form_plain a n form.Share (w ∷ ws) e = refl
-form_plain a n form.Release [] e = refl
-form_plain a n form.Release (w ∷ ws) e = refl
-form_plain a n form.Try [] e = refl
-form_plain a n form.Try (w ∷ ws) e = refl
-form_plain a n form.Busy [] e = refl
-form_plain a n form.Busy (w ∷ ws) e = refl
-form_plain a n form.EndTry [] e = refl
-form_plain a n form.EndTry (w ∷ ws) e = refl
-form_plain a n form.Wait [] e = refl
-form_plain a n form.Wait (w ∷ []) e = refl
-form_plain a n form.Wait (w ∷ o ∷ ws) e = refl
-form_plain a n form.Signal [] e = refl
-form_plain a n form.Signal (w ∷ ws) e = refl
-form_plain a n form.Broadcast [] e = refl
-form_plain a n form.Broadcast (w ∷ ws) e = refl
-form_plain a n form.Down [] e = refl
-form_plain a n form.Down (w ∷ ws) e = refl
-form_plain a n form.Up [] e = refl
-form_plain a n form.Up (w ∷ ws) e = refl
-form_plain a n form.Set [] e = refl
-form_plain a n form.Set (w ∷ []) e = refl
-form_plain a n form.Set (w ∷ o ∷ ws) e = refl
-form_plain a n form.Let [] e = refl
-form_plain a n form.Let (w ∷ []) e = refl
 form_plain a n form.Let (w ∷ o ∷ ws) e = local_plain a w
-form_plain a n form.Clock [] e = refl
 form_plain a n form.Clock (w ∷ ws) e = local_plain a w
-form_plain a n form.Random [] e = refl
 form_plain a n form.Random (w ∷ ws) e = local_plain a w
-form_plain a n form.If ws e = refl
-form_plain a n form.Else [] e = refl
-form_plain a n form.Else (w ∷ ws) e = refl
-form_plain a n form.EndIf [] e = refl
-form_plain a n form.EndIf (w ∷ ws) e = refl
-form_plain a n form.Repeat [] e = refl
-form_plain a n form.Repeat (w ∷ ws) e = refl
-form_plain a n form.EndRepeat [] e = refl
-form_plain a n form.EndRepeat (w ∷ ws) e = refl
 form_plain a n form.Reply ws e = let b : Above = with_line a n (line.Reply (expr_of a ws)) in handler_plain b b.open_handler
+form_plain a n f [] e = refl
+form_plain a n f (w ∷ []) e = refl
+form_plain a n f (w ∷ o ∷ ws) e = refl
 
 -- ---- a line as it stands
 

@@ -131,20 +131,7 @@ line_reads many nodes requests lanes (step.ReadVariable n client None) h e =
     let q = and_parts (in_range 1 nodes n) (in_range 1 256 client && false) e in
     let r = and_parts (in_range 1 256 client) false q.1 in
     absurd (false≢true r.1)
-line_reads many nodes requests lanes (step.Elect n) h e = tt
-line_reads many nodes requests lanes (step.Submit n r) h e = tt
-line_reads many nodes requests lanes (step.Lane n l) h e = tt
-line_reads many nodes requests lanes (step.Cut n) h e = tt
-line_reads many nodes requests lanes (step.CutBelow n limits) h e = tt
-line_reads many nodes requests lanes (step.Deliver m) h e = tt
-line_reads many nodes requests lanes step.Flush h e = tt
-line_reads many nodes requests lanes (step.Replay n) h e = tt
-line_reads many nodes requests lanes (step.Ask n m) h e = tt
-line_reads many nodes requests lanes (step.Stop n) h e = tt
-line_reads many nodes requests lanes (step.Start n) h e = tt
-line_reads many nodes requests lanes (step.Checkpoint n version) h e = tt
-line_reads many nodes requests lanes (step.DropKnown n) h e = tt
-line_reads many nodes requests lanes (step.KeepFail n kept) h e = tt
+line_reads many nodes requests lanes _ h e = tt
 
 more_reads : (many : ℕ) (scheduled : Bool) (nodes requests lanes : ℕ) (old : Bool) (earlier : List ScheduleLine) (o : Option Step) → Reads many o → step_code scheduled nodes requests lanes old (length earlier) o ≡ None → All (VariableFits many) earlier
     → All (VariableFits many) (with_step earlier o)
