@@ -29,7 +29,8 @@ use Rattle.rex_state.specs.Machine.{no_lane}
 use Rattle.rex_state.specs.Flows.{flow_of, IsFlows}
 use Rattle.rex_state.specs.Touched.{held_in}
 use Rattle.rex_state.specs.Sound.{FrameFits, FramePlaced, wait_lock, with_flows}
-use Rattle.rex_state.proofs.Fits.{may_line, exclusive_mode}
+use Rattle.rex_state.proofs.Events.{exclusive_mode}
+use Rattle.rex_state.proofs.Fits.{may_line}
 use Rattle.rex_state.proofs.Modes.{all_free, free_mode, no_mode}
 use Rattle.rex_state.proofs.Placed.{drop_free}
 use Rattle.rex_wire.proofs.Ranges.{is_between-true}
