@@ -102,19 +102,9 @@ module _ (p : CheckedFlows) (chk : IsRight p) (out : List Bool) (kept s : StateV
   -- the kind that a running lane wants
   wanted_same : (f : Frame) (clock : ℤ) (random : ℕ) (l : Line) → FrameFits p f → is_running f.phase ≡ true → line_of p.service f ≡ l → wanted p.service kept f clock random l ≡ wanted p.service s f clock random l
   wanted_same f clock random (line.Try lock busy) fits run i = rw (free_same lock) refl
-  wanted_same f clock random (line.Signal condition) fits run i = rw lends.queues refl
-  wanted_same f clock random (line.Broadcast condition) fits run i = rw lends.queues refl
   wanted_same f clock random (line.Reply value) fits run i =
       let m = may_line p chk f (line.Reply value) fits run i in ap (λ (x : ℤ). kind.Reply f.client x) (reply_same value f m.0 m.1)
-  wanted_same f clock random (line.Acquire lock) fits run i = refl
-  wanted_same f clock random (line.Share lock) fits run i = refl
-  wanted_same f clock random (line.Release lock) fits run i = refl
-  wanted_same f clock random (line.Wait condition test) fits run i = refl
-  wanted_same f clock random (line.Down semaphore) fits run i = refl
-  wanted_same f clock random (line.Up semaphore) fits run i = refl
-  wanted_same f clock random (line.Clock local) fits run i = refl
-  wanted_same f clock random (line.Random local) fits run i = refl
-  wanted_same f clock random _ fits run i = refl
+  wanted_same f clock random l fits run i = ap (λ (q : List Queue). wanted p.service (record kept { queues = q }) f clock random l) lends.queues
 
   module _ (lane : ℕ) (there : lane < length s.lanes) (back : is_out out lane ≡ false) where
     event_same : (k : Kind) → event_at kept lane k ≡ event_at s lane k

@@ -73,18 +73,10 @@ released requests f lock true = tt
 released requests f lock false = tt
 
 wanted_told : (service : Declarations) (requests : List Request) (f : FloorValue) (frame : Frame) (l : Line) → IsTold requests f (wanted service f.state frame (pos (length f.history)) (pcg32 f.dice).0 l)
-wanted_told service requests f frame (line.Acquire lock) = tt
-wanted_told service requests f frame (line.Share lock) = tt
 wanted_told service requests f frame (line.Release lock) = released requests f lock (is_exclusive (mode_of frame.held lock))
 wanted_told service requests f frame (line.Try lock busy) = tried requests f lock (is_free lock f.state.lanes) refl
-wanted_told service requests f frame (line.Wait condition test) = tt
-wanted_told service requests f frame (line.Signal condition) = tt
-wanted_told service requests f frame (line.Broadcast condition) = tt
-wanted_told service requests f frame (line.Down semaphore) = tt
-wanted_told service requests f frame (line.Up semaphore) = tt
 wanted_told service requests f frame (line.Clock local) = refl
 wanted_told service requests f frame (line.Random local) = refl
-wanted_told service requests f frame (line.Reply value) = tt
 wanted_told service requests f frame _ = tt
 
 woken_told : (requests : List Request) (f : FloorValue) (lane condition lock : ℕ) (b : Bool) (e : Event) → (if b then Unsignalled else turn_for f.state lane (Wake condition lock)) ≡ Done e → IsTold requests f e.kind
