@@ -18,6 +18,7 @@ use Rattle.rex_event.specs.Cuts.{counted}
 use Rattle.rex_clocks.proofs.Numbered.{counted_long}
 use Rattle.rex_delta.specs.Spelling.{woken_number, code_of, content, cause_bytes, event_bytes, events_bytes, version_of, delta_bytes, KindFits, EventFits, EventsFit, IsDelta, HasSpelling}
 use Rattle.rex_delta.proofs.Counting.{others_few}
+use Rattle.rex_delta.proofs.KindLaws.{code_between}
 use Rattle.rex_delta.proofs.Versions.{version_between}
 use Rattle.rex_delta.proofs.EventLaws.{event_parts, delta_parts, delta_found}
 use Rattle.rex_delta.specs.Reading.{delta_in}
@@ -108,22 +109,7 @@ content_bytes lanes (Reply client value) few h =
     more 10 40 (content (Reply client value)) (omega arith) (both 2 8 (to_be_bytes w16 client) (to_be_bytes w64 (cast_unsigned w64 value)) (number16 client) (signed64 value))
 
 code_small : (kind : Kind) → code_of kind < 256
-code_small (Begin client sequence handler arguments) = omega arith
-code_small (AcqEx lock) = omega arith
-code_small (AcqSh lock) = omega arith
-code_small (RelEx lock) = omega arith
-code_small (RelSh lock) = omega arith
-code_small (TryOk lock) = omega arith
-code_small (TryBusy lock) = omega arith
-code_small (Wait condition lock) = omega arith
-code_small (Wake condition lock) = omega arith
-code_small (Signal condition woken) = omega arith
-code_small (Broadcast condition woken) = omega arith
-code_small (Clock value) = omega arith
-code_small (Random value) = omega arith
-code_small (Reply client value) = omega arith
-code_small (Down semaphore) = omega arith
-code_small (Up semaphore) = omega arith
+code_small kind = omega (arith, (code_between kind).1)
 
 -- ---- events
 

@@ -2,11 +2,10 @@
 use Rattle.std.proofs.Common.{◌≡◌, ℕ, ℤ, inl, inr, Bool, true, false, List, [], ◌∷◌, refl, ap}
 use Rattle.std.specs.Prelude.{Result, Ok, Err}
 use Rattle.std.proofs.lemmas.Bool.{eqb-true, false≢true}
-use Rattle.rex_event.specs.Order.{Has}
 use Rattle.rex_event.specs.declared.delta.Delta.{Delta}
 use Rattle.rex_event.specs.declared.event.Event.{Event}
 use Rattle.rex_event.specs.declared.event.Kind.{Kind}
-use Rattle.rex_event.specs.declared.event.Kind.TheVariants.{Begin, AcqEx, AcqSh, RelEx, RelSh, TryOk, TryBusy, Wait, Wake, Signal, Broadcast, Clock, Random, Reply, Down, Up}
+use Rattle.rex_event.specs.declared.event.Kind.TheVariants.{Reply}
 use Rattle.rex_delta.specs.Reading.{delta_in}
 use Rattle.rex_delta.specs.Replying.{RepliesToNone}
 use Rattle.rex_gate.specs.Numbers.{is_reply_to, replies_to}
@@ -15,21 +14,7 @@ use Rattle.rex_cluster.specs.Values.{Value, events_of, read_delta}
 -- a kind that is told to reply to the client does
 told : (client : ℕ) (kind : Kind) → is_reply_to client kind ≡ true → (value : ℤ) × (kind ≡ Reply client value)
 told client (Reply c value) t = (value, ap (λ (n : ℕ). Reply n value) (eqb-true c client t))
-told client (Begin c sequence handler arguments) t = absurd (false≢true t)
-told client (AcqEx lock) t = absurd (false≢true t)
-told client (AcqSh lock) t = absurd (false≢true t)
-told client (RelEx lock) t = absurd (false≢true t)
-told client (RelSh lock) t = absurd (false≢true t)
-told client (TryOk lock) t = absurd (false≢true t)
-told client (TryBusy lock) t = absurd (false≢true t)
-told client (Wait condition lock) t = absurd (false≢true t)
-told client (Wake condition lock) t = absurd (false≢true t)
-told client (Signal condition woken) t = absurd (false≢true t)
-told client (Broadcast condition woken) t = absurd (false≢true t)
-told client (Clock value) t = absurd (false≢true t)
-told client (Random value) t = absurd (false≢true t)
-told client (Down semaphore) t = absurd (false≢true t)
-told client (Up semaphore) t = absurd (false≢true t)
+told client _ t = absurd (false≢true t)
 
 not_told : (client : ℕ) (kind : Kind) (b : Bool) → is_reply_to client kind ≡ b → ((value : ℤ) → kind ≡ Reply client value → ⊥) → b ≡ false
 not_told client kind true t h = let r = told client kind t in absurd (h r.0 r.1)

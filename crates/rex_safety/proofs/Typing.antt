@@ -112,48 +112,11 @@ module _ (f : Frame) (variables : List ℤ) (h : FrameIsTyped f) (v : AreTyped v
   frame_typed : (line : Line) → NumbersAreTyped line → FrameIsTyped (frame_after line f variables)
   frame_typed (line.Let local value) t = record { locals = All-set (FitsSigned w64) f.locals.items local (value_in value f variables) (value_fits value t) h.locals }
   frame_typed line.EndRepeat t = turned_typed (nat_le (innermost f).left 1)
-  frame_typed (line.If test otherwise) t = record { locals = h.locals }
-  frame_typed (line.Acquire lock) t = record { locals = h.locals }
-  frame_typed (line.Share lock) t = record { locals = h.locals }
-  frame_typed (line.Release lock) t = record { locals = h.locals }
-  frame_typed (line.Try lock busy) t = record { locals = h.locals }
-  frame_typed (line.Busy end) t = record { locals = h.locals }
-  frame_typed line.EndTry t = record { locals = h.locals }
-  frame_typed (line.Wait condition test) t = record { locals = h.locals }
-  frame_typed (line.Signal condition) t = record { locals = h.locals }
-  frame_typed (line.Broadcast condition) t = record { locals = h.locals }
-  frame_typed (line.Down semaphore) t = record { locals = h.locals }
-  frame_typed (line.Up semaphore) t = record { locals = h.locals }
-  frame_typed (line.Set variable value) t = record { locals = h.locals }
-  frame_typed (line.Clock local) t = record { locals = h.locals }
-  frame_typed (line.Random local) t = record { locals = h.locals }
-  frame_typed (line.Else end) t = record { locals = h.locals }
-  frame_typed line.EndIf t = record { locals = h.locals }
-  frame_typed (line.Repeat turns after) t = record { locals = h.locals }
-  frame_typed (line.Reply value) t = record { locals = h.locals }
+  frame_typed _ t = record { locals = h.locals }
 
   variables_typed : (line : Line) → NumbersAreTyped line → AreTyped (variables_after line f variables)
   variables_typed (line.Set variable value) t = All-set (FitsSigned w64) variables variable (value_in value f variables) (value_fits value t) v
-  variables_typed (line.Let local value) t = v
-  variables_typed line.EndRepeat t = v
-  variables_typed (line.If test otherwise) t = v
-  variables_typed (line.Acquire lock) t = v
-  variables_typed (line.Share lock) t = v
-  variables_typed (line.Release lock) t = v
-  variables_typed (line.Try lock busy) t = v
-  variables_typed (line.Busy end) t = v
-  variables_typed line.EndTry t = v
-  variables_typed (line.Wait condition test) t = v
-  variables_typed (line.Signal condition) t = v
-  variables_typed (line.Broadcast condition) t = v
-  variables_typed (line.Down semaphore) t = v
-  variables_typed (line.Up semaphore) t = v
-  variables_typed (line.Clock local) t = v
-  variables_typed (line.Random local) t = v
-  variables_typed (line.Else end) t = v
-  variables_typed line.EndIf t = v
-  variables_typed (line.Repeat turns after) t = v
-  variables_typed (line.Reply value) t = v
+  variables_typed _ t = v
 
 -- the line at a place, past the last one too
 pub line_typed : (lines : List Line) → All LineIsTyped lines → (i : ℕ) → NumbersAreTyped (get_or lines i line.EndIf)

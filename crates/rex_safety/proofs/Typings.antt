@@ -87,20 +87,7 @@ module _ (service : Declarations) (typed : ServiceIsTyped service) where
   moved_typed : (k : Kind) (l : Line) (f : Frame) → IsTyped k → FrameIsTyped f → FrameIsTyped (moved k l f)
   moved_typed (kind.Clock value) l f t h = read_typed f l value h t
   moved_typed (kind.Random value) l f t h = read_typed f l (pos value) h (random_fits value t)
-  moved_typed (kind.Begin client sequence handler arguments) l f t h = record { locals = h.locals }
-  moved_typed (kind.AcqEx lock) l f t h = record { locals = h.locals }
-  moved_typed (kind.AcqSh lock) l f t h = record { locals = h.locals }
-  moved_typed (kind.RelEx lock) l f t h = record { locals = h.locals }
-  moved_typed (kind.RelSh lock) l f t h = record { locals = h.locals }
-  moved_typed (kind.TryOk lock) l f t h = record { locals = h.locals }
-  moved_typed (kind.TryBusy lock) l f t h = record { locals = h.locals }
-  moved_typed (kind.Wait condition lock) l f t h = record { locals = h.locals }
-  moved_typed (kind.Wake condition lock) l f t h = record { locals = h.locals }
-  moved_typed (kind.Signal condition woken) l f t h = record { locals = h.locals }
-  moved_typed (kind.Broadcast condition woken) l f t h = record { locals = h.locals }
-  moved_typed (kind.Reply client value) l f t h = record { locals = h.locals }
-  moved_typed (kind.Down semaphore) l f t h = record { locals = h.locals }
-  moved_typed (kind.Up semaphore) l f t h = record { locals = h.locals }
+  moved_typed _ l f t h = record { locals = h.locals }
 
   fresh_typed : (client sequence handler : ℕ) (arguments : List ℤ) → AreTyped arguments → FrameIsTyped (fresh service client sequence handler arguments)
   fresh_typed client sequence handler arguments t = record { locals = All-append (FitsSigned w64) arguments (replicate _ (pos 0)) t (All-replicate (FitsSigned w64) _ (pos 0) zero_fits) }
@@ -108,38 +95,11 @@ module _ (service : Declarations) (typed : ServiceIsTyped service) where
   busy_started : (k : Kind) (f : Frame) → IsTyped k → FrameIsTyped f → LocalsAreTyped (started service k (Some f))
   busy_started (kind.Begin client sequence handler arguments) f t h = fresh_typed client sequence handler arguments t
   busy_started (kind.Reply client value) f t h = tt
-  busy_started (kind.Clock value) f t h = moved_typed (kind.Clock value) (line_of service f) f t h
-  busy_started (kind.Random value) f t h = moved_typed (kind.Random value) (line_of service f) f t h
-  busy_started (kind.AcqEx lock) f t h = moved_typed (kind.AcqEx lock) (line_of service f) f t h
-  busy_started (kind.AcqSh lock) f t h = moved_typed (kind.AcqSh lock) (line_of service f) f t h
-  busy_started (kind.RelEx lock) f t h = moved_typed (kind.RelEx lock) (line_of service f) f t h
-  busy_started (kind.RelSh lock) f t h = moved_typed (kind.RelSh lock) (line_of service f) f t h
-  busy_started (kind.TryOk lock) f t h = moved_typed (kind.TryOk lock) (line_of service f) f t h
-  busy_started (kind.TryBusy lock) f t h = moved_typed (kind.TryBusy lock) (line_of service f) f t h
-  busy_started (kind.Wait condition lock) f t h = moved_typed (kind.Wait condition lock) (line_of service f) f t h
-  busy_started (kind.Wake condition lock) f t h = moved_typed (kind.Wake condition lock) (line_of service f) f t h
-  busy_started (kind.Signal condition woken) f t h = moved_typed (kind.Signal condition woken) (line_of service f) f t h
-  busy_started (kind.Broadcast condition woken) f t h = moved_typed (kind.Broadcast condition woken) (line_of service f) f t h
-  busy_started (kind.Down semaphore) f t h = moved_typed (kind.Down semaphore) (line_of service f) f t h
-  busy_started (kind.Up semaphore) f t h = moved_typed (kind.Up semaphore) (line_of service f) f t h
+  busy_started k f t h = moved_typed k (line_of service f) f t h
 
   idle_started : (k : Kind) → IsTyped k → LocalsAreTyped (started service k None)
   idle_started (kind.Begin client sequence handler arguments) t = fresh_typed client sequence handler arguments t
-  idle_started (kind.Reply client value) t = tt
-  idle_started (kind.Clock value) t = tt
-  idle_started (kind.Random value) t = tt
-  idle_started (kind.AcqEx lock) t = tt
-  idle_started (kind.AcqSh lock) t = tt
-  idle_started (kind.RelEx lock) t = tt
-  idle_started (kind.RelSh lock) t = tt
-  idle_started (kind.TryOk lock) t = tt
-  idle_started (kind.TryBusy lock) t = tt
-  idle_started (kind.Wait condition lock) t = tt
-  idle_started (kind.Wake condition lock) t = tt
-  idle_started (kind.Signal condition woken) t = tt
-  idle_started (kind.Broadcast condition woken) t = tt
-  idle_started (kind.Down semaphore) t = tt
-  idle_started (kind.Up semaphore) t = tt
+  idle_started _ t = tt
 
   starts_typed : (k : Kind) (o : Option Frame) → IsTyped k → LocalsAreTyped o → LocalsAreTyped (started service k o)
   starts_typed k None t h = idle_started k t
@@ -200,27 +160,12 @@ module _ (service : Declarations) (typed : ServiceIsTyped service) where
     if_typed false j k t u = u
 
     wanted_typed : (f : Frame) → FrameIsTyped f → (l : Line) → NumbersAreTyped l → IsTyped (wanted service s f clock random l)
-    wanted_typed f t (line.Acquire lock) n = tt
-    wanted_typed f t (line.Share lock) n = tt
     wanted_typed f t (line.Release lock) n = if_typed (is_exclusive (mode_of f.held lock)) (kind.RelEx lock) (kind.RelSh lock) tt tt
     wanted_typed f t (line.Try lock busy) n = if_typed (is_free lock s.lanes) (kind.TryOk lock) (kind.TryBusy lock) tt tt
-    wanted_typed f t (line.Wait condition test) n = tt
-    wanted_typed f t (line.Signal condition) n = tt
-    wanted_typed f t (line.Broadcast condition) n = tt
-    wanted_typed f t (line.Down semaphore) n = tt
-    wanted_typed f t (line.Up semaphore) n = tt
     wanted_typed f t (line.Clock local) n = ticks
     wanted_typed f t (line.Random local) n = word
     wanted_typed f t (line.Reply value) n = value_fits f s.variables t h.variables value n
-    wanted_typed f t (line.Busy end) n = zero_fits
-    wanted_typed f t line.EndTry n = zero_fits
-    wanted_typed f t (line.Set variable value) n = zero_fits
-    wanted_typed f t (line.Let local value) n = zero_fits
-    wanted_typed f t (line.If test otherwise) n = zero_fits
-    wanted_typed f t (line.Else end) n = zero_fits
-    wanted_typed f t line.EndIf n = zero_fits
-    wanted_typed f t (line.Repeat turns after) n = zero_fits
-    wanted_typed f t line.EndRepeat n = zero_fits
+    wanted_typed f t _ n = search zero_fits
 
     waiting_typed : (lane : ℕ) (l : Line) → TurnIsTyped (waiting_turn service s lane l)
     waiting_typed lane (line.Wait condition test) = go (is_in lane (queue_at s.queues condition))

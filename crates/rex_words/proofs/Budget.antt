@@ -10,7 +10,7 @@ use Rattle.std.proofs.lemmas.List.Sums.{sum_by-set, sum_by_push}
 use Rattle.std.proofs.lemmas.Option.{slice_get-get_or}
 use Rattle.rex_syntax.specs.declared.expr.Expr.{Expr}
 use Rattle.rex_syntax.specs.declared.line.Line.{Line}
-use Rattle.rex_syntax.specs.declared.line.Line.TheVariants.{Acquire, Share, Release, Try, Busy, EndTry, Wait, Signal, Broadcast, Down, Up, Set, Let, Clock, Random, If, Else, EndIf, Repeat, EndRepeat, Reply}
+use Rattle.rex_syntax.specs.declared.line.Line.TheVariants.{Acquire, Release, Try, Busy, EndTry, Wait, Set, Let, Clock, Random, If, Else, EndIf, Repeat, EndRepeat, Reply}
 use Rattle.rex_syntax.specs.declared.service.Declarations.{Declarations}
 use Rattle.rex_syntax.specs.declared.service.Handler.{Handler}
 use Rattle.rex_syntax.specs.Check.{step_bound, IsChecked}
@@ -90,17 +90,6 @@ turned lines f i e h false l =
     omega arith
 
 steps_keep : (lines : List Line) (f : Frame) (variables : List ℤ) (line : Line) → slice_get lines f.place ≡ Some line → LeadsOn lines f.place line → IsInside lines f → does_stand line f variables ≡ false → steps_in lines (frame_after line f variables) ≤ steps_in lines f
-steps_keep lines f variables (Acquire lock) e h i s = absurd (cc)
-steps_keep lines f variables (Share lock) e h i s = absurd (cc)
-steps_keep lines f variables (Release lock) e h i s = absurd (cc)
-steps_keep lines f variables (Try lock busy) e h i s = absurd (cc)
-steps_keep lines f variables (Signal condition) e h i s = absurd (cc)
-steps_keep lines f variables (Broadcast condition) e h i s = absurd (cc)
-steps_keep lines f variables (Down semaphore) e h i s = absurd (cc)
-steps_keep lines f variables (Up semaphore) e h i s = absurd (cc)
-steps_keep lines f variables (Clock local) e h i s = absurd (cc)
-steps_keep lines f variables (Random local) e h i s = absurd (cc)
-steps_keep lines f variables (Reply value) e h i s = absurd (cc)
 steps_keep lines f variables (Wait condition test) e h i s = same_loops lines f (frame_after (Wait condition test) f variables) refl (omega (arith, bound-at lines f.place (Wait condition test) e (omega arith)))
 steps_keep lines f variables EndTry e h i s = same_loops lines f (frame_after EndTry f variables) refl (omega (arith, bound-at lines f.place EndTry e (omega arith)))
 steps_keep lines f variables EndIf e h i s = same_loops lines f (frame_after EndIf f variables) refl (omega (arith, bound-at lines f.place EndIf e (omega arith)))
@@ -111,6 +100,7 @@ steps_keep lines f variables (Busy end) e h i s = same_loops lines f (frame_afte
 steps_keep lines f variables (If test otherwise) e h i s = chooses lines f test otherwise e h.1 (int_eq (value_in test f variables) (pos 0))
 steps_keep lines f variables (Repeat turns after) e h i s = opens lines f (frame_after (Repeat turns after) f variables) turns after e h refl refl
 steps_keep lines f variables EndRepeat e h i s = turned lines f i e h (nat_le (innermost f).left 1) refl
+steps_keep lines f variables _ e h i s = absurd (cc)
 
 -- the lines up to the next event
 walk_keeps : (lines : List Line) → IsShaped lines → (n : ℕ) (b : Bool) (f : Frame) (variables : List ℤ) → IsInside lines f → does_stand (line_at lines f) f variables ≡ b → steps_in lines (walk lines n f variables).0 ≤ steps_in lines f
