@@ -95,7 +95,7 @@ fn stamp_of(entry: &Entry) -> Stamp
 fn stamps_of(alloc: Global, clients: &[Entry]) -> Result<Vec<Stamp>, AllocError>
     ensures { IfOk result (λ stamps. stamps.items ≡ spec.numbers_of_state clients.now) }
 {
-    let mut stamps = Vec::new(alloc);
+    let mut stamps = Vec::with_capacity(alloc, clients.len())?;
     for entry in clients {
         stamps.push(stamp_of(entry))?;
     }

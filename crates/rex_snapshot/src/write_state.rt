@@ -145,6 +145,9 @@ fn write(
     clients(writer, state.entries())
 }
 
+// Room for so many bytes is made at once: most snapshots have fewer.
+const USUAL_BYTES: usize = 4_096;
+
 /// The snapshot of a state in a version that the service's states have.
 fn spell(
     alloc: Global,
@@ -160,7 +163,7 @@ fn spell(
     ensures again { IfOk result (λ v. state_in svc.now v.items ≡ Ok state.now) }
 {
     let _service = svc.declarations();
-    let mut writer = Writer::new(alloc);
+    let mut writer = Writer::with_capacity(alloc, USUAL_BYTES)?;
     write(alloc, &mut writer, svc, version, state)?;
     Ok(writer.into_vec())
 }

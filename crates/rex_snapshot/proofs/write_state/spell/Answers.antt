@@ -18,7 +18,7 @@ returns-clause-short c =
     let s = c.args.state.now in
     let service = c.args.svc.now in
     let version = c.args.version in
-    let whole = c.into_vec.ensures ∙ c.in_ok-write.ensures.spelled ∙ ap (λ (start : List ℕ). start ++ state_bytes service version s) c.new-writer.ensures in
+    let whole = c.into_vec.ensures ∙ c.in_ok-write.ensures.spelled ∙ ap (λ (start : List ℕ). start ++ state_bytes service version s) c.in_ok-writer.ensures in
     subst (λ (bytes : List ℕ). length bytes ≤ 65536) (sym whole) (snapshots_are_short service version s c.declarations-service.ensures.sound c.requires.has c.requires.sound c.requires.limited)
 
 pub returns-clause-again : goal.returns-clause-again
@@ -26,5 +26,5 @@ returns-clause-again c =
     let s = c.args.state.now in
     let service = c.args.svc.now in
     let version = c.args.version in
-    let whole = c.into_vec.ensures ∙ c.in_ok-write.ensures.spelled ∙ ap (λ (start : List ℕ). start ++ state_bytes service version s) c.new-writer.ensures in
+    let whole = c.into_vec.ensures ∙ c.in_ok-write.ensures.spelled ∙ ap (λ (start : List ℕ). start ++ state_bytes service version s) c.in_ok-writer.ensures in
     ap (state_in service) whole ∙ read_again service version s c.declarations-service.ensures.sound c.requires.has c.requires.sound (record { limited = c.requires.limited; typed = c.in_ok-write.ensures.typed })
