@@ -56,7 +56,7 @@ fn send(
 {
     let _event: Option<(Event, Kind)> = None;
     let bytes = spell(*handed.allocator(), message)?;
-    let number = net.send(&bytes)?;
+    let number = net.send_list(List::from_vec(bytes))?;
     handed.push(false)?;
     sent.push(Effect::Sent {
         number,
