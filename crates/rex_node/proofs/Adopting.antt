@@ -42,7 +42,7 @@ use Rattle.rex_node.specs.declared.going.Going.TheVariants.{On, Down}
 use Rattle.rex_node.specs.declared.going.Round.TheVariants.{Again, Done}
 use Rattle.rex_node.specs.declared.step.Draft.{Draft}
 use Rattle.rex_log.specs.Log.{proposal_in}
-use Rattle.rex_node.specs.Parts.{NodeValue, ActingValue, IsCutAt, IsKept, HasGoneOn, IsResting, IsProposer, IsSame, IsUp, Proposes, here_of, lead_of, open_of, role_of, IsDown}
+use Rattle.rex_node.specs.Parts.{NodeValue, ActingValue, IsCutAt, IsKept, HasDecoded, HasGoneOn, IsResting, IsProposer, IsSame, IsUp, Proposes, here_of, lead_of, open_of, role_of, IsDown}
 use Rattle.rex_node.specs.Calls.{armed_with}
 use Rattle.rex_node.specs.Going.{BreaksOff, Comes, Fell, IsStuck, Leads, LosesFirst, MayGoOn, RunsOn, above, so_far}
 use Rattle.rex_node.specs.Leading.{FromLead, GoesRound, IsFree, IsLonger, accept_own, knowing, HasLearned, HasOpened, IsOwnCut, Learns, LearnsShort, Opens, OpensShort, goes_on, may_lead, opened, reported_value, settling}
@@ -235,6 +235,7 @@ module _ {K : Type 0} (records : K → List (List ℕ)) (gives : K → List ℕ 
     few = subst (λ (n : ℕ). n ≤ most_nodes) (sym same.nodes) kept_so.few;
     up = λ t. absurd (let d : y.up ≡ false = down.down in cc);
     reached = bare_reached service y.offset y.known y.reached down.bare;
+    decoded = subst (HasDecoded service) (sym same.decoded) kept_so.decoded;
     rests = λ t. absurd (let d : y.up ≡ false = down.down in cc);
   }
 
@@ -308,7 +309,7 @@ module _ {K : Type 0} (records : K → List (List ℕ)) (gives : K → List ℕ 
           comes_y.1,
           comes_y.2,
         ),
-        record { id = comes_y.1.id; few = comes_y.1.few; up = comes_y.1.up; reached = comes_y.1.reached; rests = λ t. has_gone },
+        record { id = comes_y.1.id; few = comes_y.1.few; up = comes_y.1.up; reached = comes_y.1.reached; decoded = comes_y.1.decoded; rests = λ t. has_gone },
       )
         where
           has_gone : HasGoneOn y.proposer (is_some y.acting)
@@ -457,7 +458,7 @@ pub told_is : (node id i events : ℕ) (v : Value) → node ≡ id → events �
 told_is node id i events v a b = ap (λ (n : ℕ). effect.Adopts n i events) a ∙ ap (effect.Adopts id i) b
 
 pub same_then : {K : Type 0} (x y z : NodeValue K) → IsSame x y → IsSame y z → IsSame x z
-same_then x y z h k = record { id = k.id ∙ h.id; nodes = k.nodes ∙ h.nodes; seed = k.seed ∙ h.seed }
+same_then x y z h k = record { id = k.id ∙ h.id; nodes = k.nodes ∙ h.nodes; seed = k.seed ∙ h.seed; decoded = k.decoded ∙ h.decoded }
 
 pub nodes_many : (n nodes : ℕ) → n ≡ nodes → 1 < n → 1 < nodes
 nodes_many n nodes e h = omega (arith, e, h)

@@ -41,14 +41,14 @@ module _ {K : Type 0} (records : K → List (List ℕ)) (service : Declarations)
   takes_each : (x : NodeValue K) (a : ActingValue) (es : List Event) → IsResting records service past x → if_up x.up o ≡ None → Some a ≡ x.acting → TakesEach records service past x es (given_all service a es)
   takes_each x a [] node due has_a = record {
     leads = ap (λ (w : Option ActingValue). here_of records service past (record x { acting = w })) has_a;
-    stays = record { same = record { id = refl; nodes = refl; seed = refl }; kept = subst (λ (w : Option ActingValue). IsResting records service past (record x { acting = w })) (sym has_a) node };
+    stays = record { same = record { id = refl; nodes = refl; seed = refl; decoded = refl }; kept = subst (λ (w : Option ActingValue). IsResting records service past (record x { acting = w })) (sym has_a) node };
   }
   takes_each x a (e ∷ es) node due has_a =
       let rest : TakesEach records service past (record x { acting = Some (next_work service a e) }) es (given_all service (next_work service a e) es) =
       takes_each (record x { acting = Some (next_work service a e) }) (next_work service a e) es (one_stays x a e node due has_a).kept due refl in
       record {
         leads = rest.leads ∙ ap (λ (h : Here). (take_each service es (begin h)).node) (one_leads x a e node due has_a);
-        stays = record { same = record { id = rest.stays.same.id; nodes = rest.stays.same.nodes; seed = rest.stays.same.seed }; kept = rest.stays.kept };
+        stays = record { same = record { id = rest.stays.same.id; nodes = rest.stays.same.nodes; seed = rest.stays.same.seed; decoded = rest.stays.same.decoded }; kept = rest.stays.kept };
       }
 
 -- ---- the same where the parts are those of a node

@@ -185,7 +185,7 @@ module _ {K : Type 0} (records : K → List (List ℕ)) (gives : K → List ℕ 
             }
 
         z_kept : IsKept records service past z_at
-        z_kept = record { id = node.id; few = node.few; up = λ t. up_of records service past z_at z_logged z_beside; reached = node.reached }
+        z_kept = record { id = node.id; few = node.few; up = λ t. up_of records service past z_at z_logged z_beside; reached = node.reached; decoded = node.decoded }
 
         module _ (z : NodeValue K) (z_is : z ≡ standing y b) where
           all : z ≡ z_at

@@ -308,7 +308,7 @@ module _ {K : Type 0} (records : K → List (List ℕ)) (gives : K → List ℕ 
           }
 
       z_kept : IsKept records service past z_at
-      z_kept = record { id = node.id; few = node.few; up = λ t. up_of records service past z_at (logged_as service x z_at (log_of service past (records x.keeper)) refl refl refl refl refl refl (logged_of records service past x u)) z_beside; reached = node.reached }
+      z_kept = record { id = node.id; few = node.few; up = λ t. up_of records service past z_at (logged_as service x z_at (log_of service past (records x.keeper)) refl refl refl refl refl refl (logged_of records service past x u)) z_beside; reached = node.reached; decoded = node.decoded }
 
       -- the call counts it
       hears_is : (f : Option Failure) → whole (armed_with f begun) ≡ hear x.nodes (service_of service x.seed) x.id (lead_of x.acceptor more (is_some x.acting)) (armed_with f begun)
@@ -349,6 +349,7 @@ module _ {K : Type 0} (records : K → List (List ℕ)) (gives : K → List ℕ 
           few = node.few;
           up = z_kept.up;
           reached = node.reached;
+          decoded = node.decoded;
           rests = λ t.
               ap not (ap (counts.is_majority p.nodes) length_more ∙ few)
               ∙ sym (ap (λ (s : Bool). not (s || is_some p.open_instance)) free.0 ∙ ap (λ (o : Option ℕ). not (false || is_some o)) free.1);

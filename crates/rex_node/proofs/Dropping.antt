@@ -230,7 +230,7 @@ module _ {K : Type 0} (records : K → List (List ℕ)) (gives : K → List ℕ 
         })
 
     forgets_node : IsResting records service past (forgetful x y.keeper)
-    forgets_node = record { id = node.id; few = node.few; up = λ _. forgets_up; reached = tt; rests = node.rests }
+    forgets_node = record { id = node.id; few = node.few; up = λ _. forgets_up; reached = tt; decoded = node.decoded; rests = node.rests }
 
     forgets_here : here_of records service past (forgetful x y.keeper) ≡ record (here_of records service past x) { log = Dropped x.base ∷ log }
     forgets_here =

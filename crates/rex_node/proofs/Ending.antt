@@ -25,7 +25,7 @@ use Rattle.rex_node.specs.declared.step.Draft.{Draft}
 use Rattle.rex_node.specs.declared.step.Step.{Step}
 use Rattle.rex_log.specs.Messages.{message_in}
 use Rattle.rex_log.specs.Log.{first as front_of, log_of}
-use Rattle.rex_node.specs.Parts.{NodeValue, IsUp, IsResting, IsSame, Stands, StaysResting, fallen, here_of, whole}
+use Rattle.rex_node.specs.Parts.{HasDecoded, NodeValue, IsUp, IsResting, IsSame, Stands, StaysResting, fallen, here_of, whole}
 use Rattle.rex_node.specs.Calls.{Does, EndsDown, IsGivenUp, Leaves, Refuses, StopsShort, armed_with, call_of, last_of}
 use Rattle.rex_node.specs.Going.{BreaksOff, Ends, Finishes, IsStuck, Leads, so_far}
 use Rattle.rex_node.proofs.Appended.{IsLogged, call_at, Beside, logged_of, beside_of, up_of}
@@ -52,7 +52,7 @@ last_among (x ∷ y ∷ es) e h = inr (last_among (y ∷ es) e h)
 
 -- a node is kept with another keeper of the same records
 pub node_with_keeper : {K : Type 0} (records : K → List (List ℕ)) (service : Declarations) (past : List Value) (x : NodeValue K) (k : K) → records k ≡ records x.keeper → IsResting records service past x → IsResting records service past (record x { keeper = k })
-node_with_keeper records service past x k same h = record { id = h.id; few = h.few; up = λ t. up (h.up t); reached = h.reached; rests = h.rests }
+node_with_keeper records service past x k same h = record { id = h.id; few = h.few; up = λ t. up (h.up t); reached = h.reached; decoded = h.decoded; rests = h.rests }
   where
     up : IsUp service x (here_of records service past x) → IsUp service (record x { keeper = k }) (here_of records service past (record x { keeper = k }))
     up u =
@@ -167,8 +167,8 @@ module _ {K : Type 0} (records : K → List (List ℕ)) (gives : K → List ℕ 
       by (inr b) = inr (gives_up b.0 (begins records service past x first h.effects h.sends) b.1)
 
   kept_short : IsResting records service past x → IsSame x y → Stands records faults gives x z ⊎ ((z ≡ fallen y) × BreaksOff records gives faults service past call x y first) → StaysResting records service past x z
-  kept_short n s (inl t) = subst (StaysResting records service past x) (sym t.parts) (record { same = record { id = refl; nodes = refl; seed = refl }; kept = node_with_keeper records service past x z.keeper t.records n })
-  kept_short n s (inr b) = subst (StaysResting records service past x) (sym b.0) (record { same = record { id = s.id; nodes = s.nodes; seed = s.seed }; kept = down_kept })
+  kept_short n s (inl t) = subst (StaysResting records service past x) (sym t.parts) (record { same = record { id = refl; nodes = refl; seed = refl; decoded = refl }; kept = node_with_keeper records service past x z.keeper t.records n })
+  kept_short n s (inr b) = subst (StaysResting records service past x) (sym b.0) (record { same = record { id = s.id; nodes = s.nodes; seed = s.seed; decoded = s.decoded }; kept = down_kept })
     where
       down_kept : IsResting records service past (fallen y)
       down_kept = record {
@@ -176,6 +176,7 @@ module _ {K : Type 0} (records : K → List (List ℕ)) (gives : K → List ℕ 
         few = subst (λ (m : ℕ). m ≤ most_nodes) (sym s.nodes) n.few;
         up = λ t. absurd (false≢true t);
         reached = tt;
+        decoded = subst (HasDecoded service) (sym s.decoded) n.decoded;
         rests = λ t. absurd (false≢true t);
       }
 

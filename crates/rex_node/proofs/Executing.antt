@@ -198,6 +198,7 @@ module _ {K : Type 0} (records : K → List (List ℕ)) (service : Declarations)
     few = h.few;
     up = λ t. up_with (h.up t) e k;
     reached = h.reached;
+    decoded = h.decoded;
     rests = λ t. subst (λ (w : Option ActingValue). HasGoneOn x.proposer (is_some w)) e (h.rests t);
   }
 
@@ -263,7 +264,7 @@ module _ {K : Type 0} (records : K → List (List ℕ)) (service : Declarations)
   pub stays : (b : ActingValue) → ActsAlike service x.known a b → StaysResting records service past x (record z { acting = Some b })
   stays b k =
       subst (λ (n : NodeValue K). StaysResting records service past x (record n { acting = Some b })) (sym z_is)
-      (record { same = record { id = refl; nodes = refl; seed = refl }; kept = node_with records service past x a b node x_has k })
+      (record { same = record { id = refl; nodes = refl; seed = refl; decoded = refl }; kept = node_with records service past x a b node x_has k })
 
   pub submit_stays : (r : Request) (b : ActingValue) (answer : Answer) → b ≡ taken a r answer → answer ≡ answer_in a r → IsService service → RequestFits service r → StaysResting records service past x (record z { acting = Some b })
   submit_stays r b answer f g good fits = stays b (ap (λ (c : ActingValue). c.answers) f, λ p h. subst (ActsFor service x.known p) (sym (f ∙ ap (taken a r) g)) (record { executes = answered service x.known a h.executes r good fits; open_is_cut = open_answered service x.known a r (answer_in a r) p h.open_is_cut }))

@@ -42,7 +42,7 @@ module _ {K : Type 0} (records : K → List (List ℕ)) (service : Declarations)
 
 -- a node is kept within a call too
 pub within : {K : Type 0} (records : K → List (List ℕ)) (service : Declarations) (past : List Value) (x : NodeValue K) → IsResting records service past x → IsKept records service past x
-within records service past x h = record { id = h.id; few = h.few; up = h.up; reached = h.reached }
+within records service past x h = record { id = h.id; few = h.few; up = h.up; reached = h.reached; decoded = h.decoded }
 
 -- ---- the last part of a call
 
@@ -149,7 +149,7 @@ module _ {K : Type 0} (records : K → List (List ℕ)) (service : Declarations)
       h = here_of records service past x
 
   pub follower_node : IsResting records service past follower
-  follower_node = record { id = node.id; few = node.few; up = λ t. follower_up; reached = still_reached service x.offset x.known vs x.reached more front node.reached; rests = λ t. tt }
+  follower_node = record { id = node.id; few = node.few; up = λ t. follower_up; reached = still_reached service x.offset x.known vs x.reached more front node.reached; decoded = node.decoded; rests = λ t. tt }
     where
       l : IsLogged service (record x { keeper = k; acceptor = a; known = vs }) (log_of service past (records k))
       l = subst (λ (log : List (Rec Value StateValue)). IsLogged service (record x { keeper = k; acceptor = a; known = vs }) log) (sym log_is) logged_here

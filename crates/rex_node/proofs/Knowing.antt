@@ -49,7 +49,7 @@ use Rattle.rex_node.specs.declared.going.Going.TheVariants.{On, Down}
 use Rattle.rex_node.specs.declared.step.Draft.{Draft}
 use Rattle.rex_log.specs.Messages.{content_in, message_in}
 use Rattle.rex_log.specs.Log.{log_of}
-use Rattle.rex_node.specs.Parts.{NodeValue, ActingValue, Executes, HasStamps, IsActing, IsProposer, NumbersReplies, Proposes, IsCutAt, IsUp, IsKept, Keeps, Falls, ahead_of, here_of, lead_of, role_of, work_of, HasReached}
+use Rattle.rex_node.specs.Parts.{NodeValue, ActingValue, Executes, HasStamps, IsActing, IsProposer, NumbersReplies, Proposes, IsCutAt, IsUp, IsKept, Keeps, Falls, ahead_of, here_of, lead_of, role_of, work_of, HasDecoded, HasReached}
 use Rattle.rex_node.specs.Calls.{armed_with}
 use Rattle.rex_node.specs.Going.{Appends, BreaksOff, Comes, LosesFirst, so_far}
 use Rattle.rex_node.specs.Leading.{CanSettle, IsOwnCut, Learns, LearnsShort, knowing, releases_in, replayed_to, settling}
@@ -177,7 +177,7 @@ ahead_known service values v (Some a) i replayed ahead start few h e = absurd (c
 
 -- ---- a node that learns
 
-module _ {K : Type 0} (records : K → List (List ℕ)) (gives : K → List ℕ → Answer → K → Type 0) (faults : K → ℕ) (service : Declarations) (past : List Value) (good : IsService service) (x : NodeValue K) (u : IsUp service x (here_of records service past x)) (id : (0 < x.id) × (x.id ≤ x.nodes)) (few : x.nodes ≤ most_nodes) (reached : HasReached service x.offset x.known x.reached)
+module _ {K : Type 0} (records : K → List (List ℕ)) (gives : K → List ℕ → Answer → K → Type 0) (faults : K → ℕ) (service : Declarations) (past : List Value) (good : IsService service) (x : NodeValue K) (u : IsUp service x (here_of records service past x)) (id : (0 < x.id) × (x.id ≤ x.nodes)) (few : x.nodes ≤ most_nodes) (reached : HasReached service x.offset x.known x.reached) (decoded : HasDecoded service x.decoded)
     (p : ProposerValue) (e : x.proposer ≡ Some p) (i : ℕ) (v : Value) (next : i ≡ length x.known + 1) (there : ballots.IsInstance i) (short : IsValue v) (fits : values_fit service (x.known ++ v ∷ []) ≡ true) (cut : IsOwnCut service x v) where
   abbrev log : List (Rec Value StateValue)
   log = log_of service past (records x.keeper)
@@ -230,7 +230,7 @@ module _ {K : Type 0} (records : K → List (List ℕ)) (gives : K → List ℕ 
         seed_any = x.seed
 
     z_kept : IsKept records service past (z_at keeper)
-    z_kept = record { id = id; few = few; up = λ t. up_of records service past (z_at keeper) z_logged z_beside; reached = still_reached service x.offset x.known (x.known ++ v ∷ []) x.reached (omega (arith, length_push x.known v)) (λ n l. take-append-le n x.known (v ∷ []) l) reached }
+    z_kept = record { id = id; few = few; up = λ t. up_of records service past (z_at keeper) z_logged z_beside; reached = still_reached service x.offset x.known (x.known ++ v ∷ []) x.reached (omega (arith, length_push x.known v)) (λ n l. take-append-le n x.known (v ∷ []) l) reached; decoded = decoded }
 
     -- the model's call comes to the same
     z_comes : (before after : Draft) (f : Option Failure) → after.effects.items ≡ before.effects.items ++ effect.Known x.id i ∷ releases_in x.acting → map (message_in past) after.sends.items ≡ map (message_in past) before.sends.items ++ others x.nodes x.id (Chose i v)
@@ -317,17 +317,17 @@ module _ {K : Type 0} (records : K → List (List ℕ)) (gives : K → List ℕ 
     learn_down e =
         let s = some_of x.proposer leads in
         let k : Appends records faults gives x y before mid (record_bytes (kept.Known i v)) Down = appends_as records gives faults x y before mid (kept.Known i w) (kept.Known i v) g Down same_rec e h in
-        learns_down records gives faults service past good x (kept_so.up up) kept_so.id kept_so.few kept_so.reached s.0 s.1 i v next there short fits cut y before mid k.0 k.1 k.2
+        learns_down records gives faults service past good x (kept_so.up up) kept_so.id kept_so.few kept_so.reached kept_so.decoded s.0 s.1 i v next there short fits cut y before mid k.0 k.1 k.2
 
     pub learn_on : g ≡ On → (z : NodeValue K) (after : Draft) → z ≡ knowing service y i v → after.effects.items ≡ mid.effects.items ++ effect.Known y.id i ∷ releases_in y.acting → map (message_in past) after.sends.items ≡ map (message_in past) mid.sends.items ++ others y.nodes y.id (content_in past (sent.Chosen i v))
         → Learns records gives faults service past i v x z before after On
     learn_on e z after z_is effects sends =
         let s = some_of x.proposer leads in
         let k : Appends records faults gives x y before mid (record_bytes (kept.Known i v)) On = appends_as records gives faults x y before mid (kept.Known i w) (kept.Known i v) g On same_rec e h in
-        learns_on records gives faults service past good x (kept_so.up up) kept_so.id kept_so.few kept_so.reached s.0 s.1 i v next there short fits cut up y z before mid after k.0 k.1 k.2 z_is effects sends
+        learns_on records gives faults service past good x (kept_so.up up) kept_so.id kept_so.few kept_so.reached kept_so.decoded s.0 s.1 i v next there short fits cut up y z before mid after k.0 k.1 k.2 z_is effects sends
 
     pub learn_stuck : g ≡ On → (z : NodeValue K) → z.keeper ≡ y.keeper → z.base ≡ y.base → LearnsShort records gives faults service past i v x z before
     learn_stuck e z keeper based =
         let s = some_of x.proposer leads in
         let k : Appends records faults gives x y before mid (record_bytes (kept.Known i v)) On = appends_as records gives faults x y before mid (kept.Known i w) (kept.Known i v) g On same_rec e h in
-        learns_broken records gives faults service past good x (kept_so.up up) kept_so.id kept_so.few kept_so.reached s.0 s.1 i v next there short fits cut y z before k.0 keeper based
+        learns_broken records gives faults service past good x (kept_so.up up) kept_so.id kept_so.few kept_so.reached kept_so.decoded s.0 s.1 i v next there short fits cut y z before k.0 keeper based

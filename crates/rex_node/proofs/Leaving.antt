@@ -77,4 +77,4 @@ module _ {K : Type 0} (records : K → List (List ℕ)) (service : Declarations)
       based = subst (λ (b : ℕ). b ≤ x.replayed) (sym u.base) u.replayed.based
 
 pub node_left : {K : Type 0} (records : K → List (List ℕ)) (service : Declarations) (past : List Value) (x : NodeValue K) → IsResting records service past x → IsResting records service past (leaving x)
-node_left records service past x h = record { id = h.id; few = h.few; up = λ t. up_left records service past x (h.up t); reached = h.reached; rests = λ t. tt }
+node_left records service past x h = record { id = h.id; few = h.few; up = λ t. up_left records service past x (h.up t); reached = h.reached; decoded = h.decoded; rests = λ t. tt }

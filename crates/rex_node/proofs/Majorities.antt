@@ -36,7 +36,7 @@ use Rattle.rex_node.specs.declared.going.Going.TheVariants.{On, Down}
 use Rattle.rex_node.specs.declared.step.Draft.{Draft}
 use Rattle.rex_node.specs.Electing.{acceptance_vote_on, reports_of}
 use Rattle.rex_log.specs.Log.{proposal_in}
-use Rattle.rex_node.specs.Parts.{NodeValue, ActingValue, HasGoneOn, IsActing, IsCutAt, IsKept, IsResting, IsProposer, IsSame, IsUp, OpenIsCut, Proposes, here_of, lead_of, open_of, role_of, IsDown}
+use Rattle.rex_node.specs.Parts.{NodeValue, ActingValue, HasDecoded, HasGoneOn, IsActing, IsCutAt, IsKept, IsResting, IsProposer, IsSame, IsUp, OpenIsCut, Proposes, here_of, lead_of, open_of, role_of, IsDown}
 use Rattle.rex_node.specs.Calls.{armed_with}
 use Rattle.rex_node.specs.Going.{BreaksOff, Comes, Ends, IsStuck, Leads, LosesFirst, MayGoOn, RunsOn, above, so_far}
 use Rattle.rex_node.specs.Leading.{IsFree, IsOwnCut, Learns, LearnsShort, knowing, replayed_to, settling}
@@ -115,7 +115,7 @@ module _ {K : Type 0} (records : K → List (List ℕ)) (gives : K → List ℕ 
   choose_leads = subst (λ (o : Option ProposerValue). IsSome o) (sym c.p_is) refl
 
   pub choose_kept : IsKept records service past x
-  choose_kept = record { id = node.id; few = node.few; up = node.up; reached = node.reached }
+  choose_kept = record { id = node.id; few = node.few; up = node.up; reached = node.reached; decoded = node.decoded }
 
   cut_of : (w : Option ActingValue) → IsActing service x.known x.acceptor (Some c.p) w → IfSome w (λ (a : ActingValue). IsCutAt service x.known a v)
   cut_of None h = tt
@@ -183,6 +183,7 @@ module _ {K : Type 0} (records : K → List (List ℕ)) (gives : K → List ℕ 
           few = subst (λ (n : ℕ). n ≤ most_nodes) (sym same.nodes) node.few;
           up = λ t. absurd (false≢true (sym down.down ∙ t));
           reached = bare_reached service z.offset z.known z.reached down.bare;
+          decoded = subst (HasDecoded service) (sym same.decoded) node.decoded;
           rests = λ t. absurd (false≢true (sym down.down ∙ t));
         },
       )

@@ -155,7 +155,7 @@ module _ {K : Type 0} (records : K → List (List ℕ)) (gives : K → List ℕ 
             (fell_append records gives faults service call rest x.id (rec_of service past r) (so_far records service past x before) call_is x.keeper y.keeper (record_bytes r) stated h.0.kept h.0.answer h.0.records h.0.faults (so_far records service past z mid) down_at),
         record { down = ap (λ (n : NodeValue K). n.up) z_at; bare = ap (λ (n : NodeValue K). n.reached) z_at },
       ),
-      subst (IsResting records service past) (sym z_at) (record { id = node.id; few = node.few; up = λ t. absurd (false≢true t); reached = tt; rests = λ t. absurd (false≢true t) }),
+      subst (IsResting records service past) (sym z_at) (record { id = node.id; few = node.few; up = λ t. absurd (false≢true t); reached = tt; decoded = node.decoded; rests = λ t. absurd (false≢true t) }),
     )
 
   -- ---- or it went well
@@ -258,6 +258,7 @@ module _ {K : Type 0} (records : K → List (List ℕ)) (gives : K → List ℕ 
               role = tt;
             });
         reached = tt;
+        decoded = node.decoded;
         rests = λ t. tt;
       }
 

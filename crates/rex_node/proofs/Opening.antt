@@ -37,7 +37,7 @@ use Rattle.rex_node.specs.declared.going.Going.TheVariants.{On, Down}
 use Rattle.rex_node.specs.declared.step.Draft.{Draft}
 use Rattle.rex_log.specs.Messages.{content_in, message_in}
 use Rattle.rex_log.specs.Log.{log_of, proposal_in}
-use Rattle.rex_node.specs.Parts.{NodeValue, ActingValue, ActsFor, IsActing, IsProposer, Proposes, IsCutAt, IsUp, IsKept, HasOpen, OpenIsCut, AreShort, Keeps, Falls, here_of, lead_of, open_of, role_of, work_of, HasReached}
+use Rattle.rex_node.specs.Parts.{NodeValue, ActingValue, ActsFor, IsActing, IsProposer, Proposes, IsCutAt, IsUp, IsKept, HasOpen, OpenIsCut, AreShort, Keeps, Falls, here_of, lead_of, open_of, role_of, work_of, HasDecoded, HasReached}
 use Rattle.rex_node.specs.Calls.{armed_with}
 use Rattle.rex_node.specs.Going.{Appends, BreaksOff, Comes, LosesFirst, so_far}
 use Rattle.rex_node.specs.Leading.{FromLead, IsOwnCut, Opens, OpensShort, accept_own, opened}
@@ -150,7 +150,7 @@ some_of (Some x) h = (x, refl)
 
 -- ---- a node that proposes
 
-module _ {K : Type 0} (records : K → List (List ℕ)) (gives : K → List ℕ → Answer → K → Type 0) (faults : K → ℕ) (service : Declarations) (past : List Value) (x : NodeValue K) (u : IsUp service x (here_of records service past x)) (id : (0 < x.id) × (x.id ≤ x.nodes)) (few : x.nodes ≤ most_nodes) (reached : HasReached service x.offset x.known x.reached)
+module _ {K : Type 0} (records : K → List (List ℕ)) (gives : K → List ℕ → Answer → K → Type 0) (faults : K → ℕ) (service : Declarations) (past : List Value) (x : NodeValue K) (u : IsUp service x (here_of records service past x)) (id : (0 < x.id) × (x.id ≤ x.nodes)) (few : x.nodes ≤ most_nodes) (reached : HasReached service x.offset x.known x.reached) (decoded : HasDecoded service x.decoded)
     (p : ProposerValue) (e : x.proposer ≡ Some p) (i : ℕ) (v : Value) (next : i ≡ length x.known + 1) (there : ballots.IsInstance i) (short : IsValue v) (cut : IsOwnCut service x v) where
   abbrev r : Rec Value StateValue
   r = Accepted p.ballot i v
@@ -200,7 +200,7 @@ module _ {K : Type 0} (records : K → List (List ℕ)) (gives : K → List ℕ 
     }
 
     z_kept : IsKept records service past z
-    z_kept = record { id = id; few = few; up = λ t. up_of records service past z z_logged z_beside; reached = reached }
+    z_kept = record { id = id; few = few; up = λ t. up_of records service past z z_logged z_beside; reached = reached; decoded = decoded }
 
     -- the model's call comes to the same
     z_comes : (told : Effect) (before after : Draft) (k : CallHere → CallHere) (f : Option Failure) → after.effects.items ≡ before.effects.items ++ told ∷ [] → map (message_in past) after.sends.items ≡ map (message_in past) before.sends.items ++ others x.nodes x.id (Accept p.ballot i v)
@@ -269,7 +269,7 @@ module _ {K : Type 0} (records : K → List (List ℕ)) (gives : K → List ℕ 
   propose_spelled w w_is =
       let s = some_of x.proposer leads in
       subst (λ (n : ℕ). HasSpelling (kept.Accepted n i w)) (sym (b_own s.0 s.1)) (subst (λ (z : Value). HasSpelling (kept.Accepted s.0.ballot i z)) (sym w_is)
-      (spelled records gives faults service past x (kept_so.up up) kept_so.id kept_so.few kept_so.reached s.0 s.1 i v next there short cut))
+      (spelled records gives faults service past x (kept_so.up up) kept_so.id kept_so.few kept_so.reached kept_so.decoded s.0 s.1 i v next there short cut))
 
   module _ (told : Effect) (w : Value) (w_is : w ≡ v) (y : NodeValue K) (before mid : Draft) (g : Going) (h : Appends records faults gives x y before mid (record_bytes (kept.Accepted b i w)) g) where
     same_rec : (p : ProposerValue) → x.proposer ≡ Some p → (let r : KeptRec = kept.Accepted b i w in r) ≡ kept.Accepted p.ballot i v
@@ -279,17 +279,17 @@ module _ {K : Type 0} (records : K → List (List ℕ)) (gives : K → List ℕ 
     propose_down e =
         let s = some_of x.proposer leads in
         let k : Appends records faults gives x y before mid (record_bytes (kept.Accepted s.0.ballot i v)) Down = appends_as records gives faults x y before mid (kept.Accepted b i w) (kept.Accepted s.0.ballot i v) g Down (same_rec s.0 s.1) e h in
-        opens_down records gives faults service past x (kept_so.up up) kept_so.id kept_so.few kept_so.reached s.0 s.1 i v next there short cut told y before mid k.0 k.1 k.2
+        opens_down records gives faults service past x (kept_so.up up) kept_so.id kept_so.few kept_so.reached kept_so.decoded s.0 s.1 i v next there short cut told y before mid k.0 k.1 k.2
 
     pub propose_on : g ≡ On → (z : NodeValue K) (after : Draft) → z ≡ opened y i v → after.effects.items ≡ mid.effects.items ++ told ∷ [] → FromLead y (λ l. map (message_in past) after.sends.items ≡ map (message_in past) mid.sends.items ++ others y.nodes y.id (content_in past (sent.Accept l.ballot i v)))
         → Opens records gives faults service past told i v x z before after On
     propose_on e z after z_is effects sends =
         let s = some_of x.proposer leads in
         let k : Appends records faults gives x y before mid (record_bytes (kept.Accepted s.0.ballot i v)) On = appends_as records gives faults x y before mid (kept.Accepted b i w) (kept.Accepted s.0.ballot i v) g On (same_rec s.0 s.1) e h in
-        opens_on records gives faults service past x (kept_so.up up) kept_so.id kept_so.few kept_so.reached s.0 s.1 i v next there short cut up told y z before mid after k.0 k.1 k.2 z_is effects sends
+        opens_on records gives faults service past x (kept_so.up up) kept_so.id kept_so.few kept_so.reached kept_so.decoded s.0 s.1 i v next there short cut up told y z before mid after k.0 k.1 k.2 z_is effects sends
 
     pub propose_stuck : g ≡ On → (z : NodeValue K) → z.keeper ≡ y.keeper → z.base ≡ y.base → OpensShort records gives faults service past told i v x z before
     propose_stuck e z keeper based =
         let s = some_of x.proposer leads in
         let k : Appends records faults gives x y before mid (record_bytes (kept.Accepted s.0.ballot i v)) On = appends_as records gives faults x y before mid (kept.Accepted b i w) (kept.Accepted s.0.ballot i v) g On (same_rec s.0 s.1) e h in
-        opens_broken records gives faults service past x (kept_so.up up) kept_so.id kept_so.few kept_so.reached s.0 s.1 i v next there short cut told y z before k.0 keeper based
+        opens_broken records gives faults service past x (kept_so.up up) kept_so.id kept_so.few kept_so.reached kept_so.decoded s.0 s.1 i v next there short cut told y z before k.0 keeper based

@@ -23,7 +23,7 @@ use Rattle.rex_node.specs.declared.going.Going.TheVariants.{On, Down}
 use Rattle.rex_node.specs.declared.step.Draft.{Draft}
 use Rattle.rex_node.specs.Calls.{armed_with}
 use Rattle.rex_node.specs.Going.{BreaksOff, Comes, Ends, Fell, IsStuck, Leads as LeadsOn, LosesFirst, so_far}
-use Rattle.rex_node.specs.Parts.{ActingValue, NodeValue, HasGoneOn, IsKept, IsResting, IsProposer, IsSame, Proposes, here_of, lead_of, role_of, IsDown}
+use Rattle.rex_node.specs.Parts.{ActingValue, NodeValue, HasDecoded, HasGoneOn, IsKept, IsResting, IsProposer, IsSame, Proposes, here_of, lead_of, role_of, IsDown}
 use Rattle.rex_node.specs.Leading.{HasLearned, HasOpened, Learns, LearnsShort, Opens, OpensShort, accept_own, settling}
 use Rattle.rex_node.specs.Cutting.{IsIdle, ProposesCut, ProposesCutShort, has_open}
 use Rattle.rex_node.proofs.GoingLemmas.{leads_fell, leads_same, leads_then}
@@ -63,11 +63,12 @@ module _ {K : Type 0} (records : K → List (List ℕ)) (gives : K → List ℕ 
     few = subst (λ (n : ℕ). n ≤ most_nodes) (sym same.nodes) node.few;
     up = λ t. absurd (false_or_true y.up t down.down);
     reached = bare_reached service y.offset y.known y.reached down.bare;
+    decoded = subst (HasDecoded service) (sym same.decoded) node.decoded;
     rests = λ t. absurd (false_or_true y.up t down.down);
   }
 
   up_kept : (y : NodeValue K) → IsKept records service past y → HasGoneOn y.proposer (is_some y.acting) → IsResting records service past y
-  up_kept y kept rests = record { id = kept.id; few = kept.few; up = kept.up; reached = kept.reached; rests = λ _. rests }
+  up_kept y kept rests = record { id = kept.id; few = kept.few; up = kept.up; reached = kept.reached; decoded = kept.decoded; rests = λ _. rests }
 
   module _ (x : NodeValue K) (node : IsResting records service past x) (up : x.up ≡ true) (a : ActingValue) (acts : x.acting ≡ Some a) (events instance : ℕ) (value : Value) (told : Effect) (told_is : told ≡ effect.Proposes x.id (length x.known + 1) events) (next : instance ≡ length x.known + 1)
       (mid : NodeValue K) (before between : Draft) where
@@ -299,7 +300,7 @@ module _ {K : Type 0} (records : K → List (List ℕ)) (gives : K → List ℕ 
                     (subst (λ (id : ℕ). Fell records gives faults service (decides x.nodes x.seed x.id (is_some x.acting) (length x.known + 1)) id mid.keeper y.keeper (so_far records service past mid between) (so_far records service past y after)) same.id o.0),
                 o.1,
               ),
-              down_kept x y node (record { id = same_now.id ∙ same.id; nodes = same_now.nodes ∙ same.nodes; seed = same_now.seed ∙ same.seed }) o.1,
+              down_kept x y node (record { id = same_now.id ∙ same.id; nodes = same_now.nodes ∙ same.nodes; seed = same_now.seed ∙ same.seed; decoded = same_now.decoded ∙ same.decoded }) o.1,
             )
 
     -- ---- the same, whatever the node leads with

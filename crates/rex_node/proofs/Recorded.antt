@@ -57,7 +57,7 @@ module _ {K : Type 0} (records : K → List (List ℕ)) (gives : K → List ℕ 
         → (Fell records gives faults service whole x.id x.keeper y.keeper (so_far records service past x before) (so_far records service past y mid) × IsDown y) × IsResting records service past y
     recorded_down h = (
       (appended_fell records gives faults service past x y before mid r spelling due stated whole k is u.base plain h, record { down = ap (λ (n : NodeValue K). n.up) h.0.parts; bare = ap (λ (n : NodeValue K). n.reached) h.0.parts }),
-      subst (IsResting records service past) (sym h.0.parts) (record { id = node.id; few = node.few; up = λ t. absurd (false≢true t); reached = tt; rests = λ t. absurd (false≢true t) }),
+      subst (IsResting records service past) (sym h.0.parts) (record { id = node.id; few = node.few; up = λ t. absurd (false≢true t); reached = tt; decoded = node.decoded; rests = λ t. absurd (false≢true t) }),
     )
 
     -- the record is there when memory is short

@@ -89,8 +89,8 @@ module _ {K : Type 0} (records : K → List (List ℕ)) (gives : K → List ℕ 
 
   pub replay_stays : run service (start_of service) (trace_of x.known) ≡ Some s → StaysResting records service past x after_replay
   replay_stays runs = record {
-    same = record { id = refl; nodes = refl; seed = refl };
-    kept = record { id = node.id; few = node.few; up = λ t. up_after; reached = now_reached service x.offset x.base x.known n s (subst (λ (k : ℕ). k ≤ length x.known) (sym n_is) (le_refl (length x.known))) (ap (λ (vs : List Value). run service (start_of service) (trace_of vs)) whole ∙ runs); rests = node.rests };
+    same = record { id = refl; nodes = refl; seed = refl; decoded = refl };
+    kept = record { id = node.id; few = node.few; up = λ t. up_after; reached = now_reached service x.offset x.base x.known n s (subst (λ (k : ℕ). k ≤ length x.known) (sym n_is) (le_refl (length x.known))) (ap (λ (vs : List Value). run service (start_of service) (trace_of vs)) whole ∙ runs); decoded = node.decoded; rests = node.rests };
   }
     where
       l : IsLogged service x (log_of service past (records x.keeper))

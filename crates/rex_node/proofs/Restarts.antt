@@ -21,8 +21,8 @@ use Rattle.rex_cluster.specs.Values.{Value, state_after, trace_of, values_fit}
 use Rattle.rex_cluster.proofs.Replies.{state_is}
 use Rattle.rex_log.specs.Log.{first, log_of, read_state}
 use Rattle.rex_log.specs.Laws.{Says}
-use Rattle.rex_node.specs.Parts.{NodeValue, IsUp, IsNode, here_of, whole, HasReached, ReachedValue, knows}
-use Rattle.rex_node.specs.Restarting.{CameUp, HasForgotten, HasRightBase, IsAsRecovered, IsRecalled, IsSaved, risen, KeepsReached}
+use Rattle.rex_node.specs.Parts.{NodeValue, IsUp, IsNode, here_of, whole, DecodedValue, HasDecoded, HasReached, ReachedValue, knows}
+use Rattle.rex_node.specs.Restarting.{CameUp, HasForgotten, HasRightBase, IsAsRecovered, IsRecalled, IsSaved, decoded_last, risen, KeepsReached}
 use Rattle.rex_node.proofs.Fronts.{front_runs}
 use Rattle.rex_node.proofs.Recalling.{old_base_is, recovered_says}
 use Rattle.rex_node.proofs.Reaching.{again_reached}
@@ -58,12 +58,19 @@ whole_is service past log x says forgotten =
     let front : first x.offset past ≡ take x.offset (known log) = subst (λ (o : ℕ). first o past ≡ take o (known log)) (sym says.offset) forgotten in
     ap (λ (vs : List Value). vs ++ x.known) front ∙ ap (λ (vs : List Value). take x.offset (known log) ++ vs) says.held ∙ take-append-drop x.offset (known log)
 
+-- ---- the snapshot that was decoded
+
+-- it spells the state that the node has beside it, as the one before did
+pub last_decoded : (service : Declarations) (now before : Option DecodedValue) → HasDecoded service now → HasDecoded service before → HasDecoded service (decoded_last now before)
+last_decoded service None before h k = k
+last_decoded service (Some d) before h k = h
+
 -- ---- the node
 
 short_values : (promised : ℕ) (ps : List Kept) → All (MayBeAccepted promised) ps → All (λ (p : Kept). IsValue p.value) ps
 short_values promised ps h = All-weaker (MayBeAccepted promised) (λ (p : Kept). IsValue p.value) (λ p k. k.proposal.value) ps h
 
-module _ {K : Type 0} (records : K → List (List ℕ)) (service : Declarations) (past : List Value) (before : NodeValue K) (x : Recovered) (start : StateValue) (old : Bool) (reached : Option ReachedValue) (h : IsRecalled service (records before.keeper) x start old) where
+module _ {K : Type 0} (records : K → List (List ℕ)) (service : Declarations) (past : List Value) (before : NodeValue K) (x : Recovered) (start : StateValue) (old : Bool) (reached : Option ReachedValue) (decoded : Option DecodedValue) (h : IsRecalled service (records before.keeper) x start old) where
   abbrev log : List (Rec Value StateValue)
   log = log_of service past (records before.keeper)
 
@@ -71,7 +78,7 @@ module _ {K : Type 0} (records : K → List (List ℕ)) (service : Declarations)
   said = recovered_says service past (records before.keeper) h.found.read.rs x h.found.read.spelled h.found.read.is
 
   abbrev up_again : NodeValue K
-  up_again = risen before x start old reached
+  up_again = risen before x start old reached decoded
 
   -- each part is what was read
   as_recovered : IsAsRecovered service (recovered h.found.read.rs) up_again
@@ -131,5 +138,6 @@ module _ {K : Type 0} (records : K → List (List ℕ)) (service : Declarations)
       numbers = record { log = said.fits; role = tt };
     }
 
-    pub is_node : (0 < before.id) × (before.id ≤ before.nodes) → before.nodes ≤ most_nodes → KeepsReached before x reached → HasReached service before.offset (knows past before) before.reached → IsNode records service past up_again
-    is_node there few keeps was = record { id = there; few = few; up = λ _. node_up; reached = again_reached service past before x reached keeps was; rests = λ _. tt }
+    pub is_node : (0 < before.id) × (before.id ≤ before.nodes) → before.nodes ≤ most_nodes → KeepsReached before x reached → HasReached service before.offset (knows past before) before.reached → HasDecoded service decoded
+        → IsNode records service past up_again
+    is_node there few keeps was spelled = record { id = there; few = few; up = λ _. node_up; reached = again_reached service past before x reached keeps was; decoded = spelled; rests = λ _. tt }

@@ -102,7 +102,7 @@ module _ {K : Type 0} (records : K → List (List ℕ)) (gives : K → List ℕ 
       by false false o n e f = absurd (let q : is_none o ≡ true = ap (λ (z : Option ℕ). is_none z) n in let r : (is_none o && true) ≡ false = e in let s : (is_none o && true) ≡ true = ap (λ (t : Bool). t && true) q in cc)
 
   stays : HasGoneOn x.proposer (is_some x.acting) → ((f : Option Failure) → settles (armed_with f (so_far records service past x before)) ≡ armed_with f (so_far records service past x before)) → GoesRound records gives faults service past turns x x before before (Done On)
-  stays gone same = ((leads_same records gives faults service settles (λ d. d) x.keeper (so_far records service past x before) (so_far records service past x before) refl same, kept_so, up), record { id = kept_so.id; few = kept_so.few; up = kept_so.up; reached = kept_so.reached; rests = λ t. gone })
+  stays gone same = ((leads_same records gives faults service settles (λ d. d) x.keeper (so_far records service past x before) (so_far records service past x before) refl same, kept_so, up), record { id = kept_so.id; few = kept_so.few; up = kept_so.up; reached = kept_so.reached; decoded = kept_so.decoded; rests = λ t. gone })
 
   pub round_rests : goes_on x.proposer (is_some x.acting) ≡ false → IsFree x.proposer (is_some x.acting) → GoesRound records gives faults service past turns x x before before (Done On)
   round_rests g free = by x.proposer refl g free
@@ -228,7 +228,7 @@ module _ {K : Type 0} (records : K → List (List ℕ)) (gives : K → List ℕ 
 
       active_at : GoesRound records gives faults service past turns x z before after (Done On)
       active_at = subst (λ (n : NodeValue K). GoesRound records gives faults service past turns x n before after (Done On)) (sym z_is)
-          ((leads_same records gives faults service settles (λ d. d) x.keeper (so_far records service past x before) (so_far records service past z_at after) refl comes, record { id = kept_so.id; few = kept_so.few; up = λ t. z_up; reached = z_reached }, up), record { id = kept_so.id; few = kept_so.few; up = λ t. z_up; reached = z_reached; rests = λ t. gone })
+          ((leads_same records gives faults service settles (λ d. d) x.keeper (so_far records service past x before) (so_far records service past z_at after) refl comes, record { id = kept_so.id; few = kept_so.few; up = λ t. z_up; reached = z_reached; decoded = kept_so.decoded }, up), record { id = kept_so.id; few = kept_so.few; up = λ t. z_up; reached = z_reached; decoded = kept_so.decoded; rests = λ t. gone })
 
     pub round_active : GoesRound records gives faults service past turns x z before after (Done On)
     round_active = by x.proposer refl

@@ -242,8 +242,8 @@ module _ {K : Type 0} (records : K → List (List ℕ)) (gives : K → List ℕ 
 
       pub saved_stays : StaysResting records service past x y
       saved_stays = subst (StaysResting records service past x) (sym k.parts) (record {
-        same = record { id = refl; nodes = refl; seed = refl };
-        kept = record { id = node.id; few = node.few; up = λ _. z_up; reached = node.reached; rests = node.rests };
+        same = record { id = refl; nodes = refl; seed = refl; decoded = refl };
+        kept = record { id = node.id; few = node.few; up = λ _. z_up; reached = node.reached; decoded = node.decoded; rests = node.rests };
       })
 
     -- its append failed
@@ -273,6 +273,6 @@ module _ {K : Type 0} (records : K → List (List ℕ)) (gives : K → List ℕ 
 
       pub fell_stays : StaysResting records service past x y
       fell_stays = subst (StaysResting records service past x) (sym k.parts) (record {
-        same = record { id = refl; nodes = refl; seed = refl };
-        kept = record { id = node.id; few = node.few; up = λ t. absurd (false≢true t); reached = tt; rests = λ t. absurd (false≢true t) };
+        same = record { id = refl; nodes = refl; seed = refl; decoded = refl };
+        kept = record { id = node.id; few = node.few; up = λ t. absurd (false≢true t); reached = tt; decoded = node.decoded; rests = λ t. absurd (false≢true t) };
       })

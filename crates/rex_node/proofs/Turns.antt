@@ -41,7 +41,7 @@ module _ {K : Type 0} (records : K → List (List ℕ)) (gives : K → List ℕ 
   pub gone_none : (turns : ℕ) (x : NodeValue K) (before : Draft) → IsKept records service past x → x.up ≡ true → IsFree x.proposer (is_some x.acting) → MayGoOn x turns → RunsOn service (settles x turns) (so_far records service past x before) → faults x.keeper < 2 ^ 64 - 1 → GoneOn turns turns x x before before
   gone_none turns x before kept up free may runs count = record {
     comes = (leads_same records gives faults service (settles x turns) (settles x turns) x.keeper (so_far records service past x before) (so_far records service past x before) refl (λ f. refl), kept, up);
-    same = record { id = refl; nodes = refl; seed = refl };
+    same = record { id = refl; nodes = refl; seed = refl; decoded = refl };
     free = free;
     may = may;
     runs = runs;

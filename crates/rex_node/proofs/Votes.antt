@@ -197,7 +197,7 @@ module _ {K : Type 0} (records : K → List (List ℕ)) (gives : K → List ℕ 
       ∙ voted_is x.nodes x.id x.acceptor p (proposes_of p e) (is_some x.acting) (service_of service x.seed) from ballot i one d
 
   kept_so : IsKept records service past x
-  kept_so = record { id = node.id; few = node.few; up = node.up; reached = node.reached }
+  kept_so = record { id = node.id; few = node.few; up = node.up; reached = node.reached; decoded = node.decoded }
 
   -- ---- it isn't counted
 
@@ -285,7 +285,7 @@ module _ {K : Type 0} (records : K → List (List ℕ)) (gives : K → List ℕ 
           })
 
       y_node : IsResting records service past y_at
-      y_node = record { id = node.id; few = node.few; up = λ t. y_up; reached = node.reached; rests = λ t. let h : HasGoneOn (Some p) (is_some x.acting) = subst (λ (o : Option ProposerValue). HasGoneOn o (is_some x.acting)) e (node.rests up) in h }
+      y_node = record { id = node.id; few = node.few; up = λ t. y_up; reached = node.reached; decoded = node.decoded; rests = λ t. let h : HasGoneOn (Some p) (is_some x.acting) = subst (λ (o : Option ProposerValue). HasGoneOn o (is_some x.acting)) e (node.rests up) in h }
 
       vote_at : acceptance_vote p ballot i from ≡ vote.NotYet (length p.accepted + 1)
       vote_at = ap (λ (r : Option Why). voted r p.nodes (length p.accepted + 1)) none ∙ ap (λ (t : Bool). counting.vote_of (if t then count.Quorum else count.NotYet (length p.accepted + 1))) few
@@ -298,7 +298,7 @@ module _ {K : Type 0} (records : K → List (List ℕ)) (gives : K → List ℕ 
               ∙ ap (λ (z : Vote). outcome x.nodes (service_of service x.seed) x.id from (lead_of x.acceptor p (is_some x.acting)) z (armed_with f (so_far records service past x before))) vote_at
               ∙ call_is (log_of service past (records x.keeper)) (log_of service past (records x.keeper)) x.up f (Leading (lead_of x.acceptor q (is_some x.acting))) (work_of x.acting) (work_of x.acting) x.replayed x.replayed
               (map (message_in past) before.sends.items) (map (message_in past) after.sends.items) (before.effects.items ++ effect.Have (length p.accepted + 1) ∷ []) after.effects.items refl refl refl (ap (map (message_in past)) (sym sends)) (sym effects)),
-          record { id = node.id; few = node.few; up = λ t. y_up; reached = node.reached },
+          record { id = node.id; few = node.few; up = λ t. y_up; reached = node.reached; decoded = node.decoded },
           up,
         ),
         y_node,

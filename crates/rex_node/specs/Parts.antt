@@ -7,6 +7,7 @@ use Rattle.rex_ballot.specs.declared.proposal.Proposal.{Proposal as Kept}
 use Rattle.rex_ballot.specs.Ballot.{node_of}
 use Rattle.rex_ballot.specs.Proposals.{IsValue, proposal_for}
 use Rattle.rex_syntax.specs.declared.service.Declarations.{Declarations}
+use Rattle.rex_snapshot.specs.Reading.{state_in}
 use Rattle.rex_state.specs.Value.{StateValue}
 use Rattle.rex_state.specs.Counts.{counts_of}
 use Rattle.rex_state.specs.Start.{start_of}
@@ -47,7 +48,12 @@ pub record ReachedValue : Type 0 where
   pub count : ℕ
   pub state : StateValue
 
--- the node's number and how many there are; the seed; its keeper; whether it is up; its acceptor; of how many instances it doesn't hold the values, and the known values after those; how many values its base is after, whether its last checkpoint is in the old version, and the state at the base; how many it has replayed, and the state then where that is another one and the node isn't active; the state to which it came last by replaying; its proposer where it has asked to lead; and what it executes where it is active
+-- a snapshot that a node decoded when it came up, and the state that it spells
+pub record DecodedValue : Type 0 where
+  pub snapshot : List ℕ
+  pub state : StateValue
+
+-- the node's number and how many there are; the seed; its keeper; whether it is up; its acceptor; of how many instances it doesn't hold the values, and the known values after those; how many values its base is after, whether its last checkpoint is in the old version, and the state at the base; how many it has replayed, and the state then where that is another one and the node isn't active; the state to which it came last by replaying; the snapshot that it decoded last; its proposer where it has asked to lead; and what it executes where it is active
 pub record NodeValue (K : Type 0) : Type 0 where
   pub id : ℕ
   pub nodes : ℕ
@@ -63,6 +69,7 @@ pub record NodeValue (K : Type 0) : Type 0 where
   pub replayed : ℕ
   pub ahead : Option StateValue
   pub reached : Option ReachedValue
+  pub decoded : Option DecodedValue
   pub proposer : Option ProposerValue
   pub acting : Option ActingValue
 
@@ -240,12 +247,18 @@ abbrev pub reached_at : (offset base count : ℕ) → StateValue → Option Reac
 reached_at zero base count state = if base == count then None else Some (record { count = count; state = state })
 reached_at (suc offset) base count state = None
 
+-- the state that a node has beside a snapshot is the one that it spells
+abbrev pub HasDecoded : Declarations → Option DecodedValue → Type 0
+HasDecoded service None = Unit {0}
+HasDecoded service (Some d) = state_in service d.snapshot ≡ Ok d.state
+
 -- what is kept of a node also within a call, as if it held all values that it knows
 pub record IsKept {K : Type 0} (records : K → List (List ℕ)) (service : Declarations) (past : List Value) (x : NodeValue K) : Type 0 where
   pub id : (0 < x.id) × (x.id ≤ x.nodes)
   pub few : x.nodes ≤ most_nodes
   pub up : x.up ≡ true → IsUp service x (here_of records service past x)
   pub reached : HasReached service x.offset x.known x.reached
+  pub decoded : HasDecoded service x.decoded
 
 -- a node that leads has gone on as far as it can: where a majority promised, it is active or has an open proposal
 abbrev pub HasGoneOn : Option ProposerValue → Bool → Type 0
@@ -258,13 +271,15 @@ pub record IsResting {K : Type 0} (records : K → List (List ℕ)) (service : D
   pub few : x.nodes ≤ most_nodes
   pub up : x.up ≡ true → IsUp service x (here_of records service past x)
   pub reached : HasReached service x.offset x.known x.reached
+  pub decoded : HasDecoded service x.decoded
   pub rests : x.up ≡ true → HasGoneOn x.proposer (is_some x.acting)
 
--- the same node of the same cluster
+-- the same node of the same cluster, with the same decoded snapshot
 pub record IsSame {K : Type 0} (before after : NodeValue K) : Type 0 where
   pub id : after.id ≡ before.id
   pub nodes : after.nodes ≡ before.nodes
   pub seed : after.seed ≡ before.seed
+  pub decoded : after.decoded ≡ before.decoded
 
 -- the same node of the same cluster, and kept
 pub record StaysResting {K : Type 0} (records : K → List (List ℕ)) (service : Declarations) (past : List Value) (before after : NodeValue K) : Type 0 where
@@ -296,11 +311,11 @@ leaving x = record x {
 
 -- ---- going down
 
--- a node that was stopped is down: it has its keeper and the state that it came to last by replaying, and nothing else that counts
+-- a node that was stopped is down: it has its keeper, the state that it came to last by replaying and the snapshot that it decoded last, and nothing else that counts
 abbrev pub stopped : {K : Type 0} → NodeValue K → NodeValue K
 stopped x = record x { up = false; replayed = x.base; ahead = None; proposer = None; acting = None }
 
--- so is one whose append failed, but for that state
+-- so is one whose append failed, but for the state that it came to
 abbrev pub fallen : {K : Type 0} → NodeValue K → NodeValue K
 fallen x = record (stopped x) { reached = None }
 

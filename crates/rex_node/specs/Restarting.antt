@@ -22,7 +22,7 @@ use Rattle.rex_node.specs.declared.contents.Place.{Place}
 use Rattle.rex_node.specs.declared.restart.RestartFault.{RestartFault}
 use Rattle.rex_node.specs.declared.restart.RestartFault.TheVariants.{BadRecord, OutOfMemory}
 use Rattle.rex_log.specs.Log.{first, log_of}
-use Rattle.rex_node.specs.Parts.{NodeValue, ReachedValue, here_of}
+use Rattle.rex_node.specs.Parts.{DecodedValue, NodeValue, ReachedValue, here_of}
 use Rattle.rex_node.specs.Stated.{is_state_kind}
 
 -- ---- what records hold
@@ -147,6 +147,7 @@ down_with id nodes seed start keeper = record {
   replayed = 0;
   ahead = None;
   reached = None;
+  decoded = None;
   proposer = None;
   acting = None;
 }
@@ -160,9 +161,14 @@ BeginAlike (Some r) known offset values = (offset ≡ 0) × ((r.count ≤ length
 abbrev pub KeepsReached : {K : Type 0} → NodeValue K → Recovered → Option ReachedValue → Type 0
 KeepsReached x said reached = (reached ≡ None) ⊎ ((reached ≡ x.reached) × BeginAlike x.reached x.known said.offset said.known)
 
+-- a snapshot that a node decoded just now, or else the one that it decoded before
+abbrev pub decoded_last : Option DecodedValue → Option DecodedValue → Option DecodedValue
+decoded_last None before = before
+decoded_last (Some d) before = Some d
+
 -- the node is up, and is a follower that has what its records say, and this state at its base
-abbrev pub risen : {K : Type 0} → NodeValue K → Recovered → StateValue → Bool → Option ReachedValue → NodeValue K
-risen x said start old reached = record x {
+abbrev pub risen : {K : Type 0} → NodeValue K → Recovered → StateValue → Bool → Option ReachedValue → Option DecodedValue → NodeValue K
+risen x said start old reached decoded = record x {
   up = true;
   acceptor = record { promised = said.promised; accepted = said.accepted };
   offset = said.offset;
@@ -173,6 +179,7 @@ risen x said start old reached = record x {
   replayed = said.base;
   ahead = None;
   reached = reached;
+  decoded = decoded;
   proposer = None;
   acting = None;
 }

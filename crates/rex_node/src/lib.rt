@@ -10,6 +10,7 @@ mod choosing;
 mod contents;
 mod counting;
 mod cutting;
+mod decoded;
 mod electing;
 mod flushing;
 mod going;

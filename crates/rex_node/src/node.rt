@@ -15,6 +15,7 @@ ghost use Rattle.rex_node.specs.Blocks.{take_each};
 ghost use Rattle.rex_node.specs.Calls.{Refuses, LeadsTo, if_up, if_active, refusal_active, turn_at};
 
 use crate::acting::Acting;
+use crate::decoded::Decoded;
 use crate::reached::Reached;
 use crate::refusal::Refusal;
 use rex_ballot::{INSTANCES, Proposal};
@@ -56,6 +57,8 @@ pub struct Node<K: Keeper> {
     pub(crate) ahead: Option<State>,
     /// The state to which it came last by replaying, where it forgot no values. It is kept while the node is stopped.
     pub(crate) reached: Option<Reached>,
+    /// The snapshot that it decoded last, and the state that this spells. It is kept while the node is down.
+    pub(crate) decoded: Option<Decoded>,
     /// There while the node leads, or asks to.
     pub(crate) proposer: Option<Proposer>,
     /// There while the node is active.
@@ -82,6 +85,7 @@ impl<K: Keeper> Model for Node<K> {
       replayed = n.replayed;
       ahead = n.ahead;
       reached = n.reached;
+      decoded = n.decoded;
       proposer = n.proposer;
       acting = n.acting;
     } };
@@ -141,8 +145,8 @@ impl<K: Keeper> Node<K> {
         }
     }
 
-    /// Stops the node where it stands: it is down from here on, and has its keeper and the state that it came to last by replaying.
-    /// Nothing else that it has counts.
+    /// Stops the node where it stands: it is down from here on, and has its keeper, the state that it came to last by replaying and
+    /// the snapshot that it decoded last. Nothing else that it has counts.
     pub fn halt(&mut self)
         ensures { self.new ≡ stopped self.old }
     {

@@ -1,7 +1,8 @@
 //! How a node comes up.
 
-ghost use Rattle.std.specs.Prelude.{◌≡◌, ◌<◌, ◌≤◌, ℕ, List, length, take, true, Some, IfOk, IfErr, IsOk, OnErr, OnOk};
+ghost use Rattle.std.specs.Prelude.{◌≡◌, ◌<◌, ◌≤◌, ℕ, List, length, take, true, Ok, Some, IfOk, IfErr, IfSome, IsOk, OnErr, OnOk};
 ghost use Rattle.std.specs.List.{All, list_all};
+ghost use Rattle.std.specs.Option.{option_copied};
 ghost use Rattle.rex_ballot.specs.Limits.{most_nodes};
 ghost use Rattle.rex_durable.specs.Laws.{IsRecovered};
 ghost use Rattle.rex_snapshot.specs.Reading.{state_in};
@@ -9,12 +10,13 @@ ghost use Rattle.rex_transfer.specs.Window.{SpellsDelta};
 ghost use Rattle.rex_cluster.specs.Records.{known};
 ghost use Rattle.rex_cluster.specs.Values.{spells, values_fit};
 ghost use Rattle.rex_log.specs.Log.{AreRead, log_of};
-ghost use Rattle.rex_node.specs.Parts.{HasReached, IsNode, knows};
+ghost use Rattle.rex_node.specs.Parts.{HasDecoded, HasReached, IsNode, knows};
 ghost use Rattle.rex_node.specs.Stated.{AreStated};
 ghost use Rattle.rex_node.specs.declared.restart.RestartFault.TheVariants.{OutOfMemory};
-ghost use Rattle.rex_node.specs.Restarting.{CameUp, HasForgotten, HasRightBase, IsRead, IsRecalled, IsRestartFault, BeginAlike, KeepsReached, down_with, risen, state_at};
+ghost use Rattle.rex_node.specs.Restarting.{CameUp, HasForgotten, HasRightBase, IsRead, IsRecalled, IsRestartFault, BeginAlike, KeepsReached, decoded_last, down_with, risen, state_at};
 
 use crate::contents::{Place, bad_at, bad_place, ends_old};
+use crate::decoded::{Decoded, decoded_anew, known_state, remember};
 use crate::node::Node;
 use rex_ballot::{Proposals, Value};
 use rex_durable::{RecoverFault, Recovered, recover};
@@ -58,6 +60,8 @@ struct Recalled {
     start: State,
     /// Whether the last checkpoint is in the old version.
     old_base: bool,
+    /// The snapshot of the state at the base, where it wasn't decoded before.
+    decoded: Option<Decoded>,
 }
 
 impl<K: Keeper> Node<K> {
@@ -101,10 +105,12 @@ impl<K: Keeper> Node<K> {
     }
 
     /// The node comes up again with what its keeper has, as a restarted one does. Of what it had before it went down it has a state
-    /// that it came to by replaying, where its records say the same values up to there. After an error it is as it was.
+    /// that it came to by replaying, where its records say the same values up to there, and the snapshot that it decoded, which isn't
+    /// decoded again. After an error it is as it was.
     pub fn start<P: Past>(&mut self, svc: &Checked) -> Result<(), RestartFault>
         requires there { (0 < self.old.id) × (self.old.id ≤ self.old.nodes) }
         requires few { self.old.nodes ≤ most_nodes }
+        requires decoded { HasDecoded svc.now self.old.decoded }
         ensures up { OnOk result (CameUp K.records svc.now P.past self.old.id self.old.nodes self.old.seed self.old.keeper self.new) }
         ensures kept { HasReached svc.now self.old.offset (knows P.past self.old) self.old.reached
             → values_fit svc.now (known (log_of svc.now P.past (K.records self.old.keeper))) ≡ true
@@ -115,7 +121,7 @@ impl<K: Keeper> Node<K> {
         ensures read { AreRead svc.now P.past (K.records self.old.keeper) → AreStated svc.now (K.records self.old.keeper)
             → list_all (spells svc.now) (known (log_of svc.now P.past (K.records self.old.keeper))) ≡ true → IfErr result (λ e. e ≡ OutOfMemory) }
     {
-        let recalled = recall(self.alloc, svc, &self.keeper, &self.known)?;
+        let recalled = recall(self.alloc, svc, &self.keeper, &self.known, &self.decoded)?;
         self.rise(recalled);
         Ok(())
     }
@@ -139,6 +145,7 @@ impl<K: Keeper> Node<K> {
             replayed: 0,
             ahead: None,
             reached: None,
+            decoded: None,
             proposer: None,
             acting: None,
         }
@@ -158,13 +165,15 @@ impl<K: Keeper> Node<K> {
     fn rise(&mut self, recalled: Recalled)
         requires fits { IsRecovered recalled.recovered }
         requires deltas { All SpellsDelta recalled.recovered.known }
-        ensures risen { self.new ≡ risen self.old recalled.recovered recalled.start recalled.old_base self.new.reached }
+        ensures risen { self.new ≡ risen self.old recalled.recovered recalled.start recalled.old_base self.new.reached
+            (decoded_last recalled.decoded self.old.decoded) }
         ensures reached { KeepsReached self.old recalled.recovered self.new.reached }
     {
         let Recalled {
             recovered,
             start,
             old_base,
+            decoded,
         } = recalled;
         if !self.begins_alike(recovered.offset, recovered.known.as_slice()) {
             self.reached = None;
@@ -182,6 +191,7 @@ impl<K: Keeper> Node<K> {
         self.ahead = None;
         self.proposer = None;
         self.acting = None;
+        remember(&mut self.decoded, decoded);
     }
 }
 
@@ -207,18 +217,22 @@ fn is_same(this: &[u8], that: &[u8]) -> bool
     this == that
 }
 
-// What a keeper's records say of its node, with the state at its base. Values that the window knows to spell deltas aren't read again.
+// What a keeper's records say of its node, with the state at its base. Values that the window knows to spell deltas aren't read
+// again, nor is a snapshot that was decoded.
 fn recall<K: Keeper>(
     alloc: Global,
     svc: &Checked,
     keeper: &K,
     window: &Window,
+    decoded: &Option<Decoded>,
 ) -> Result<Recalled, RestartFault>
+    requires { HasDecoded svc.now decoded.now }
     ensures recalled { IfOk result (λ r. IsRecalled svc.now (K.records keeper.now) r.recovered r.start r.old_base) }
+    ensures decoded { IfOk result (λ r. HasDecoded svc.now r.decoded) }
     ensures fault { IfErr result (IsRestartFault svc.now (K.records keeper.now)) }
 {
     match recover(alloc, keeper) {
-        Ok(recovered) => recall_with(alloc, svc, keeper, window, recovered),
+        Ok(recovered) => recall_with(alloc, svc, keeper, window, decoded, recovered),
         Err(RecoverFault::BadRecord { number, at }) => Err(RestartFault::BadRecord { number, at }),
         Err(RecoverFault::OutOfMemory) => Err(RestartFault::OutOfMemory),
     }
@@ -230,27 +244,49 @@ fn recall_with<K: Keeper>(
     svc: &Checked,
     keeper: &K,
     window: &Window,
+    decoded: &Option<Decoded>,
     recovered: Recovered,
 ) -> Result<Recalled, RestartFault>
-    requires { IsRead (K.records keeper.now) recovered }
+    requires read { IsRead (K.records keeper.now) recovered }
+    requires decoded { HasDecoded svc.now decoded.now }
     ensures recalled { IfOk result (λ r. IsRecalled svc.now (K.records keeper.now) r.recovered r.start r.old_base) }
+    ensures decoded { IfOk result (λ r. HasDecoded svc.now r.decoded) }
     ensures fault { IfErr result (IsRestartFault svc.now (K.records keeper.now)) }
 {
-    let saved = saved_state(alloc, svc, &recovered)?;
+    let known = known_state(decoded, &recovered.snapshot);
+    let is_known = known.is_some();
+    let saved = saved_state(alloc, svc, known, &recovered)?;
     if let Some(Place { number, at }) = bad_place(keeper, &recovered, window, bad_at(&saved)) {
         return Err(RestartFault::BadRecord { number, at });
     }
     let Ok(start) = saved else { unreachable!() };
     let old_base = ends_old(keeper);
+    let anew = decoded_anew(alloc, is_known, &recovered.snapshot, &start)?;
     Ok(Recalled {
         recovered,
         start,
         old_base,
+        decoded: anew,
     })
 }
 
-// The state at the base, or where its snapshot is bad; without one, the start.
+// The state at the base, or where its snapshot is bad; without one, the start. It is this one, where it is known.
 fn saved_state(
+    alloc: Global,
+    svc: &Checked,
+    known: Option<&State>,
+    recovered: &Recovered,
+) -> Result<Result<State, usize>, AllocError>
+    requires { IfSome (option_copied known) (λ s. state_at svc.now recovered.now.snapshot ≡ Ok s) }
+    ensures { IfOk result (λ saved. saved ≡ state_at svc.now recovered.now.snapshot) }
+{
+    match known {
+        Some(state) => Ok(Ok(state.copy(alloc)?)),
+        None => decoded_state(alloc, svc, recovered),
+    }
+}
+
+fn decoded_state(
     alloc: Global,
     svc: &Checked,
     recovered: &Recovered,

@@ -136,7 +136,7 @@ module _ {K : Type 0} (records : K → List (List ℕ)) (faults : K → ℕ) (p 
 
       pub stays_so : StaysNode records p.service [] p.node q.node
       stays_so = record {
-        same = record { id = after.same.id ∙ stays.same.id; nodes = after.same.nodes ∙ stays.same.nodes; seed = after.same.seed ∙ stays.same.seed };
+        same = record { id = after.same.id ∙ stays.same.id; nodes = after.same.nodes ∙ stays.same.nodes; seed = after.same.seed ∙ stays.same.seed; decoded = after.same.decoded ∙ stays.same.decoded };
         kept = after.kept;
       }
 

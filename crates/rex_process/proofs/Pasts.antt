@@ -71,7 +71,7 @@ module _ {K : Type 0} (records : K → List (List ℕ)) (service : Declarations)
 
   -- and so is what is kept of the node
   pub same_node : (x.up ≡ true → x.offset ≡ 0) → IsNode records service p x → IsNode records service q x
-  same_node holds h = record { id = h.id; few = h.few; up = up; reached = reached_beside service p q x h.reached; rests = h.rests }
+  same_node holds h = record { id = h.id; few = h.few; up = up; reached = reached_beside service p q x h.reached; decoded = h.decoded; rests = h.rests }
     where
       up : x.up ≡ true → IsUp service (whole q x) (here_of records service q x)
       up u = subst (λ (y : NodeValue K). IsUp service y (here_of records service q x)) (whole_is p x (holds u) ∙ sym (whole_is q x (holds u)))

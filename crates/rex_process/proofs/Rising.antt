@@ -107,7 +107,7 @@ module _ {K : Type 0} (records : K → List (List ℕ)) (faults : K → ℕ) (se
 
   -- it stays the node that it is
   stays_itself : StaysNode records service [] x x
-  stays_itself = record { same = record { id = refl; nodes = refl; seed = refl }; kept = is_node }
+  stays_itself = record { same = record { id = refl; nodes = refl; seed = refl; decoded = refl }; kept = is_node }
 
   -- and else once it replayed them
   caught_all : (gives : K → List ℕ → Answer → K → Type 0) (y : NodeValue K) → (count_of x ≡ 0 → ⊥) → y.keeper ≡ x.keeper

@@ -102,6 +102,6 @@ module _ {K : Type 0} (records : K → List (List ℕ)) (gives : K → List ℕ 
   -- and the node stays one beside none
   pub stays_beside : IsPlain log → StaysNode records p.service past p.node mid → StaysNode records p.service [] p.node mid
   stays_beside stay h = record {
-    same = record { id = h.same.id; nodes = h.same.nodes; seed = h.same.seed };
+    same = record { id = h.same.id; nodes = h.same.nodes; seed = h.same.seed; decoded = h.same.decoded };
     kept = same_node records p.service past [] mid stay (λ u. (h.kept.up u).offset ∙ plain_offset log stay) h.kept;
   }

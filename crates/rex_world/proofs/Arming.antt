@@ -71,6 +71,7 @@ node_armed service past f x h = record {
     numbers = u.numbers;
   };
   reached = h.reached;
+  decoded = h.decoded;
   rests = h.rests;
 }
 

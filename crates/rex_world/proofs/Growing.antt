@@ -174,6 +174,7 @@ module _ (service : Declarations) (past values : List Value) (fits : list_all (s
         subst (λ (vs : List Value). let y : NodeValue KeeperValue = record x { known = vs } in IsUp service y (here_of records_of service values x)) (sym same_knows)
         (subst (IsUp service (whole past x)) (sym same_here) u);
     reached = reached_beside service past values x h.reached;
+    decoded = h.decoded;
     rests = h.rests;
   }
 
