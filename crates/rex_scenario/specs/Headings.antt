@@ -1,5 +1,5 @@
 -- The headings of a scenario's sections, in their order.
-use Rattle.std.specs.Prelude.{◌==◌, ◌&&◌, ◌%◌, ℕ, nat_le, Bool, true, false, List, [], ◌∷◌, Option, Some, None, is_some, unwrap_or, codes, slice_index, option_and_then, if◌then◌else◌}
+use Rattle.std.specs.Prelude.{◌==◌, ℕ, Bool, true, false, List, [], ◌∷◌, Option, Some, None, is_some, unwrap_or, codes, slice_index, option_and_then, if◌then◌else◌}
 use Rattle.std.specs.Str.{bytes_eq}
 use Rattle.rex_schedule.specs.Counts.{is_node_count}
 use Rattle.rex_text.specs.Text.{Word}
