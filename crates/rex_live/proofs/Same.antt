@@ -23,6 +23,7 @@ use Rattle.rex_event.specs.declared.event.Kind.{Kind}
 use Rattle.rex_event.specs.declared.event.Kind.TheVariants as kind
 use Rattle.rex_state.specs.declared.lane.Lane.{Lane}
 use Rattle.rex_state.specs.declared.lane.Entry.{Entry}
+use Rattle.rex_state.specs.declared.lane.Queue.{Queue}
 use Rattle.rex_state.specs.Value.{StateValue}
 use Rattle.rex_state.specs.Lines.{line_of}
 use Rattle.rex_state.specs.Locks.{mode_in, is_free, holder, exclusive_holder}
