@@ -1,6 +1,6 @@
 -- A node that is started does as the model's.
-use Rattle.std.proofs.Common.{◌≡◌, ℕ, true, List, [], ◌∷◌, ◌++◌, length, Result, Ok, Err, IfOk, refl, ap, ◌∙◌}
-use Rattle.std.specs.Prelude.{map, take}
+use Rattle.std.proofs.Common.{◌≡◌, ℕ, true, false, List, [], ◌∷◌, ◌++◌, length, Result, Ok, Err, IfOk, refl, ap, sym, ◌∙◌, subst}
+use Rattle.std.specs.Prelude.{take}
 use Rattle.rex_syntax.specs.declared.service.Declarations.{Declarations}
 use Rattle.rex_syntax.specs.declared.version.Version.TheVariants.{Two}
 use Rattle.rex_report.specs.declared.effect.Effect.{Effect}
@@ -9,16 +9,20 @@ use Rattle.rex_cluster.specs.Records.{base, known, promise, has_old_base}
 use Rattle.rex_cluster.specs.Records.Rec.{Checkpoint}
 use Rattle.rex_cluster.specs.Calls.{begin, migrate}
 use Rattle.rex_cluster.specs.Lanes.{Here}
-use Rattle.rex_cluster.specs.Values.{Value, service_of}
+use Rattle.rex_cluster.specs.Values.{Value, service_of, values_fit}
 use Rattle.rex_cluster.proofs.Migrated.{migrated_sends}
 use Rattle.rex_node.specs.declared.refusal.Refusal.{Refusal}
 use Rattle.rex_node.specs.declared.step.Step.{Step}
 use Rattle.rex_node.specs.Calls.{Does, EndsDown}
 use Rattle.rex_node.proofs.Ending.{no_messages}
-use Rattle.rex_node.specs.Parts.{StaysNode, count_of}
+use Rattle.rex_log.specs.Log.{log_of}
+use Rattle.rex_node.specs.Parts.{HasReached, IsNode, StaysNode, count_of, knows}
+use Rattle.rex_node.specs.Restarting.{HasForgotten, HasRightBase}
+use Rattle.rex_traits.specs.Keeping.{KeeperValue}
+use Rattle.rex_world.specs.Calls.{Starts}
 use Rattle.rex_world.specs.Starting.{CameBack}
 use Rattle.rex_steps.specs.Steps.{IsDone}
-use Rattle.rex_world.specs.Members.{Member, IsMember, StaysMember, here_at, records_of}
+use Rattle.rex_world.specs.Members.{Member, IsKeeping, IsMember, StaysMember, here_at, records_of}
 use Rattle.rex_world.proofs.Acted.{does_stays}
 use Rattle.rex_world.proofs.Failing.{follows, is_done}
 use Rattle.rex_world.proofs.Knowing.{count_known}
@@ -72,3 +76,24 @@ module _ (service : Declarations) (past : List Value) (old : Member) (member : I
         → IfOk result (CameBack (service_of service old.seed) old.id h (here_at service past new))
     joined_back first (Ok step) first_is effects sends = comes_migrated first step first_is effects sends
     joined_back first (Err refusal) first_is effects sends = tt
+
+-- a node is a member still that came up again with its keeper, which was reopened before
+pub is_member : (service : Declarations) (past : List Value) (old down new : Member) → IsMember service past old.seed old.nodes old.id old → Starts service past (here_at service past old)
+    → down ≡ record old { keeper = record old.keeper { broken = false } } → new.keeper ≡ down.keeper
+    → (HasReached service down.offset (knows past down) down.reached → values_fit service (known (log_of service past (records_of down.keeper))) ≡ true
+      → HasRightBase service (log_of service past (records_of down.keeper)) → HasForgotten past (log_of service past (records_of down.keeper)) → IsNode records_of service past new)
+    → IsMember service past new.seed new.nodes new.id new
+is_member service past old down new member starts is same kept =
+    let keeper_is : new.keeper ≡ record old.keeper { broken = false } = same ∙ ap (λ (x : Member). x.keeper) is in
+    record {
+      id = refl;
+      nodes_are = refl;
+      seed_is = refl;
+      node =
+          kept (subst (λ (x : Member). HasReached service x.offset (knows past x) x.reached) (sym is) member.node.reached)
+          (subst (λ (x : Member). values_fit service (known (log_of service past (records_of x.keeper))) ≡ true) (sym is) starts.fit)
+          (subst (λ (x : Member). HasRightBase service (log_of service past (records_of x.keeper))) (sym is) starts.base)
+          (subst (λ (x : Member). HasForgotten past (log_of service past (records_of x.keeper))) (sym is) starts.forgotten);
+      keeping = subst (IsKeeping service past) (sym keeper_is) (record { read = member.keeping.read; stated = member.keeping.stated; room = member.keeping.room });
+      whole = λ _. ap (λ (k : KeeperValue). k.broken) keeper_is;
+    }
