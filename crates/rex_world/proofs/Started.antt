@@ -81,7 +81,7 @@ module _ (service : Declarations) (past : List Value) (old : Member) (member : I
 pub is_member : (service : Declarations) (past : List Value) (old down new : Member) → IsMember service past old.seed old.nodes old.id old → Starts service past (here_at service past old)
     → down ≡ record old { keeper = record old.keeper { broken = false } } → new.keeper ≡ down.keeper
     → (HasReached service down.offset (knows past down) down.reached → values_fit service (known (log_of service past (records_of down.keeper))) ≡ true
-      → HasRightBase service (log_of service past (records_of down.keeper)) → HasForgotten past (log_of service past (records_of down.keeper)) → IsNode records_of service past new)
+    → HasRightBase service (log_of service past (records_of down.keeper)) → HasForgotten past (log_of service past (records_of down.keeper)) → IsNode records_of service past new)
     → IsMember service past new.seed new.nodes new.id new
 is_member service past old down new member starts is same kept =
     let keeper_is : new.keeper ≡ record old.keeper { broken = false } = same ∙ ap (λ (x : Member). x.keeper) is in
