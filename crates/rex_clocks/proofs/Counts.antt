@@ -61,9 +61,6 @@ ticked_more counts lane other l =
 
 -- ---- one less
 
-pub unticked_long : (counts : List ℕ) (lane : ℕ) → length (unticked counts lane) ≡ length counts
-unticked_long counts lane = length-set counts lane (count_at counts lane - 1)
-
 pub unticked_within : (counts : List ℕ) (lane other : ℕ) → count_at (unticked counts lane) other ≤ count_at counts other
 unticked_within [] lane other = omega arith
 unticked_within (x ∷ counts) zero zero = omega arith
