@@ -53,6 +53,12 @@ abbrev pub is_that : Option ℕ → ℕ → Bool
 is_that (Some a) b = nat_eq a b
 is_that None b = false
 
+-- a signal or broadcast
+abbrev pub is_waker : Kind → Bool
+is_waker (Signal condition woken) = true
+is_waker (Broadcast condition woken) = true
+is_waker _ = false
+
 -- the event woke this lane
 abbrev pub woke : Kind → ℕ → Bool
 woke (Signal condition woken) lane = is_that woken lane

@@ -26,7 +26,8 @@ fn is_sharing(kind: Kind) -> bool
     matches!(kind, Kind::AcqSh { .. } | Kind::RelSh { .. })
 }
 
-fn named_condition(kind: Kind) -> Option<u8>
+/// The condition whose queue an event reads or changes.
+pub fn named_condition(kind: Kind) -> Option<u8>
     ensures { result ≡ spec.named_condition kind }
 {
     match kind {
@@ -83,7 +84,15 @@ fn is_that(first: Option<u8>, second: u8) -> bool
     }
 }
 
-fn woke(kind: Kind, lane: u8) -> bool
+/// Whether an event is a signal or broadcast.
+pub fn is_waker(kind: &Kind) -> bool
+    ensures { result ≡ spec.is_waker kind.now }
+{
+    matches!(kind, Kind::Signal { .. } | Kind::Broadcast { .. })
+}
+
+/// Whether an event woke this lane.
+pub fn woke(kind: Kind, lane: u8) -> bool
     requires { lane < LANES }
     ensures { result ≡ spec.woke kind lane }
 {

@@ -2,28 +2,15 @@
 use Rattle.std.proofs.Common.{◌≡◌, ℕ, zero, suc, false, List, refl}
 use Rattle.std.specs.Prelude.{Option, Some, None}
 use Rattle.rex_event.specs.declared.event.Kind.{Kind}
-use Rattle.rex_event.specs.declared.event.Kind.TheVariants.{Begin, AcqEx, AcqSh, RelEx, RelSh, TryOk, TryBusy, Wait, Wake, Signal, Broadcast, Clock, Random, Reply, Down, Up}
+use Rattle.rex_event.specs.declared.event.Kind.TheVariants.{Begin}
 use Rattle.rex_reduce.specs.declared.summary.Summary.{Summary}
-use Rattle.rex_reduce.specs.Names.{is_waker, waker_slot, is_waker_at}
+use Rattle.rex_event.specs.Conflict.{is_waker}
+use Rattle.rex_reduce.specs.Names.{waker_slot, is_waker_at}
 use Rattle.rex_reduce.specs.Tables.{with_woken, AreAddedWoken}
 
 no_slot : (kind : Kind) (lane : ℕ) → is_waker kind ≡ false → waker_slot kind lane ≡ None
 no_slot (Begin client sequence handler arguments) lane e = refl
-no_slot (AcqEx lock) lane e = refl
-no_slot (AcqSh lock) lane e = refl
-no_slot (RelEx lock) lane e = refl
-no_slot (RelSh lock) lane e = refl
-no_slot (TryOk lock) lane e = refl
-no_slot (TryBusy lock) lane e = refl
-no_slot (Wait condition lock) lane e = refl
-no_slot (Wake condition lock) lane e = refl
-no_slot (Signal condition woken) lane e = absurd cc
-no_slot (Broadcast condition woken) lane e = absurd cc
-no_slot (Clock value) lane e = refl
-no_slot (Random value) lane e = refl
-no_slot (Reply client value) lane e = refl
-no_slot (Down semaphore) lane e = refl
-no_slot (Up semaphore) lane e = refl
+no_slot _ lane e = cc
 
 -- nothing is merged
 pub none_merged : (met : Summary) (rows : List Summary) (kind : Kind) (n : ℕ) → is_waker kind ≡ false → met ≡ with_woken met rows kind n

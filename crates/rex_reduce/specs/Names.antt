@@ -1,9 +1,9 @@
 -- What events name, as places in tables. Two events conflict where they are of one lane, or name one place in a way that
 -- excludes each other.
-use Rattle.std.specs.Prelude.{ℕ, zero, suc, ◌+◌, ◌*◌, Bool, true, false, ◌||◌, Option, Some, None, if◌then◌else◌}
+use Rattle.std.specs.Prelude.{ℕ, zero, suc, ◌+◌, ◌*◌, Bool, false, ◌||◌, Option, Some, None, if◌then◌else◌}
 use Rattle.rex_event.specs.declared.event.Event.{Event}
 use Rattle.rex_event.specs.declared.event.Kind.{Kind}
-use Rattle.rex_event.specs.declared.event.Kind.TheVariants.{Wake, Signal, Broadcast}
+use Rattle.rex_event.specs.declared.event.Kind.TheVariants.{Wake}
 use Rattle.rex_event.specs.declared.event.TheConstants.{LANES}
 use Rattle.rex_event.specs.Conflict.{named_lock, is_sharing, named_condition, same_name, woke}
 
@@ -31,12 +31,6 @@ slot_of (Some condition) lane = Some (slot condition lane)
 -- the place of a wake: its condition's for its lane
 abbrev pub wake_slot : Event → Option ℕ
 wake_slot e = slot_of (waking e.kind) e.lane
-
--- a signal or broadcast
-abbrev pub is_waker : Kind → Bool
-is_waker (Signal condition woken) = true
-is_waker (Broadcast condition woken) = true
-is_waker _ = false
 
 -- the place of a signal or broadcast for a lane that it woke
 abbrev pub waker_slot : Kind → ℕ → Option ℕ

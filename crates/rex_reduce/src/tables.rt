@@ -4,11 +4,11 @@ ghost use Rattle.std.specs.Prelude.{◌≡◌, ◌<◌, OnOk};
 ghost use Rattle.rex_reduce.specs.Summaries.{alone};
 ghost use Rattle.rex_reduce.specs.Tables.{at, with_at, with_woken, Covers, AreAddedAt, AreAddedWoken};
 
-use crate::names::{is_waker, waker_slot};
+use crate::names::waker_slot;
 use crate::rows::Rows;
 use crate::summary::Summary;
 use rex_clocks::Clock;
-use rex_event::{Event, LANES};
+use rex_event::{Event, LANES, is_waker};
 use std::alloc::AllocError;
 
 /// Copies what stands at a place. A summary is filled and not returned: moving one would cost more than its lanes in use.
@@ -38,7 +38,7 @@ pub(crate) fn merge_at(met: &mut Summary, rows: &Rows, place: Option<u32>)
 pub(crate) fn merge_woken(met: &mut Summary, rows: &Rows, event: &Event)
     ensures { met.new ≡ with_woken met.old rows.now event.now.kind LANES }
 {
-    if is_waker(event) {
+    if is_waker(&event.kind) {
         merge_each_woken(met, rows, event);
     }
 }
@@ -90,7 +90,7 @@ pub(crate) fn add_woken(rows: &mut Rows, event: &Event, own: &Clock) -> Result<(
     requires { event.now.lane < LANES }
     ensures { OnOk result (AreAddedWoken rows.old event.now.kind (alone own.now event.now.lane) LANES rows.new) }
 {
-    if is_waker(event) {
+    if is_waker(&event.kind) {
         add_each_woken(rows, event, own)?;
     }
     Ok(())
