@@ -1,5 +1,5 @@
 -- The values that nodes agree on: the bytes of deltas, pieces of a trace of a service.
-use Rattle.std.specs.Prelude.{ℕ, ◌<◌, ◌&&◌, ◌==◌, Bool, false, List, [], ◌∷◌, ◌++◌, length, get_or, map, is_some, nat_le, nat_lt, Result, Ok, Err, unwrap_or}
+use Rattle.std.specs.Prelude.{ℕ, ◌<◌, ◌&&◌, ◌==◌, Bool, false, List, [], ◌∷◌, ◌++◌, length, get_or, map, is_some, nat_le, Result, Ok, Err, unwrap_or}
 use Rattle.std.specs.List.{list_all}
 use Rattle.rex_syntax.specs.declared.service.Declarations.{Declarations}
 use Rattle.rex_event.specs.declared.event.Event.{Event}
@@ -7,6 +7,7 @@ use Rattle.rex_event.specs.declared.delta.Delta.{Delta}
 use Rattle.rex_event.specs.Cuts.{beyond}
 use Rattle.rex_reduce.specs.Reduction.{reduced}
 use Rattle.rex_delta.specs.Reading.{delta_in}
+pub use Rattle.rex_delta.specs.Spelling.{is_byte}
 use Rattle.rex_state.specs.Value.{StateValue}
 use Rattle.rex_state.specs.Start.{start_of}
 use Rattle.rex_state.specs.Machine.{run}
@@ -55,9 +56,6 @@ is_piece service (Err at) = false
 -- a value has at most so many bytes
 abbrev pub greatest_value : ℕ
 greatest_value = VALUE_BYTES
-
-abbrev pub is_byte : ℕ → Bool
-is_byte number = nat_lt number 256
 
 -- a value is bytes, and not too many
 abbrev pub may_be_value : Value → Bool

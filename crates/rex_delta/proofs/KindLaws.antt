@@ -1,7 +1,7 @@
 -- What an event did: what is read is spelled so, and is read again from its spelling.
-use Rattle.std.proofs.Common.{◌≡◌, ℕ, zero, suc, ◌+◌, ◌-◌, ◌<◌, ◌≤◌, ◌^◌, true, List, ◌++◌, length, refl, sym, subst, arith, FitsSigned, ℤ, Option, Some, None, ap}
+use Rattle.std.proofs.Common.{◌≡◌, ℕ, zero, suc, ◌+◌, ◌-◌, ◌*◌, ◌<◌, ◌≤◌, ◌^◌, true, List, [], ◌∷◌, ◌++◌, length, get_or, refl, sym, subst, arith, FitsSigned, ℤ, Option, Some, None, ap}
 use Rattle.std.specs.Prelude.{◌==◌, IfSome, nat_lt}
-use Rattle.std.specs.Int.{w64, w8, w16, w32, to_be_bytes}
+use Rattle.std.specs.Int.{w64, w8, w16, w32, to_be_bytes, cast_unsigned}
 use Rattle.std.specs.List.{flat_map, All}
 use Rattle.std.proofs.lemmas.Bool.{ltb-true, eqb-true, eqb-false, lt-ltb}
 use Rattle.rex_event.specs.declared.event.Kind.{Kind}
@@ -14,6 +14,7 @@ use Rattle.rex_wire.proofs.Ranges.{is_between-true, between-is}
 use Rattle.rex_wire.proofs.Lists.{same, AreEach, AreEach-to_all, list_spelled, AreEach-from_all, list_again}
 use Rattle.rex_delta.specs.Spelling.{code_of, content, woken_number, is_between, IsBetween, KindFits, IsTyped}
 use Rattle.rex_delta.specs.Reading.{place_at, arguments_at, begin_at, lock_at, condition_at, woken_of, signal_at, broadcast_at, clock_at, random_at, reply_at, content_at, kind_at}
+use Rattle.rex_delta.proofs.Bytes.{AreBytes, more, both, one, each_piece, number16, number32, number64, signed64}
 use Rattle.rex_delta.proofs.Lists.{argument_at, arguments_in, arguments_repeated}
 use Rattle.std.proofs.Math.Pow.{pow_mono}
 use Rattle.rex_event.specs.Limits.{most_lanes}
@@ -312,3 +313,43 @@ pub KindFits-more : (lanes more : ℕ) (kind : Kind) → lanes ≤ more → Kind
 KindFits-more lanes more (Signal condition woken) le fits = (fits.0, fits_woken lanes more woken le fits.1)
 KindFits-more lanes more (Broadcast condition woken) le fits = (fits.0, fits_bits lanes more woken le fits.1)
 KindFits-more lanes more _ le fits = fits
+
+-- ---- what is spelled is of few bytes
+
+place : (n : ℕ) → n < 64 → AreBytes 1 ((n + 1) ∷ [])
+place n l = one (n + 1) (omega arith)
+
+two_places : (a b : ℕ) → a < 64 → b < 64 → AreBytes 2 (((a + 1) ∷ []) ++ ((b + 1) ∷ []))
+two_places a b l k = both 1 1 ((a + 1) ∷ []) ((b + 1) ∷ []) (place a l) (place b k)
+
+woken_small : (lanes : ℕ) (woken : Option ℕ) → lanes ≤ most_lanes → IfSome woken (λ lane. lane < lanes) → woken_number woken < 256
+woken_small lanes None few h = omega arith
+woken_small lanes (Some lane) few h = omega arith
+
+pub content_bytes : (lanes : ℕ) (kind : Kind) → lanes ≤ most_lanes → KindFits lanes kind → AreBytes 40 (content kind)
+content_bytes lanes (Begin client sequence handler arguments) few h =
+    more (2 + (4 + (1 + (1 + 8 * length arguments)))) 40 (content (Begin client sequence handler arguments)) (omega (arith, h.3))
+    (both 2 (4 + (1 + (1 + 8 * length arguments))) (to_be_bytes w16 client) _ (number16 client)
+    (both 4 (1 + (1 + 8 * length arguments)) (to_be_bytes w32 sequence) _ (number32 sequence)
+    (both 1 (1 + 8 * length arguments) ((handler + 1) ∷ []) _ (place handler h.2)
+    (both 1 (8 * length arguments) (length arguments ∷ []) _ (one (length arguments) (omega (arith, h.3)))
+    (each_piece (λ (x : ℤ). to_be_bytes w64 (cast_unsigned w64 x)) 8 arguments (λ k d l. signed64 (get_or arguments k d)))))))
+content_bytes lanes (AcqEx lock) few h = more 1 40 (content (AcqEx lock)) (omega arith) (place lock h)
+content_bytes lanes (AcqSh lock) few h = more 1 40 (content (AcqSh lock)) (omega arith) (place lock h)
+content_bytes lanes (RelEx lock) few h = more 1 40 (content (RelEx lock)) (omega arith) (place lock h)
+content_bytes lanes (RelSh lock) few h = more 1 40 (content (RelSh lock)) (omega arith) (place lock h)
+content_bytes lanes (TryOk lock) few h = more 1 40 (content (TryOk lock)) (omega arith) (place lock h)
+content_bytes lanes (TryBusy lock) few h = more 1 40 (content (TryBusy lock)) (omega arith) (place lock h)
+content_bytes lanes (Wait condition lock) few h = more 2 40 (content (Wait condition lock)) (omega arith) (two_places condition lock h.0 h.1)
+content_bytes lanes (Wake condition lock) few h = more 2 40 (content (Wake condition lock)) (omega arith) (two_places condition lock h.0 h.1)
+content_bytes lanes (Signal condition woken) few h =
+    more 2 40 (content (Signal condition woken)) (omega arith)
+    (both 1 1 ((condition + 1) ∷ []) (woken_number woken ∷ []) (place condition h.0) (one (woken_number woken) (woken_small lanes woken few h.1)))
+content_bytes lanes (Broadcast condition woken) few h =
+    more 9 40 (content (Broadcast condition woken)) (omega arith) (both 1 8 ((condition + 1) ∷ []) (to_be_bytes w64 woken) (place condition h.0) (number64 woken))
+content_bytes lanes (Down semaphore) few h = more 1 40 (content (Down semaphore)) (omega arith) (place semaphore h)
+content_bytes lanes (Up semaphore) few h = more 1 40 (content (Up semaphore)) (omega arith) (place semaphore h)
+content_bytes lanes (Clock value) few h = more 8 40 (content (Clock value)) (omega arith) (signed64 value)
+content_bytes lanes (Random value) few h = more 4 40 (content (Random value)) (omega arith) (number32 value)
+content_bytes lanes (Reply client value) few h =
+    more 10 40 (content (Reply client value)) (omega arith) (both 2 8 (to_be_bytes w16 client) (to_be_bytes w64 (cast_unsigned w64 value)) (number16 client) (signed64 value))

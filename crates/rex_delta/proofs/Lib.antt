@@ -1,6 +1,7 @@
 pub mod Allowed
 pub mod Lists
 pub mod Counting
+pub mod Bytes
 pub mod KindLaws
 pub mod Versions
 pub mod EventLaws

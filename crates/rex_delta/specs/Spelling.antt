@@ -13,7 +13,7 @@ use Rattle.rex_event.specs.Cuts.{count_at, counted}
 use Rattle.rex_event.specs.declared.event.TheConstants.{CLIENTS, SEQUENCES}
 use Rattle.rex_event.specs.declared.delta.TheConstants.{DELTA_EVENTS}
 pub use Rattle.rex_event.specs.Pieces.{has_event, others_below, CauseFits, AreRising}
-pub use Rattle.rex_wire.specs.Ranges.{is_between, IsBetween}
+pub use Rattle.rex_wire.specs.Ranges.{is_byte, is_between, IsBetween}
 use Rattle.rex_wire.specs.Spelling.{byte, signed}
 use Rattle.rex_delta.specs.declared.limits.TheConstants.{GREATEST_BASE, PLACES}
 use Rattle.rex_list.specs.declared.arguments.TheConstants.{ARGUMENTS}
