@@ -10,7 +10,7 @@ use Rattle.rex_syntax.specs.declared.version.Version.TheVariants.{One, Two}
 use Rattle.rex_syntax.specs.Versions.{has_version}
 use Rattle.rex_frame.specs.declared.frame.Frame.{Frame}
 use Rattle.rex_frame.specs.Handlers.{lines_of}
-use Rattle.rex_state.specs.Lines.{is_primitive}
+use Rattle.rex_frame.specs.Step.{is_primitive}
 use Rattle.rex_state.specs.Touched.{held_in}
 use Rattle.rex_state.specs.Machine.{is_in, no_lane}
 use Rattle.rex_wire.specs.Ranges.{is_between}

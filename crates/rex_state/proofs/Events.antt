@@ -21,7 +21,7 @@ use Rattle.rex_syntax.specs.Leads.{leads_of, lock_of, no_condition}
 use Rattle.rex_syntax.specs.Service.{IsService, IsLock, LineNames}
 use Rattle.rex_frame.specs.declared.frame.Frame.{Frame}
 use Rattle.rex_frame.specs.Phases.{is_running}
-use Rattle.rex_frame.specs.Step.{value_in}
+use Rattle.rex_frame.specs.Step.{value_in, is_primitive}
 use Rattle.rex_frame.proofs.Held.{if_true, only_if_true}
 use Rattle.rex_event.specs.Limits.{most_lanes}
 use Rattle.rex_event.specs.declared.event.Kind.{Kind}
@@ -29,7 +29,7 @@ use Rattle.rex_event.specs.declared.event.Kind.TheVariants.{Begin, AcqEx, AcqSh,
 use Rattle.rex_event.specs.Conflict.{named_condition, named_client}
 use Rattle.rex_state.specs.declared.lane.Queue.{Queue}
 use Rattle.rex_state.specs.Value.{StateValue}
-use Rattle.rex_state.specs.Lines.{is_primitive, is_acquire, is_share, is_release, is_try, is_wait, is_signal, is_broadcast, is_down, is_up, is_clock, is_random, is_condition_of, is_lock_of}
+use Rattle.rex_state.specs.Lines.{is_acquire, is_share, is_release, is_try, is_wait, is_signal, is_broadcast, is_down, is_up, is_clock, is_random, is_condition_of, is_lock_of}
 use Rattle.rex_state.specs.Machine.{can_go, locks_allow, no_queue, queue_at, mask, is_first, queues_allow, with_queue, queues_after, client_allows}
 use Rattle.rex_state.specs.Semaphores.{semaphores_allow}
 use Rattle.rex_state.specs.Room.{HasQueue}

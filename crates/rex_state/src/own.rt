@@ -61,12 +61,10 @@ fn move_on(frame: &mut Frame, line: &Line, kind: &Kind)
             frame.held = frame.held.with(*lock, Mode::Exclusive);
             frame.phase = Phase::Running;
         }
-        Kind::Signal { .. } | Kind::Broadcast { .. } | Kind::Down { .. } | Kind::Up { .. } => {
-            frame.place += 1;
-        }
         Kind::Clock { value } => read(frame, line, *value),
         Kind::Random { value } => read(frame, line, *value as i64),
         Kind::Begin { .. } | Kind::Reply { .. } => {}
+        _ => frame.place += 1,
     }
 }
 
