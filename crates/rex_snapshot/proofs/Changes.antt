@@ -1,16 +1,18 @@
 -- Values of which some aren't the first ones: those that are noted lead back to all of them, and are read and spelled.
 use Rattle.std.proofs.Common.{◌≡◌, ◌⊎◌, inl, inr, ℕ, suc, ◌+◌, ◌<◌, ◌≤◌, Bool, true, false, ℤ, pos, List, [], ◌∷◌, ◌++◌, length, map, drop, set, get_or, refl, ap, sym, ◌∙◌, subst, arith, append_assoc, length-append, length-set, FitsSigned, w64}
 use Rattle.std.specs.Ordering.{int_eq}
-use Rattle.std.specs.List.{All}
+use Rattle.std.specs.List.{All, flat_map}
 use Rattle.std.proofs.lemmas.Bool.{cases_eq}
 use Rattle.std.proofs.lemmas.Bool.Decides.{Decides-int_eq}
 use Rattle.std.proofs.lemmas.List.{drop_more, get_or-map, length-map}
-use Rattle.std.proofs.lemmas.List.Elements.{All-nil, All-cons, All-head, All-tail, All-weaker}
+use Rattle.std.proofs.lemmas.List.Concat.{flat_map-append}
+use Rattle.std.proofs.lemmas.List.Elements.{All-head, All-tail}
 use Rattle.rex_syntax.specs.declared.service.Variable.{Variable}
 use Rattle.rex_state.specs.Start.{first_of}
 use Rattle.rex_snapshot.specs.declared.parts.Change.{Change}
-use Rattle.rex_snapshot.specs.Changes.{change_of, change_if, changes_from, changed, IsWithin}
+use Rattle.rex_snapshot.specs.Changes.{change_of, change_if, changes_from, changed}
 use Rattle.rex_snapshot.specs.Reading.{after_change}
+use Rattle.rex_snapshot.specs.Spelling.{change_bytes}
 use Rattle.rex_wire.proofs.Lists.{AreEach}
 use Rattle.rex_snapshot.proofs.Entries.{set_at}
 
@@ -171,6 +173,14 @@ each_noted front (f ∷ fs) (v ∷ vs) least le typed = by (int_eq v f) refl (λ
         let rest = on (length front + 1) (go (length front + 1) (omega (arith, one_longer front f))) in
         subst (λ (cs : List Change). AreEach after_change (IsChange (front ++ f ∷ fs)) least (cs ++ changes_from (length front + 1) fs vs)) (sym (other_noted (length front) f v is)) (mine, rest)
 
+-- of one variable at most one is noted
+pub few_if : (n : ℕ) (f v : ℤ) → length (change_if n f v) ≤ 1
+few_if n f v = by (int_eq v f) refl
+  where
+    by : (b : Bool) → int_eq v f ≡ b → length (change_if n f v) ≤ 1
+    by true is = omega (arith, ap length (first_noted n f v is))
+    by false is = omega (arith, ap length (other_noted n f v is))
+
 pub few_noted : (n : ℕ) (fs vs : List ℤ) → length (changes_from n fs vs) ≤ length fs
 few_noted n [] vs = omega arith
 few_noted n (f ∷ fs) [] = omega arith
@@ -181,32 +191,28 @@ few_noted n (f ∷ fs) (v ∷ vs) = by (int_eq v f) refl (few_noted (n + 1) fs v
     by false is h = subst (λ (cs : List Change). length (cs ++ changes_from (n + 1) fs vs) ≤ length (f ∷ fs)) (sym (other_noted n f v is)) (omega (arith, h))
 
 -- each variable that is noted is there, whatever the values
-pub within_noted : (n : ℕ) (fs vs : List ℤ) → All (IsWithin (n + length fs)) (changes_from n fs vs)
-within_noted n [] vs = All-nil (IsWithin (n + 0))
-within_noted n (f ∷ fs) [] = All-nil (IsWithin (n + length (f ∷ fs)))
-within_noted n (f ∷ fs) (v ∷ vs) = by (int_eq v f) refl (All-weaker (IsWithin (n + 1 + length fs)) (IsWithin (n + length (f ∷ fs))) (λ c h. record { inside = omega (arith, h.inside) }) (changes_from (n + 1) fs vs) (within_noted (n + 1) fs vs))
-  where
-    by : (b : Bool) → int_eq v f ≡ b → All (IsWithin (n + length (f ∷ fs))) (changes_from (n + 1) fs vs) → All (IsWithin (n + length (f ∷ fs))) (changes_from n (f ∷ fs) (v ∷ vs))
-    by true is h = subst (λ (cs : List Change). All (IsWithin (n + length (f ∷ fs))) (cs ++ changes_from (n + 1) fs vs)) (sym (first_noted n f v is)) h
-    by false is h = subst (λ (cs : List Change). All (IsWithin (n + length (f ∷ fs))) (cs ++ changes_from (n + 1) fs vs)) (sym (other_noted n f v is)) (All-cons (IsWithin (n + length (f ∷ fs))) (change_of n v) (changes_from (n + 1) fs vs) (record { inside = omega arith }) h)
-
 -- one value more is looked at
 pub noted_on : (n : ℕ) (fs vs more : List ℤ) (f v : ℤ) → fs ≡ f ∷ more → (rest : List ℤ) → vs ≡ v ∷ rest → changes_from n fs vs ≡ change_if n f v ++ changes_from (n + 1) more rest
 noted_on n fs vs more f v is rest are = ap (λ (xs : List ℤ). changes_from n xs vs) is ∙ ap (λ (xs : List ℤ). changes_from n (f ∷ more) xs) are
 
--- the values are looked at one after the other, as a loop does
-pub noted_more : (n : ℕ) (variables : List Variable) (values : List ℤ) (d : Variable) (so_far new whole : List Change) → n < length variables → n < length values → new ≡ so_far ++ change_if n (get_or variables n d).first (get_or values n (pos 0))
-    → so_far ++ changes_from n (drop n (map first_of variables)) (drop n values) ≡ whole → new ++ changes_from (n + 1) (drop (n + 1) (map first_of variables)) (drop (n + 1) values) ≡ whole
-noted_more n variables values d so_far new whole lt less step before =
+-- the next variable is looked at, and those after it are left
+pub noted_at : (n : ℕ) (variables : List Variable) (values : List ℤ) (d : Variable) → n < length variables → n < length values
+    → changes_from n (drop n (map first_of variables)) (drop n values)
+    ≡ change_if n (get_or variables n d).first (get_or values n (pos 0)) ++ changes_from (n + 1) (drop (n + 1) (map first_of variables)) (drop (n + 1) values)
+noted_at n variables values d lt less =
     let fs = map first_of variables in
     let f = (get_or variables n d).first in
-    let v = get_or values n (pos 0) in
-    let rest = changes_from (n + 1) (drop (n + 1) fs) (drop (n + 1) values) in
     let there : n < length fs = omega (arith, lt, length-map variables first_of) in
     let first : drop n fs ≡ f ∷ drop (n + 1) fs = drop_more fs n (pos 0) there ∙ ap (λ (y : ℤ). y ∷ drop (n + 1) fs) (get_or-map first_of variables n d (pos 0) lt) in
-    let value : drop n values ≡ v ∷ drop (n + 1) values = drop_more values n (pos 0) less in
-    ap (λ (cs : List Change). cs ++ rest) step ∙ append_assoc so_far (change_if n f v) rest
-    ∙ ap (λ (cs : List Change). so_far ++ cs) (sym (noted_on n (drop n fs) (drop n values) (drop (n + 1) fs) f v first (drop (n + 1) values) value)) ∙ before
+    noted_on n (drop n fs) (drop n values) (drop (n + 1) fs) f (get_or values n (pos 0)) first (drop (n + 1) values) (drop_more values n (pos 0) less)
+
+-- one variable after the other is written, as a loop does
+pub written_noted : (written new whole : List ℕ) (one rest all : List Change) → new ≡ written ++ flat_map change_bytes one → all ≡ one ++ rest → written ++ flat_map change_bytes all ≡ whole → new ++ flat_map change_bytes rest ≡ whole
+written_noted written new whole one rest all step parts so_far =
+    let mine = flat_map change_bytes one in
+    let others = flat_map change_bytes rest in
+    ap (λ (t : List ℕ). t ++ others) step ∙ append_assoc written mine others
+    ∙ ap (λ (t : List ℕ). written ++ t) (sym (flat_map-append change_bytes one rest)) ∙ ap (λ (cs : List Change). written ++ flat_map change_bytes cs) (sym parts) ∙ so_far
 
 pub length-changed : (vs : List ℤ) (cs : List Change) → length (changed vs cs) ≡ length vs
 length-changed vs [] = refl

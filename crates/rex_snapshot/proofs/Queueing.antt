@@ -1,6 +1,6 @@
 -- Queues of parts that were read: their lanes wait at them, each once, and all that wait are there.
 use Rattle.std.proofs.Common.{◌≡◌, ◌⊎◌, inl, inr, ℕ, zero, suc, ◌+◌, ◌-◌, ◌<◌, ◌≤◌, Bool, true, false, List, [], ◌∷◌, ◌++◌, length, map, take, get_or, refl, ap, sym, ◌∙◌, subst, arith, eqb, eqb-true, eq-eqb}
-use Rattle.std.specs.Prelude.{Option, Some, None, ◌||◌}
+use Rattle.std.specs.Prelude.{Option, Some, None, ◌||◌, ◌==◌}
 use Rattle.std.specs.List.{position_or_len}
 use Rattle.std.proofs.lemmas.Bool.{true≢false, and_parts, or_parts, or_left, or_right, or_cases, not-true, eqb-false, lt-ltb, le-ltb, false_from_ne_true, cases_lt}
 use Rattle.std.proofs.lemmas.List.{get_or_past}
@@ -24,6 +24,7 @@ use Rattle.rex_snapshot.specs.declared.parts.Seat.{Seat}
 use Rattle.rex_snapshot.specs.Parts.{waits_in, seat_of, seats_from, lane_in}
 use Rattle.rex_snapshot.specs.Allowed.{no_seat, is_condition}
 use Rattle.rex_snapshot.specs.Reading.{with_last, counted}
+use Rattle.rex_snapshot.specs.Writing.{are_empty}
 use Rattle.rex_snapshot.proofs.Counting.{passing, length-passing, has_passing, once_within}
 use Rattle.rex_wire.proofs.Lists.{AreEach}
 use Rattle.rex_snapshot.proofs.LaneLaws.{IsBusy, IsPlaced, IsSeat, WaitsFit, frame_condition}
@@ -172,6 +173,22 @@ position_at queues lane n e lt = rw (e, lt-ltb n (length queues) lt) refl
 
 position_none : (queues : List Queue) (lane : ℕ) → position_or_len (has_lane lane) queues ≡ length queues → waits_in queues lane ≡ None
 position_none queues lane e = rw (e, le-ltb (length queues) (length queues) (omega arith)) refl
+
+-- ---- where all queues are empty
+
+in_none : (lanes : List ℕ) (lane : ℕ) → (length lanes == 0) ≡ true → is_in lane lanes ≡ false
+in_none [] lane h = refl
+in_none (x ∷ lanes) lane h = absurd (omega (arith, eqb-true (length (x ∷ lanes)) 0 h))
+
+first_none : (queues : List Queue) (lane : ℕ) → are_empty queues ≡ true → position_or_len (has_lane lane) queues ≡ length queues
+first_none [] lane h = refl
+first_none (q ∷ queues) lane h =
+    let p = and_parts _ _ h in
+    let one_more : 1 + length queues ≡ suc (length queues) = omega arith in
+    rw (in_none q.lanes.items lane p.0) (ap (λ (n : ℕ). 1 + n) (first_none queues lane p.1) ∙ one_more)
+
+pub none_waits : (queues : List Queue) (lane : ℕ) → are_empty queues ≡ true → waits_in queues lane ≡ None
+none_waits queues lane h = position_none queues lane (first_none queues lane h)
 
 module _ (service : Declarations) (good : IsService service) (seats : List Seat) (queues : List Queue) (each : AreEach with_last (IsSeat service) [] seats) (are : AreEach counted (IsQueueOf seats) 0 queues) (long : length queues ≡ length service.conditions) where
   pub queue_is : (condition : ℕ) → condition < length queues → IsQueueOf seats condition (get_or queues condition no_queue)

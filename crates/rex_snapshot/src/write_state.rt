@@ -7,7 +7,7 @@ ghost use Rattle.rex_syntax.specs.declared.version.Version.TheVariants.{One, Two
 ghost use Rattle.rex_syntax.specs.Versions.{has_old_form, has_version};
 ghost use Rattle.rex_state.specs.Sound.{IsSound};
 ghost use Rattle.rex_snapshot.specs.Parts.{known_of, known_if, known_from, parts_of};
-ghost use Rattle.rex_snapshot.specs.Spelling.{waiter_bytes, queue_bytes, reply_bytes, known_bytes, state_bytes, EntryFits, EntryIsTyped, IsLimited, IsTyped};
+ghost use Rattle.rex_snapshot.specs.Spelling.{waiter_bytes, queue_bytes, known_bytes, state_bytes, EntryFits, EntryIsTyped, IsLimited, IsTyped};
 ghost use Rattle.rex_state.specs.Room.{IsQueueSmall};
 ghost use Rattle.rex_snapshot.specs.Writing.{has_sent, LaneCanBeWritten};
 ghost use Rattle.rex_snapshot.specs.Allowed.{version_in};
@@ -57,28 +57,20 @@ fn queues(writer: &mut Writer, queues: &[Queue]) -> Result<(), AllocError>
     Ok(())
 }
 
-/// Whether there is a reply, and the reply.
-fn reply(writer: &mut Writer, entry: Entry) -> Result<(), AllocError>
-    ensures spelled { OnOk result (writer.new ≡ writer.old ++ reply_bytes entry.reply) }
-    ensures typed { OnOk result (EntryIsTyped entry) }
-{
-    match entry.reply {
-        None => writer.u8(0),
-        Some(value) => {
-            writer.u8(1)?;
-            writer.i64(value)
-        }
-    }
-}
-
-/// A client with what is known of it.
+/// A client with what is known of it, whose bytes are put together first: there are many.
 fn known(writer: &mut Writer, client: u16, entry: Entry) -> Result<(), AllocError>
     ensures spelled { OnOk result (writer.new ≡ writer.old ++ known_bytes (known_of client entry)) }
     ensures typed { OnOk result (EntryIsTyped entry) }
 {
-    writer.u16(client)?;
-    writer.u32(entry.sequence)?;
-    reply(writer, entry)
+    let c = client.to_be_bytes();
+    let s = entry.sequence.to_be_bytes();
+    match entry.reply {
+        None => writer.bytes(&[c[0], c[1], s[0], s[1], s[2], s[3], 0]),
+        Some(value) => {
+            writer.bytes(&[c[0], c[1], s[0], s[1], s[2], s[3], 1])?;
+            writer.i64(value)
+        }
+    }
 }
 
 fn has_sent(entry: Entry) -> bool
@@ -121,7 +113,6 @@ fn client_count(entries: &[Entry]) -> usize
 }
 
 fn write(
-    alloc: Global,
     writer: &mut Writer,
     svc: &Checked,
     version: Version,
@@ -138,7 +129,7 @@ fn write(
     writer.u8(version.number())?;
     writer.u8(state.lanes().len() as u8)?;
     lanes(writer, own, state.lanes())?;
-    variables(alloc, writer, svc, version, state.variables())?;
+    variables(writer, svc, version, state.variables())?;
     queues(writer, own)?;
     write_semaphores(writer, state.semaphores())?;
     writer.u16(client_count(state.entries()) as u16)?;
@@ -164,7 +155,7 @@ fn spell(
 {
     let _service = svc.declarations();
     let mut writer = Writer::with_capacity(alloc, USUAL_BYTES)?;
-    write(alloc, &mut writer, svc, version, state)?;
+    write(&mut writer, svc, version, state)?;
     Ok(writer.into_vec())
 }
 
