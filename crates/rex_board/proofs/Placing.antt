@@ -1,5 +1,8 @@
 -- Places of a lane's events in a numbered list.
-use Rattle.std.proofs.Common.{◌≡◌, ◌≢◌, inl, inr, ℕ, zero, suc, ◌+◌, ◌<◌, ◌≤◌, arith, List, [], ◌∷◌, length, get_or, take, refl, sym, ap, ◌∙◌, subst}
+use Rattle.std.proofs.Common.{◌≡◌, ◌≢◌, inl, inr, ℕ, zero, suc, ◌+◌, ◌-◌, ◌<◌, ◌≤◌, arith, List, [], ◌∷◌, length, drop, get_or, take, refl, sym, ap, ◌∙◌, subst}
+use Rattle.std.proofs.lemmas.Bool.{eq-eqb, eqb-true}
+use Rattle.std.proofs.lemmas.List.{get_or-map, get_or-drop, length-map, length-drop, take_all}
+use Rattle.memchr.specs.Find.{Nowhere, NoneBefore, Passes, is_byte}
 use Rattle.rex_event.specs.declared.event.Event.{Event}
 use Rattle.rex_event.specs.declared.event.Kind.TheVariants.{TryBusy}
 use Rattle.rex_event.specs.declared.delta.Cause.{Cause}
@@ -13,10 +16,52 @@ use Rattle.rex_state.proofs.Counts.{count_is}
 use Rattle.rex_clocks.proofs.Numbered.{counted_same, counted_other, numbered_below, numbered_later}
 use Rattle.rex_board.specs.declared.recording.Recording.{Recording}
 use Rattle.rex_board.specs.Recorded.{IsRight, start_of, events_of, causes_of, IsEventAt, AreCausesOf}
-use Rattle.rex_board.specs.Places.{HasNoneFrom, IsAtLane, IsNextPlace}
+use Rattle.rex_board.specs.Places.{lanes_in, HasNoneFrom, IsAtLane, IsNextPlace}
 use Rattle.rex_board.specs.Turns.{IsPlaced}
 use Rattle.rex_board.proofs.Reading.{has_at}
 use Rattle.rex_board.proofs.Facts.{numbered}
+
+-- ---- looked for among the lanes of the events
+
+pub rest_is : (lanes : List ℕ) (from : ℕ) → take (length lanes - from) (drop from lanes) ≡ drop from lanes
+rest_is lanes from = take_all (length lanes - from) (drop from lanes) (omega (arith, length-drop from lanes))
+
+lane_at : (es : List Event) (k : ℕ) (d : Event) → k < length es → get_or (lanes_in es) k 0 ≡ (get_or es k d).lane
+lane_at es k d l = get_or-map (λ (e : Event). e.lane) es k d 0 l
+
+-- no byte after a place is the lane's
+none_between : (es : List Event) (lanes : List ℕ) (from lane end : ℕ) → lanes ≡ lanes_in es → Nowhere (Passes (is_byte lane) (drop from lanes)) 0 end
+    → (k : ℕ) (d : Event) → from ≤ k → k < from + end → k < length es → (get_or es k d).lane ≢ lane
+none_between es lanes from lane end e none k d a b l q =
+    let at : from + (k - from) ≡ k = omega (arith, a) in
+    let byte : get_or (drop from lanes) (k - from) 0 ≡ lane =
+    get_or-drop from lanes (k - from) 0 ∙ ap (λ (i : ℕ). get_or lanes i 0) at ∙ ap (λ (xs : List ℕ). get_or xs k 0) e ∙ lane_at es k d l ∙ q in
+    none (k - from) (omega arith) (omega (arith, a, b)) (eq-eqb _ _ byte)
+
+pub first_after : (es : List Event) (lanes : List ℕ) (from lane after : ℕ) → lanes ≡ lanes_in es → from ≤ length lanes
+    → NoneBefore (Passes (is_byte lane) (drop from lanes)) 0 (length (drop from lanes)) after → Passes (is_byte lane) (drop from lanes) after → IsNextPlace es from lane (from + after)
+first_after es lanes from lane after e some first found =
+    let long : length lanes ≡ length es = ap length e ∙ length-map es (λ (e : Event). e.lane) in
+    let inside : from + after < length es = omega (arith, first.high, length-drop from lanes, long) in
+    record {
+      behind = omega arith;
+      inside = omega (arith, inside);
+      none = λ k d a b. none_between es lanes from lane after e first.before k d a b (omega (arith, b, inside));
+      at = record {
+        lane_is = λ d l. sym (lane_at es (from + after) d inside) ∙ sym (ap (λ (xs : List ℕ). get_or xs (from + after) 0) e) ∙ sym (get_or-drop from lanes after 0) ∙ eqb-true _ _ found;
+      };
+    }
+
+pub none_after : (es : List Event) (lanes : List ℕ) (from lane : ℕ) → lanes ≡ lanes_in es → from ≤ length lanes
+    → Nowhere (Passes (is_byte lane) (drop from lanes)) 0 (length (drop from lanes)) → IsNextPlace es from lane (length lanes)
+none_after es lanes from lane e some none =
+    let long : length lanes ≡ length es = ap length e ∙ length-map es (λ (e : Event). e.lane) in
+    record {
+      behind = some;
+      inside = omega (arith, long);
+      none = λ k d a b. none_between es lanes from lane (length (drop from lanes)) e none k d a (omega (arith, a, b, length-drop from lanes, some)) (omega (arith, b, long));
+      at = record { lane_is = λ d l. absurd (omega (arith, l, long)) };
+    }
 
 -- ---- the first event of a lane
 

@@ -10,6 +10,7 @@ use Rattle.rex_board.specs.declared.recording.Recording.{Recording}
 use Rattle.rex_board.specs.declared.view.Role.TheVariants.{Host}
 use Rattle.rex_board.specs.declared.board.Board.{Board}
 use Rattle.rex_board.specs.Seated.{BoardSeat}
+use Rattle.rex_board.specs.Places.{lanes_in}
 use Rattle.rex_board.specs.Recorded.{IsRight, service_of, start_of, events_of, causes_of, variables_in}
 
 -- the board replays the recording: its service, its state, its events and their causes are those of the recording, and it has a word for each of the most lanes and for each variable
@@ -30,8 +31,9 @@ pub record IsHosting (r : Recording) (z : TableId) (s : BoardSeat) : Type 0 wher
   pub gathered : s.me.0.gathered ≡ []
   pub empty : s.me.1 ≡ []
 
--- the board is as it was made: it replays its recording
+-- the board is as it was made: it replays its recording, and has the lane of each event
 pub record IsBoard (b : Board) : Type 0 where
+  pub event_lanes : b.event_lanes.items ≡ lanes_in b.events.now
   pub replays : IsBoardOf b.table.shared.key b.table.shared.table_id b.svc.now b.state b.events.now b.causes.now
 
 -- what it replays

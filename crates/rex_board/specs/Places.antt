@@ -1,6 +1,10 @@
 -- Where a lane's next event stands in a list.
-use Rattle.std.specs.Prelude.{◌≡◌, ◌≢◌, ℕ, ◌<◌, ◌≤◌, List, length, slice_index_or}
+use Rattle.std.specs.Prelude.{◌≡◌, ◌≢◌, ℕ, ◌<◌, ◌≤◌, List, length, map, slice_index_or}
 use Rattle.rex_event.specs.declared.event.Event.{Event}
+
+-- the lane of each event
+abbrev pub lanes_in : List Event → List ℕ
+lanes_in es = map (λ (e : Event). e.lane) es
 
 -- no event from this place on is of the lane
 pub record HasNoneFrom (es : List Event) (from lane : ℕ) : Type 0 where

@@ -16,6 +16,8 @@ pub struct Board<'a> {
     /// The state before the events.
     pub state: State,
     pub events: &'a [Event],
+    /// The lane of each event.
+    pub event_lanes: Vec<u8>,
     /// The causes of each event.
     pub causes: &'a [List<Cause>],
     /// The words: one for each of the most lanes, then one for each variable.

@@ -3,10 +3,11 @@ ghost use Rattle.std.specs.Prelude.{◌≡◌, ◌≤◌, ◌<◌, ◌+◌, leng
 ghost use Rattle.rex_board.specs.Recorded.{IsRecording, IsRight, service_of, start_of, events_of, variables_in};
 ghost use Rattle.rex_board.specs.Turns.{IsSeatOf};
 ghost use Rattle.rex_board.specs.Boards.{IsBoard, IsHosting, recording_of, table_of};
+ghost use Rattle.rex_board.specs.Places.{lanes_in};
 ghost use Rattle.rex_board.specs.Dealing.{IsRecordingOf, HasLaneWords, HasValueWords, AreFirstWords, AreDealt};
 
 use crate::board::{Board, Host};
-use crate::places::next_place;
+use crate::places::{lanes_in, next_place};
 use crate::plays::Deal;
 use crate::recording::Recording;
 use crate::seat::{LaneSeat, Words};
@@ -56,10 +57,10 @@ fn deal(
     words: &Words,
     host: &mut Seat<(), View>,
     start: &State,
-    events: &[Event],
+    event_lanes: &[u8],
     lane: u8,
 ) -> Result<LaneSeat, AllocError>
-    requires right { IsRight words.now.key × (start.now ≡ start_of words.now.key) × (events.now ≡ events_of words.now.key) }
+    requires right { IsRight words.now.key × (start.now ≡ start_of words.now.key) × (event_lanes.now ≡ lanes_in (events_of words.now.key)) }
     requires table { (words.now.table_id.words ≡ LANES + variables_in words.now.key) × (lane < LANES) × (lane < (service_of words.now.key).lanes) }
     requires hosting { IsHosting words.now.key words.now.table_id host.old × (host.old.me.0.lane ≡ lane) }
     ensures hosting { IfOk result (λ _. IsHosting words.now.key words.now.table_id host.new × (host.new.me.0.lane ≡ lane + 1)) }
@@ -71,7 +72,7 @@ fn deal(
         seat,
         lane,
         done: start.done(lane),
-        place: next_place(events, 0, lane),
+        place: next_place(event_lanes, 0, lane),
         bounds: [0; LANES],
         frame: start.copied_frame(lane),
         copies,
@@ -84,10 +85,10 @@ fn deal_all(
     words: &Words,
     host: &mut Seat<(), View>,
     start: &State,
-    events: &[Event],
+    event_lanes: &[u8],
     lanes: u8,
 ) -> Result<Vec<LaneSeat>, AllocError>
-    requires right { IsRight words.now.key × (start.now ≡ start_of words.now.key) × (events.now ≡ events_of words.now.key) }
+    requires right { IsRight words.now.key × (start.now ≡ start_of words.now.key) × (event_lanes.now ≡ lanes_in (events_of words.now.key)) }
     requires table { (words.now.table_id.words ≡ LANES + variables_in words.now.key) × (lanes ≤ LANES) × (lanes ≡ (service_of words.now.key).lanes) }
     requires hosting { IsHosting words.now.key words.now.table_id host.old × (host.old.me.0.lane ≡ 0) }
     ensures hosting { IfOk result (λ _. IsHosting words.now.key words.now.table_id host.new) }
@@ -95,7 +96,7 @@ fn deal_all(
 {
     let mut seats = Vec::new(alloc);
     for lane in 0..lanes {
-        let seat = deal(alloc, words, host, start, events, lane)?;
+        let seat = deal(alloc, words, host, start, event_lanes, lane)?;
         seats.push(seat)?;
     }
     Ok(seats)
@@ -121,19 +122,14 @@ impl<'a> Board<'a> {
         let words = first_words(alloc, start)?;
         let recording = Recording::of(svc, start, events, causes);
         let (table, mut host) = Table::of_words(alloc, &words, &recording)?;
-        let seats = deal_all(
-            alloc,
-            &table.shared,
-            &mut host,
-            start,
-            events.as_slice(),
-            lanes,
-        )?;
+        let event_lanes = lanes_in(alloc, events.as_slice())?;
+        let seats = deal_all(alloc, &table.shared, &mut host, start, &event_lanes, lanes)?;
         let state = start.copy(alloc)?;
         let board = Board {
             svc,
             state,
             events: events.as_slice(),
+            event_lanes,
             causes: causes.as_slice(),
             table,
         };

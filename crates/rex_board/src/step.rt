@@ -116,7 +116,7 @@ impl<'a> Board<'a> {
             };
         }
         me.do_event(words, self.svc, &event);
-        me.place = next_place(self.events, me.place + 1, me.lane);
+        me.place = next_place(self.event_lanes.as_slice(), me.place + 1, me.lane);
         BoardTurn::Done(event)
     }
 }

@@ -1,4 +1,5 @@
 use Rattle.std.proofs.Common.{rules, arith, refl, ◌<◌, ℕ, subst, sym}
+use Rattle.rex_board.specs.Recorded.{events_of}
 use Rattle.rex_board.proofs.Keeps.{deals}
 use Rattle.rex_board.proofs.Placing.{first_place}
 use Rattle.rex_board.proofs.start.deal.Goals as goal
@@ -13,5 +14,5 @@ split_seat-seat-requires c = (
 
 pub returns-clause-seat : goal.returns-clause-seat
 returns-clause-seat c =
-    let first = first_place c.args.words.now.key c.requires.right.0 c.args.start.now c.args.events.now c.args.lane c.done.result c.next_place.result c.requires.right.1 c.requires.right.2 c.done.ensures c.next_place.ensures in
+    let first = first_place c.args.words.now.key c.requires.right.0 c.args.start.now (events_of c.args.words.now.key) c.args.lane c.done.result c.next_place.result c.requires.right.1 refl c.done.ensures (c.next_place.ensures (events_of c.args.words.now.key) c.requires.right.2) in
     (record { table = search rules; key = search rules; lane = c.requires.table.1; there = c.requires.table.2; small = search rules; wide = search rules; placed = first.placed; next = first.at }, refl)

@@ -37,8 +37,8 @@ returns-clause-seat c =
       there = subst (λ (x : ℕ). x < (service_of (recording_of c.args.self.now)).lanes) (sym (later.lane ∙ looking.later.lane)) c.requires.seat.there;
       small = done_small _ _ _ _ _ _ c.requires.board.replays c.args.me.now c.requires.seat c.if-me-self.false c.first_missing.new.self c.first_missing.ensures.looking c.index-self-me.result c.index-self-me-2.result c.index-self-me-2.is c.do_event.new.self c.do_event.ensures.later c.do_event.ensures.done c.do_event.ensures.bounds;
       wide = c.do_event.ensures.wide;
-      placed = is_placed _ _ _ _ _ _ c.requires.board.replays c.args.me.now c.requires.seat c.if-me-self.false c.first_missing.new.self c.first_missing.ensures.looking c.index-self-me.result c.index-self-me-2.result c.index-self-me-2.is c.do_event.new.self c.do_event.ensures.later c.do_event.ensures.done c.do_event.ensures.bounds c.do_event.ensures.place _ c.next_place-me.ensures;
-      next = is_at _ _ _ _ _ _ c.requires.board.replays c.args.me.now c.requires.seat c.if-me-self.false c.first_missing.new.self c.first_missing.ensures.looking c.index-self-me.result c.index-self-me-2.result c.index-self-me-2.is c.do_event.new.self c.do_event.ensures.later c.do_event.ensures.done c.do_event.ensures.bounds c.do_event.ensures.place _ c.next_place-me.ensures;
+      placed = is_placed _ _ _ _ _ _ c.requires.board.replays c.args.me.now c.requires.seat c.if-me-self.false c.first_missing.new.self c.first_missing.ensures.looking c.index-self-me.result c.index-self-me-2.result c.index-self-me-2.is c.do_event.new.self c.do_event.ensures.later c.do_event.ensures.done c.do_event.ensures.bounds c.do_event.ensures.place _ (c.next_place-me.ensures c.args.self.now.events.now (c.as_slice-2.ensures.value ∙ c.requires.board.event_lanes));
+      next = is_at _ _ _ _ _ _ c.requires.board.replays c.args.me.now c.requires.seat c.if-me-self.false c.first_missing.new.self c.first_missing.ensures.looking c.index-self-me.result c.index-self-me-2.result c.index-self-me-2.is c.do_event.new.self c.do_event.ensures.later c.do_event.ensures.done c.do_event.ensures.bounds c.do_event.ensures.place _ (c.next_place-me.ensures c.args.self.now.events.now (c.as_slice-2.ensures.value ∙ c.requires.board.event_lanes));
     }
 
 pub returns-clause-turn : goal.returns-clause-turn
