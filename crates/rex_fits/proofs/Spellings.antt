@@ -30,7 +30,7 @@ pub trace_of_delta : (d : Delta) → HasSpelling d → IsTrace d.events
 trace_of_delta d h = record { bases = d.bases; few = h.delta.lanes.1; numbered = numbered_of d.bases d.bases d.events d.causes h.delta.events }
 
 pub room_of_delta : (d : Delta) → HasSpelling d → All HasNext d.events
-room_of_delta d h = All-weaker (λ (e : Event). e.index + 1 < 2 ^ 32) HasNext (λ e k. record { index = omega (arith, k) }) d.events (spelled_counted d h).each
+room_of_delta d h = All-weaker (λ (e : Event). e.index + 1 < 2 ^ 32) HasNext (λ e k. record { index = omega (arith, k) }) d.events (spelled_counted h).each
 
 -- ---- its bytes
 

@@ -79,12 +79,12 @@ pub led : (service : Declarations) (s : Scenario) (history : List Event) (state 
     → length history ≤ 268431360 → All BeginsInRange history → All HasTypedKind history → run service (start_of service) history ≡ Some state → IsLed service s history
 led service s history state leads good checked fits few begins typed runs =
     let steady : IsSteady service s.requests s.seed s.nodes (blocks_of history) state =
-    leads service s.requests s.seed s.nodes (blocks_of history) state (some_node s.nodes fits.nodes) (few_nodes s.nodes fits.nodes) good checked fits.requests (are_blocks history begins typed) (few_blocks history few)
+    leads service s.requests s.seed s.nodes (blocks_of history) state (some_node s.nodes fits.nodes) (few_nodes fits.nodes) good checked fits.requests (are_blocks history begins typed) (few_blocks history few)
     (ap (run service (start_of service)) (joined_blocks history) ∙ runs) in
     record {
       state = state;
       runs = runs;
       steady = steady;
       agreed_is = settled_agree s.nodes (values_of service (blocks_of history)) (live_world service s.requests s.seed s.nodes (blocks_of history)) (some_node s.nodes fits.nodes) steady.settled;
-      causes = values_least service good checked (values_of service (blocks_of history)) (values_fit_all service s.requests s.seed s.nodes (blocks_of history) state (some_node s.nodes fits.nodes) (few_nodes s.nodes fits.nodes) steady);
+      causes = values_least service good checked (values_of service (blocks_of history)) (values_fit_all service s.requests s.seed s.nodes (blocks_of history) state (some_node s.nodes fits.nodes) (few_nodes fits.nodes) steady);
     }

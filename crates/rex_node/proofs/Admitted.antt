@@ -16,16 +16,16 @@ use Rattle.rex_node.proofs.Leaving.{role_active}
 use Rattle.rex_node.proofs.Stamping.{held_last}
 
 -- a node that is down or leads tells no value
-told_same : (up leads : Bool) (replayed seen : ℕ) (v w : ℤ) → (up ≡ true → leads ≡ false → v ≡ w) → answered up leads replayed v seen ≡ answered up leads replayed w seen
-told_same false leads replayed seen v w h = refl
-told_same true true replayed seen v w h = refl
-told_same true false replayed seen v w h = ap (λ (z : ℤ). answered true false replayed z seen) (h refl refl)
+told_same : (up leads : Bool) (replayed seen : ℕ) {v w : ℤ} → (up ≡ true → leads ≡ false → v ≡ w) → answered up leads replayed v seen ≡ answered up leads replayed w seen
+told_same false leads replayed seen h = refl
+told_same true true replayed seen h = refl
+told_same true false replayed seen h = ap (λ (z : ℤ). answered true false replayed z seen) (h refl refl)
 
 idle : (w : Option ActingValue) → is_some w ≡ false → w ≡ None
 idle None e = refl
 idle (Some a) e = absurd (cc)
 
-module _ {K : Type 0} (records : K → List (List ℕ)) (service : Declarations) (past : List Value) (x : NodeValue K) (node : IsResting records service past x) where
+module _ {K : Type 0} {records : K → List (List ℕ)} {service : Declarations} {past : List Value} {x : NodeValue K} (node : IsResting records service past x) where
   -- a node that isn't active has the state to which the values run that it has replayed
   value_is : (variable : ℕ) → x.up ≡ true → is_active (here_of records service past x).role ≡ false
       → value_in (state_of x) variable ≡ value_in (state_after service (trace_of (take x.replayed (known (here_of records service past x).log)))) variable
@@ -36,16 +36,16 @@ module _ {K : Type 0} (records : K → List (List ℕ)) (service : Declarations)
       (sym (state_is service (trace_of (take x.replayed x.known)) (state_of x) (u.ahead none))
       ∙ ap (λ (vs : List Value). state_after service (trace_of (take x.replayed vs))) u.known)
 
-  pub read_is : (variable seen : ℕ) (leads : Bool) (v : ℤ) → leads ≡ is_active (here_of records service past x).role → v ≡ value_in (state_of x) variable
+  pub read_is : (variable seen : ℕ) {leads : Bool} {v : ℤ} → leads ≡ is_active (here_of records service past x).role → v ≡ value_in (state_of x) variable
       → answered x.up leads x.replayed v seen ≡ read_at service (here_of records service past x) variable seen
-  read_is variable seen leads v leads_is v_is =
+  read_is variable seen {v} leads_is v_is =
       ap (λ (t : Bool). answered x.up t x.replayed v seen) leads_is
-      ∙ told_same x.up (is_active (here_of records service past x).role) x.replayed seen v (value_in (state_after service (trace_of (take x.replayed (known (here_of records service past x).log)))) variable)
+      ∙ told_same x.up (is_active (here_of records service past x).role) x.replayed seen
       (λ up follows. v_is ∙ value_is variable up follows)
 
   -- ---- the number that a release of an active node gives its client
 
-  module _ (client : ℕ) (up : x.up ≡ true) (a : ActingValue) (acts : x.acting ≡ Some a) (few : client ≤ 256) where
+  module _ {client : ℕ} (up : x.up ≡ true) {a : ActingValue} (acts : x.acting ≡ Some a) (few : client ≤ 256) where
     u : IsUp service x (here_of records service past x)
     u = node.up up
 
@@ -56,4 +56,4 @@ module _ {K : Type 0} (records : K → List (List ℕ)) (service : Declarations)
 
     -- where what is known of the clients has none, it is that of the last value that is held and has a reply to the client
     pub stamp_held : last_held x.offset (drop x.offset x.known) client ≡ stamp_at (here_of records service past x) client
-    stamp_held = (let g = logged_of records service past x u in held_last x.offset x.known client (omega (arith, g.low, g.few))) ∙ last
+    stamp_held = (let g = logged_of records service past x u in held_last x.known client (omega (arith, g.low, g.few))) ∙ last

@@ -58,24 +58,24 @@ use Rattle.rex_node.proofs.Reaching.{bare_reached}
 
 module _ {V S : Type 0} (n : ℕ) (sv : Service V S) (me : ℕ) where
   -- a node that leads without a proposal, isn't active, and has the promises of a majority, chooses
-  pub turn_chooses : (d : Call V S) (l : Lead V) (k : Call V S → Call V S) → d.node.role ≡ Leading l → l.proposal ≡ None → l.active ≡ false → is_majority n l.counted ≡ true
+  pub turn_chooses : (d : Call V S) {l : Lead V} (k : Call V S → Call V S) → d.node.role ≡ Leading l → l.proposal ≡ None → l.active ≡ false → is_majority n l.counted ≡ true
       → turn n sv me d d.node.role k ≡ choose n sv me d l (suc (length (known d.node.log))) (best (suc (length (known d.node.log))) l.reported) k
-  turn_chooses d l k role none idle many =
+  turn_chooses d {l} k role none idle many =
       ap (λ (r : Role V). turn n sv me d r k) role
       ∙ ap (λ (o : Option (Proposal V)). lead n sv me d l o k) none
       ∙ ap (λ (t : Bool). cond t d (cond (is_majority n l.counted) (choose n sv me d l (suc (length (known d.node.log))) (best (suc (length (known d.node.log))) l.reported) k) d)) idle
       ∙ ap (λ (t : Bool). cond t (choose n sv me d l (suc (length (known d.node.log))) (best (suc (length (known d.node.log))) l.reported) k) d) many
 
   -- an append doesn't ask for the role
-  append_led : (a : Option Failure) (r : Rec V S) (d : Call V S) (role : Role V) (k : Call V S → Call V S) → ((e : Call V S) → k (led role e) ≡ k e) → append a me r (led role d) k ≡ append a me r d k
-  append_led None r d role k h = h (logged r None d)
-  append_led (Some (After (suc n) kept)) r d role k h = h (logged r (Some (After n kept)) d)
-  append_led (Some (After zero kept)) r d role k h = refl
+  append_led : (a : Option Failure) (r : Rec V S) (d : Call V S) (role : Role V) {k : Call V S → Call V S} → ((e : Call V S) → k (led role e) ≡ k e) → append a me r (led role d) k ≡ append a me r d k
+  append_led None r d role h = h (logged r None d)
+  append_led (Some (After (suc n) kept)) r d role h = h (logged r (Some (After n kept)) d)
+  append_led (Some (After zero kept)) r d role h = refl
 
   -- a proposal that a majority accepted is decided, whatever the role is
   pub decide_led : (d : Call V S) (l : Lead V) (role : Role V) (o : Option (Proposal V)) (acks : List ℕ) (i : ℕ) (v : V) (k : Call V S → Call V S)
       → decide n sv me (led role d) (record { ballot = l.ballot; counted = l.counted; reported = l.reported; proposal = o; accepted_by = acks; active = l.active }) i v k ≡ decide n sv me d l i v k
-  decide_led d l role o acks i v k = append_led d.node.armed (Known i v) d role (λ e. k (send (learned sv me l i v (known d.node.log) e) (others n me (Chose i v)))) (λ e. refl)
+  decide_led d l role o acks i v k = append_led d.node.armed (Known i v) d role (λ e. refl)
 
 -- so many proposals are above as in the model
 above_kept : (k : ℕ) (ps : List Kept) → above k ps ≡ stopping.above k (map proposal_in ps)
@@ -83,14 +83,14 @@ above_kept k [] = refl
 above_kept k (p ∷ ps) = ap (λ (m : ℕ). cond (nat_lt k p.instance) (suc m) m) (above_kept k ps)
 
 -- one that is taken is one less
-taken_less : (k : ℕ) (ps : List Kept) (q : Kept) → best_for (suc k) ps ≡ Some q → above (suc k) ps < above k ps
-taken_less k ps q e =
+taken_less : (k : ℕ) (ps : List Kept) {q : Kept} → best_for (suc k) ps ≡ Some q → above (suc k) ps < above k ps
+taken_less k ps {q} e =
     let less = stopping.above_best k (map proposal_in ps) (proposal_in q) (bridges.best_is (suc k) ps ∙ ap (option_map proposal_in) e) in
     omega (arith, less, above_kept k ps, above_kept (suc k) ps)
 
 -- the report that is taken is one of them
-taken_in : (P : Kept → Type 0) (i : ℕ) (ps : List Kept) (q : Kept) → best_for i ps ≡ Some q → All P ps → P q
-taken_in P i ps q e all =
+taken_in : (P : Kept → Type 0) (i : ℕ) (ps : List Kept) {q : Kept} → best_for i ps ≡ Some q → All P ps → P q
+taken_in P i ps {q} e all =
     let b : IsBest i ps q = reports.best_is i ps q e in
     All-contains P (b.before ++ q ∷ b.after) q (subst (All P) b.stands all) (Contains-append_right b.before (q ∷ b.after) q (0, omega arith, refl))
 
@@ -119,22 +119,22 @@ not_not : (b : Bool) → not (not b) ≡ true → b ≡ true
 not_not true e = refl
 not_not false e = absurd (cc)
 
-reported_at : (o : Option Kept) (v : Value) → option_map (λ (q : Kept). q.value) o ≡ Some v → (q : Kept) × (o ≡ Some q) × (q.value ≡ v)
-reported_at None v e = absurd (cc)
-reported_at (Some q) v e = (q, refl, same_Some q.value v e)
+reported_at : (o : Option Kept) {v : Value} → option_map (λ (q : Kept). q.value) o ≡ Some v → (q : Kept) × (o ≡ Some q) × (q.value ≡ v)
+reported_at None e = absurd (cc)
+reported_at (Some q) {v} e = (q, refl, same_Some q.value v e)
 
 -- a proposer that goes on
-pub goes_parts : (p : ProposerValue) (w : Option ActingValue) → may_lead p (is_some w) ≡ true → (w ≡ None) × (p.open_instance ≡ None) × (counting.is_majority p.nodes (length p.promised) ≡ true)
-goes_parts p w g =
+pub goes_parts : (p : ProposerValue) {w : Option ActingValue} → may_lead p (is_some w) ≡ true → (w ≡ None) × (p.open_instance ≡ None) × (counting.is_majority p.nodes (length p.promised) ≡ true)
+goes_parts p {w} g =
     let a = and_parts (not (is_some w) && is_none p.open_instance) (not (is_candidate p)) g in
     let b = and_parts (not (is_some w)) (is_none p.open_instance) a.0 in
     (no_acting w b.0, no_open p.open_instance b.1, not_not (counting.is_majority p.nodes (length p.promised)) a.1)
 
-pub chooses_of : (o : Option ProposerValue) (w : Option ActingValue) (i : ℕ) (v : Value) → goes_on o (is_some w) ≡ true → reported_value o i ≡ Some v → Chooses o w i v
-chooses_of None w i v g r = absurd (cc)
-chooses_of (Some p) w i v g r =
-    let a = goes_parts p w g in
-    let q = reported_at (best_for i p.reported) v r in
+pub chooses_of : (o : Option ProposerValue) {w : Option ActingValue} {i : ℕ} {v : Value} → goes_on o (is_some w) ≡ true → reported_value o i ≡ Some v → Chooses o w i v
+chooses_of None g r = absurd (cc)
+chooses_of (Some p) {w} {i} {v} g r =
+    let a = goes_parts p g in
+    let q = reported_at (best_for i p.reported) r in
     record {
       p = p;
       p_is = refl;
@@ -148,8 +148,8 @@ chooses_of (Some p) w i v g r =
 
 -- ---- a node that adopts
 
-module _ {K : Type 0} (records : K → List (List ℕ)) (gives : K → List ℕ → Answer → K → Type 0) (faults : K → ℕ) (service : Declarations) (past : List Value) (good : IsService service) (checked : IsChecked service) (x : NodeValue K) (kept_so : IsKept records service past x) (up : x.up ≡ true)
-    (i : ℕ) (v : Value) (next : i ≡ length x.known + 1) (c : Chooses x.proposer x.acting i v) (turns : ℕ) (may : MayGoOn x turns) where
+module _ {K : Type 0} {records : K → List (List ℕ)} (gives : K → List ℕ → Answer → K → Type 0) (faults : K → ℕ) {service : Declarations} {past : List Value} (good : IsService service) (checked : IsChecked service) {x : NodeValue K} (kept_so : IsKept records service past x) (up : x.up ≡ true)
+    {i : ℕ} {v : Value} (next : i ≡ length x.known + 1) (c : Chooses x.proposer x.acting i v) (turns : ℕ) (may : MayGoOn x turns) where
   u : IsUp service x (here_of records service past x)
   u = kept_so.up up
 
@@ -172,24 +172,24 @@ module _ {K : Type 0} (records : K → List (List ℕ)) (gives : K → List ℕ 
   next_suc = omega (arith, next)
 
   less : above (suc (length x.known)) c.p.reported < above (length x.known) c.p.reported
-  less = taken_less (length x.known) c.p.reported c.q (ap (λ (j : ℕ). best_for j c.p.reported) (sym next_suc) ∙ c.q_is)
+  less = taken_less (length x.known) c.p.reported (ap (λ (j : ℕ). best_for j c.p.reported) (sym next_suc) ∙ c.q_is)
 
   best_here : best i (map proposal_in c.p.reported) ≡ Some (proposal_in c.q)
   best_here = bridges.best_is i c.p.reported ∙ ap (option_map proposal_in) c.q_is
 
   majority : is_majority x.nodes c.p.promised ≡ true
   majority =
-      bridges.majority_is x.nodes c.p.promised (subst (λ (n : ℕ). AreCounted n c.p.promised) proposes.nodes_are proposes.once.promises)
+      bridges.majority_is (subst (λ (n : ℕ). AreCounted n c.p.promised) proposes.nodes_are proposes.once.promises)
       ∙ ap (λ (n : ℕ). counting.is_majority n (length c.p.promised)) (sym proposes.nodes_are) ∙ c.many
 
   -- what it asks for of its proposal
   pub chosen_there : ballots.IsInstance i
   chosen_there =
       let b = subst (BestOk i (map proposal_in c.p.reported)) best_here (best_ok i (map proposal_in c.p.reported)) in
-      fits_instance i (subst ranges.IsInstance b.1 (lead_fits.reported (proposal_in c.q) b.0).instance)
+      fits_instance (subst ranges.IsInstance b.1 (lead_fits.reported (proposal_in c.q) b.0).instance)
 
   pub chosen_short : IsValue v
-  chosen_short = subst IsValue c.v_is (taken_in (λ (q : Kept). IsValue q.value) i c.p.reported c.q c.q_is proposes.short)
+  chosen_short = subst IsValue c.v_is (taken_in (λ (q : Kept). IsValue q.value) i c.p.reported c.q_is proposes.short)
 
   pub chosen_leads : IsSome x.proposer
   chosen_leads = subst (λ (o : Option ProposerValue). IsSome o) (sym c.p_is) refl
@@ -201,7 +201,7 @@ module _ {K : Type 0} (records : K → List (List ℕ)) (gives : K → List ℕ 
   settle_is : (before : Draft) (f : Option Failure) → settle turns x.nodes sv x.id (armed_with f (so_far records service past x before)) ≡ propose x.nodes x.id (effect.Adopts x.id i (length (events_of v))) (armed_with f (so_far records service past x before)) l i v (settle (turns - 1) x.nodes sv x.id)
   settle_is before f =
       ap (λ (t : ℕ). settle t x.nodes sv x.id d) (let t : turns ≡ suc (turns - 1) = omega (arith, may_p) in t)
-      ∙ turn_chooses x.nodes sv x.id d l k (ap (λ (o : Option ProposerValue). role_of x.acceptor o (is_some x.acting)) c.p_is) (ap (open_of x.acceptor) c.none) (ap (λ (w : Option ActingValue). is_some w) c.idle) majority
+      ∙ turn_chooses x.nodes sv x.id d k (ap (λ (o : Option ProposerValue). role_of x.acceptor o (is_some x.acting)) c.p_is) (ap (open_of x.acceptor) c.none) (ap (λ (w : Option ActingValue). is_some w) c.idle) majority
       ∙ ap (λ (j : ℕ). choose x.nodes sv x.id d l j (best j (map proposal_in c.p.reported)) k) (sym (next_suc ∙ ap (λ (vs : List Value). suc (length vs)) u.known))
       ∙ ap (λ (o : Option (Proposal Value)). choose x.nodes sv x.id d l i o k) best_here
       ∙ ap (λ (w : Value). propose x.nodes x.id (effect.Adopts x.id i (length (events_of w))) d l i w k) c.v_is
@@ -229,39 +229,39 @@ module _ {K : Type 0} (records : K → List (List ℕ)) (gives : K → List ℕ 
       c.p_is opens
 
   -- a node that is down is kept
-  down_node_kept : (y : NodeValue K) → IsSame x y → IsDown y → IsResting records service past y
-  down_node_kept y same down = record {
+  down_node_kept : {y : NodeValue K} → IsSame x y → IsDown y → IsResting records service past y
+  down_node_kept {y} same down = record {
     id = (subst (λ (n : ℕ). 0 < n) (sym same.id) kept_so.id.0, let least = kept_so.id.1 in let id : y.id ≡ x.id = same.id in let nodes : y.nodes ≡ x.nodes = same.nodes in omega (arith, least));
     few = subst (λ (n : ℕ). n ≤ most_nodes) (sym same.nodes) kept_so.few;
     up = λ t. absurd (let d : y.up ≡ false = down.down in cc);
-    reached = bare_reached service y.offset y.known y.reached down.bare;
+    reached = bare_reached service y.offset y.known down.bare;
     decoded = subst (HasDecoded service) (sym same.decoded) kept_so.decoded;
     rests = λ t. absurd (let d : y.up ≡ false = down.down in cc);
   }
 
   -- the append failed
-  pub adopt_down : (y : NodeValue K) (before mid : Draft) → IsSame x y → Opens records gives faults service past told i v x y before mid Down → GoesRound records gives faults service past turns x y before mid (Done Down)
-  adopt_down y before mid same opens =
+  pub adopt_down : {y : NodeValue K} (before mid : Draft) → IsSame x y → Opens records gives faults service past told i v x y before mid Down → GoesRound records gives faults service past turns x y before mid (Done Down)
+  adopt_down {y} before mid same opens =
       let o = opens_at y before mid Down opens (settles (turns - 1)) in (
         (
-          leads_fell records gives faults service (settles turns) (λ d. propose x.nodes x.id told d l i v (settles (turns - 1))) x.id x.keeper x.keeper y.keeper (so_far records service past x before) (so_far records service past x before) (so_far records service past y mid)
-              (leads_same records gives faults service (settles turns) (λ d. propose x.nodes x.id told d l i v (settles (turns - 1))) x.keeper (so_far records service past x before) (so_far records service past x before) refl (settle_is before)) o.0,
+          leads_fell records gives faults service
+              (leads_same records gives faults service refl (settle_is before)) o.0,
           o.1,
         ),
-        down_node_kept y same o.1,
+        down_node_kept same o.1,
       )
 
   -- memory was short as it proposed
-  pub adopt_stuck : (y : NodeValue K) (before : Draft) → OpensShort records gives faults service past told i v x y before → IsStuck records gives faults service past (settles turns) x y before
-  adopt_stuck y before (inl s) = inl s
-  adopt_stuck y before (inr b) =
-      inr (breaks_as records gives faults service past (settles turns) (λ d. propose x.nodes x.id told d l i v (settles (turns - 1))) x y before (settle_is before)
+  pub adopt_stuck : {y : NodeValue K} {before : Draft} → OpensShort records gives faults service past told i v x y before → IsStuck records gives faults service past (settles turns) x y before
+  adopt_stuck (inl s) = inl s
+  adopt_stuck {y} {before} (inr b) =
+      inr (breaks_as (settle_is before)
       (subst (λ (o : Option ProposerValue). IfSome o (λ (q : ProposerValue). (k : CallHere → CallHere) → LosesFirst k → BreaksOff records gives faults service past (λ d. propose x.nodes x.id told d (lead_of x.acceptor q (is_some x.acting)) i v k) x y before)) c.p_is b
       (settles (turns - 1)) (settle_loses (turns - 1) x.nodes x.id sv)))
 
   -- ---- the proposal is open
 
-  module _ (y : NodeValue K) (before mid : Draft) (opens : Opens records gives faults service past told i v x y before mid On) (parts : y ≡ record (opened x i v) { keeper = y.keeper }) (longer : length (records x.keeper) < length (records y.keeper)) where
+  module _ {y : NodeValue K} (before mid : Draft) (opens : Opens records gives faults service past told i v x y before mid On) (parts : y ≡ record (opened x i v) { keeper = y.keeper }) (longer : length (records x.keeper) < length (records y.keeper)) where
     abbrev y_at : NodeValue K
     y_at = record x { keeper = y.keeper; acceptor = accepting x.acceptor (record { instance = i; ballot = c.p.ballot; value = v }); proposer = Some (proposed c.p i) }
 
@@ -272,8 +272,8 @@ module _ {K : Type 0} (records : K → List (List ℕ)) (gives : K → List ℕ 
     comes_y = opens_at y before mid On opens (settles (turns - 1))
 
     leads_y : Leads records gives faults service (settles turns) (λ d. settles (turns - 1) (led role_with d)) x.keeper y.keeper (so_far records service past x before) (so_far records service past y mid)
-    leads_y = leads_then records gives faults service (settles turns) (λ d. propose x.nodes x.id told d l i v (settles (turns - 1))) (λ d. settles (turns - 1) (led role_with d)) x.keeper x.keeper y.keeper (so_far records service past x before) (so_far records service past x before) (so_far records service past y mid)
-        (leads_same records gives faults service (settles turns) (λ d. propose x.nodes x.id told d l i v (settles (turns - 1))) x.keeper (so_far records service past x before) (so_far records service past x before) refl (settle_is before)) comes_y.0
+    leads_y = leads_then records gives faults service
+        (leads_same records gives faults service refl (settle_is before)) comes_y.0
 
     own_counted : AreCounted x.nodes (x.id ∷ [])
     own_counted = counted_push x.nodes [] x.id (counted_none x.nodes) (let one = kept_so.id in record { first = omega (arith, one.0); last = one.1 }) refl
@@ -287,25 +287,25 @@ module _ {K : Type 0} (records : K → List (List ℕ)) (gives : K → List ℕ 
       role_y : (so_far records service past y mid).node.role ≡ role_with
       role_y =
           ap (λ (n : NodeValue K). role_of n.acceptor n.proposer (is_some n.acting)) y_is
-          ∙ lead_opened x.acceptor c.p (is_some x.acting) x.id i v proposes.own (ap (λ (n : ℕ). nat_lt n 2) proposes.nodes_are ∙ few_own)
+          ∙ lead_opened x.acceptor c.p proposes.own (ap (λ (n : ℕ). nat_lt n 2) proposes.nodes_are ∙ few_own)
 
       -- the model's node goes no further
-      stops : (t : ℕ) (d : CallHere) → d.node.role ≡ role_with → settle t x.nodes sv x.id d ≡ d
-      stops zero d e = refl
-      stops (suc t) d e =
+      stops : (t : ℕ) {d : CallHere} → d.node.role ≡ role_with → settle t x.nodes sv x.id d ≡ d
+      stops zero e = refl
+      stops (suc t) {d} e =
           ap (λ (r : Role Value). turn x.nodes sv x.id d r (settle t x.nodes sv x.id)) e
-          ∙ ap (λ (b : Bool). cond b (decide x.nodes sv x.id d (record { ballot = c.p.ballot; counted = c.p.promised; reported = map proposal_in c.p.reported; proposal = Some (proposal_of c.p.ballot i v); accepted_by = x.id ∷ []; active = is_some x.acting }) i v (settle t x.nodes sv x.id)) d) (bridges.majority_is x.nodes (x.id ∷ []) own_counted ∙ few_own)
+          ∙ ap (λ (b : Bool). cond b (decide x.nodes sv x.id d (record { ballot = c.p.ballot; counted = c.p.promised; reported = map proposal_in c.p.reported; proposal = Some (proposal_of c.p.ballot i v); accepted_by = x.id ∷ []; active = is_some x.acting }) i v (settle t x.nodes sv x.id)) d) (bridges.majority_is own_counted ∙ few_own)
 
       rests_y : (f : Option Failure) → settles (turns - 1) (led role_with (armed_with f (so_far records service past y mid))) ≡ armed_with f (so_far records service past y mid)
       rests_y f =
           ap (λ (r : Role Value). settles (turns - 1) (led r (armed_with f (so_far records service past y mid)))) (sym role_y)
-          ∙ stops (turns - 1) (armed_with f (so_far records service past y mid)) role_y
+          ∙ stops (turns - 1) role_y
 
       pub adopt_rests : GoesRound records gives faults service past turns x y before mid (Done On)
       adopt_rests = (
         (
-          leads_then records gives faults service (settles turns) (λ d. settles (turns - 1) (led role_with d)) (λ d. d) x.keeper y.keeper y.keeper (so_far records service past x before) (so_far records service past y mid) (so_far records service past y mid) leads_y
-              (leads_same records gives faults service (λ d. settles (turns - 1) (led role_with d)) (λ d. d) y.keeper (so_far records service past y mid) (so_far records service past y mid) refl rests_y),
+          leads_then records gives faults service leads_y
+              (leads_same records gives faults service refl rests_y),
           comes_y.1,
           comes_y.2,
         ),
@@ -335,7 +335,7 @@ module _ {K : Type 0} (records : K → List (List ℕ)) (gives : K → List ℕ 
       decides d =
           ap (λ (t : ℕ). settles t (led role_with d)) more
           ∙ ap (λ (b : Bool). cond b (decide x.nodes sv x.id (led role_with d) (record { ballot = c.p.ballot; counted = c.p.promised; reported = map proposal_in c.p.reported; proposal = Some (proposal_of c.p.ballot i v); accepted_by = x.id ∷ []; active = is_some x.acting }) i v (settles (turns - 2))) (led role_with d))
-          (bridges.majority_is x.nodes (x.id ∷ []) own_counted ∙ one)
+          (bridges.majority_is own_counted ∙ one)
           ∙ decide_led x.nodes sv x.id d l role_with (Some (proposal_of c.p.ballot i v)) (x.id ∷ []) i v (settles (turns - 2))
 
       pub alone_kept : IsKept records service past y
@@ -360,8 +360,8 @@ module _ {K : Type 0} (records : K → List (List ℕ)) (gives : K → List ℕ 
       pub alone_fits : RunsOn service (settles turns) (so_far records service past x before) → values_fit service (y.known ++ v ∷ []) ≡ true
       alone_fits runs =
           subst (λ (vs : List Value). values_fit service (vs ++ v ∷ []) ≡ true) (sym (alone_kept.up alone_up).known)
-          (fits_before service good checked d (settles (turns - 2) d) (settle_learns x.nodes sv x.id (turns - 2) d)
-          (subst (λ (e : CallHere). values_fit service (known e.node.log) ≡ true) (decides (so_far records service past y mid)) (rest_runs records gives faults service past (settles turns) (λ e. settles (turns - 1) (led role_with e)) x y before mid leads_y runs)))
+          (fits_before good checked (settle_learns x.nodes sv x.id (turns - 2) d)
+          (subst (λ (e : CallHere). values_fit service (known e.node.log) ≡ true) (decides (so_far records service past y mid)) (rest_runs past x y before mid leads_y runs)))
         where
           d : CallHere
           d = send (learned sv x.id l i v (known (so_far records service past y mid).node.log) (logged (Known i v) None (so_far records service past y mid))) (others x.nodes x.id (Chose i v))
@@ -374,43 +374,43 @@ module _ {K : Type 0} (records : K → List (List ℕ)) (gives : K → List ℕ 
           subst (λ (q : ProposerValue). (k : CallHere → CallHere) → Comes records gives faults service past (λ d. decide x.nodes sv x.id d (lead_of (accepting x.acceptor (record { instance = i; ballot = c.p.ballot; value = v })) q (is_some x.acting)) i v k) k y z mid after g) p_opened
           (subst (λ (n : NodeValue K). FromLead n (λ m. (k : CallHere → CallHere) → Comes records gives faults service past (λ d. decide n.nodes (service_of service n.seed) n.id d m i v k) k y z mid after g)) y_is learns)
 
-      broken_at : (z : NodeValue K) → FromLead y (λ m. (k : CallHere → CallHere) → LosesFirst k → BreaksOff records gives faults service past (λ d. decide y.nodes (service_of service y.seed) y.id d m i v k) y z mid)
+      broken_at : {z : NodeValue K} → FromLead y (λ m. (k : CallHere → CallHere) → LosesFirst k → BreaksOff records gives faults service past (λ d. decide y.nodes (service_of service y.seed) y.id d m i v k) y z mid)
           → (k : CallHere → CallHere) → LosesFirst k → BreaksOff records gives faults service past (λ d. decide x.nodes sv x.id d l i v k) y z mid
-      broken_at z b =
+      broken_at {z} b =
           subst (λ (q : ProposerValue). (k : CallHere → CallHere) → LosesFirst k → BreaksOff records gives faults service past (λ d. decide x.nodes sv x.id d (lead_of (accepting x.acceptor (record { instance = i; ballot = c.p.ballot; value = v })) q (is_some x.acting)) i v k) y z mid) p_opened
           (subst (λ (n : NodeValue K). FromLead n (λ m. (k : CallHere → CallHere) → LosesFirst k → BreaksOff records gives faults service past (λ d. decide n.nodes (service_of service n.seed) n.id d m i v k) y z mid)) y_is b)
 
       -- up to where the model decides
       leads_decide : Leads records gives faults service (settles turns) (λ d. decide x.nodes sv x.id d l i v (settles (turns - 2))) x.keeper y.keeper (so_far records service past x before) (so_far records service past y mid)
-      leads_decide = leads_then records gives faults service (settles turns) (λ d. settles (turns - 1) (led role_with d)) (λ d. decide x.nodes sv x.id d l i v (settles (turns - 2))) x.keeper y.keeper y.keeper (so_far records service past x before) (so_far records service past y mid) (so_far records service past y mid) leads_y
-          (leads_same records gives faults service (λ d. settles (turns - 1) (led role_with d)) (λ d. decide x.nodes sv x.id d l i v (settles (turns - 2))) y.keeper (so_far records service past y mid) (so_far records service past y mid) refl (λ f. decides (armed_with f (so_far records service past y mid))))
+      leads_decide = leads_then records gives faults service leads_y
+          (leads_same records gives faults service refl (λ f. decides (armed_with f (so_far records service past y mid))))
 
       -- the append of the known value failed
-      pub alone_down : (z : NodeValue K) (after : Draft) → IsSame x z → Learns records gives faults service past i v y z mid after Down → GoesRound records gives faults service past turns x z before after (Done Down)
-      alone_down z after same learns =
+      pub alone_down : {z : NodeValue K} (after : Draft) → IsSame x z → Learns records gives faults service past i v y z mid after Down → GoesRound records gives faults service past turns x z before after (Done Down)
+      alone_down {z} after same learns =
           let o = learns_at z after Down learns (settles (turns - 2)) in (
             (
-              leads_fell records gives faults service (settles turns) (λ d. decide x.nodes sv x.id d l i v (settles (turns - 2))) x.id x.keeper y.keeper z.keeper (so_far records service past x before) (so_far records service past y mid) (so_far records service past z after) leads_decide
+              leads_fell records gives faults service leads_decide
                   (subst (λ (n : ℕ). Fell records gives faults service (λ d. decide x.nodes sv x.id d l i v (settles (turns - 2))) n y.keeper z.keeper (so_far records service past y mid) (so_far records service past z after)) (ap (λ (n : NodeValue K). n.id) y_is) o.0),
               o.1,
             ),
-            down_node_kept z same o.1,
+            down_node_kept same o.1,
           )
 
       -- memory was short as it learned
-      pub alone_stuck : (z : NodeValue K) → LearnsShort records gives faults service past i v y z mid → IsStuck records gives faults service past (settles turns) x z before
-      alone_stuck z h =
-          inr (breaks_after records gives faults service past (settles turns) (λ d. decide x.nodes sv x.id d l i v (settles (turns - 2))) x y z before mid leads_decide longer (alone_kept.up alone_up).base (λ d. refl) (by h))
+      pub alone_stuck : {z : NodeValue K} → LearnsShort records gives faults service past i v y z mid → IsStuck records gives faults service past (settles turns) x z before
+      alone_stuck {z} h =
+          inr (breaks_after y z mid leads_decide longer (alone_kept.up alone_up).base (λ d. refl) (by h))
         where
           by : LearnsShort records gives faults service past i v y z mid → IsStuck records gives faults service past (λ d. decide x.nodes sv x.id d l i v (settles (turns - 2))) y z mid
           by (inl s) = inl s
-          by (inr b) = inr (broken_at z b (settles (turns - 2)) (settle_loses (turns - 2) x.nodes x.id sv))
+          by (inr b) = inr (broken_at b (settles (turns - 2)) (settle_loses (turns - 2) x.nodes x.id sv))
 
       -- it knows the value, and goes on
-      pub alone_again : (z : NodeValue K) (after : Draft) → Learns records gives faults service past i v y z mid after On → z ≡ record (knowing service y i v) { keeper = z.keeper } → length (records y.keeper) < length (records z.keeper) → GoesRound records gives faults service past turns x z before after Again
-      alone_again z after learns parts_z longer_z =
+      pub alone_again : {z : NodeValue K} (after : Draft) → Learns records gives faults service past i v y z mid after On → z ≡ record (knowing service y i v) { keeper = z.keeper } → length (records y.keeper) < length (records z.keeper) → GoesRound records gives faults service past turns x z before after Again
+      alone_again {z} after learns parts_z longer_z =
           let o = learns_at z after On learns (settles (turns - 2)) in
-          ((leads_then records gives faults service (settles turns) (λ d. decide x.nodes sv x.id d l i v (settles (turns - 2))) (settles (turns - 2)) x.keeper y.keeper z.keeper (so_far records service past x before) (so_far records service past y mid) (so_far records service past z after) leads_decide o.0, o.1, o.2), may_z, free_z, omega (arith, may_p, less), omega (arith, longer, longer_z))
+          ((leads_then records gives faults service leads_decide o.0, o.1, o.2), may_z, free_z, omega (arith, may_p, less), omega (arith, longer, longer_z))
         where
           z_is : z ≡ record (knowing service y_at i v) { keeper = z.keeper }
           z_is = parts_z ∙ ap (λ (n : NodeValue K). record (knowing service n i v) { keeper = z.keeper }) y_is
@@ -432,36 +432,36 @@ module _ {K : Type 0} (records : K → List (List ℕ)) (gives : K → List ℕ 
 -- ---- the same of the call
 
 -- what proposing came to, told in other words
-pub opens_as : {K : Type 0} (records : K → List (List ℕ)) (gives : K → List ℕ → Answer → K → Type 0) (faults : K → ℕ) (service : Declarations) (past : List Value) (x y : NodeValue K) (before mid : Draft) (i : ℕ) (v : Value) (said named : Effect) (g h : Going)
+pub opens_as : {K : Type 0} (records : K → List (List ℕ)) (gives : K → List ℕ → Answer → K → Type 0) (faults : K → ℕ) (service : Declarations) (past : List Value) (x y : NodeValue K) (before mid : Draft) (i : ℕ) (v : Value) {said named : Effect} {g h : Going}
     → said ≡ named → g ≡ h → Opens records gives faults service past said i v x y before mid g → Opens records gives faults service past named i v x y before mid h
-opens_as records gives faults service past x y before mid i v said named g h e s opens =
+opens_as records gives faults service past x y before mid i v {named} {g} e s opens =
     subst (λ (t : Going). Opens records gives faults service past named i v x y before mid t) s (subst (λ (t : Effect). Opens records gives faults service past t i v x y before mid g) e opens)
 
-pub opens_short_as : {K : Type 0} (records : K → List (List ℕ)) (gives : K → List ℕ → Answer → K → Type 0) (faults : K → ℕ) (service : Declarations) (past : List Value) (x y : NodeValue K) (before : Draft) (i : ℕ) (v : Value) (said named : Effect)
+pub opens_short_as : {K : Type 0} {records : K → List (List ℕ)} {gives : K → List ℕ → Answer → K → Type 0} {faults : K → ℕ} (service : Declarations) (past : List Value) {x y : NodeValue K} (before : Draft) (i : ℕ) (v : Value) {said named : Effect}
     → said ≡ named → OpensShort records gives faults service past said i v x y before → OpensShort records gives faults service past named i v x y before
-opens_short_as records gives faults service past x y before i v said named e short = subst (λ (t : Effect). OpensShort records gives faults service past t i v x y before) e short
+opens_short_as {records} {gives} {faults} service past {x} {y} before i v e short = subst (λ (t : Effect). OpensShort records gives faults service past t i v x y before) e short
 
-pub parts_as : {K : Type 0} (x y : NodeValue K) (i : ℕ) (v : Value) (g : Going) → g ≡ On → HasOpened x y i v g → y ≡ record (opened x i v) { keeper = y.keeper }
-parts_as x y i v g s parts = subst (HasOpened x y i v) s parts
+pub parts_as : {K : Type 0} (x : NodeValue K) {y : NodeValue K} (i : ℕ) (v : Value) {g : Going} → g ≡ On → HasOpened x y i v g → y ≡ record (opened x i v) { keeper = y.keeper }
+parts_as x {y} i v s parts = subst (HasOpened x y i v) s parts
 
-pub longer_as : {K : Type 0} (records : K → List (List ℕ)) (x y : NodeValue K) (g : Going) → g ≡ On → IsLonger records x y g → length (records x.keeper) < length (records y.keeper)
-longer_as records x y g s longer = subst (IsLonger records x y) s longer
+pub longer_as : {K : Type 0} (records : K → List (List ℕ)) (x y : NodeValue K) {g : Going} → g ≡ On → IsLonger records x y g → length (records x.keeper) < length (records y.keeper)
+longer_as records x y s longer = subst (IsLonger records x y) s longer
 
-pub learns_as : {K : Type 0} (records : K → List (List ℕ)) (gives : K → List ℕ → Answer → K → Type 0) (faults : K → ℕ) (service : Declarations) (past : List Value) (x y : NodeValue K) (before mid : Draft) (i : ℕ) (v : Value) (g h : Going)
+pub learns_as : {K : Type 0} (records : K → List (List ℕ)) (gives : K → List ℕ → Answer → K → Type 0) (faults : K → ℕ) (service : Declarations) (past : List Value) (x y : NodeValue K) (before mid : Draft) (i : ℕ) (v : Value) {g h : Going}
     → g ≡ h → Learns records gives faults service past i v x y before mid g → Learns records gives faults service past i v x y before mid h
-learns_as records gives faults service past x y before mid i v g h s learns = subst (λ (t : Going). Learns records gives faults service past i v x y before mid t) s learns
+learns_as records gives faults service past x y before mid i v s learns = subst (λ (t : Going). Learns records gives faults service past i v x y before mid t) s learns
 
-pub known_as : {K : Type 0} (service : Declarations) (x y : NodeValue K) (i : ℕ) (v : Value) (g : Going) → g ≡ On → HasLearned service x y i v g → y ≡ record (knowing service x i v) { keeper = y.keeper }
-known_as service x y i v g s parts = subst (HasLearned service x y i v) s parts
+pub known_as : {K : Type 0} (service : Declarations) (x : NodeValue K) {y : NodeValue K} (i : ℕ) (v : Value) {g : Going} → g ≡ On → HasLearned service x y i v g → y ≡ record (knowing service x i v) { keeper = y.keeper }
+known_as service x {y} i v s parts = subst (HasLearned service x y i v) s parts
 
-pub told_is : (node id i events : ℕ) (v : Value) → node ≡ id → events ≡ length (events_of v) → (let e : Effect = effect.Adopts node i events in e) ≡ effect.Adopts id i (length (events_of v))
-told_is node id i events v a b = ap (λ (n : ℕ). effect.Adopts n i events) a ∙ ap (effect.Adopts id i) b
+pub told_is : {node id i events : ℕ} (v : Value) → node ≡ id → events ≡ length (events_of v) → (let e : Effect = effect.Adopts node i events in e) ≡ effect.Adopts id i (length (events_of v))
+told_is {id} {i} {events} v a b = ap (λ (n : ℕ). effect.Adopts n i events) a ∙ ap (effect.Adopts id i) b
 
-pub same_then : {K : Type 0} (x y z : NodeValue K) → IsSame x y → IsSame y z → IsSame x z
-same_then x y z h k = record { id = k.id ∙ h.id; nodes = k.nodes ∙ h.nodes; seed = k.seed ∙ h.seed; decoded = k.decoded ∙ h.decoded }
+pub same_then : {K : Type 0} {x y z : NodeValue K} → IsSame x y → IsSame y z → IsSame x z
+same_then h k = record { id = k.id ∙ h.id; nodes = k.nodes ∙ h.nodes; seed = k.seed ∙ h.seed; decoded = k.decoded ∙ h.decoded }
 
-pub nodes_many : (n nodes : ℕ) → n ≡ nodes → 1 < n → 1 < nodes
-nodes_many n nodes e h = omega (arith, e, h)
+pub nodes_many : {n nodes : ℕ} → n ≡ nodes → 1 < n → 1 < nodes
+nodes_many e h = omega (arith, e, h)
 
-pub nodes_few : (n nodes : ℕ) → n ≡ nodes → n ≤ 1 → nodes ≤ 1
-nodes_few n nodes e h = omega (arith, e, h)
+pub nodes_few : {n nodes : ℕ} → n ≡ nodes → n ≤ 1 → nodes ≤ 1
+nodes_few e h = omega (arith, e, h)

@@ -11,24 +11,24 @@ use Rattle.rex_delta.proofs.EventLaws.{delta_found}
 use Rattle.rex_cluster.specs.Values.{Value, events_of, read_delta}
 use Rattle.rex_node.proofs.Spelled.{spelled_counted}
 
-pub read_events : (r : Result Delta ℕ) (es : List Event) → its_events r ≡ Ok es → es ≡ (read_delta r).events
-read_events (Ok d) es e = cc
-read_events (Err at) es e = absurd cc
+pub read_events : (r : Result Delta ℕ) {es : List Event} → its_events r ≡ Ok es → es ≡ (read_delta r).events
+read_events (Ok d) e = cc
+read_events (Err at) e = absurd cc
 
 -- what was appended are the events of the delta that was read
-pub appended : (before after : List Event) (r : Result Delta ℕ) → behind_of before r ≡ Ok after → after ≡ before ++ (read_delta r).events
-appended before after (Ok d) is = cc
-appended before after (Err at) is = absurd cc
+pub appended : (before : List Event) {after : List Event} (r : Result Delta ℕ) → behind_of before r ≡ Ok after → after ≡ before ++ (read_delta r).events
+appended before (Ok d) is = cc
+appended before (Err at) is = absurd cc
 
 -- where none was read there are none
-pub none_appended : (before : List Event) (at : ℕ) (r : Result Delta ℕ) → behind_of before r ≡ Err at → before ≡ before ++ (read_delta r).events
-none_appended before at (Ok d) is = absurd cc
-none_appended before at (Err bad) is = sym (append-nil before)
+pub none_appended : {before : List Event} (at : ℕ) (r : Result Delta ℕ) → behind_of before r ≡ Err at → before ≡ before ++ (read_delta r).events
+none_appended at (Ok d) is = absurd cc
+none_appended {before} at (Err bad) is = sym (append-nil before)
 
 -- the events of a value are counted
 pub value_counted : (value : Value) → IsBytes value → AreCounted (events_of value)
 value_counted value bytes = by (delta_in value) refl
   where
     by : (r : Result Delta ℕ) → delta_in value ≡ r → AreCounted (read_delta r).events
-    by (Ok d) is = spelled_counted d (delta_found value d bytes is).has
+    by (Ok d) is = spelled_counted (delta_found value d bytes is).has
     by (Err at) is = record { each = All-nil _ }

@@ -39,17 +39,17 @@ use Rattle.rex_log.proofs.Pasts.{log_then}
 use Rattle.rex_node.proofs.Instances.{rising_zero, placed_from, placed_kept}
 
 -- the ranges of a node's numbers are the model's
-pub ballot_fits : (b : ℕ) → ballots.IsBallot b → IsBallot b
-ballot_fits b h = record { some = h.first; few = h.last; node = (h.node.first, h.node.last) }
+pub ballot_fits : {b : ℕ} → ballots.IsBallot b → IsBallot b
+ballot_fits h = record { some = h.first; few = h.last; node = (h.node.first, h.node.last) }
 
-pub fits_ballot : (b : ℕ) → IsBallot b → ballots.IsBallot b
-fits_ballot b h = record { first = h.some; last = h.few; node = record { first = h.node.0; last = h.node.1 } }
+pub fits_ballot : {b : ℕ} → IsBallot b → ballots.IsBallot b
+fits_ballot h = record { first = h.some; last = h.few; node = record { first = h.node.0; last = h.node.1 } }
 
-pub instance_fits : (i : ℕ) → ballots.IsInstance i → IsInstance i
-instance_fits i h = (h.first, h.last)
+pub instance_fits : {i : ℕ} → ballots.IsInstance i → IsInstance i
+instance_fits h = (h.first, h.last)
 
-pub fits_instance : (i : ℕ) → IsInstance i → ballots.IsInstance i
-fits_instance i h = record { first = h.0; last = h.1 }
+pub fits_instance : {i : ℕ} → IsInstance i → ballots.IsInstance i
+fits_instance h = record { first = h.0; last = h.1 }
 
 -- the parts that a node has of its records alone, as if it held all values that it knows
 pub record IsLogged {K : Type 0} (service : Declarations) (x : NodeValue K) (log : List (Rec Value StateValue)) : Type 0 where
@@ -130,10 +130,10 @@ module _ {K : Type 0} (records : K → List (List ℕ)) (service : Declarations)
     role = subst (λ (vs : List Value). RoleFits (length vs) (here_of records service past x).role) (sym u.known) u.numbers.role;
   }
 
-module _ {K : Type 0} (service : Declarations) (x : NodeValue K) (log : List (Rec Value StateValue)) (h : IsLogged service x log) where
+module _ {K : Type 0} {service : Declarations} {x : NodeValue K} {log : List (Rec Value StateValue)} (h : IsLogged service x log) where
   -- a promise was written
-  pub logged_promised : (b : ℕ) → IsBallot b → IsLogged service (record x { acceptor = promising x.acceptor b }) (Promised b ∷ log)
-  logged_promised b fits = record {
+  pub logged_promised : {b : ℕ} → IsBallot b → IsLogged service (record x { acceptor = promising x.acceptor b }) (Promised b ∷ log)
+  logged_promised {b} fits = record {
     promised = max_comm x.acceptor.promised b ∙ ap (max b) h.promised;
     accepted = h.accepted;
     offset_is = h.offset_is;
@@ -149,13 +149,13 @@ module _ {K : Type 0} (service : Declarations) (x : NodeValue K) (log : List (Re
   }
 
   -- an acceptance was written, of an instance above the offset
-  pub logged_accepted : (b i : ℕ) (v : Value) → IsBallot b → IsInstance i → IsValue v → offset log < i → IsLogged service (record x { acceptor = accepting x.acceptor (record { instance = i; ballot = b; value = v }) }) (Accepted b i v ∷ log)
-  logged_accepted b i v fits there few late = record {
+  pub logged_accepted : {b i : ℕ} {v : Value} → IsBallot b → IsInstance i → IsValue v → offset log < i → IsLogged service (record x { acceptor = accepting x.acceptor (record { instance = i; ballot = b; value = v }) }) (Accepted b i v ∷ log)
+  logged_accepted {b} {i} {v} fits there few late = record {
     promised = max_comm x.acceptor.promised b ∙ ap (max b) h.promised;
     accepted =
         placed_kept 0 x.acceptor.accepted p rising
         ∙ ap (placed (proposal_in p)) h.accepted
-        ∙ sym (placed_from (suc (offset log)) (proposal_in p) (last_accepted log) (omega (arith, late)));
+        ∙ sym (placed_from (proposal_in p) (last_accepted log) (omega (arith, late)));
     offset_is = h.offset_is;
     low = h.low;
     known = h.known;
@@ -177,8 +177,8 @@ module _ {K : Type 0} (service : Declarations) (x : NodeValue K) (log : List (Re
       rising = rising_zero x.acceptor.accepted (subst (AreRising 0) (sym h.accepted) (accepted_rising log h.numbers.instances))
 
   -- a known value was written
-  pub logged_known : (i : ℕ) (v : Value) → i ≡ suc (length x.known) → IsInstance i → values_fit service (x.known ++ v ∷ []) ≡ true → IsLogged service (record x { known = x.known ++ v ∷ [] }) (Known i v ∷ log)
-  logged_known i v e there fits = record {
+  pub logged_known : {i : ℕ} {v : Value} → i ≡ suc (length x.known) → IsInstance i → values_fit service (x.known ++ v ∷ []) ≡ true → IsLogged service (record x { known = x.known ++ v ∷ [] }) (Known i v ∷ log)
+  logged_known {i} {v} e there fits = record {
     promised = h.promised;
     accepted = h.accepted;
     offset_is = h.offset_is;
@@ -199,7 +199,7 @@ module _ {K : Type 0} (service : Declarations) (x : NodeValue K) (log : List (Re
 abbrev pub call_at : Here → List (Message Value) → List Effect → CallHere
 call_at here sends effects = record { node = here; sends = sends; effects = effects }
 
-module _ {K : Type 0} (records : K → List (List ℕ)) (gives : K → List ℕ → Answer → K → Type 0) (faults : K → ℕ) (service : Declarations) (past : List Value) (x y : NodeValue K) (before after : Draft) (r : KeptRec) (spelling : HasSpelling r) (due : IsDue (standing_in (log_of service past (records x.keeper))) r) (stated : is_stated service (record_bytes r) ≡ true) where
+module _ {K : Type 0} (records : K → List (List ℕ)) (gives : K → List ℕ → Answer → K → Type 0) (faults : K → ℕ) (service : Declarations) (past : List Value) (x y : NodeValue K) (before after : Draft) {r : KeptRec} (spelling : HasSpelling r) (due : IsDue (standing_in (log_of service past (records x.keeper))) r) (stated : is_stated service (record_bytes r) ≡ true) where
   -- the records before
   abbrev pub old_log : List (Rec Value StateValue)
   old_log = log_of service past (records x.keeper)
@@ -223,18 +223,18 @@ module _ {K : Type 0} (records : K → List (List ℕ)) (gives : K → List ℕ 
           ∙ ap (λ (n : List _). record { node = record (here_of records service past x) { log = said ∷ old_log }; sends = map (message_in past) n; effects = es }) sends
           ∙ ap (λ (e : List Effect). record { node = record (here_of records service past x) { log = said ∷ old_log }; sends = map (message_in past) before.sends.items; effects = e }) effects
 
-  module _ (whole k : CallHere → CallHere) (is : (f : Option Failure) → whole (armed_with f (so_far records service past x before)) ≡ append f x.id said (armed_with f (so_far records service past x before)) k) where
+  module _ {whole k : CallHere → CallHere} (is : (f : Option Failure) → whole (armed_with f (so_far records service past x before)) ≡ append f x.id said (armed_with f (so_far records service past x before)) k) where
     -- the call goes on as the model's append does
     pub appended_leads : Appends records faults gives x y before after (record_bytes r) On → Leads records gives faults service whole k x.keeper y.keeper (so_far records service past x before) (so_far records service past y after)
     appended_leads h =
         subst (Leads records gives faults service whole k x.keeper y.keeper (so_far records service past x before)) (sym (appended_here h))
-        (leads_append records gives faults service whole k x.id said (so_far records service past x before) is x.keeper y.keeper (record_bytes r) stated h.0.answer h.0.records h.0.faults)
+        (leads_append records gives faults service is x.keeper y.keeper stated h.0.answer h.0.records h.0.faults)
 
     -- or the node is down; the record is of another kind than a checkpoint, or the base is none of the node's
     pub appended_fell : x.base ≡ base old_log → base (said ∷ old_log) ≡ base old_log
         → Appends records faults gives x y before after (record_bytes r) Down → Fell records gives faults service whole x.id x.keeper y.keeper (so_far records service past x before) (so_far records service past y after)
     appended_fell based same h =
-        fell_append records gives faults service whole k x.id said (so_far records service past x before) is x.keeper y.keeper (record_bytes r) stated h.0.kept h.0.answer h.0.records h.0.faults (so_far records service past y after)
+        fell_append records gives faults service is x.keeper y.keeper stated h.0.kept h.0.answer h.0.records h.0.faults
         (at h.0.kept y.keeper after.effects.items after.sends.items h.0.records h.0.parts h.1 h.2)
       where
         log_in : (kept : Bool) → log_of service past (failed_records kept (records x.keeper) (record_bytes r)) ≡ (if kept then said ∷ old_log else old_log)

@@ -45,28 +45,28 @@ module _ {V : Type 0} (me to first : ℕ) where
       more j m = omega arith
 
   -- each from it on is told
-  tells_all : (i : ℕ) (v : V) (vs : List V) → first ≤ i → tell me to first i (v ∷ vs) ≡ chose i v ∷ tell me to first (suc i) vs
-  tells_all i v vs l = ap (λ (t : Bool). cond t (chose i v ∷ tell me to first (suc i) vs) (tell me to first (suc i) vs)) (le-leb first i l)
+  tells_all : {i : ℕ} {v : V} (vs : List V) → first ≤ i → tell me to first i (v ∷ vs) ≡ chose i v ∷ tell me to first (suc i) vs
+  tells_all {i} {v} vs l = ap (λ (t : Bool). cond t (chose i v ∷ tell me to first (suc i) vs) (tell me to first (suc i) vs)) (le-leb first i l)
 
   tells_many : (i : ℕ) (vs : List V) → first ≤ i → length (tell me to first i vs) ≡ length vs
   tells_many i [] l = refl
-  tells_many i (v ∷ vs) l = ap length (tells_all i v vs l) ∙ ap suc (tells_many (suc i) vs (omega (arith, l)))
+  tells_many i (v ∷ vs) l = ap length (tells_all vs l) ∙ ap suc (tells_many (suc i) vs (omega (arith, l)))
 
-  tells_at : (i : ℕ) (vs : List V) (n : ℕ) (d : Message V) (w : V) → first ≤ i → n < length vs → get_or (tell me to first i vs) n d ≡ chose (i + n) (get_or vs n w)
-  tells_at i [] n d w l h = absurd (omega arith)
-  tells_at i (v ∷ vs) zero d w l h = ap (λ (ms : List (Message V)). get_or ms 0 d) (tells_all i v vs l) ∙ ap (λ (j : ℕ). chose j v) (same i)
+  tells_at : {i : ℕ} (vs : List V) (n : ℕ) (d : Message V) (w : V) → first ≤ i → n < length vs → get_or (tell me to first i vs) n d ≡ chose (i + n) (get_or vs n w)
+  tells_at [] n d w l h = absurd (omega arith)
+  tells_at {i} (v ∷ vs) zero d w l h = ap (λ (ms : List (Message V)). get_or ms 0 d) (tells_all vs l) ∙ ap (λ (j : ℕ). chose j v) (same i)
     where
       same : (j : ℕ) → j ≡ j + 0
       same j = omega arith
-  tells_at i (v ∷ vs) (suc n) d w l h =
-      ap (λ (ms : List (Message V)). get_or ms (suc n) d) (tells_all i v vs l)
-      ∙ tells_at (suc i) vs n d w (omega (arith, l)) (omega (arith, h))
+  tells_at {i} (v ∷ vs) (suc n) d w l h =
+      ap (λ (ms : List (Message V)). get_or ms (suc n) d) (tells_all vs l)
+      ∙ tells_at vs n d w (omega (arith, l)) (omega (arith, h))
       ∙ ap (λ (j : ℕ). chose j (get_or vs n w)) (more i n)
     where
       more : (j m : ℕ) → suc j + m ≡ j + suc m
       more j m = omega arith
 
-  module _ (known : List V) (skipped : ℕ) (skips : skipped ≡ first - 1) where
+  module _ (known : List V) {skipped : ℕ} (skips : skipped ≡ first - 1) where
     whole : tell me to first 1 known ≡ tell me to first (1 + skipped) (drop skipped known)
     whole = tell_from skipped 1 known (by first skips)
       where
@@ -81,15 +81,15 @@ module _ {V : Type 0} (me to first : ℕ) where
     many = ap length whole ∙ tells_many (1 + skipped) (drop skipped known) reaches ∙ length-drop skipped known
 
     -- the next one
-    pub told_next : (place : ℕ) (v w : V) → skipped ≤ place → place < length known → v ≡ get_or known place w
+    pub told_next : {place : ℕ} {v : V} (w : V) → skipped ≤ place → place < length known → v ≡ get_or known place w
         → take (place - skipped) (tell me to first 1 known) ++ chose (place + 1) v ∷ [] ≡ take (place + 1 - skipped) (tell me to first 1 known)
-    told_next place v w l h e =
+    told_next {place} {v} w l h e =
         let n : ℕ = place - skipped in
         sym (ap (λ (m : ℕ). take m (tell me to first 1 known)) (more place skipped l)
         ∙ take-suc (tell me to first 1 known) (place - skipped) (chose 0 v) (omega (arith, many, l, h))
         ∙ ap (λ (m : Message V). take (place - skipped) (tell me to first 1 known) ++ m ∷ [])
         (ap (λ (ms : List (Message V)). get_or ms (place - skipped) (chose 0 v)) whole
-        ∙ tells_at (1 + skipped) (drop skipped known) (place - skipped) (chose 0 v) w reaches (omega (arith, length-drop skipped known, l, h))
+        ∙ tells_at (drop skipped known) (place - skipped) (chose 0 v) w reaches (omega (arith, length-drop skipped known, l, h))
         ∙ ap (λ (j : ℕ). chose j (get_or (drop skipped known) (place - skipped) w)) (at place skipped l)
         ∙ ap (chose (place + 1)) (get_or-drop skipped known (place - skipped) w ∙ ap (λ (j : ℕ). get_or known j w) (back place skipped l) ∙ sym e)))
       where
@@ -103,8 +103,8 @@ module _ {V : Type 0} (me to first : ℕ) where
         back p s k = omega arith
 
     -- all of them, or at most 64
-    pub told_all : (end : ℕ) → end ≡ min (length known) (skipped + 64) → skipped ≤ length known → take (end - skipped) (tell me to first 1 known) ≡ take 64 (tell me to first 1 known)
-    told_all end e l = by (end - skipped) refl
+    pub told_all : {end : ℕ} → end ≡ min (length known) (skipped + 64) → skipped ≤ length known → take (end - skipped) (tell me to first 1 known) ≡ take 64 (tell me to first 1 known)
+    told_all {end} e l = by (end - skipped) refl
       where
         go : (n : ℕ) → (n ≡ 64) ⊎ ((length (tell me to first 1 known) ≤ n) × (length (tell me to first 1 known) ≤ 64)) → take n (tell me to first 1 known) ≡ take 64 (tell me to first 1 known)
         go n (inl s) = ap (λ (m : ℕ). take m (tell me to first 1 known)) s
@@ -122,7 +122,7 @@ pub record HasTold (service : Declarations) (past : List Value) (me to first ski
   pub sends : map (message_in past) now.sends.items ≡ map (message_in past) before.sends.items ++ take (place - skipped) (tell me to first 1 known)
   pub told : AreTold service past before.sends.items → AreTold service past now.sends.items
 
-module _ (service : Declarations) (past : List Value) (me to first skipped : ℕ) (skips : skipped ≡ first - 1) (known : List Value) (before : Draft) where
+module _ (service : Declarations) (past : List Value) (me to : ℕ) {first skipped : ℕ} (skips : skipped ≡ first - 1) (known : List Value) (before : Draft) where
   pub told_first : HasTold service past me to first skipped skipped known before before
   told_first = record {
     effects = refl;
@@ -134,16 +134,16 @@ module _ (service : Declarations) (past : List Value) (me to first skipped : ℕ
       none n = omega arith
 
   -- and the next one
-  pub told_more : (place : ℕ) (now after : Draft) (value : Value) → HasTold service past me to first skipped place known before now → skipped ≤ place → place < length known → value ≡ get_or known place []
+  pub told_more : {place : ℕ} {now after : Draft} {value : Value} → HasTold service past me to first skipped place known before now → skipped ≤ place → place < length known → value ≡ get_or known place []
       → Sends now after (answering me to (sent.Chosen (place + 1) value)) → HasTold service past me to first skipped (place + 1) known before after
-  told_more place now after value h l there is s = record {
+  told_more {place} {now} {value} h l there is s = record {
     effects = s.effects_are ∙ h.effects;
     sends =
         ap (map (message_in past)) s.sends_are
         ∙ map-append (message_in past) now.sends.items (answering me to (sent.Chosen (place + 1) value))
         ∙ ap (λ (ms : List (Message Value)). ms ++ chose me to first (place + 1) value ∷ []) h.sends
         ∙ append_assoc (map (message_in past) before.sends.items) (take (place - skipped) (tell me to first 1 known)) (chose me to first (place + 1) value ∷ [])
-        ∙ ap (λ (ms : List (Message Value)). map (message_in past) before.sends.items ++ ms) (told_next me to first known skipped skips place value [] l there is);
+        ∙ ap (λ (ms : List (Message Value)). map (message_in past) before.sends.items ++ ms) (told_next me to first known skips [] l there is);
     told = λ k. subst (AreTold service past) (sym s.sends_are) (All-append Told now.sends.items (answering me to (sent.Chosen (place + 1) value)) (h.told k) (All-cons Told (record { from = me; to = to; content = sent.Chosen (place + 1) value }) [] tt (All-nil Told)));
   }
     where
@@ -151,8 +151,8 @@ module _ (service : Declarations) (past : List Value) (me to first skipped : ℕ
       Told m = IsTold service past m.content
 
   -- in the end all were told that had to be
-  pub told_end : (end : ℕ) (now : Draft) → HasTold service past me to first skipped end known before now → end ≡ min (length known) (skipped + 64) → skipped ≤ length known → map (message_in past) now.sends.items ≡ map (message_in past) before.sends.items ++ take 64 (tell me to first 1 known)
-  told_end end now h e l = h.sends ∙ ap (λ (ms : List (Message Value)). map (message_in past) before.sends.items ++ ms) (told_all me to first known skipped skips end e l)
+  pub told_end : {end : ℕ} {now : Draft} → HasTold service past me to first skipped end known before now → end ≡ min (length known) (skipped + 64) → skipped ≤ length known → map (message_in past) now.sends.items ≡ map (message_in past) before.sends.items ++ take 64 (tell me to first 1 known)
+  told_end {end} h e l = h.sends ∙ ap (λ (ms : List (Message Value)). map (message_in past) before.sends.items ++ ms) (told_all me to first known skips e l)
 
-  pub told_none : (place : ℕ) (now : Draft) → HasTold service past me to first skipped place known before now → before.sends.items ≡ [] → AreTold service past now.sends.items
-  told_none place now h none = h.told (subst (AreTold service past) (sym none) (All-nil (λ (m : Sent). IsTold service past m.content)))
+  pub told_none : {place : ℕ} {now : Draft} → HasTold service past me to first skipped place known before now → before.sends.items ≡ [] → AreTold service past now.sends.items
+  told_none h none = h.told (subst (AreTold service past) (sym none) (All-nil (λ (m : Sent). IsTold service past m.content)))

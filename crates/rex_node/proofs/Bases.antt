@@ -31,7 +31,7 @@ use Rattle.rex_node.proofs.Appended.{logged_of}
 use Rattle.rex_node.proofs.Recorded.{sends_to}
 use Rattle.rex_node.proofs.Saved.{front_limited}
 
-module _ {K : Type 0} (records : K → List (List ℕ)) (service : Declarations) (past : List Value) (x : NodeValue K) (u : IsUp service x (here_of records service past x)) (begins : Begins (known (here_of records service past x).log) past) where
+module _ {K : Type 0} (records : K → List (List ℕ)) {service : Declarations} {past : List Value} {x : NodeValue K} (u : IsUp service x (here_of records service past x)) (begins : Begins (known (here_of records service past x).log) past) where
   -- its base is among what it knows, and the past has that
   based : x.base ≤ length (known (here_of records service past x).log)
   based = subst (λ (n : ℕ). n ≤ length (known (here_of records service past x).log)) (sym u.base) (le_trans u.replayed.based u.replayed.replayed)
@@ -43,14 +43,14 @@ module _ {K : Type 0} (records : K → List (List ℕ)) (service : Declarations)
   content_is : (snapshot : List ℕ) → content_in past (sent.Snapshot x.base snapshot) ≡ Snapshot (take (base (here_of records service past x).log) (known (here_of records service past x).log))
   content_is snapshot = state_told past (known (here_of records service past x).log) x.base snapshot begins based ∙ ap (λ (n : ℕ). Snapshot (take n (known (here_of records service past x).log))) u.base
 
-  pub tells_base : (before after : Draft) (to : ℕ) → TellsBase service x to before after → so_far records service past x after ≡ answer_base x.id to (so_far records service past x before)
-  tells_base before after to t =
+  pub tells_base : {before after : Draft} {to : ℕ} → TellsBase service x to before after → so_far records service past x after ≡ answer_base x.id to (so_far records service past x before)
+  tells_base {before} {after} {to} t =
       sends_to records service past x before after to (sent.Snapshot x.base t.snapshot) t.sends
       ∙ ap (λ (c : model.Content Value). send (so_far records service past x before) (answer x.id to c)) (content_is t.snapshot)
 
   -- and its state is the one to which these values run
-  pub base_told : (before after : Draft) (to : ℕ) (t : TellsBase service x to before after) → TellsState service past x.base t.snapshot
-  base_told before after to t = record {
+  pub base_told : {before after : Draft} {to : ℕ} (t : TellsBase service x to before after) → TellsState service past x.base t.snapshot
+  base_told t = record {
     state = x.start;
     spelled = t.spelled;
     version = t.version;
@@ -74,13 +74,13 @@ module _ (service : Declarations) (past : List Value) (before after : Draft) (fr
       let only : after.sends.items ≡ answering from to content = s.sends_are ∙ ap (λ (ms : List Message). ms ++ answering from to content) none in
       subst (AreTold service past) (sym only) (All-cons (λ (m : Message). IsTold service past m.content) (record { from = from; to = to; content = content }) [] told (All-nil (λ (m : Message). IsTold service past m.content)))
 
-module _ {K : Type 0} (records : K → List (List ℕ)) (service : Declarations) (past : List Value) (x : NodeValue K) (u : IsUp service x (here_of records service past x)) where
+module _ {K : Type 0} (records : K → List (List ℕ)) {service : Declarations} (past : List Value) {x : NodeValue K} (u : IsUp service x (here_of records service past x)) where
   -- the state at the base is sound, and has a spelling
   pub start_sound : IsService service → IsChecked service → IsSound service x.start
   start_sound good checked = run_keeps service (start_of service) x.start (trace_of (take x.base x.known)) good (start_keeps service good checked) u.start
 
   pub start_limited : IsService service → IsChecked service → IsLimited x.start
-  start_limited good checked = front_limited records service past x u good checked x.base (logged_of records service past x u).few x.start u.start
+  start_limited good checked = front_limited records past u good checked (logged_of records service past x u).few u.start
 
-  pub base_tells : Begins (known (here_of records service past x).log) past → (before after : Draft) (to : ℕ) → before.sends.items ≡ [] → TellsBase service x to before after → AreTold service past after.sends.items
-  base_tells begins before after to none t = one_told service past before after x.id to (sent.Snapshot x.base t.snapshot) none t.sends (base_told records service past x u begins before after to t)
+  pub base_tells : Begins (known (here_of records service past x).log) past → {before after : Draft} {to : ℕ} → before.sends.items ≡ [] → TellsBase service x to before after → AreTold service past after.sends.items
+  base_tells begins {before} {after} {to} none t = one_told service past before after x.id to (sent.Snapshot x.base t.snapshot) none t.sends (base_told records u begins t)

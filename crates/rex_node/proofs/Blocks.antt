@@ -26,36 +26,36 @@ pub record TakesEach {K : Type 0} (records : K → List (List ℕ)) (service : D
   pub leads : LeadsTo (take_each service es) (here_of records service past x) (here_of records service past (record x { acting = Some b }))
   pub stays : StaysResting records service past x (record x { acting = Some b })
 
-module _ {K : Type 0} (records : K → List (List ℕ)) (service : Declarations) (past : List Value) (good : IsService service) (o : Option Refusal) where
-  one_leads : (x : NodeValue K) (a : ActingValue) (e : Event) → IsResting records service past x → if_up x.up o ≡ None → Some a ≡ x.acting
+module _ {K : Type 0} (records : K → List (List ℕ)) {service : Declarations} (past : List Value) (good : IsService service) (o : Option Refusal) where
+  one_leads : {x : NodeValue K} {a : ActingValue} (e : Event) → IsResting records service past x → if_up x.up o ≡ None → Some a ≡ x.acting
       → here_of records service past (record x { acting = Some (next_work service a e) }) ≡ (takes.take_event service e (begin (here_of records service past x))).node
-  one_leads x a e node due has_a =
-      given_leads records service past x x a refl node o due has_a (taken_turn service a.recorder.state a.recorder.queue (length a.recorder.live) e) (next_work service a e) refl
-      ∙ ap (λ (t : Turn). (takes.taken t (begin (here_of records service past x))).node) (given_of_node records service past x x a refl node o due has_a e)
+  one_leads {x} {a} e node due has_a =
+      given_leads refl node o due has_a (taken_turn service a.recorder.state a.recorder.queue (length a.recorder.live) e) refl
+      ∙ ap (λ (t : Turn). (takes.taken t (begin (here_of records service past x))).node) (given_of_node {z = x} refl node o due has_a e)
 
-  one_stays : (x : NodeValue K) (a : ActingValue) (e : Event) → IsResting records service past x → if_up x.up o ≡ None → Some a ≡ x.acting → StaysResting records service past x (record x { acting = Some (next_work service a e) })
-  one_stays x a e node due has_a =
-      given_stays records service past x x a refl node o due has_a (taken_turn service a.recorder.state a.recorder.queue (length a.recorder.live) e) (next_work service a e) refl
-      (taken_keeps service a.recorder e good (has records service past x x a refl node o due has_a).recorder) good
+  one_stays : {x : NodeValue K} {a : ActingValue} (e : Event) → IsResting records service past x → if_up x.up o ≡ None → Some a ≡ x.acting → StaysResting records service past x (record x { acting = Some (next_work service a e) })
+  one_stays {x} {a} e node due has_a =
+      given_stays refl node o due has_a (taken_turn service a.recorder.state a.recorder.queue (length a.recorder.live) e) refl
+      (taken_keeps service a.recorder e good (has {z = x} refl node o due has_a).recorder) good
 
-  takes_each : (x : NodeValue K) (a : ActingValue) (es : List Event) → IsResting records service past x → if_up x.up o ≡ None → Some a ≡ x.acting → TakesEach records service past x es (given_all service a es)
-  takes_each x a [] node due has_a = record {
+  takes_each : (x : NodeValue K) {a : ActingValue} (es : List Event) → IsResting records service past x → if_up x.up o ≡ None → Some a ≡ x.acting → TakesEach records service past x es (given_all service a es)
+  takes_each x [] node due has_a = record {
     leads = ap (λ (w : Option ActingValue). here_of records service past (record x { acting = w })) has_a;
     stays = record { same = record { id = refl; nodes = refl; seed = refl; decoded = refl }; kept = subst (λ (w : Option ActingValue). IsResting records service past (record x { acting = w })) (sym has_a) node };
   }
-  takes_each x a (e ∷ es) node due has_a =
+  takes_each x {a} (e ∷ es) node due has_a =
       let rest : TakesEach records service past (record x { acting = Some (next_work service a e) }) es (given_all service (next_work service a e) es) =
-      takes_each (record x { acting = Some (next_work service a e) }) (next_work service a e) es (one_stays x a e node due has_a).kept due refl in
+      takes_each (record x { acting = Some (next_work service a e) }) es (one_stays e node due has_a).kept due refl in
       record {
-        leads = rest.leads ∙ ap (λ (h : Here). (take_each service es (begin h)).node) (one_leads x a e node due has_a);
+        leads = rest.leads ∙ ap (λ (h : Here). (take_each service es (begin h)).node) (one_leads e node due has_a);
         stays = record { same = record { id = rest.stays.same.id; nodes = rest.stays.same.nodes; seed = rest.stays.same.seed; decoded = rest.stays.same.decoded }; kept = rest.stays.kept };
       }
 
 -- ---- the same where the parts are those of a node
 
-module _ {K : Type 0} (records : K → List (List ℕ)) (service : Declarations) (past : List Value) (x z : NodeValue K) (a : ActingValue) (z_is : z ≡ x) (node : IsResting records service past x) (o : Option Refusal) (due : if_up x.up o ≡ None) (e : Some a ≡ z.acting) (good : IsService service) (es : List Event) (b : ActingValue) (b_is : b ≡ given_all service a es) where
+module _ {K : Type 0} {records : K → List (List ℕ)} {service : Declarations} {past : List Value} {x z : NodeValue K} {a : ActingValue} (z_is : z ≡ x) (node : IsResting records service past x) (o : Option Refusal) (due : if_up x.up o ≡ None) (e : Some a ≡ z.acting) (good : IsService service) (es : List Event) {b : ActingValue} (b_is : b ≡ given_all service a es) where
   each : TakesEach records service past x es (given_all service a es)
-  each = takes_each records service past good o x a es node due (e ∙ ap (λ (n : NodeValue K). n.acting) z_is)
+  each = takes_each records past good o x es node due (e ∙ ap (λ (n : NodeValue K). n.acting) z_is)
 
   pub block_leads : LeadsTo (take_each service es) (here_of records service past x) (here_of records service past (record z { acting = Some b }))
   block_leads =

@@ -69,8 +69,8 @@ above_most k (p ∷ ps) = go (nat_lt k p.instance) (above_most k ps)
     go true h = omega arith
     go false h = omega arith
 
-module _ {K : Type 0} (records : K → List (List ℕ)) (gives : K → List ℕ → Answer → K → Type 0) (faults : K → ℕ) (service : Declarations) (past : List Value) (x : NodeValue K) (node : IsResting records service past x) (up : x.up ≡ true)
-    (b : ℕ) (left : ballot_left x.id x.acceptor.promised ≡ Some b) (least : IsLeastAbove x.id x.acceptor.promised b) where
+module _ {K : Type 0} {records : K → List (List ℕ)} (gives : K → List ℕ → Answer → K → Type 0) (faults : K → ℕ) {service : Declarations} {past : List Value} {x : NodeValue K} (node : IsResting records service past x) (up : x.up ≡ true)
+    {b : ℕ} (left : ballot_left x.id x.acceptor.promised ≡ Some b) (least : IsLeastAbove x.id x.acceptor.promised b) where
   u : IsUp service x (here_of records service past x)
   u = node.up up
 
@@ -92,7 +92,7 @@ module _ {K : Type 0} (records : K → List (List ℕ)) (gives : K → List ℕ 
   -- the ballot is the model's
   elect_is : (f : Option Failure) (d : CallHere) → d.node.log ≡ log → whole d ≡ stand x.nodes (service_of service x.seed) x.id b d
   elect_is f d e =
-      let l = left_is x.id x.acceptor.promised few_nodes b left in
+      let l = left_is x.acceptor.promised few_nodes left in
       let promised : x.acceptor.promised ≡ promise d.node.log = u.promised ∙ ap promise (sym e) in
       ap (λ (p : ℕ). cond (nat_lt 4294967296 (round_of (ballot_above x.id p))) (say (effect.Spent x.id) d) (stand x.nodes (service_of service x.seed) x.id (ballot_above x.id p) d)) (sym promised)
       ∙ ap (λ (t : Bool). cond t (say (effect.Spent x.id) d) (stand x.nodes (service_of service x.seed) x.id (ballot_above x.id x.acceptor.promised) d)) l.1
@@ -116,23 +116,23 @@ module _ {K : Type 0} (records : K → List (List ℕ)) (gives : K → List ℕ 
 
     module _ (y : NodeValue K) (mid : Draft) where
       pub stand_down : Appends records faults gives x y before mid (record_bytes (kept.Promised b)) Down → Ends records gives faults service past whole x y before mid Down
-      stand_down h = recorded_down records gives faults service past x y before mid node up (kept.Promised b) spelled tt refl refl whole then_on appends_is h
+      stand_down h = recorded_down gives faults y before mid node up spelled tt refl refl appends_is h
 
       module _ (h : Appends records faults gives x y before mid (record_bytes (kept.Promised b)) On) where
-        pub stand_stuck : (z : NodeValue K) → z.keeper ≡ y.keeper → z.base ≡ y.base → IsStuck records gives faults service past whole x z before
-        stand_stuck z keeper based = recorded_stuck records gives faults service past x y before mid node up (kept.Promised b) spelled tt refl refl whole then_on appends_is h then_loses z keeper based
+        pub stand_stuck : {z : NodeValue K} → z.keeper ≡ y.keeper → z.base ≡ y.base → IsStuck records gives faults service past whole x z before
+        stand_stuck {z} keeper based = recorded_stuck gives faults y before mid node up spelled tt refl refl appends_is h then_loses keeper based
 
         abbrev z_at : NodeValue K
         z_at = record (standing x b) { keeper = y.keeper }
 
         log_is : log_of service past (records y.keeper) ≡ Promised b ∷ log
-        log_is = appended_log records gives faults service past x y before mid (kept.Promised b) spelled tt refl h
+        log_is = appended_log records gives faults service past x y before mid spelled tt refl h
 
         promised_here : IsLogged service (record x { acceptor = promising x.acceptor b }) (Promised b ∷ log)
-        promised_here = logged_promised service x log (logged_of records service past x u) b (ballot_fits b least.is)
+        promised_here = logged_promised (logged_of records service past x u) (ballot_fits least.is)
 
         z_logged : IsLogged service z_at (log_of service past (records y.keeper))
-        z_logged = subst (IsLogged service z_at) (sym log_is) (logged_as service (record x { acceptor = promising x.acceptor b }) z_at (Promised b ∷ log) refl refl refl refl refl refl promised_here)
+        z_logged = subst (IsLogged service z_at) (sym log_is) (logged_as refl refl refl refl refl refl promised_here)
 
         -- it reports what it accepted for the instances that it doesn't know
         reports_are : map proposal_in (candidate_of x b).reported ≡ own_reports log
@@ -147,7 +147,7 @@ module _ {K : Type 0} (records : K → List (List ℕ)) (gives : K → List ℕ 
 
         lead_fits : LeadFits (length x.known) (candidacy x.id b log)
         lead_fits = record {
-          ballot = ballot_fits b least.is;
+          ballot = ballot_fits least.is;
           reported = λ p i. accepted_fit log u.numbers.log p (in_from_on (suc (length (known log))) p (accepted log) i);
           next = λ p e. absurd (none p e);
         }
@@ -174,9 +174,9 @@ module _ {K : Type 0} (records : K → List (List ℕ)) (gives : K → List ℕ 
         z_beside =
             let o = beside_of records service past x u in
             record {
-              based = replayed_from x.acting x.base x.replayed o.based;
-              replayed = replayed_to x.acting x.base x.replayed (length x.known) o.based o.replayed;
-              ahead = λ _. state_left (λ n s. run service (start_of service) (trace_of (take n x.known)) ≡ Some s) x.acting x.ahead x.start x.base x.replayed u.start u.ahead;
+              based = replayed_from x.acting o.based;
+              replayed = replayed_to x.acting o.based o.replayed;
+              ahead = λ _. state_left (λ n s. run service (start_of service) (trace_of (take n x.known)) ≡ Some s) x.acting x.ahead u.start u.ahead;
               caught_up = λ t. absurd (false≢true t);
               proposer = proposes;
               acting = tt;
@@ -187,7 +187,7 @@ module _ {K : Type 0} (records : K → List (List ℕ)) (gives : K → List ℕ 
         z_kept : IsKept records service past z_at
         z_kept = record { id = node.id; few = node.few; up = λ t. up_of records service past z_at z_logged z_beside; reached = node.reached; decoded = node.decoded }
 
-        module _ (z : NodeValue K) (z_is : z ≡ standing y b) where
+        module _ {z : NodeValue K} (z_is : z ≡ standing y b) where
           all : z ≡ z_at
           all = z_is ∙ ap (λ (n : NodeValue K). standing n b) h.0.parts
 
@@ -198,7 +198,7 @@ module _ {K : Type 0} (records : K → List (List ℕ)) (gives : K → List ℕ 
           pub stand_free : IsFree z.proposer (is_some z.acting)
           stand_free = subst (λ (n : NodeValue K). IsFree n.proposer (is_some n.acting)) (sym all) (refl, λ t. absurd (false≢true t))
 
-          module _ (turns : ℕ) (turns_are : turns ≡ 2 * length (candidate_of y b).reported + 3) where
+          module _ {turns : ℕ} (turns_are : turns ≡ 2 * length (candidate_of y b).reported + 3) where
             turns_here : turns ≡ 2 * length (candidate_of x b).reported + 3
             turns_here = turns_are ∙ ap (λ (n : NodeValue K). 2 * length (candidate_of n b).reported + 3) h.0.parts
 
@@ -215,7 +215,7 @@ module _ {K : Type 0} (records : K → List (List ℕ)) (gives : K → List ℕ 
               here_is : here_of records service past z_at ≡ (with_role (Leading (candidacy x.id b log)) (logged (Promised b) None begun)).node
               here_is =
                   ap (λ (n : Here). record n { role = Leading (lead_of (promising x.acceptor b) (candidate_of x b) false) })
-                  (follower_here records service past x node up y.keeper (Promised b) (promising x.acceptor b) x.known log_is refl
+                  (follower_here node up {a = promising x.acceptor b} log_is refl
                   (record { promised = promised_here.promised; accepted = promised_here.accepted; offset_is = promised_here.offset_is; low = promised_here.low; known = promised_here.known; base = promised_here.base; old_base = promised_here.old_base; few = promised_here.few; start = promised_here.start; short = promised_here.short; fits = promised_here.fits; numbers = promised_here.numbers })
                   (le_refl _) (λ n l. refl) (map (message_in past) before.sends.items) before.effects.items)
                   ∙ ap (λ (l : Lead Value). record (with_role Follower (logged (Promised b) None begun)).node { role = Leading l }) lead_is
@@ -232,7 +232,7 @@ module _ {K : Type 0} (records : K → List (List ℕ)) (gives : K → List ℕ 
 
               stands_as : so_far records service past z_at after ≡ send (say (effect.Candidate x.id b) (with_role (Leading (candidacy x.id b log)) (logged (Promised b) None begun))) (others x.nodes x.id (Prepare b (suc (length (known log)))))
               stands_as =
-                  far records service past z_at after _ _ effects_here sends_here
+                  far records service past z_at after effects_here sends_here
                   ∙ ap (λ (n : Here). call_at n (map (message_in past) before.sends.items ++ others x.nodes x.id (Prepare b (suc (length (known log))))) (before.effects.items ++ effect.Candidate x.id b ∷ [])) here_is
 
               abbrev rest : CallHere → CallHere
@@ -240,25 +240,25 @@ module _ {K : Type 0} (records : K → List (List ℕ)) (gives : K → List ℕ 
 
               stand_leads : Leads records gives faults service whole rest x.keeper z_at.keeper begun (so_far records service past z_at after)
               stand_leads =
-                  leads_then records gives faults service whole then_on rest x.keeper y.keeper y.keeper begun (so_far records service past y mid) (so_far records service past z_at after)
-                  (appended_leads records gives faults service past x y before mid (kept.Promised b) spelled tt refl whole then_on appends_is h)
-                  (leads_same records gives faults service then_on rest y.keeper (so_far records service past y mid) (so_far records service past z_at after) refl comes)
+                  leads_then records gives faults service
+                  (appended_leads records gives faults service past x y before mid spelled tt refl appends_is h)
+                  (leads_same records gives faults service refl comes)
                 where
                   comes : (f : Option Failure) → then_on (armed_with f (so_far records service past y mid)) ≡ rest (armed_with f (so_far records service past z_at after))
                   comes f =
-                      ap (λ (d : CallHere). then_on (armed_with f d)) (appended_here records gives faults service past x y before mid (kept.Promised b) spelled tt refl h)
+                      ap (λ (d : CallHere). then_on (armed_with f d)) (appended_here records gives faults service past x y before mid spelled tt refl h)
                       ∙ ap (λ (n : ℕ). settle n x.nodes (service_of service x.seed) x.id (armed_with f (send (say (effect.Candidate x.id b) (with_role (Leading (candidacy x.id b log)) (logged (Promised b) None begun))) (others x.nodes x.id (Prepare b (suc (length (known log)))))))) enough_is
                       ∙ ap (λ (d : CallHere). rest (armed_with f d)) (sym stands_as)
 
               pub stand_runs : RunsOn service whole begun → RunsOn service (settle turns z.nodes (service_of service z.seed) z.id) (so_far records service past z after)
               stand_runs r =
                   subst (λ (n : NodeValue K). RunsOn service (settle turns n.nodes (service_of service n.seed) n.id) (so_far records service past n after)) (sym all)
-                  (rest_runs records gives faults service past whole rest x z_at before after stand_leads r)
+                  (rest_runs past x z_at before after stand_leads r)
 
               pub stand_short : (w : NodeValue K) (end : Result Going AllocError) → OnErr end (IsStuck records gives faults service past (settle turns z.nodes (service_of service z.seed) z.id) z w after) → OnErr end (IsStuck records gives faults service past whole x w before)
               stand_short w (Ok going) s = tt
               stand_short w (Err e) s =
-                  inr (breaks_after records gives faults service past whole rest x z_at w before after stand_leads (omega (arith, ap length h.0.records, length_push (records x.keeper) (record_bytes (kept.Promised b)))) (z_kept.up up).base
+                  inr (breaks_after z_at w after stand_leads (omega (arith, ap length h.0.records, length_push (records x.keeper) (record_bytes (kept.Promised b)))) (z_kept.up up).base
                   (settle_loses turns x.nodes x.id (service_of service x.seed))
                   (subst (λ (n : NodeValue K). IsStuck records gives faults service past (settle turns n.nodes (service_of service n.seed) n.id) n w after) all s))
 
@@ -279,10 +279,10 @@ module _ {K : Type 0} (records : K → List (List ℕ)) (gives : K → List ℕ 
   abbrev elects : CallHere → CallHere
   elects = elect x.nodes (service_of service x.seed) x.id
 
-  pub elected : (end : Result Going AllocError) (result : Result Step Refusal) → IsResting records service past x → if_up x.up None ≡ None → before ≡ length (records x.keeper) → first.effects.items ≡ [] → first.sends.items ≡ []
+  pub elected : {end : Result Going AllocError} {result : Result Step Refusal} → IsResting records service past x → if_up x.up None ≡ None → before ≡ length (records x.keeper) → first.effects.items ≡ [] → first.sends.items ≡ []
       → IfOk end (Ends records gives faults service past elects x y first draft) → OnErr end (IsStuck records gives faults service past elects x y first) → IsSame x y → Finishes records before draft end y z result
       → HasCome records gives faults service past elects x y z before first draft end result
-  elected end result node up many effects sends ends stuck same finishes = record {
+  elected node up many effects sends ends stuck same finishes = record {
     node = node;
     up = up_when x.up up;
     many = many;

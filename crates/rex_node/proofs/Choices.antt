@@ -30,7 +30,7 @@ use Rattle.rex_node.proofs.Bases.{tells_base}
 use Rattle.rex_node.proofs.Following.{EndsWell, ends_same, far}
 use Rattle.rex_node.proofs.Recorded.{recorded_stuck, recorded_down, recorded_on, follows_node, follows_up, follows_keeper, follows_to}
 
-module _ {K : Type 0} (records : K → List (List ℕ)) (gives : K → List ℕ → Answer → K → Type 0) (faults : K → ℕ) (service : Declarations) (past : List Value) (x : NodeValue K) (node : IsResting records service past x) (up : x.up ≡ true) (before : Draft) (i : ℕ) (v : Value)
+module _ {K : Type 0} {records : K → List (List ℕ)} (gives : K → List ℕ → Answer → K → Type 0) (faults : K → ℕ) {service : Declarations} {past : List Value} {x : NodeValue K} (node : IsResting records service past x) (up : x.up ≡ true) (before : Draft) {i : ℕ} {v : Value}
     (there : IsInstance i) (next : i ≡ suc (length x.known)) (short : IsValue v) (y : NodeValue K) (mid : Draft) where
   u : IsUp service x (here_of records service past x)
   u = node.up up
@@ -58,10 +58,10 @@ module _ {K : Type 0} (records : K → List (List ℕ)) (gives : K → List ℕ 
 
   pub chosen_down : Appends records faults gives x y before mid (record_bytes (kept.Known i v)) Down
       → (Fell records gives faults service chooses x.id x.keeper y.keeper (so_far records service past x before) (so_far records service past y mid) × IsDown y) × IsResting records service past y
-  chosen_down h = recorded_down records gives faults service past x y before mid node up (kept.Known i v) spelled due refl refl chooses _ chosen_is h
+  chosen_down h = recorded_down gives faults y before mid node up spelled due refl refl chosen_is h
 
-  pub chosen_stuck : Appends records faults gives x y before mid (record_bytes (kept.Known i v)) On → (z : NodeValue K) → z.keeper ≡ y.keeper → z.base ≡ y.base → IsStuck records gives faults service past chooses x z before
-  chosen_stuck h z keeper based = recorded_stuck records gives faults service past x y before mid node up (kept.Known i v) spelled due refl refl chooses (λ e. follow x.id (effect.Known x.id i ∷ []) e) chosen_is h (λ d. refl) z keeper based
+  pub chosen_stuck : Appends records faults gives x y before mid (record_bytes (kept.Known i v)) On → {z : NodeValue K} → z.keeper ≡ y.keeper → z.base ≡ y.base → IsStuck records gives faults service past chooses x z before
+  chosen_stuck h {z} keeper based = recorded_stuck gives faults y before mid node up spelled due refl refl chosen_is h (λ d. refl) keeper based
 
   -- the value fits behind those that are known
   pub chosen_fits : RunsOn service (on_chosen x.id i v) (so_far records service past x before) → values_fit service (x.known ++ v ∷ []) ≡ true
@@ -69,15 +69,15 @@ module _ {K : Type 0} (records : K → List (List ℕ)) (gives : K → List ℕ 
       ap (λ (vs : List Value). values_fit service (vs ++ v ∷ [])) u.known
       ∙ subst (λ (d : CallHere). values_fit service (known d.node.log) ≡ true) (chosen_is None) runs
 
-  pub chosen_on : RunsOn service (on_chosen x.id i v) (so_far records service past x before) → Appends records faults gives x y before mid (record_bytes (kept.Known i v)) On → (z : NodeValue K) (after : Draft) → z ≡ record (leaving y) { known = y.known ++ v ∷ [] }
+  pub chosen_on : RunsOn service (on_chosen x.id i v) (so_far records service past x before) → Appends records faults gives x y before mid (record_bytes (kept.Known i v)) On → {z : NodeValue K} {after : Draft} → z ≡ record (leaving y) { known = y.known ++ v ∷ [] }
       → Tells mid after (effect.Known y.id i ∷ followed y.id (role_of y.acceptor y.proposer (is_some y.acting))) → EndsWell records gives faults service past x z before after chooses
-  chosen_on runs h z after z_is t =
-      recorded_on records gives faults service past x y before mid node up (kept.Known i v) spelled due refl refl chooses (λ e. follow x.id (effect.Known x.id i ∷ []) e) chosen_is h z after
-      (follows_keeper records gives faults service past x y before mid node up (kept.Known i v) spelled due refl refl h x.acceptor (x.known ++ v ∷ []) logged_here longer front z z_here)
-      (follows_node records gives faults service past x y before mid node up (kept.Known i v) spelled due refl refl h x.acceptor (x.known ++ v ∷ []) logged_here longer front z z_here)
-      (follows_up records gives faults service past x y before mid node up (kept.Known i v) spelled due refl refl h x.acceptor (x.known ++ v ∷ []) logged_here longer front z z_here)
+  chosen_on runs h {z} {after} z_is t =
+      recorded_on gives faults y before mid node up spelled due refl refl chosen_is h after
+      (follows_keeper gives faults y before mid node up spelled due refl refl h logged_here longer front z_here)
+      (follows_node gives faults y before mid node up spelled due refl refl h logged_here longer front z_here)
+      (follows_up gives faults y before mid node up spelled due refl refl h logged_here longer front z_here)
       (λ f. refl)
-      (follows_to records gives faults service past x y before mid node up (kept.Known i v) spelled due refl refl h x.acceptor (x.known ++ v ∷ []) logged_here longer front z z_here after (effect.Known x.id i)
+      (follows_to gives faults y before mid node up spelled due refl refl h logged_here longer front z_here
       (subst (λ (j : ℕ). Tells mid after (effect.Known j i ∷ followed y.id (role_of y.acceptor y.proposer (is_some y.acting)))) (ap (λ (n : NodeValue K). n.id) h.0.parts) t))
     where
       longer : length x.known ≤ length (x.known ++ v ∷ [])
@@ -91,37 +91,37 @@ module _ {K : Type 0} (records : K → List (List ℕ)) (gives : K → List ℕ 
 
       logged_here : IsLogged service (record x { keeper = y.keeper; acceptor = x.acceptor; known = x.known ++ v ∷ [] }) (Known i v ∷ log_of service past (records x.keeper))
       logged_here =
-          let l : IsLogged service (record x { known = x.known ++ v ∷ [] }) (Known i v ∷ log_of service past (records x.keeper)) = logged_known service x (log_of service past (records x.keeper)) (logged_of records service past x u) i v next (instance_fits i there) (chosen_fits runs) in
+          let l : IsLogged service (record x { known = x.known ++ v ∷ [] }) (Known i v ∷ log_of service past (records x.keeper)) = logged_known (logged_of records service past x u) next (instance_fits there) (chosen_fits runs) in
           record { promised = l.promised; accepted = l.accepted; offset_is = l.offset_is; low = l.low; known = l.known; base = l.base; old_base = l.old_base; few = l.few; start = l.start; short = l.short; fits = l.fits; numbers = l.numbers }
 
 -- ---- what a node is asked for
 
-module _ {K : Type 0} (records : K → List (List ℕ)) (gives : K → List ℕ → Answer → K → Type 0) (faults : K → ℕ) (service : Declarations) (past : List Value) (x : NodeValue K) (node : IsResting records service past x) (up : x.up ≡ true) (before after : Draft) (from first : ℕ) where
+module _ {K : Type 0} {records : K → List (List ℕ)} (gives : K → List ℕ → Answer → K → Type 0) (faults : K → ℕ) {service : Declarations} {past : List Value} {x : NodeValue K} (node : IsResting records service past x) (up : x.up ≡ true) (before after : Draft) (from first : ℕ) where
   pub asked_on : x.offset < first → first ≤ length x.known → after.effects.items ≡ before.effects.items → map (message_in past) after.sends.items ≡ map (message_in past) before.sends.items ++ take 64 (tell x.id from first 1 x.known)
       → EndsWell records gives faults service past x x before after (on_ask x.id from first)
   asked_on late few effects sends =
-      ends_same records gives faults service past x x before after (on_ask x.id from first) refl node up
+      ends_same records gives faults service past x x before after refl node up
       (λ f. ap (λ (t : Bool). cond t (answer_base x.id from (armed_with f (so_far records service past x before))) (cond (nat_lt (length (known (here_of records service past x).log)) first) (say effect.Nothing (armed_with f (so_far records service past x before))) (send (armed_with f (so_far records service past x before)) (take 64 (tell x.id from first 1 (known (here_of records service past x).log))))))
       (lt-leb first (offset (here_of records service past x).log) (subst (λ (o : ℕ). o < first) (node.up up).offset late))
       ∙ ap (λ (t : Bool). cond t (say effect.Nothing (armed_with f (so_far records service past x before))) (send (armed_with f (so_far records service past x before)) (take 64 (tell x.id from first 1 (known (here_of records service past x).log)))))
       (le-ltb (length (known (here_of records service past x).log)) first (omega (arith, few, ap length (node.up up).known)))
       ∙ ap (λ (vs : List Value). send (armed_with f (so_far records service past x before)) (take 64 (tell x.id from first 1 vs))) (sym (node.up up).known)
-      ∙ ap (armed_with f) (sym (far records service past x after _ _ effects sends)))
+      ∙ ap (armed_with f) (sym (far records service past x after effects sends)))
 
   -- it has no more than that
   pub asked_beyond : x.offset < first → length x.known < first → after.effects.items ≡ before.effects.items ++ effect.Nothing ∷ [] → after.sends.items ≡ before.sends.items → EndsWell records gives faults service past x x before after (on_ask x.id from first)
   asked_beyond late more effects sends =
-      ends_same records gives faults service past x x before after (on_ask x.id from first) refl node up
+      ends_same records gives faults service past x x before after refl node up
       (λ f. ap (λ (t : Bool). cond t (answer_base x.id from (armed_with f (so_far records service past x before))) (cond (nat_lt (length (known (here_of records service past x).log)) first) (say effect.Nothing (armed_with f (so_far records service past x before))) (send (armed_with f (so_far records service past x before)) (take 64 (tell x.id from first 1 (known (here_of records service past x).log))))))
       (lt-leb first (offset (here_of records service past x).log) (subst (λ (o : ℕ). o < first) (node.up up).offset late))
       ∙ ap (λ (t : Bool). cond t (say effect.Nothing (armed_with f (so_far records service past x before))) (send (armed_with f (so_far records service past x before)) (take 64 (tell x.id from first 1 (known (here_of records service past x).log)))))
       (lt-ltb (length (known (here_of records service past x).log)) first (subst (λ (vs : List Value). length vs < first) (node.up up).known more))
-      ∙ ap (armed_with f) (sym (far records service past x after _ _ effects (ap (map (message_in past)) sends))))
+      ∙ ap (armed_with f) (sym (far records service past x after effects (ap (map (message_in past)) sends))))
 
   -- or it doesn't hold the values any more
   pub asked_old : Begins (known (here_of records service past x).log) past → first ≤ x.offset → TellsBase service x from before after → EndsWell records gives faults service past x x before after (on_ask x.id from first)
   asked_old begins old t =
-      ends_same records gives faults service past x x before after (on_ask x.id from first) refl node up
+      ends_same records gives faults service past x x before after refl node up
       (λ f. ap (λ (t : Bool). cond t (answer_base x.id from (armed_with f (so_far records service past x before))) (cond (nat_lt (length (known (here_of records service past x).log)) first) (say effect.Nothing (armed_with f (so_far records service past x before))) (send (armed_with f (so_far records service past x before)) (take 64 (tell x.id from first 1 (known (here_of records service past x).log))))))
       (le-leb first (offset (here_of records service past x).log) (subst (λ (o : ℕ). first ≤ o) (node.up up).offset old))
-      ∙ ap (armed_with f) (sym (tells_base records service past x (node.up up) begins before after from t)))
+      ∙ ap (armed_with f) (sym (tells_base records (node.up up) begins t)))

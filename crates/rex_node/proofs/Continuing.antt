@@ -18,7 +18,7 @@ module _ {K : Type 0} (records : K → List (List ℕ)) (gives : K → List ℕ 
       → Ends records gives faults service past rest z w mid after going → Ends records gives faults service past whole x w before after going
   ends_then On id l h = (
     (
-      leads_then records gives faults service whole rest (λ d. d) x.keeper z.keeper w.keeper (so_far records service past x before) (so_far records service past z mid) (so_far records service past w after) l h.0.0,
+      leads_then records gives faults service l h.0.0,
       h.0.1,
       h.0.2,
     ),
@@ -26,7 +26,7 @@ module _ {K : Type 0} (records : K → List (List ℕ)) (gives : K → List ℕ 
   )
   ends_then Down id l h = (
     (
-      leads_fell records gives faults service whole rest x.id x.keeper z.keeper w.keeper (so_far records service past x before) (so_far records service past z mid) (so_far records service past w after) l
+      leads_fell records gives faults service l
           (subst (λ (i : ℕ). Fell records gives faults service rest i z.keeper w.keeper (so_far records service past z mid) (so_far records service past w after)) id h.0.0),
       h.0.1,
     ),

@@ -55,17 +55,17 @@ use Rattle.rex_node.proofs.Stuck.{breaks_kept, breaks_later, stands_same}
 
 -- ---- votes
 
-pub ignored_is : (o : Option Why) (nodes have : ℕ) (why : Why) → voted o nodes have ≡ Ignored why → o ≡ Some why
-ignored_is (Some w) nodes have why e = cc
-ignored_is None nodes have why e = absurd (go (counts.is_majority nodes have) e)
+pub ignored_is : (o : Option Why) (nodes have : ℕ) {why : Why} → voted o nodes have ≡ Ignored why → o ≡ Some why
+ignored_is (Some w) nodes have e = cc
+ignored_is None nodes have {why} e = absurd (go (counts.is_majority nodes have) e)
   where
     go : (t : Bool) → vote_of (cond t count.Quorum (count.NotYet have)) ≡ Ignored why → ⊥
     go true k = let n : Quorum ≡ Ignored why = k in cc
     go false k = let n : NotYet have ≡ Ignored why = k in cc
 
-pub not_yet_is : (o : Option Why) (nodes have h : ℕ) → voted o nodes have ≡ NotYet h → (o ≡ None) × (counts.is_majority nodes have ≡ false) × (h ≡ have)
-not_yet_is (Some w) nodes have h e = absurd (cc)
-not_yet_is None nodes have h e = let r = go (counts.is_majority nodes have) refl e in (refl, r.0, r.1)
+pub not_yet_is : (o : Option Why) (nodes : ℕ) {have h : ℕ} → voted o nodes have ≡ NotYet h → (o ≡ None) × (counts.is_majority nodes have ≡ false) × (h ≡ have)
+not_yet_is (Some w) nodes e = absurd (cc)
+not_yet_is None nodes {have} {h} e = let r = go (counts.is_majority nodes have) refl e in (refl, r.0, r.1)
   where
     go : (t : Bool) → counts.is_majority nodes have ≡ t → vote_of (cond t count.Quorum (count.NotYet have)) ≡ NotYet h → (counts.is_majority nodes have ≡ false) × (h ≡ have)
     go true s k = absurd (let n : Quorum ≡ NotYet h = k in cc)
@@ -91,15 +91,15 @@ pub record CountsTo (o : Option ProposerValue) (b from have : ℕ) : Type 0 wher
   pub counts : Counts o b from false
   pub have_is : have ≡ length counts.proposer.promised + 1
 
-pub counts_to : (o : Option ProposerValue) (b from have : ℕ) (v : Vote) → v ≡ vote_on o b from → v ≡ NotYet have → CountsTo o b from have
-counts_to None b from have v e k = absurd (let n : NotYet have ≡ Ignored (Ballot b 0) = sym k ∙ e in cc)
-counts_to (Some p) b from have v e k =
-    let r = not_yet_is (promise_refusal p b from) p.nodes (length p.promised + 1) have (sym e ∙ k) in
+pub counts_to : (o : Option ProposerValue) {b from have : ℕ} {v : Vote} → v ≡ vote_on o b from → v ≡ NotYet have → CountsTo o b from have
+counts_to None {b} {have} e k = absurd (let n : NotYet have ≡ Ignored (Ballot b 0) = sym k ∙ e in cc)
+counts_to (Some p) {b} {from} {have} e k =
+    let r = not_yet_is (promise_refusal p b from) p.nodes (sym e ∙ k) in
     record { counts = record { proposer = p; is = refl; new = r.0; majority = r.1 }; have_is = r.2 }
 
-pub counts_many : (o : Option ProposerValue) (b from : ℕ) (v : Vote) → v ≡ vote_on o b from → v ≡ Quorum → Counts o b from true
-counts_many None b from v e k = absurd (let n : Quorum ≡ Ignored (Ballot b 0) = sym k ∙ e in cc)
-counts_many (Some p) b from v e k =
+pub counts_many : (o : Option ProposerValue) {b from : ℕ} {v : Vote} → v ≡ vote_on o b from → v ≡ Quorum → Counts o b from true
+counts_many None {b} e k = absurd (let n : Quorum ≡ Ignored (Ballot b 0) = sym k ∙ e in cc)
+counts_many (Some p) {b} {from} e k =
     let r = quorum_is (promise_refusal p b from) p.nodes (length p.promised + 1) (sym e ∙ k) in
     record { proposer = p; is = refl; new = r.0; majority = r.1 }
 
@@ -151,10 +151,10 @@ module _ (n : ℕ) (sv : Service Value StateValue) (me from b : ℕ) (ps : List 
       go false = refl
 
 -- a promise that is counted finds no open proposal, at a node that isn't active
-free_of : (t : Bool) (o : Option ℕ) (c : Bool) → c ≡ not (t || is_some o) → not c ≡ false → (t ≡ false) × (o ≡ None)
-free_of false None c e f = (refl, refl)
-free_of false (Some i) c e f = absurd (false≢true (sym (sym (ap not e) ∙ f)))
-free_of true o c e f = absurd (false≢true (sym (sym (ap not e) ∙ f)))
+free_of : (t : Bool) (o : Option ℕ) {c : Bool} → c ≡ not (t || is_some o) → not c ≡ false → (t ≡ false) × (o ≡ None)
+free_of false None e f = (refl, refl)
+free_of false (Some i) e f = absurd (false≢true (sym (sym (ap not e) ∙ f)))
+free_of true o e f = absurd (false≢true (sym (sym (ap not e) ∙ f)))
 
 no_second : (a b c : Bool) (x y z : Why) → cond a (Some x) (cond b (Some y) (cond c (Some z) None)) ≡ None → b ≡ false
 no_second true b c x y z e = absurd (cc)
@@ -165,11 +165,11 @@ no_second false false c x y z e = refl
 
 reports_fit : (ps : List Kept) → All IsProposal ps → (q : Proposal Value) → IsIn q (map proposal_in ps) → ProposalFits q
 reports_fit [] h q i = absurd i
-reports_fit (p ∷ ps) h q (inl e) = let k = All-head IsProposal p ps h in subst (ProposalFits {V = Value}) (sym e) (record { ballot = ballot_fits p.ballot k.ballot; instance = instance_fits p.instance k.instance })
+reports_fit (p ∷ ps) h q (inl e) = let k = All-head IsProposal p ps h in subst (ProposalFits {V = Value}) (sym e) (record { ballot = ballot_fits k.ballot; instance = instance_fits k.instance })
 reports_fit (p ∷ ps) h q (inr i) = reports_fit ps (All-tail IsProposal p ps h) q i
 
-both_fit : (ps qs : List (Proposal Value)) → ((q : Proposal Value) → IsIn q ps → ProposalFits q) → ((q : Proposal Value) → IsIn q qs → ProposalFits q) → (q : Proposal Value) → IsIn q (ps ++ qs) → ProposalFits q
-both_fit ps qs h k q i = go (in_cases q ps qs i)
+both_fit : (ps qs : List (Proposal Value)) → ((q : Proposal Value) → IsIn q ps → ProposalFits q) → ((q : Proposal Value) → IsIn q qs → ProposalFits q) → {q : Proposal Value} → IsIn q (ps ++ qs) → ProposalFits q
+both_fit ps qs h k {q} i = go (in_cases q ps qs i)
   where
     go : IsIn q ps ⊎ IsIn q qs → ProposalFits q
     go (inl a) = h q a
@@ -177,8 +177,8 @@ both_fit ps qs h k q i = go (in_cases q ps qs i)
 
 -- ---- a node that is told a promise
 
-module _ {K : Type 0} (records : K → List (List ℕ)) (gives : K → List ℕ → Answer → K → Type 0) (faults : K → ℕ) (service : Declarations) (past : List Value) (x : NodeValue K) (node : IsResting records service past x) (up : x.up ≡ true)
-    (from b : ℕ) (there : (0 < from) × (from ≤ x.nodes)) (reported : List Kept) (all : All IsProposal reported) where
+module _ {K : Type 0} {records : K → List (List ℕ)} (gives : K → List ℕ → Answer → K → Type 0) (faults : K → ℕ) {service : Declarations} {past : List Value} {x : NodeValue K} (node : IsResting records service past x) (up : x.up ≡ true)
+    {from : ℕ} (b : ℕ) (there : (0 < from) × (from ≤ x.nodes)) (reported : List Kept) (all : All IsProposal reported) where
   u : IsUp service x (here_of records service past x)
   u = node.up up
 
@@ -192,86 +192,86 @@ module _ {K : Type 0} (records : K → List (List ℕ)) (gives : K → List ℕ 
     abbrev begun : CallHere
     begun = so_far records service past x before
 
-    whole_at : (f : Option Failure) (o : Option ProposerValue) → x.proposer ≡ o → whole (armed_with f begun) ≡ on_promise x.nodes (service_of service x.seed) x.id from b (map proposal_in reported) (armed_with f begun) (role_of x.acceptor o (is_some x.acting))
-    whole_at f o e = ap (λ (q : Option ProposerValue). on_promise x.nodes (service_of service x.seed) x.id from b (map proposal_in reported) (armed_with f begun) (role_of x.acceptor q (is_some x.acting))) e
+    whole_at : (f : Option Failure) {o : Option ProposerValue} → x.proposer ≡ o → whole (armed_with f begun) ≡ on_promise x.nodes (service_of service x.seed) x.id from b (map proposal_in reported) (armed_with f begun) (role_of x.acceptor o (is_some x.acting))
+    whole_at f e = ap (λ (q : Option ProposerValue). on_promise x.nodes (service_of service x.seed) x.id from b (map proposal_in reported) (armed_with f begun) (role_of x.acceptor q (is_some x.acting))) e
 
-    module _ (p : ProposerValue) (e : x.proposer ≡ Some p) where
+    module _ {p : ProposerValue} (e : x.proposer ≡ Some p) where
       proposes : Proposes x.nodes x.id x.acceptor p
       proposes = subst (IsProposer x.nodes x.id x.acceptor) e u.proposer
 
       gone : is_candidate p ≡ not (is_some x.acting || is_some p.open_instance)
       gone = subst (λ (o : Option ProposerValue). HasGoneOn o (is_some x.acting)) e (node.rests up)
 
-      made_is : (f : Option Failure) (r : Option Why) → promise_refusal p b from ≡ r → whole (armed_with f begun) ≡ made x.nodes (service_of service x.seed) x.id from b (map proposal_in reported) x.acceptor p (is_some x.acting) (armed_with f begun) r
-      made_is f r k =
-          whole_at f (Some p) e
+      made_is : (f : Option Failure) {r : Option Why} → promise_refusal p b from ≡ r → whole (armed_with f begun) ≡ made x.nodes (service_of service x.seed) x.id from b (map proposal_in reported) x.acceptor p (is_some x.acting) (armed_with f begun) r
+      made_is f k =
+          whole_at f e
           ∙ promise_made x.nodes (service_of service x.seed) x.id from b (map proposal_in reported) x.acceptor p (is_some x.acting) (armed_with f begun) proposes.open_one gone
           ∙ ap (made x.nodes (service_of service x.seed) x.id from b (map proposal_in reported) x.acceptor p (is_some x.acting) (armed_with f begun)) k
 
     -- ---- one that is ignored
 
-    module _ (why : Why) (vote_is : vote_on x.proposer b from ≡ Ignored why) where
+    module _ {why : Why} (vote_is : vote_on x.proposer b from ≡ Ignored why) where
       same_at : (o : Option ProposerValue) → vote_on o b from ≡ Ignored why → option_map (λ (p : ProposerValue). promise_counted p b from reported) o ≡ o
       same_at None k = refl
-      same_at (Some p) k = ap (λ (r : Option Why). Some (with_promise r p from reported)) (ignored_is (promise_refusal p b from) p.nodes (length p.promised + 1) why k)
+      same_at (Some p) k = ap (λ (r : Option Why). Some (with_promise r p from reported)) (ignored_is (promise_refusal p b from) p.nodes (length p.promised + 1) k)
 
-      pub ignored_same : (z : NodeValue K) → z ≡ counting x b from reported → z ≡ x
-      ignored_same z z_is = z_is ∙ ap (λ (o : Option ProposerValue). record x { proposer = o }) (same_at x.proposer vote_is)
+      pub ignored_same : {z : NodeValue K} → z ≡ counting x b from reported → z ≡ x
+      ignored_same z_is = z_is ∙ ap (λ (o : Option ProposerValue). record x { proposer = o }) (same_at x.proposer vote_is)
 
-      says_at : (f : Option Failure) (o : Option ProposerValue) → x.proposer ≡ o → vote_on o b from ≡ Ignored why → whole (armed_with f begun) ≡ armed_with f (say (told_of why) begun)
-      says_at f None e k = whole_at f None e ∙ ap (λ (w : Why). say (told_of w) (armed_with f begun)) (let n : Ballot b 0 ≡ why = cc in n)
-      says_at f (Some p) e k = made_is p e f (Some why) (ignored_is (promise_refusal p b from) p.nodes (length p.promised + 1) why k)
+      says_at : {f : Option Failure} (o : Option ProposerValue) → x.proposer ≡ o → vote_on o b from ≡ Ignored why → whole (armed_with f begun) ≡ armed_with f (say (told_of why) begun)
+      says_at {f} None e k = whole_at f e ∙ ap (λ (w : Why). say (told_of w) (armed_with f begun)) (let n : Ballot b 0 ≡ why = cc in n)
+      says_at {f} (Some p) e k = made_is e f (ignored_is (promise_refusal p b from) p.nodes (length p.promised + 1) k)
 
-      pub promise_ignored : (z : NodeValue K) → z ≡ counting x b from reported → (told : Effect) → told ≡ told_of why → (after : Draft) → after.effects.items ≡ before.effects.items ++ told ∷ [] → after.sends.items ≡ before.sends.items
+      pub promise_ignored : {z : NodeValue K} → z ≡ counting x b from reported → {told : Effect} → told ≡ told_of why → (after : Draft) → after.effects.items ≡ before.effects.items ++ told ∷ [] → after.sends.items ≡ before.sends.items
           → EndsWell records gives faults service past x z before after whole
-      promise_ignored z z_is told told_is after effects sends =
-          subst (λ (n : NodeValue K). EndsWell records gives faults service past x n before after whole) (sym (ignored_same z z_is))
-          (ends_same records gives faults service past x x before after whole refl node up
-          (λ f. says_at f x.proposer refl vote_is
-          ∙ ap (armed_with f) (sym (far records service past x after _ _ (effects ∙ ap (λ (t : Effect). before.effects.items ++ t ∷ []) told_is) (ap (map (message_in past)) sends)))))
+      promise_ignored {z} z_is told_is after effects sends =
+          subst (λ (n : NodeValue K). EndsWell records gives faults service past x n before after whole) (sym (ignored_same z_is))
+          (ends_same records gives faults service past x x before after refl node up
+          (λ f. says_at x.proposer refl vote_is
+          ∙ ap (armed_with f) (sym (far records service past x after (effects ∙ ap (λ (t : Effect). before.effects.items ++ t ∷ []) told_is) (ap (map (message_in past)) sends)))))
 
     -- ---- one that is counted
 
-    module _ (p : ProposerValue) (e : x.proposer ≡ Some p) (new : promise_refusal p b from ≡ None) where
+    module _ {p : ProposerValue} (e : x.proposer ≡ Some p) (new : promise_refusal p b from ≡ None) where
       abbrev more : ProposerValue
       more = record p { promised = p.promised ++ from ∷ []; reported = p.reported ++ reported }
 
       abbrev z_at : NodeValue K
       z_at = record x { proposer = Some more }
 
-      counted_at : (z : NodeValue K) → z ≡ counting x b from reported → z ≡ z_at
-      counted_at z z_is =
+      counted_at : {z : NodeValue K} → z ≡ counting x b from reported → z ≡ z_at
+      counted_at z_is =
           z_is
           ∙ ap (λ (o : Option ProposerValue). record x { proposer = option_map (λ (q : ProposerValue). promise_counted q b from reported) o }) e
           ∙ ap (λ (r : Option Why). record x { proposer = Some (with_promise r p from reported) }) new
 
       free : (is_some x.acting ≡ false) × (p.open_instance ≡ None)
-      free = free_of (is_some x.acting) p.open_instance (is_candidate p) (gone p e) (no_second (not (b == p.ballot)) (not (is_candidate p)) (is_counted from p.promised) (Ballot b p.ballot) Late (Again from) new)
+      free = free_of (is_some x.acting) p.open_instance (gone e) (no_second (not (b == p.ballot)) (not (is_candidate p)) (is_counted from p.promised) (Ballot b p.ballot) Late (Again from) new)
 
       -- it is what the model leads with then
       heard_is : lead_of x.acceptor more (is_some x.acting) ≡ heard (lead_of x.acceptor p (is_some x.acting)) from (map proposal_in reported)
       heard_is =
           ap (λ (t : Bool). lead_of x.acceptor more t) free.0
           ∙ ap (λ (o : Option ℕ). record (lead_of x.acceptor more false) { proposal = open_of x.acceptor o }) free.1
-          ∙ ap (λ (ns : List ℕ). record (lead_of x.acceptor more false) { proposal = None; accepted_by = ns }) ((proposes p e).counted free.1)
+          ∙ ap (λ (ns : List ℕ). record (lead_of x.acceptor more false) { proposal = None; accepted_by = ns }) ((proposes e).counted free.1)
           ∙ ap (λ (ps : List (Proposal Value)). record (lead_of x.acceptor more false) { proposal = None; accepted_by = []; reported = ps }) (map-append proposal_in p.reported reported)
 
       counted : AreCounted p.nodes more.promised
-      counted = counted_push p.nodes p.promised from (proposes p e).once.promises (subst (λ (n : ℕ). IsOneOf n from) (sym (proposes p e).nodes_are) one_of) (new_promise p b from new)
+      counted = counted_push p.nodes p.promised from (proposes e).once.promises (subst (λ (n : ℕ). IsOneOf n from) (sym (proposes e).nodes_are) one_of) (new_promise p b from new)
 
       length_more : length more.promised ≡ length p.promised + 1
       length_more = length-append p.promised (from ∷ [])
 
-      majority_same : (t : Bool) → counts.is_majority p.nodes (length p.promised + 1) ≡ t → is_majority x.nodes more.promised ≡ t
-      majority_same t k =
-          ap (λ (n : ℕ). is_majority n more.promised) (sym (proposes p e).nodes_are)
-          ∙ majority_is p.nodes more.promised counted
+      majority_same : {t : Bool} → counts.is_majority p.nodes (length p.promised + 1) ≡ t → is_majority x.nodes more.promised ≡ t
+      majority_same k =
+          ap (λ (n : ℕ). is_majority n more.promised) (sym (proposes e).nodes_are)
+          ∙ majority_is counted
           ∙ ap (counts.is_majority p.nodes) length_more
           ∙ k
 
       z_proposes : Proposes x.nodes x.id x.acceptor more
       z_proposes =
-          let h = proposes p e in
+          let h = proposes e in
           record {
             nodes_are = h.nodes_are;
             own = h.own;
@@ -289,7 +289,7 @@ module _ {K : Type 0} (records : K → List (List ℕ)) (gives : K → List ℕ 
       z_role : LeadFits (length x.known) (lead_of x.acceptor p (is_some x.acting)) → LeadFits (length x.known) (lead_of x.acceptor more (is_some x.acting))
       z_role h = record {
         ballot = h.ballot;
-        reported = λ q i. both_fit (map proposal_in p.reported) (map proposal_in reported) h.reported (reports_fit reported all) q (subst (IsIn q) (map-append proposal_in p.reported reported) i);
+        reported = λ q i. both_fit (map proposal_in p.reported) (map proposal_in reported) h.reported (reports_fit reported all) (subst (IsIn q) (map-append proposal_in p.reported reported) i);
         next = h.next;
       }
 
@@ -308,16 +308,16 @@ module _ {K : Type 0} (records : K → List (List ℕ)) (gives : K → List ℕ 
           }
 
       z_kept : IsKept records service past z_at
-      z_kept = record { id = node.id; few = node.few; up = λ t. up_of records service past z_at (logged_as service x z_at (log_of service past (records x.keeper)) refl refl refl refl refl refl (logged_of records service past x u)) z_beside; reached = node.reached; decoded = node.decoded }
+      z_kept = record { id = node.id; few = node.few; up = λ t. up_of records service past z_at (logged_as refl refl refl refl refl refl (logged_of records service past x u)) z_beside; reached = node.reached; decoded = node.decoded }
 
       -- the call counts it
       hears_is : (f : Option Failure) → whole (armed_with f begun) ≡ hear x.nodes (service_of service x.seed) x.id (lead_of x.acceptor more (is_some x.acting)) (armed_with f begun)
-      hears_is f = made_is p e f None new ∙ ap (λ (l : Lead Value). hear x.nodes (service_of service x.seed) x.id l (armed_with f begun)) (sym heard_is)
+      hears_is f = made_is e f new ∙ ap (λ (l : Lead Value). hear x.nodes (service_of service x.seed) x.id l (armed_with f begun)) (sym heard_is)
 
       -- ---- memory was short, and it is taken back
 
-      stands_back : (z w v : NodeValue K) → z ≡ counting x b from reported → Stands records faults gives z w → v ≡ uncounting w (length reported) → Stands records faults gives x v
-      stands_back z w v z_is s v_is = record {
+      stands_back : {z w v : NodeValue K} → z ≡ counting x b from reported → Stands records faults gives z w → v ≡ uncounting w (length reported) → Stands records faults gives x v
+      stands_back {z} {w} {v} z_is s v_is = record {
         parts =
             v_is
             ∙ ap (λ (n : NodeValue K). uncounting n (length reported)) s.parts
@@ -335,10 +335,10 @@ module _ {K : Type 0} (records : K → List (List ℕ)) (gives : K → List ℕ 
           keeper = ap (λ (n : NodeValue K). n.keeper) v_is
 
           counted : z.keeper ≡ x.keeper
-          counted = ap (λ (n : NodeValue K). n.keeper) (counted_at z z_is)
+          counted = ap (λ (n : NodeValue K). n.keeper) (counted_at z_is)
 
-      pub promise_back : (z v : NodeValue K) → z ≡ counting x b from reported → v ≡ uncounting z (length reported) → IsStuck records gives faults service past whole x v before
-      promise_back z v z_is v_is = inl (stands_back z z v z_is (stands_same records gives faults z) v_is)
+      pub promise_back : {z v : NodeValue K} → z ≡ counting x b from reported → v ≡ uncounting z (length reported) → IsStuck records gives faults service past whole x v before
+      promise_back {z} {v} z_is v_is = inl (stands_back z_is (stands_same) v_is)
 
       -- ---- it is no majority yet
 
@@ -355,32 +355,32 @@ module _ {K : Type 0} (records : K → List (List ℕ)) (gives : K → List ℕ 
               ∙ sym (ap (λ (s : Bool). not (s || is_some p.open_instance)) free.0 ∙ ap (λ (o : Option ℕ). not (false || is_some o)) free.1);
         }
 
-        pub promise_have : (z : NodeValue K) → z ≡ counting x b from reported → (have : ℕ) → have ≡ length p.promised + 1 → (after : Draft) → after.effects.items ≡ before.effects.items ++ effect.Have have ∷ [] → after.sends.items ≡ before.sends.items
+        pub promise_have : {z : NodeValue K} → z ≡ counting x b from reported → {have : ℕ} → have ≡ length p.promised + 1 → (after : Draft) → after.effects.items ≡ before.effects.items ++ effect.Have have ∷ [] → after.sends.items ≡ before.sends.items
             → EndsWell records gives faults service past x z before after whole
-        promise_have z z_is have have_is after effects sends =
-            subst (λ (n : NodeValue K). EndsWell records gives faults service past x n before after whole) (sym (counted_at z z_is))
-            (ends_same records gives faults service past x z_at before after whole refl z_node up
+        promise_have {z} z_is have_is after effects sends =
+            subst (λ (n : NodeValue K). EndsWell records gives faults service past x n before after whole) (sym (counted_at z_is))
+            (ends_same records gives faults service past x z_at before after refl z_node up
             (λ f. hears_is f
-            ∙ ap (λ (t : Bool). cond t (settle (enough (map proposal_in more.reported)) x.nodes (service_of service x.seed) x.id (led (Leading (lead_of x.acceptor more (is_some x.acting))) (armed_with f begun))) (say (effect.Have (length more.promised)) (led (Leading (lead_of x.acceptor more (is_some x.acting))) (armed_with f begun)))) (majority_same false few)
+            ∙ ap (λ (t : Bool). cond t (settle (enough (map proposal_in more.reported)) x.nodes (service_of service x.seed) x.id (led (Leading (lead_of x.acceptor more (is_some x.acting))) (armed_with f begun))) (say (effect.Have (length more.promised)) (led (Leading (lead_of x.acceptor more (is_some x.acting))) (armed_with f begun)))) (majority_same few)
             ∙ ap (λ (n : ℕ). say (effect.Have n) (led (Leading (lead_of x.acceptor more (is_some x.acting))) (armed_with f begun))) (length_more ∙ sym have_is)
-            ∙ ap (armed_with f) (sym (far records service past z_at after _ _ effects (ap (map (message_in past)) sends)))))
+            ∙ ap (armed_with f) (sym (far records service past z_at after effects (ap (map (message_in past)) sends)))))
 
       -- ---- it is a majority
 
-      module _ (many : counts.is_majority p.nodes (length p.promised + 1) ≡ true) (z : NodeValue K) (z_is : z ≡ counting x b from reported) where
+      module _ (many : counts.is_majority p.nodes (length p.promised + 1) ≡ true) {z : NodeValue K} (z_is : z ≡ counting x b from reported) where
         pub promise_kept : IsKept records service past z
-        promise_kept = subst (IsKept records service past) (sym (counted_at z z_is)) z_kept
+        promise_kept = subst (IsKept records service past) (sym (counted_at z_is)) z_kept
 
         pub promise_free : IsFree z.proposer (is_some z.acting)
-        promise_free = subst (λ (n : NodeValue K). IsFree n.proposer (is_some n.acting)) (sym (counted_at z z_is)) (free.1, λ t. absurd (false≢true (sym free.0 ∙ t)))
+        promise_free = subst (λ (n : NodeValue K). IsFree n.proposer (is_some n.acting)) (sym (counted_at z_is)) (free.1, λ t. absurd (false≢true (sym free.0 ∙ t)))
 
-        module _ (turns : ℕ) (turns_are : turns ≡ 2 * reports_of z.proposer + 3) where
+        module _ {turns : ℕ} (turns_are : turns ≡ 2 * reports_of z.proposer + 3) where
           turns_here : turns ≡ 2 * length more.reported + 3
-          turns_here = turns_are ∙ ap (λ (n : NodeValue K). 2 * reports_of n.proposer + 3) (counted_at z z_is)
+          turns_here = turns_are ∙ ap (λ (n : NodeValue K). 2 * reports_of n.proposer + 3) (counted_at z_is)
 
           pub promise_turns : IfSome z.proposer (λ (q : ProposerValue). 2 * above (length z.known) q.reported + 1 ≤ turns)
           promise_turns =
-              subst (λ (n : NodeValue K). IfSome n.proposer (λ (q : ProposerValue). 2 * above (length n.known) q.reported + 1 ≤ turns)) (sym (counted_at z z_is))
+              subst (λ (n : NodeValue K). IfSome n.proposer (λ (q : ProposerValue). 2 * above (length n.known) q.reported + 1 ≤ turns)) (sym (counted_at z_is))
               (omega (arith, above_most (length x.known) more.reported, turns_here))
 
           abbrev rest : CallHere → CallHere
@@ -388,26 +388,26 @@ module _ {K : Type 0} (records : K → List (List ℕ)) (gives : K → List ℕ 
 
           promise_leads : Leads records gives faults service whole rest x.keeper x.keeper begun (so_far records service past z_at before)
           promise_leads =
-              leads_same records gives faults service whole rest x.keeper begun (so_far records service past z_at before) refl
+              leads_same records gives faults service refl
               (λ f. hears_is f
-              ∙ ap (λ (t : Bool). cond t (settle (enough (map proposal_in more.reported)) x.nodes (service_of service x.seed) x.id (led (Leading (lead_of x.acceptor more (is_some x.acting))) (armed_with f begun))) (say (effect.Have (length more.promised)) (led (Leading (lead_of x.acceptor more (is_some x.acting))) (armed_with f begun)))) (majority_same true many)
+              ∙ ap (λ (t : Bool). cond t (settle (enough (map proposal_in more.reported)) x.nodes (service_of service x.seed) x.id (led (Leading (lead_of x.acceptor more (is_some x.acting))) (armed_with f begun))) (say (effect.Have (length more.promised)) (led (Leading (lead_of x.acceptor more (is_some x.acting))) (armed_with f begun)))) (majority_same many)
               ∙ ap (λ (n : ℕ). settle (2 * n + 3) x.nodes (service_of service x.seed) x.id (armed_with f (so_far records service past z_at before))) (length-map more.reported proposal_in)
               ∙ ap (λ (n : ℕ). settle n x.nodes (service_of service x.seed) x.id (armed_with f (so_far records service past z_at before))) (sym turns_here))
 
           pub promise_runs : RunsOn service whole begun → RunsOn service (settle turns z.nodes (service_of service z.seed) z.id) (so_far records service past z before)
           promise_runs r =
-              subst (λ (n : NodeValue K). RunsOn service (settle turns n.nodes (service_of service n.seed) n.id) (so_far records service past n before)) (sym (counted_at z z_is))
-              (rest_runs records gives faults service past whole rest x z_at before before promise_leads r)
+              subst (λ (n : NodeValue K). RunsOn service (settle turns n.nodes (service_of service n.seed) n.id) (so_far records service past n before)) (sym (counted_at z_is))
+              (rest_runs past x z_at before before promise_leads r)
 
-          pub promise_ends : (w : NodeValue K) (after : Draft) (going : Going) → Ends records gives faults service past (settle turns z.nodes (service_of service z.seed) z.id) z w before after going → Ends records gives faults service past whole x w before after going
-          promise_ends w after going h =
+          pub promise_ends : {w : NodeValue K} (after : Draft) (going : Going) → Ends records gives faults service past (settle turns z.nodes (service_of service z.seed) z.id) z w before after going → Ends records gives faults service past whole x w before after going
+          promise_ends {w} after going h =
               ends_then records gives faults service past whole rest x z_at w before before after going refl promise_leads
-              (subst (λ (n : NodeValue K). Ends records gives faults service past (settle turns n.nodes (service_of service n.seed) n.id) n w before after going) (counted_at z z_is) h)
+              (subst (λ (n : NodeValue K). Ends records gives faults service past (settle turns n.nodes (service_of service n.seed) n.id) n w before after going) (counted_at z_is) h)
 
           -- memory was short, and it is taken back
-          pub promise_stuck : (w v : NodeValue K) → IsStuck records gives faults service past (settle turns z.nodes (service_of service z.seed) z.id) z w before → v ≡ uncounting w (length reported) → IsStuck records gives faults service past whole x v before
-          promise_stuck w v (inl s) v_is = inl (stands_back z w v z_is s v_is)
-          promise_stuck w v (inr b) v_is =
-              inr (breaks_later records gives faults service past whole rest x z_at v before before promise_leads
-              (breaks_kept records gives faults service past rest z_at w v before (ap (λ (n : NodeValue K). n.keeper) v_is) (ap (λ (n : NodeValue K). n.base) v_is)
-              (subst (λ (n : NodeValue K). BreaksOff records gives faults service past (settle turns n.nodes (service_of service n.seed) n.id) n w before) (counted_at z z_is) b)))
+          pub promise_stuck : {w v : NodeValue K} → IsStuck records gives faults service past (settle turns z.nodes (service_of service z.seed) z.id) z w before → v ≡ uncounting w (length reported) → IsStuck records gives faults service past whole x v before
+          promise_stuck {w} {v} (inl s) v_is = inl (stands_back z_is s v_is)
+          promise_stuck {w} {v} (inr b) v_is =
+              inr (breaks_later z_at v before promise_leads
+              (breaks_kept (ap (λ (n : NodeValue K). n.keeper) v_is) (ap (λ (n : NodeValue K). n.base) v_is)
+              (subst (λ (n : NodeValue K). BreaksOff records gives faults service past (settle turns n.nodes (service_of service n.seed) n.id) n w before) (counted_at z_is) b)))

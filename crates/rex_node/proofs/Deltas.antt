@@ -41,8 +41,8 @@ last_spelled service values v fits =
     piece_is (Err at) h = absurd cc
 
 -- with one value more
-pub one_more : (values : List (List ℕ)) (index : ℕ) (value : List ℕ) → index < length values → value ≡ get_or values index value → All SpellsDelta (take index values) → SpellsDelta value → All SpellsDelta (take (index + 1) values)
-one_more values index value there is before h =
+pub one_more : (values : List (List ℕ)) {index : ℕ} {value : List ℕ} → index < length values → value ≡ get_or values index value → All SpellsDelta (take index values) → SpellsDelta value → All SpellsDelta (take (index + 1) values)
+one_more values {index} {value} there is before h =
     subst (λ (vs : List (List ℕ)). All SpellsDelta vs) (sym (take_more values index value there))
     (All-append SpellsDelta (take index values) (get_or values index value ∷ []) before (All-cons SpellsDelta (get_or values index value) [] (subst SpellsDelta is h) (All-nil SpellsDelta)))
 
@@ -98,17 +98,17 @@ module _ (service : Declarations) where
       ap (λ (o : Option ℕ). place_or n o (first_bad service offset (suc n) rs)) (state_good k bytes rs last) ∙ none_bad offset rs (suc n) (Some (record { deltas = k; snapshot = bytes })) all last
 
   -- so it is of what they say of a node
-  pub none_bad_in : (x : Recovered) (rs : List Rec) (last : Option ℕ) → x ≡ recovered rs → last ≡ bad_at (state_at service x.snapshot) → is_some last ≡ false → All SpellsDelta x.known → None ≡ first_bad service x.offset 1 rs
-  none_bad_in x rs last is said good deltas =
+  pub none_bad_in : {x : Recovered} (rs : List Rec) {last : Option ℕ} → x ≡ recovered rs → last ≡ bad_at (state_at service x.snapshot) → is_some last ≡ false → All SpellsDelta x.known → None ≡ first_bad service x.offset 1 rs
+  none_bad_in rs {last} is said good deltas =
       let all : All SpellsDelta (known rs) = subst (λ (y : Recovered). All SpellsDelta y.known) is deltas in
       let spelled : IsSpelled None rs = subst (λ (y : Recovered). bad_at (state_at service y.snapshot) ≡ None) is (sym said ∙ nowhere last good) in
       sym (ap (λ (y : Recovered). first_bad service y.offset 1 rs) is ∙ none_bad (offset rs) rs 1 None all spelled)
 
   -- ---- where none is bad
 
-  rest_good : (n : ℕ) (o : Option ℕ) (later : Option Place) → place_or n o later ≡ None → (o ≡ None) × (later ≡ None)
-  rest_good n None later e = (refl, e)
-  rest_good n (Some at) later e = absurd (cc)
+  rest_good : (n : ℕ) (o : Option ℕ) {later : Option Place} → place_or n o later ≡ None → (o ≡ None) × (later ≡ None)
+  rest_good n None e = (refl, e)
+  rest_good n (Some at) e = absurd (cc)
 
   -- a value that isn't forgotten spells a delta
   value_known : (offset instance : ℕ) (value : List ℕ) (rs : List Rec) (t : Bool) → ◌≡◌ {A = Option ℕ} (if t then bad_at (delta_in value) else None) None → All SpellsDelta (known_above offset rs)
@@ -122,13 +122,13 @@ module _ (service : Declarations) where
   values_good offset (Promised b ∷ rs) n good = values_good offset rs (suc n) good
   values_good offset (Accepted b i v ∷ rs) n good = values_good offset rs (suc n) good
   values_good offset (Known i v ∷ rs) n good =
-      let parts = rest_good n (if nat_lt offset i then bad_at (delta_in v) else None) (first_bad service offset (suc n) rs) good in
+      let parts = rest_good n (if nat_lt offset i then bad_at (delta_in v) else None) good in
       value_known offset i v rs (nat_lt offset i) parts.0 (values_good offset rs (suc n) parts.1)
   values_good offset (Checkpoint k bytes ∷ rs) n good =
-      values_good offset rs (suc n) (rest_good n (if has_state rs then None else bad_at (state_in service bytes)) (first_bad service offset (suc n) rs) good).1
+      values_good offset rs (suc n) (rest_good n (if has_state rs then None else bad_at (state_in service bytes)) good).1
   values_good offset (Dropped k ∷ rs) n good = values_good offset rs (suc n) good
   values_good offset (Transferred k bytes ∷ rs) n good =
-      values_good offset rs (suc n) (rest_good n (if has_state rs then None else bad_at (state_in service bytes)) (first_bad service offset (suc n) rs) good).1
+      values_good offset rs (suc n) (rest_good n (if has_state rs then None else bad_at (state_in service bytes)) good).1
 
-  pub known_good : (kept : List (List ℕ)) (x : Recovered) → IsFound service kept x → All SpellsDelta x.known
-  known_good kept x f = subst (λ (y : Recovered). All SpellsDelta y.known) (sym f.read.is) (values_good (offset f.read.rs) f.read.rs 1 f.good)
+  pub known_good : {kept : List (List ℕ)} {x : Recovered} → IsFound service kept x → All SpellsDelta x.known
+  known_good f = subst (λ (y : Recovered). All SpellsDelta y.known) (sym f.read.is) (values_good (offset f.read.rs) f.read.rs 1 f.good)

@@ -44,10 +44,10 @@ use Rattle.rex_node.proofs.Votes.{found_instance}
 -- ---- what it knows
 
 -- a node that drops values that the past has knows as much as before
-dropped_knows : {K : Type 0} (past : List Value) (y : NodeValue K) (k : ℕ) → y.offset ≤ k → k ≤ length (knows past y) → Begins (knows past y) past → knows past (dropped y k) ≡ knows past y
-dropped_knows past y k from to begins =
+dropped_knows : {K : Type 0} {past : List Value} (y : NodeValue K) {k : ℕ} → y.offset ≤ k → k ≤ length (knows past y) → Begins (knows past y) past → knows past (dropped y k) ≡ knows past y
+dropped_knows {past} y {k} from to begins =
     ap (λ (vs : List Value). vs ++ drop (k - y.offset) y.known) (first_take k past there ∙ front)
-    ∙ ap (λ (vs : List Value). take k (knows past y) ++ vs) (sym (knowing.drop_known past y k from))
+    ∙ ap (λ (vs : List Value). take k (knows past y) ++ vs) (sym (knowing.drop_known past y from))
     ∙ take-append-drop k (knows past y)
   where
     there : k ≤ length past
@@ -60,11 +60,11 @@ dropped_knows past y k from to begins =
 abbrev pub forgetful : {K : Type 0} → NodeValue K → K → NodeValue K
 forgetful x keeper = record x { reached = None; keeper = keeper; offset = x.base; acceptor = forgetting x.acceptor x.base }
 
-pub dropped_whole : {K : Type 0} (past : List Value) (x y z : NodeValue K) (k : ℕ) → whole past y ≡ record x { keeper = y.keeper } → z ≡ dropped y k → k ≡ x.base → x.offset ≤ x.base → x.base ≤ length x.known → Begins x.known past
+pub dropped_whole : {K : Type 0} {past : List Value} (x y : NodeValue K) {z : NodeValue K} {k : ℕ} → whole past y ≡ record x { keeper = y.keeper } → z ≡ dropped y k → k ≡ x.base → x.offset ≤ x.base → x.base ≤ length x.known → Begins x.known past
     → whole past z ≡ forgetful x y.keeper
-dropped_whole past x y z k parts z_is k_is low few begins =
+dropped_whole {past} x y {k} parts z_is k_is low few begins =
     ap (whole past) z_is
-    ∙ ap (λ (vs : List Value). record (dropped y k) { known = vs }) (dropped_knows past y k from to (subst (λ (vs : List Value). Begins vs past) (sym knows_is) begins))
+    ∙ ap (λ (vs : List Value). record (dropped y k) { known = vs }) (dropped_knows y from to (subst (λ (vs : List Value). Begins vs past) (sym knows_is) begins))
     ∙ ap (λ (n : NodeValue _). record n { reached = None; offset = k; acceptor = forgetting n.acceptor k }) parts
     ∙ ap (λ (n : ℕ). record x { reached = None; keeper = y.keeper; offset = n; acceptor = forgetting x.acceptor n }) k_is
   where
@@ -83,9 +83,9 @@ dropped_whole past x y z k parts z_is k_is low few begins =
 -- ---- what it accepted
 
 -- those from a later instance on are among those from an instance on
-from_on_later : (i j : ℕ) (ps : List (Proposal Value)) → i ≤ j → from_on j (from_on i ps) ≡ from_on j ps
-from_on_later i j [] l = refl
-from_on_later i j (p ∷ ps) l = go (leb i p.instance) refl (leb j p.instance) refl (from_on_later i j ps l)
+from_on_later : {i j : ℕ} (ps : List (Proposal Value)) → i ≤ j → from_on j (from_on i ps) ≡ from_on j ps
+from_on_later [] l = refl
+from_on_later {i} {j} (p ∷ ps) l = go (leb i p.instance) refl (leb j p.instance) refl (from_on_later ps l)
   where
     go : (early : Bool) → leb i p.instance ≡ early → (late : Bool) → leb j p.instance ≡ late → from_on j (from_on i ps) ≡ from_on j ps
         → from_on j (cond early (p ∷ from_on i ps) (from_on i ps)) ≡ cond late (p ∷ from_on j ps) (from_on j ps)
@@ -94,14 +94,14 @@ from_on_later i j (p ∷ ps) l = go (leb i p.instance) refl (leb j p.instance) r
     go false a true b ih = absurd (let x = leb-false i p.instance a in let y = leb-true j p.instance b in omega (arith, l))
     go false a false b ih = ih
 
-forgotten : (o k : ℕ) (ps : List Kept) (qs : List (Proposal Value)) → map proposal_in ps ≡ from_on (suc o) qs → o ≤ k → map proposal_in (above k ps) ≡ from_on (suc k) qs
-forgotten o k ps qs e l = above_from k ps ∙ ap (from_on (suc k)) e ∙ from_on_later (suc o) (suc k) qs (omega (arith, l))
+forgotten : {o k : ℕ} (ps : List Kept) (qs : List (Proposal Value)) → map proposal_in ps ≡ from_on (suc o) qs → o ≤ k → map proposal_in (above k ps) ≡ from_on (suc k) qs
+forgotten {o} {k} ps qs e l = above_from k ps ∙ ap (from_on (suc k)) e ∙ from_on_later qs (omega (arith, l))
 
 -- ---- its role
 
 -- what it accepted for a later instance is there
-found_later : (k i : ℕ) (ps : List Kept) → k < i → proposal_for i (above k ps) ≡ proposal_for i ps
-found_later k i ps l = find_kept (λ (p : Kept). eqb p.instance i) (λ (p : Kept). ltb k p.instance) (λ p e. let same = eqb-true p.instance i e in lt-ltb k p.instance (omega (arith, l, same))) ps
+found_later : {k i : ℕ} (ps : List Kept) → k < i → proposal_for i (above k ps) ≡ proposal_for i ps
+found_later {k} {i} ps l = find_kept (λ (p : Kept). eqb p.instance i) (λ (p : Kept). ltb k p.instance) (λ p e. let same = eqb-true p.instance i e in lt-ltb k p.instance (omega (arith, l, same))) ps
 
 -- the open instance, if there is one, is a later one
 abbrev IsLater : ℕ → Option ℕ → Type 0
@@ -112,25 +112,25 @@ abbrev LeadsLater : ℕ → Option ProposerValue → Type 0
 LeadsLater k None = Unit {0}
 LeadsLater k (Some p) = IsLater k p.open_instance
 
-open_later : (a : AcceptorValue) (b k many : ℕ) (o : Option ℕ) → HasOpen a b o → ((p : Proposal Value) → open_of a o ≡ Some p → p.instance ≡ suc many) → k ≤ many → IsLater k o
-open_later a b k many None h next l = tt
-open_later a b k many (Some i) h next l =
-    let same : h.0.instance ≡ i = found_instance i a.accepted h.0 h.1 in
+open_later : (a : AcceptorValue) (b : ℕ) {k many : ℕ} (o : Option ℕ) → HasOpen a b o → ((p : Proposal Value) → open_of a o ≡ Some p → p.instance ≡ suc many) → k ≤ many → IsLater k o
+open_later a b None h next l = tt
+open_later a b {many} (Some i) h next l =
+    let same : h.0.instance ≡ i = found_instance a.accepted h.1 in
     let at : h.0.instance ≡ suc many = next (proposal_in h.0) (ap (option_map proposal_in) h.1) in
     omega (arith, l, same, at)
 
-leads_later : (nodes id : ℕ) (a : AcceptorValue) (k many : ℕ) (active : Bool) (o : Option ProposerValue) → IsProposer nodes id a o → RoleFits many (role_of a o active) → k ≤ many → LeadsLater k o
-leads_later nodes id a k many active None h fits l = tt
-leads_later nodes id a k many active (Some p) h fits l = open_later a p.ballot k many p.open_instance h.open_one (λ q e. (fits.next q e).0) l
+leads_later : (nodes id : ℕ) (a : AcceptorValue) {k many : ℕ} (active : Bool) (o : Option ProposerValue) → IsProposer nodes id a o → RoleFits many (role_of a o active) → k ≤ many → LeadsLater k o
+leads_later nodes id a active None h fits l = tt
+leads_later nodes id a {k} {many} active (Some p) h fits l = open_later a p.ballot p.open_instance h.open_one (λ q e. (fits.next q e).0) l
 
 -- so its open proposal stays
 open_kept : (a : AcceptorValue) (k : ℕ) (o : Option ℕ) → IsLater k o → open_of (forgetting a k) o ≡ open_of a o
 open_kept a k None l = refl
-open_kept a k (Some i) l = ap (option_map proposal_in) (found_later k i a.accepted l)
+open_kept a k (Some i) l = ap (option_map proposal_in) (found_later a.accepted l)
 
 has_kept : (a : AcceptorValue) (b k : ℕ) (o : Option ℕ) → IsLater k o → HasOpen a b o → HasOpen (forgetting a k) b o
 has_kept a b k None l h = tt
-has_kept a b k (Some i) l h = (h.0, found_later k i a.accepted l ∙ h.1, h.2)
+has_kept a b k (Some i) l h = (h.0, found_later a.accepted l ∙ h.1, h.2)
 
 role_kept : (a : AcceptorValue) (k : ℕ) (active : Bool) (o : Option ProposerValue) → LeadsLater k o → role_of (forgetting a k) o active ≡ role_of a o active
 role_kept a k active None l = refl
@@ -169,7 +169,7 @@ module _ {K : Type 0} (records : K → List (List ℕ)) (gives : K → List ℕ 
   b = beside_of records service past x u
 
   later : LeadsLater x.base x.proposer
-  later = leads_later x.nodes x.id x.acceptor x.base (length x.known) (is_some x.acting) x.proposer b.proposer b.role l.few
+  later = leads_later x.nodes x.id x.acceptor (is_some x.acting) x.proposer b.proposer b.role l.few
 
   pub drop_spelled : HasSpelling (kept.Dropped x.base)
   drop_spelled = record { in_range = record { first = omega (arith, held); last = omega (arith, l.few, l.numbers.few, ap (λ (vs : List Value). length vs) l.known) } }
@@ -190,19 +190,19 @@ module _ {K : Type 0} (records : K → List (List ℕ)) (gives : K → List ℕ 
 
   pub drop_down : Appends records faults gives x y before mid (record_bytes (kept.Dropped x.base)) Down
       → (Fell records gives faults service (drop_known x.id) x.id x.keeper y.keeper (so_far records service past x before) (so_far records service past y mid) × IsDown y) × IsResting records service past y
-  drop_down h = recorded_down records gives faults service past x y before mid node up (kept.Dropped x.base) drop_spelled due refl refl (drop_known x.id) (say (effect.Dropped x.id x.base)) appends h
+  drop_down h = recorded_down gives faults y before mid node up drop_spelled due refl refl appends h
 
-  pub drop_stuck : Appends records faults gives x y before mid (record_bytes (kept.Dropped x.base)) On → (z : NodeValue K) → z.keeper ≡ y.keeper → z.base ≡ y.base → IsStuck records gives faults service past (drop_known x.id) x z before
-  drop_stuck h z keeper based = recorded_stuck records gives faults service past x y before mid node up (kept.Dropped x.base) drop_spelled due refl refl (drop_known x.id) (say (effect.Dropped x.id x.base)) appends h (λ d. refl) z keeper based
+  pub drop_stuck : Appends records faults gives x y before mid (record_bytes (kept.Dropped x.base)) On → {z : NodeValue K} → z.keeper ≡ y.keeper → z.base ≡ y.base → IsStuck records gives faults service past (drop_known x.id) x z before
+  drop_stuck h {z} keeper based = recorded_stuck gives faults y before mid node up drop_spelled due refl refl appends h (λ d. refl) keeper based
 
   module _ (h : Appends records faults gives x y before mid (record_bytes (kept.Dropped x.base)) On) where
     log_is : log_of service past (records y.keeper) ≡ Dropped x.base ∷ log
-    log_is = appended_log records gives faults service past x y before mid (kept.Dropped x.base) drop_spelled due refl h
+    log_is = appended_log records gives faults service past x y before mid drop_spelled due refl h
 
     forgets_logged : IsLogged service (forgetful x y.keeper) (Dropped x.base ∷ log)
     forgets_logged = record {
       promised = l.promised;
-      accepted = forgotten (offset log) x.base x.acceptor.accepted (last_accepted log) l.accepted (omega (arith, held, l.offset_is));
+      accepted = forgotten x.acceptor.accepted (last_accepted log) l.accepted (omega (arith, held, l.offset_is));
       offset_is = refl;
       low = omega arith;
       known = l.known;
@@ -237,12 +237,12 @@ module _ {K : Type 0} (records : K → List (List ℕ)) (gives : K → List ℕ 
         ap (λ (r : Role Value). record (here_of records service past x) { log = log_of service past (records y.keeper); role = r }) (role_kept x.acceptor x.base (is_some x.acting) x.proposer later)
         ∙ ap (λ (rs : List (Rec Value StateValue)). record (here_of records service past x) { log = rs }) log_is
 
-    drop_on : (z : NodeValue K) (after : Draft) → z ≡ forgetful x y.keeper → after.effects.items ≡ mid.effects.items ++ effect.Dropped x.id x.base ∷ [] → after.sends.items ≡ mid.sends.items
+    drop_on : {z : NodeValue K} (after : Draft) → z ≡ forgetful x y.keeper → after.effects.items ≡ mid.effects.items ++ effect.Dropped x.id x.base ∷ [] → after.sends.items ≡ mid.sends.items
         → EndsWell records gives faults service past x z before after (drop_known x.id)
-    drop_on z after z_is effects sends =
-        recorded_on records gives faults service past x y before mid node up (kept.Dropped x.base) drop_spelled due refl refl (drop_known x.id) (say (effect.Dropped x.id x.base)) appends h z after
+    drop_on {z} after z_is effects sends =
+        recorded_on gives faults y before mid node up drop_spelled due refl refl appends h after
         (ap (λ (n : NodeValue K). n.keeper) z_is) (subst (IsResting records service past) (sym z_is) forgets_node) (ap (λ (n : NodeValue K). n.up) z_is ∙ up) (λ f. refl)
-        (far records service past z after (before.effects.items ++ effect.Dropped x.id x.base ∷ []) (map (message_in past) before.sends.items)
+        (far records service past z after
         (effects ∙ ap (λ (es : List Effect). es ++ effect.Dropped x.id x.base ∷ []) h.1) (ap (map (message_in past)) (sends ∙ h.2))
         ∙ ap (λ (n : Here). call_at n (map (message_in past) before.sends.items) (before.effects.items ++ effect.Dropped x.id x.base ∷ [])) (ap (here_of records service past) z_is ∙ forgets_here))
 
@@ -252,10 +252,10 @@ module _ {K : Type 0} (records : K → List (List ℕ)) (gives : K → List ℕ 
       drop_counts = subst (λ (n : ℕ). x.base ≤ n) (ap (λ (n : NodeValue K). length n.known) (sym h.0.parts ∙ w_is) ∙ knowing.many_known past w) l.few
 
       -- and it ends where the values up to the base are dropped
-      pub drop_ends : Begins (known log) past → (z : NodeValue K) (after : Draft) (k : ℕ) → z ≡ dropped w k → k ≡ x.base → after.effects.items ≡ mid.effects.items ++ effect.Dropped x.id x.base ∷ [] → after.sends.items ≡ mid.sends.items
+      pub drop_ends : Begins (known log) past → {z : NodeValue K} (after : Draft) {k : ℕ} → z ≡ dropped w k → k ≡ x.base → after.effects.items ≡ mid.effects.items ++ effect.Dropped x.id x.base ∷ [] → after.sends.items ≡ mid.sends.items
           → EndsWell records gives faults service past x (whole past z) before after (drop_known x.id)
-      drop_ends begins z after k z_is k_is effects sends =
-          drop_on (whole past z) after (dropped_whole past x w z k parts z_is k_is (omega (arith, held)) l.few (subst (λ (vs : List Value). Begins vs past) (sym l.known) begins) ∙ ap (λ (n : NodeValue K). forgetful x n.keeper) (sym w_is)) effects sends
+      drop_ends begins {z} after {k} z_is k_is effects sends =
+          drop_on after (dropped_whole x w parts z_is k_is (omega (arith, held)) l.few (subst (λ (vs : List Value). Begins vs past) (sym l.known) begins) ∙ ap (λ (n : NodeValue K). forgetful x n.keeper) (sym w_is)) effects sends
         where
           parts : whole past w ≡ record x { keeper = w.keeper }
           parts = sym w_is ∙ h.0.parts ∙ ap (λ (n : NodeValue K). record x { keeper = n.keeper }) w_is

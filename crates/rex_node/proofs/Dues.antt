@@ -36,7 +36,7 @@ refuses a cut (Err why.UpToDate) h = absurd h
 refuses a cut (Err why.Spent) h = absurd h
 refuses a cut (Err (why.BadSnapshot fault)) h = absurd h
 
-module _ {K : Type 0} (records : K → List (List ℕ)) (service : Declarations) (past : List Value) (x : NodeValue K) (node : IsResting records service past x) (up : x.up ≡ true) where
+module _ {K : Type 0} {records : K → List (List ℕ)} {service : Declarations} {past : List Value} {x : NodeValue K} (node : IsResting records service past x) (up : x.up ≡ true) where
   is_up : IsUp service x (here_of records service past x)
   is_up = node.up up
 
@@ -44,17 +44,17 @@ module _ {K : Type 0} (records : K → List (List ℕ)) (service : Declarations)
   knows = known (here_of records service past x).log
 
   -- the counts below which a cut is made are those of what is executed
-  pub counts_are : (a : ActingValue) → x.acting ≡ Some a → (limits : Option (List ℕ)) → counts_for service (here_of records service past x) limits ≡ counts_in a limits
-  counts_are a e limits = by limits
+  pub counts_are : {a : ActingValue} → x.acting ≡ Some a → (limits : Option (List ℕ)) → counts_for service (here_of records service past x) limits ≡ counts_in a limits
+  counts_are {a} e limits = by limits
     where
       has : Executes service x.known a
       has = executes service x.known x.acceptor x.proposer x.acting a is_up.acting e
 
       live : state_after service (trace_of knows ++ (work_of x.acting).live) ≡ a.recorder.state
-      live = live_state_is service x.known a has knows x.acting is_up.known e
+      live = live_state_is has is_up.known e
 
       first : state_after service (trace_of knows) ≡ a.recorder.start
-      first = ap (λ (vs : List Value). state_after service (trace_of vs)) (sym is_up.known) ∙ start_is service x.known a has
+      first = ap (λ (vs : List Value). state_after service (trace_of vs)) (sym is_up.known) ∙ start_is has
 
       by : (limits : Option (List ℕ)) → counts_for service (here_of records service past x) limits ≡ counts_in a limits
       by None = ap counts_of live
@@ -71,7 +71,7 @@ module _ {K : Type 0} (records : K → List (List ℕ)) (service : Declarations)
       by : (w : Option ActingValue) → x.acting ≡ w → IfSome w (CanMakePiece limits)
       by None e = tt
       by (Some a) e =
-          subst (λ (counts : List ℕ). P counts a.recorder.live) (counts_are a e limits)
+          subst (λ (counts : List ℕ). P counts a.recorder.live) (counts_are e limits)
           (subst (λ (w : Option ActingValue). P (counts_for service (here_of records service past x) limits) (work_of w).live) e h)
 
   pub refuses_node : (limits : Option (List ℕ)) (result : Result Piece Refusal) → MakesPieceOf x.acting limits result
@@ -85,5 +85,5 @@ module _ {K : Type 0} (records : K → List (List ℕ)) (service : Declarations)
       by None e k = absurd k
       by (Some a) e k =
           subst (λ (o : Option Refusal). RefusesThen None o result)
-          (sym (ap (λ (w : Option ActingValue). late (counts_for service (here_of records service past x) limits) (work_of w).live) e ∙ ap (λ (counts : List ℕ). late counts a.recorder.live) (counts_are a e limits)))
+          (sym (ap (λ (w : Option ActingValue). late (counts_for service (here_of records service past x) limits) (work_of w).live) e ∙ ap (λ (counts : List ℕ). late counts a.recorder.live) (counts_are e limits)))
           (refuses a (cut_in a limits) result k)

@@ -38,21 +38,21 @@ pub no_messages : (past : List Value) (ms : List Message) → map (message_in pa
 no_messages past [] e = refl
 no_messages past (m ∷ ms) e = absurd (cc)
 
-last_push : (es : List Effect) (e : Effect) → last_of (es ++ e ∷ []) ≡ Some e
-last_push [] e = refl
-last_push (x ∷ []) e = refl
-last_push (x ∷ y ∷ es) e = last_push (y ∷ es) e
+last_push : (es : List Effect) {e : Effect} → last_of (es ++ e ∷ []) ≡ Some e
+last_push [] = refl
+last_push (x ∷ []) = refl
+last_push (x ∷ y ∷ es) {e} = last_push (y ∷ es)
 
-last_among : (es : List Effect) (e : Effect) → last_of es ≡ Some e → IsAmong e es
-last_among [] e h = absurd (cc)
-last_among (x ∷ []) e h = inl (same_Some x e h)
-last_among (x ∷ y ∷ es) e h = inr (last_among (y ∷ es) e h)
+last_among : (es : List Effect) {e : Effect} → last_of es ≡ Some e → IsAmong e es
+last_among [] h = absurd (cc)
+last_among (x ∷ []) {e} h = inl (same_Some x e h)
+last_among (x ∷ y ∷ es) {e} h = inr (last_among (y ∷ es) h)
 
 -- ---- another keeper
 
 -- a node is kept with another keeper of the same records
-pub node_with_keeper : {K : Type 0} (records : K → List (List ℕ)) (service : Declarations) (past : List Value) (x : NodeValue K) (k : K) → records k ≡ records x.keeper → IsResting records service past x → IsResting records service past (record x { keeper = k })
-node_with_keeper records service past x k same h = record { id = h.id; few = h.few; up = λ t. up (h.up t); reached = h.reached; decoded = h.decoded; rests = h.rests }
+pub node_with_keeper : {K : Type 0} {records : K → List (List ℕ)} {service : Declarations} {past : List Value} {x : NodeValue K} {k : K} → records k ≡ records x.keeper → IsResting records service past x → IsResting records service past (record x { keeper = k })
+node_with_keeper {records} {service} {past} {x} {k} same h = record { id = h.id; few = h.few; up = λ t. up (h.up t); reached = h.reached; decoded = h.decoded; rests = h.rests }
   where
     up : IsUp service x (here_of records service past x) → IsUp service (record x { keeper = k }) (here_of records service past (record x { keeper = k }))
     up u =
@@ -84,8 +84,8 @@ module _ {K : Type 0} (records : K → List (List ℕ)) (gives : K → List ℕ 
     pub finishes : Finishes records before draft end y z result
 
   -- its step is what the draft was in the end
-  comes_to : (step : Step) → z ≡ y → step.effects ≡ draft.effects.items → step.sends ≡ draft.sends.items → so_far records service past y draft ≡ call_of records service past z step
-  comes_to step same effects sends =
+  comes_to : {step : Step} → z ≡ y → step.effects ≡ draft.effects.items → step.sends ≡ draft.sends.items → so_far records service past y draft ≡ call_of records service past z step
+  comes_to {step} same effects sends =
       ap (λ (n : NodeValue K). so_far records service past n draft) (sym same)
       ∙ ap (λ (es : List Effect). record { node = here_of records service past z; sends = map (message_in past) draft.sends.items; effects = es }) (sym effects)
       ∙ ap (λ (ms : List Message). record { node = here_of records service past z; sends = map (message_in past) ms; effects = step.effects }) (sym sends)
@@ -104,7 +104,7 @@ module _ {K : Type 0} (records : K → List (List ℕ)) (gives : K → List ℕ 
         counted = ap (λ (n : NodeValue K). faults n.keeper) h.finishes.0 ∙ l.counted;
         stated = l.stated;
         many = ap (λ (n : NodeValue K). length (log_of service past (records n.keeper))) h.finishes.0 ∙ l.many;
-        is = ap call (sym (begins records service past x first h.effects h.sends)) ∙ call_well l ∙ comes_to step h.finishes.0 h.finishes.1 h.finishes.2;
+        is = ap call (sym (begins records service past x first h.effects h.sends)) ∙ call_well l ∙ comes_to h.finishes.0 h.finishes.1 h.finishes.2;
       })
   told (Ok Down) (Ok step) h =
       let f = h.ends.0.0.fails in
@@ -119,7 +119,7 @@ module _ {K : Type 0} (records : K → List (List ℕ)) (gives : K → List ℕ 
         counted = subst (λ (n : NodeValue K). faults x.keeper < faults n.keeper) (sym h.finishes.0) f.counted;
         stated = f.stated;
         many = ap (λ (n : NodeValue K). length (log_of service past (records n.keeper))) h.finishes.0 ∙ f.many;
-        is = ap (λ (d : CallHere). call (armed_with (Some (After (length f.written) f.kept)) d)) (sym (begins records service past x first h.effects h.sends)) ∙ f.is ∙ comes_to step h.finishes.0 h.finishes.1 h.finishes.2;
+        is = ap (λ (d : CallHere). call (armed_with (Some (After (length f.written) f.kept)) d)) (sym (begins records service past x first h.effects h.sends)) ∙ f.is ∙ comes_to h.finishes.0 h.finishes.1 h.finishes.2;
       })
   told end (Err refusal) h = tt
   told (Err e) (Ok step) h = absurd h.finishes
@@ -131,14 +131,14 @@ module _ {K : Type 0} (records : K → List (List ℕ)) (gives : K → List ℕ 
       let effects : (call (begin (here_of records service past x))).effects ≡ step.effects = ap (λ (d : CallHere). d.effects) (ap call (sym (begins records service past x first h.effects h.sends)) ∙ call_well l) ∙ sym h.finishes.1 in
       record {
         down = λ more. absurd (omega arith);
-        only = λ last. absurd (quiet x.id (subst (IsAmong (effect.Down x.id)) (sym effects) (last_among step.effects (effect.Down x.id) last)));
+        only = λ last. absurd (quiet x.id (subst (IsAmong (effect.Down x.id)) (sym effects) (last_among step.effects last)));
         quiet = λ more. absurd (omega arith);
         falls = λ more. absurd (omega arith);
       }
   down (Ok Down) (Ok step) h quiet =
       let f = h.ends.0.0 in
       record {
-        down = λ more. ap last_of (h.finishes.1 ∙ f.told) ∙ last_push f.front (effect.Down x.id);
+        down = λ more. ap last_of (h.finishes.1 ∙ f.told) ∙ last_push f.front;
         only = λ last. subst (λ (n : NodeValue K). faults x.keeper < faults n.keeper) (sym h.finishes.0) f.fails.counted;
         quiet = λ more. h.finishes.2 ∙ no_messages past draft.sends.items f.quiet;
         falls = λ more. ap (λ (n : NodeValue K). n.up) h.finishes.0 ∙ h.ends.0.1.down;
@@ -159,15 +159,15 @@ module _ {K : Type 0} (records : K → List (List ℕ)) (gives : K → List ℕ 
         down = ap (λ (n : ℕ). record (down_node (log_of service past (records y.keeper)) None) { replayed = n }) b.based;
       })
 
-  pub left_short : (e : AllocError) (refusal : Refusal) → HasCome (Err e) (Err refusal) → Stands records faults gives x z ⊎ IsGivenUp records gives faults service past call x z
-  left_short e refusal h = by (short h.stuck h.many h.finishes.1 h.finishes.2)
+  pub left_short : {e : AllocError} {refusal : Refusal} → HasCome (Err e) (Err refusal) → Stands records faults gives x z ⊎ IsGivenUp records gives faults service past call x z
+  left_short h = by (short h.stuck h.many h.finishes.1 h.finishes.2)
     where
       by : Stands records faults gives x z ⊎ ((z ≡ fallen y) × BreaksOff records gives faults service past call x y first) → Stands records faults gives x z ⊎ IsGivenUp records gives faults service past call x z
       by (inl s) = inl s
       by (inr b) = inr (gives_up b.0 (begins records service past x first h.effects h.sends) b.1)
 
   kept_short : IsResting records service past x → IsSame x y → Stands records faults gives x z ⊎ ((z ≡ fallen y) × BreaksOff records gives faults service past call x y first) → StaysResting records service past x z
-  kept_short n s (inl t) = subst (StaysResting records service past x) (sym t.parts) (record { same = record { id = refl; nodes = refl; seed = refl; decoded = refl }; kept = node_with_keeper records service past x z.keeper t.records n })
+  kept_short n s (inl t) = subst (StaysResting records service past x) (sym t.parts) (record { same = record { id = refl; nodes = refl; seed = refl; decoded = refl }; kept = node_with_keeper t.records n })
   kept_short n s (inr b) = subst (StaysResting records service past x) (sym b.0) (record { same = record { id = s.id; nodes = s.nodes; seed = s.seed; decoded = s.decoded }; kept = down_kept })
     where
       down_kept : IsResting records service past (fallen y)
@@ -187,16 +187,16 @@ module _ {K : Type 0} (records : K → List (List ℕ)) (gives : K → List ℕ 
   kept (Err e) (Err refusal) h = kept_short h.node h.same (short h.stuck h.many h.finishes.1 h.finishes.2)
 
   -- nothing but want of memory is a reason not to do it
-  pub refused : (end : Result Going AllocError) (result : Result Step Refusal) → HasCome end result → (due : Option Refusal) → due ≡ None → Refuses due result
-  refused end (Ok step) h due e = subst (λ (o : Option Refusal). Refuses {A = Step} o (Ok step)) (sym e) tt
-  refused (Ok going) (Err refusal) h due e = absurd h.finishes
-  refused (Err a) (Err refusal) h due e = subst (λ (o : Option Refusal). Refuses {A = Step} o (Err refusal)) (sym e) h.finishes.0
+  pub refused : (end : Result Going AllocError) (result : Result Step Refusal) → HasCome end result → {due : Option Refusal} → due ≡ None → Refuses due result
+  refused end (Ok step) h e = subst (λ (o : Option Refusal). Refuses {A = Step} o (Ok step)) (sym e) tt
+  refused (Ok going) (Err refusal) h e = absurd h.finishes
+  refused (Err a) (Err refusal) h e = subst (λ (o : Option Refusal). Refuses {A = Step} o (Err refusal)) (sym e) h.finishes.0
 
 -- ---- the same of a node that holds but some of the values
 
 -- where nothing has changed of all that it knows, nothing has changed of what it holds
-pub stands_own : {K : Type 0} (records : K → List (List ℕ)) (gives : K → List ℕ → Answer → K → Type 0) (faults : K → ℕ) (past : List Value) (x z : NodeValue K) → Stands records faults gives (whole past x) (whole past z) → Stands records faults gives x z
-stands_own records gives faults past x z s = record {
+pub stands_own : {K : Type 0} {records : K → List (List ℕ)} {gives : K → List ℕ → Answer → K → Type 0} {faults : K → ℕ} (past : List Value) {x z : NodeValue K} → Stands records faults gives (whole past x) (whole past z) → Stands records faults gives x z
+stands_own {records} {faults} past {x} {z} s = record {
   parts =
       ap (λ (n : NodeValue _). record n { known = z.known }) s.parts
       ∙ ap (λ (vs : List Value). record x { keeper = z.keeper; known = vs })
@@ -213,8 +213,8 @@ module _ {K : Type 0} (records : K → List (List ℕ)) (gives : K → List ℕ 
   left (Ok going) (Err refusal) h = absurd h.finishes
   left (Err e) (Err refusal) h =
       subst (λ (r : Refusal). Leaves {A = Step} records gives faults service past call (Err r) x z) (sym h.finishes.0)
-      (by (left_short records gives faults service past call (whole past x) y (whole past z) before start draft e refusal h))
+      (by (left_short records gives faults service past call (whole past x) y (whole past z) before start draft h))
     where
       by : Stands records faults gives (whole past x) (whole past z) ⊎ IsGivenUp records gives faults service past call (whole past x) (whole past z) → Stands records faults gives x z ⊎ IsGivenUp records gives faults service past call x z
-      by (inl s) = inl (stands_own records gives faults past x z s)
+      by (inl s) = inl (stands_own past s)
       by (inr g) = inr (record { stops = g.stops; down = g.down })

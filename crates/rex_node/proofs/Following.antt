@@ -35,14 +35,14 @@ use Rattle.rex_node.proofs.Reaching.{still_reached}
 
 module _ {K : Type 0} (records : K → List (List ℕ)) (service : Declarations) (past : List Value) (x : NodeValue K) where
   -- a draft with these effects and messages
-  pub far : (draft : Draft) (es : List Effect) (ms : List (Message Value)) → draft.effects.items ≡ es → map (message_in past) draft.sends.items ≡ ms → so_far records service past x draft ≡ call_at (here_of records service past x) ms es
-  far draft es ms e m =
+  pub far : (draft : Draft) {es : List Effect} {ms : List (Message Value)} → draft.effects.items ≡ es → map (message_in past) draft.sends.items ≡ ms → so_far records service past x draft ≡ call_at (here_of records service past x) ms es
+  far draft {es} e m =
       ap (λ (f : List Effect). call_at (here_of records service past x) (map (message_in past) draft.sends.items) f) e
       ∙ ap (λ (n : List (Message Value)). call_at (here_of records service past x) n es) m
 
 -- a node is kept within a call too
-pub within : {K : Type 0} (records : K → List (List ℕ)) (service : Declarations) (past : List Value) (x : NodeValue K) → IsResting records service past x → IsKept records service past x
-within records service past x h = record { id = h.id; few = h.few; up = h.up; reached = h.reached; decoded = h.decoded }
+pub within : {K : Type 0} {records : K → List (List ℕ)} {service : Declarations} {past : List Value} {x : NodeValue K} → IsResting records service past x → IsKept records service past x
+within h = record { id = h.id; few = h.few; up = h.up; reached = h.reached; decoded = h.decoded }
 
 -- ---- the last part of a call
 
@@ -52,13 +52,13 @@ module _ {K : Type 0} (records : K → List (List ℕ)) (gives : K → List ℕ 
   EndsWell whole = (Leads records gives faults service whole (λ d. d) x.keeper z.keeper (so_far records service past x before) (so_far records service past z after) × IsKept records service past z × (z.up ≡ true)) × IsResting records service past z
 
   -- where nothing was appended
-  pub ends_same : (whole : CallHere → CallHere) → z.keeper ≡ x.keeper → IsResting records service past z → z.up ≡ true
+  pub ends_same : {whole : CallHere → CallHere} → z.keeper ≡ x.keeper → IsResting records service past z → z.up ≡ true
       → ((f : Option Failure) → whole (armed_with f (so_far records service past x before)) ≡ armed_with f (so_far records service past z after)) → EndsWell whole
-  ends_same whole same node up h = (
+  ends_same {whole} same node up h = (
     (
       subst (λ (k : K). Leads records gives faults service whole (λ d. d) x.keeper k (so_far records service past x before) (so_far records service past z after)) (sym same)
-          (leads_same records gives faults service whole (λ d. d) x.keeper (so_far records service past x before) (so_far records service past z after) (ap (λ (k : K). length (log_of service past (records k))) same) h),
-      within records service past z node,
+          (leads_same records gives faults service (ap (λ (k : K). length (log_of service past (records k))) same) h),
+      within node,
       up,
     ),
     node,
@@ -66,7 +66,7 @@ module _ {K : Type 0} (records : K → List (List ℕ)) (gives : K → List ℕ 
 
 -- ---- a refusal of the own ballot
 
-module _ {K : Type 0} (records : K → List (List ℕ)) (gives : K → List ℕ → Answer → K → Type 0) (faults : K → ℕ) (service : Declarations) (past : List Value) (x : NodeValue K) (node : IsResting records service past x) (up : x.up ≡ true) (before after : Draft) (promised own : ℕ) (own_is : option_map (λ (p : ProposerValue). p.ballot) x.proposer ≡ Some own) where
+module _ {K : Type 0} {records : K → List (List ℕ)} (gives : K → List ℕ → Answer → K → Type 0) (faults : K → ℕ) {service : Declarations} {past : List Value} {x : NodeValue K} (node : IsResting records service past x) (up : x.up ≡ true) (before after : Draft) (promised : ℕ) {own : ℕ} (own_is : option_map (λ (p : ProposerValue). p.ballot) x.proposer ≡ Some own) where
   nack_at : Option Failure → Option ProposerValue → CallHere
   nack_at f o = on_nack x.id promised (armed_with f (so_far records service past x before)) (role_of x.acceptor o (is_some x.acting))
 
@@ -74,8 +74,8 @@ module _ {K : Type 0} (records : K → List (List ℕ)) (gives : K → List ℕ 
   pub nack_ignored : promised ≤ own → after.effects.items ≡ before.effects.items ++ IgnoredBallot promised own ∷ [] → after.sends.items ≡ before.sends.items
       → EndsWell records gives faults service past x x before after (λ d. on_nack x.id promised d d.node.role)
   nack_ignored less effects sends =
-      ends_same records gives faults service past x x before after (λ d. on_nack x.id promised d d.node.role) refl node up
-      (λ f. by f x.proposer own_is ∙ ap (armed_with f) (sym (far records service past x after _ _ effects (ap (map (message_in past)) sends))))
+      ends_same records gives faults service past x x before after refl node up
+      (λ f. by f x.proposer own_is ∙ ap (armed_with f) (sym (far records service past x after effects (ap (map (message_in past)) sends))))
     where
       by : (f : Option Failure) (o : Option ProposerValue) → option_map (λ (p : ProposerValue). p.ballot) o ≡ Some own
           → on_nack x.id promised (armed_with f (so_far records service past x before)) (role_of x.acceptor o (is_some x.acting)) ≡ armed_with f (say (IgnoredBallot promised own) (so_far records service past x before))
@@ -87,17 +87,17 @@ module _ {K : Type 0} (records : K → List (List ℕ)) (gives : K → List ℕ 
           ∙ ap (λ (c : ℕ). say (IgnoredBallot promised c) (armed_with f (so_far records service past x before))) b
 
   -- one above it makes the node a follower
-  pub nack_follows : (z : NodeValue K) → own < promised → z ≡ leaving x → Tells before after (followed x.id (role_of x.acceptor x.proposer (is_some x.acting)))
+  pub nack_follows : {z : NodeValue K} → own < promised → z ≡ leaving x → Tells before after (followed x.id (role_of x.acceptor x.proposer (is_some x.acting)))
       → EndsWell records gives faults service past x z before after (λ d. on_nack x.id promised d d.node.role)
-  nack_follows z less z_is told =
+  nack_follows less z_is told =
       subst (λ (n : NodeValue K). EndsWell records gives faults service past x n before after (λ d. on_nack x.id promised d d.node.role)) (sym z_is)
-      (ends_same records gives faults service past x (leaving x) before after (λ d. on_nack x.id promised d d.node.role) refl (node_left records service past x node) up
+      (ends_same records gives faults service past x (leaving x) before after refl (node_left node) up
       (λ f. by f x.proposer own_is ∙ ap (armed_with f) (sym left)))
     where
       left : so_far records service past (leaving x) after ≡ follow x.id [] (so_far records service past x before)
       left =
-          far records service past (leaving x) after _ _ told.effects_are (ap (map (message_in past)) told.sends_are)
-          ∙ ap (λ (h : Here). call_at h (map (message_in past) before.sends.items) (before.effects.items ++ followed x.id (role_of x.acceptor x.proposer (is_some x.acting)))) (leaves records service past x (node.up up))
+          far records service past (leaving x) after told.effects_are (ap (map (message_in past)) told.sends_are)
+          ∙ ap (λ (h : Here). call_at h (map (message_in past) before.sends.items) (before.effects.items ++ followed x.id (role_of x.acceptor x.proposer (is_some x.acting)))) (leaves records past (node.up up))
 
       by : (f : Option Failure) (o : Option ProposerValue) → option_map (λ (p : ProposerValue). p.ballot) o ≡ Some own
           → on_nack x.id promised (armed_with f (so_far records service past x before)) (role_of x.acceptor o (is_some x.acting)) ≡ armed_with f (follow x.id [] (so_far records service past x before))
@@ -109,24 +109,24 @@ module _ {K : Type 0} (records : K → List (List ℕ)) (gives : K → List ℕ 
 
 -- ---- a chosen value of another instance than the next
 
-module _ {K : Type 0} (records : K → List (List ℕ)) (gives : K → List ℕ → Answer → K → Type 0) (faults : K → ℕ) (service : Declarations) (past : List Value) (x : NodeValue K) (node : IsResting records service past x) (up : x.up ≡ true) (before after : Draft) (i next : ℕ) (v : Value) where
+module _ {K : Type 0} {records : K → List (List ℕ)} (gives : K → List ℕ → Answer → K → Type 0) (faults : K → ℕ) {service : Declarations} {past : List Value} {x : NodeValue K} (node : IsResting records service past x) (up : x.up ≡ true) (before after : Draft) (i next : ℕ) (v : Value) where
   -- it is ignored
   pub chosen_ignored : next ≡ suc (length x.known) → (i ≡ next → ⊥) → after.effects.items ≡ before.effects.items ++ IgnoredInstance i next ∷ [] → after.sends.items ≡ before.sends.items
       → EndsWell records gives faults service past x x before after (on_chosen x.id i v)
   chosen_ignored next_is other effects sends =
-      ends_same records gives faults service past x x before after (on_chosen x.id i v) refl node up
+      ends_same records gives faults service past x x before after refl node up
       (λ f.
       ap (λ (t : Bool). if t then append f x.id (Known i v) (armed_with f (so_far records service past x before)) (λ e. follow x.id (effect.Known x.id i ∷ []) e) else say (IgnoredInstance i (suc (length (known (here_of records service past x).log)))) (armed_with f (so_far records service past x before)))
       (ne_eqb i (suc (length (known (here_of records service past x).log))) (λ e. other (e ∙ sym here)))
       ∙ ap (λ (n : ℕ). say (IgnoredInstance i n) (armed_with f (so_far records service past x before))) (sym here)
-      ∙ ap (armed_with f) (sym (far records service past x after _ _ effects (ap (map (message_in past)) sends))))
+      ∙ ap (armed_with f) (sym (far records service past x after effects (ap (map (message_in past)) sends))))
     where
       here : next ≡ suc (length (known (here_of records service past x).log))
       here = next_is ∙ ap (λ (vs : List Value). suc (length vs)) (node.up up).known
 
 -- ---- a follower with one record more
 
-module _ {K : Type 0} (records : K → List (List ℕ)) (service : Declarations) (past : List Value) (x : NodeValue K) (node : IsResting records service past x) (up : x.up ≡ true) (k : K) (r : Rec Value StateValue) (a : AcceptorValue) (vs : List Value)
+module _ {K : Type 0} {records : K → List (List ℕ)} {service : Declarations} {past : List Value} {x : NodeValue K} (node : IsResting records service past x) (up : x.up ≡ true) {k : K} {r : Rec Value StateValue} {a : AcceptorValue} {vs : List Value}
     (log_is : log_of service past (records k) ≡ r ∷ log_of service past (records x.keeper)) (base_is : base (r ∷ log_of service past (records x.keeper)) ≡ base (log_of service past (records x.keeper)))
     (logged_here : IsLogged service (record x { keeper = k; acceptor = a; known = vs }) (r ∷ log_of service past (records x.keeper)))
     (more : length x.known ≤ length vs) (front : (n : ℕ) → n ≤ length x.known → take n vs ≡ take n x.known) where
@@ -149,7 +149,7 @@ module _ {K : Type 0} (records : K → List (List ℕ)) (service : Declarations)
       h = here_of records service past x
 
   pub follower_node : IsResting records service past follower
-  follower_node = record { id = node.id; few = node.few; up = λ t. follower_up; reached = still_reached service x.offset x.known vs x.reached more front node.reached; decoded = node.decoded; rests = λ t. tt }
+  follower_node = record { id = node.id; few = node.few; up = λ t. follower_up; reached = still_reached service x.offset x.reached more front node.reached; decoded = node.decoded; rests = λ t. tt }
     where
       l : IsLogged service (record x { keeper = k; acceptor = a; known = vs }) (log_of service past (records k))
       l = subst (λ (log : List (Rec Value StateValue)). IsLogged service (record x { keeper = k; acceptor = a; known = vs }) log) (sym log_is) logged_here
@@ -158,17 +158,17 @@ module _ {K : Type 0} (records : K → List (List ℕ)) (service : Declarations)
       b = beside_of records service past x u
 
       to : replayed_left (is_some x.acting) x.base x.replayed ≤ length x.known
-      to = replayed_to x.acting x.base x.replayed (length x.known) b.based b.replayed
+      to = replayed_to x.acting b.based b.replayed
 
       follower_up : IsUp service follower (here_of records service past follower)
       follower_up =
           up_of records service past follower
           (record { promised = l.promised; accepted = l.accepted; offset_is = l.offset_is; low = l.low; known = l.known; base = l.base; old_base = l.old_base; few = l.few; start = l.start; short = l.short; fits = l.fits; numbers = l.numbers })
           (record {
-            based = replayed_from x.acting x.base x.replayed b.based;
+            based = replayed_from x.acting b.based;
             replayed = le_trans to more;
             ahead = λ _. ap (λ (us : List Value). run service (start_of service) (trace_of us)) (front (replayed_left (is_some x.acting) x.base x.replayed) to)
-                ∙ state_left (λ n s. run service (start_of service) (trace_of (take n x.known)) ≡ Some s) x.acting x.ahead x.start x.base x.replayed u.start u.ahead;
+                ∙ state_left (λ n s. run service (start_of service) (trace_of (take n x.known)) ≡ Some s) x.acting x.ahead u.start u.ahead;
             caught_up = λ t. absurd (false≢true t);
             proposer = tt;
             acting = tt;

@@ -25,14 +25,14 @@ later_both : (first second : List (List ℕ)) (f : Option Failure) → later (fi
 later_both [] second f = refl
 later_both (bytes ∷ first) second f = ap one_later (later_both first second f)
 
-pub later_count : (first second : List (List ℕ)) (kept : Bool) → later first (Some (After (length second) kept)) ≡ Some (After (length (first ++ second)) kept)
-later_count [] second kept = refl
-later_count (bytes ∷ first) second kept = ap one_later (later_count first second kept)
+pub later_count : (first second : List (List ℕ)) {kept : Bool} → later first (Some (After (length second) kept)) ≡ Some (After (length (first ++ second)) kept)
+later_count [] second = refl
+later_count (bytes ∷ first) second {kept} = ap one_later (later_count first second)
 
 -- the model's append goes well where it doesn't fail first
-append_later : (me : ℕ) (r : Rec Value StateValue) (d : CallHere) (k : CallHere → CallHere) (f : Option Failure) → append (one_later f) me r (armed_with (one_later f) d) k ≡ k (armed_with f (logged r None d))
-append_later me r d k None = refl
-append_later me r d k (Some (After before kept)) = refl
+append_later : (me : ℕ) {r : Rec Value StateValue} (d : CallHere) (k : CallHere → CallHere) (f : Option Failure) → append (one_later f) me r (armed_with (one_later f) d) k ≡ k (armed_with f (logged r None d))
+append_later me d k None = refl
+append_later me d k (Some (After before kept)) = refl
 
 -- each state in these appends and in those is spelled
 pub stated_one : (service : Declarations) (bytes : List ℕ) → is_stated service bytes ≡ true → AreStated service (bytes ∷ [])
@@ -42,32 +42,32 @@ pub stated_both : (service : Declarations) (first second : List (List ℕ)) → 
 stated_both service first second h k = list_all-append (is_stated service) first second ∙ (rw (h, k) refl)
 
 -- how many records there are after these appends and then those
-pub both : (first second : List (List ℕ)) (n m l : ℕ) → m ≡ length first + n → l ≡ length second + m → l ≡ length (first ++ second) + n
-both first second n m l h k = let e = length-append first second in omega arith
+pub both : (first second : List (List ℕ)) (n : ℕ) {m l : ℕ} → m ≡ length first + n → l ≡ length second + m → l ≡ length (first ++ second) + n
+both first second n h k = let e = length-append first second in omega arith
 
-both_failed : (kept : Bool) (first second : List (List ℕ)) (n m l : ℕ) → m ≡ length first + n → l ≡ failed_many kept (length second) + m → l ≡ failed_many kept (length (first ++ second)) + n
-both_failed true first second n m l h k = let e = length-append first second in omega arith
-both_failed false first second n m l h k = both first second n m l h k
+both_failed : (kept : Bool) (first second : List (List ℕ)) (n : ℕ) {m l : ℕ} → m ≡ length first + n → l ≡ failed_many kept (length second) + m → l ≡ failed_many kept (length (first ++ second)) + n
+both_failed true first second n h k = let e = length-append first second in omega arith
+both_failed false first second n {m} {l} h k = both first second n h k
 
 module _ {K : Type 0} (records : K → List (List ℕ)) (gives : K → List ℕ → Answer → K → Type 0) (faults : K → ℕ) (service : Declarations) where
   -- where nothing is appended
-  pub leads_same : (whole rest : CallHere → CallHere) (old : K) (d e : CallHere) → length e.node.log ≡ length d.node.log → ((f : Option Failure) → whole (armed_with f d) ≡ rest (armed_with f e)) → Leads records gives faults service whole rest old old d e
-  leads_same whole rest old d e same h = record { written = []; grown = sym (append-nil (records old)); appends = (refl, refl); counted = refl; stated = refl; many = omega (arith, same); comes = h }
+  pub leads_same : {whole rest : CallHere → CallHere} {old : K} {d e : CallHere} → length e.node.log ≡ length d.node.log → ((f : Option Failure) → whole (armed_with f d) ≡ rest (armed_with f e)) → Leads records gives faults service whole rest old old d e
+  leads_same {old} same h = record { written = []; grown = sym (append-nil (records old)); appends = (refl, refl); counted = refl; stated = refl; many = omega (arith, same); comes = h }
 
   -- one part after the other
-  pub leads_then : (whole middle rest : CallHere → CallHere) (a b c : K) (d e f : CallHere) → Leads records gives faults service whole middle a b d e → Leads records gives faults service middle rest b c e f → Leads records gives faults service whole rest a c d f
-  leads_then whole middle rest a b c d e f h k = record {
+  pub leads_then : {whole middle rest : CallHere → CallHere} {a b c : K} {d e f : CallHere} → Leads records gives faults service whole middle a b d e → Leads records gives faults service middle rest b c e f → Leads records gives faults service whole rest a c d f
+  leads_then {whole} {a} {b} {c} {d} {e} {f} h k = record {
     written = h.written ++ k.written;
     grown = k.grown ∙ ap (λ (l : List (List ℕ)). l ++ k.written) h.grown ∙ append_assoc (records a) h.written k.written;
     appends = (chained gives).more a b c h.written k.written (Ok tt) h.appends k.appends;
     counted = k.counted ∙ h.counted;
     stated = stated_both service h.written k.written h.stated k.stated;
-    many = both h.written k.written (length d.node.log) (length e.node.log) (length f.node.log) h.many k.many;
+    many = both h.written k.written (length d.node.log) h.many k.many;
     comes = λ failure. ap (λ (g : Option Failure). whole (armed_with g d)) (later_both h.written k.written failure) ∙ h.comes (later k.written failure) ∙ k.comes failure;
   }
 
-  pub leads_fell : (whole rest : CallHere → CallHere) (id : ℕ) (a b c : K) (d e f : CallHere) → Leads records gives faults service whole rest a b d e → Fell records gives faults service rest id b c e f → Fell records gives faults service whole id a c d f
-  leads_fell whole rest id a b c d e f h k = record {
+  pub leads_fell : {whole rest : CallHere → CallHere} {id : ℕ} {a b c : K} {d e f : CallHere} → Leads records gives faults service whole rest a b d e → Fell records gives faults service rest id b c e f → Fell records gives faults service whole id a c d f
+  leads_fell {whole} {a} {b} {c} {d} {e} {f} h k = record {
     fails = record {
       written = h.written ++ k.fails.written;
       bytes = k.fails.bytes;
@@ -78,8 +78,8 @@ module _ {K : Type 0} (records : K → List (List ℕ)) (gives : K → List ℕ 
       fails = k.fails.fails;
       counted = subst (λ (n : ℕ). n < faults c) h.counted k.fails.counted;
       stated = rw (append_assoc h.written k.fails.written (k.fails.bytes ∷ [])) (stated_both service h.written (k.fails.written ++ k.fails.bytes ∷ []) h.stated k.fails.stated);
-      many = both_failed k.fails.kept h.written k.fails.written (length d.node.log) (length e.node.log) (length f.node.log) h.many k.fails.many;
-      is = ap (λ (g : Option Failure). whole (armed_with g d)) (sym (later_count h.written k.fails.written k.fails.kept)) ∙ h.comes (Some (After (length k.fails.written) k.fails.kept)) ∙ k.fails.is;
+      many = both_failed k.fails.kept h.written k.fails.written (length d.node.log) h.many k.fails.many;
+      is = ap (λ (g : Option Failure). whole (armed_with g d)) (sym (later_count h.written k.fails.written)) ∙ h.comes (Some (After (length k.fails.written) k.fails.kept)) ∙ k.fails.is;
     };
     front = k.front;
     told = k.told;
@@ -87,7 +87,7 @@ module _ {K : Type 0} (records : K → List (List ℕ)) (gives : K → List ℕ 
   }
 
   -- a record is appended
-  module _ (whole k : CallHere → CallHere) (me : ℕ) (r : Rec Value StateValue) (d : CallHere) (is : (f : Option Failure) → whole (armed_with f d) ≡ append f me r (armed_with f d) k) (old new : K) (bytes : List ℕ) (stated : is_stated service bytes ≡ true) where
+  module _ {whole k : CallHere → CallHere} {me : ℕ} {r : Rec Value StateValue} {d : CallHere} (is : (f : Option Failure) → whole (armed_with f d) ≡ append f me r (armed_with f d) k) (old new : K) {bytes : List ℕ} (stated : is_stated service bytes ≡ true) where
     pub leads_append : gives old bytes (Ok tt) new → records new ≡ records old ++ bytes ∷ [] → faults new ≡ faults old → Leads records gives faults service whole k old new d (logged r None d)
     leads_append answer grown counted = record {
       written = bytes ∷ [];
@@ -96,14 +96,14 @@ module _ {K : Type 0} (records : K → List (List ℕ)) (gives : K → List ℕ 
       counted = counted;
       stated = stated_one service bytes stated;
       many = omega arith;
-      comes = λ f. is (one_later f) ∙ append_later me r d k f;
+      comes = λ f. is (one_later f) ∙ append_later me d k f;
     }
 
     -- or it fails
     pub fell_append : (kept : Bool) → gives old bytes (Err Failed) new → records new ≡ failed_records kept (records old) bytes → faults old < faults new
-        → (after : CallHere) → after ≡ record { node = down_node (if kept then r ∷ d.node.log else d.node.log) None; sends = []; effects = d.effects ++ effect.Down me ∷ [] }
+        → {after : CallHere} → after ≡ record { node = down_node (if kept then r ∷ d.node.log else d.node.log) None; sends = []; effects = d.effects ++ effect.Down me ∷ [] }
         → Fell records gives faults service whole me old new d after
-    fell_append kept answer grown counted after e = record {
+    fell_append kept answer grown counted e = record {
       fails = record {
         written = [];
         bytes = bytes;

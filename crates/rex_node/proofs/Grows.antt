@@ -27,14 +27,14 @@ module _ {V S : Type 0} where
   pub record Learns (d e : Call V S) : Type 0 where
     pub begins : Begins (known d.node.log) (known e.node.log)
 
-  pub learns_same : (d e : Call V S) → e.node.log ≡ d.node.log → Learns d e
-  learns_same d e h = record { begins = subst (λ (log : List (Rec V S)). Begins (known d.node.log) (known log)) (sym h) (begins_same (known d.node.log)) }
+  pub learns_same : {d e : Call V S} → e.node.log ≡ d.node.log → Learns d e
+  learns_same {d} h = record { begins = subst (λ (log : List (Rec V S)). Begins (known d.node.log) (known log)) (sym h) (begins_same (known d.node.log)) }
 
   same : {d e : Call V S} → e.node.log ≡ d.node.log → Learns d e
-  same {d} {e} h = learns_same d e h
+  same {d} {e} h = learns_same h
 
-  pub learns_then : (d e f : Call V S) → Learns d e → Learns e f → Learns d f
-  learns_then d e f h k = record { begins = begins_trans (known d.node.log) (known e.node.log) (known f.node.log) h.begins k.begins }
+  pub learns_then : {d e f : Call V S} → Learns d e → Learns e f → Learns d f
+  learns_then {d} {e} {f} h k = record { begins = begins_trans (known d.node.log) (known e.node.log) (known f.node.log) h.begins k.begins }
 
   -- a record of something else than a state that was taken over
   abbrev pub IsOwn : Rec V S → Type 0
@@ -49,76 +49,76 @@ module _ {V S : Type 0} where
   more (Dropped k) log own = begins_same (known log)
   more (Transferred values s) log own = absurd own
 
-  pub learns_more : (d e : Call V S) (r : Rec V S) → IsOwn r → e.node.log ≡ r ∷ d.node.log → Learns d e
-  learns_more d e r own h = record { begins = subst (λ (log : List (Rec V S)). Begins (known d.node.log) (known log)) (sym h) (more r d.node.log own) }
+  pub learns_more : {d e : Call V S} {r : Rec V S} → IsOwn r → e.node.log ≡ r ∷ d.node.log → Learns d e
+  learns_more {d} {r} own h = record { begins = subst (λ (log : List (Rec V S)). Begins (known d.node.log) (known log)) (sym h) (more r d.node.log own) }
 
   if_learns : (t : Bool) {d e f : Call V S} → Learns d e → Learns d f → Learns d (cond t e f)
   if_learns true h k = h
   if_learns false h k = k
 
-  append_learns : (a : Option Failure) (me : ℕ) (r : Rec V S) (d : Call V S) (k : Call V S → Call V S) → IsOwn r → ((b : Option Failure) → Learns (logged r b d) (k (logged r b d))) → Learns d (append a me r d k)
-  append_learns None me r d k own h = learns_then d (logged r None d) (k (logged r None d)) (learns_more d (logged r None d) r own refl) (h None)
-  append_learns (Some (After (suc before) kept)) me r d k own h =
-      learns_then d (logged r (Some (After before kept)) d) (k (logged r (Some (After before kept)) d)) (learns_more d (logged r (Some (After before kept)) d) r own refl) (h (Some (After before kept)))
-  append_learns (Some (After zero true)) me r d k own h = learns_more d (append (Some (After zero true)) me r d k) r own refl
-  append_learns (Some (After zero false)) me r d k own h = learns_same d (append (Some (After zero false)) me r d k) refl
+  append_learns : (a : Option Failure) (me : ℕ) {r : Rec V S} {d : Call V S} (k : Call V S → Call V S) → IsOwn r → ((b : Option Failure) → Learns (logged r b d) (k (logged r b d))) → Learns d (append a me r d k)
+  append_learns None me {r} {d} k own h = learns_then (learns_more own refl) (h None)
+  append_learns (Some (After (suc before) kept)) me {r} {d} k own h =
+      learns_then (learns_more own refl) (h (Some (After before kept)))
+  append_learns (Some (After zero true)) me {r} {d} k own h = learns_more own refl
+  append_learns (Some (After zero false)) me {r} {d} k own h = learns_same refl
 
 module _ {V S : Type 0} (n : ℕ) (sv : Service V S) (me : ℕ) where
   abbrev Goes : (Call V S → Call V S) → Type 0
   Goes k = (e : Call V S) → Learns e (k e)
 
   -- the call goes on from where the log is the same
-  on : (k : Call V S → Call V S) (d e : Call V S) → e.node.log ≡ d.node.log → Goes k → Learns d (k e)
-  on k d e h g = learns_then d e (k e) (learns_same d e h) (g e)
+  on : {k : Call V S → Call V S} {d e : Call V S} → e.node.log ≡ d.node.log → Goes k → Learns d (k e)
+  on {k} {d} {e} h g = learns_then (learns_same h) (g e)
 
-  pub propose_learns : (told : Effect) (d : Call V S) (l : Lead V) (i : ℕ) (v : V) (k : Call V S → Call V S) → Goes k → Learns d (propose n me told d l i v k)
-  propose_learns told d l i v k g = append_learns d.node.armed me (Accepted l.ballot i v) d _ tt (λ b. on k _ _ refl g)
+  pub propose_learns : (told : Effect) {d : Call V S} (l : Lead V) (i : ℕ) (v : V) {k : Call V S → Call V S} → Goes k → Learns d (propose n me told d l i v k)
+  propose_learns told {d} l i v {k} g = append_learns d.node.armed me _ tt (λ b. on refl g)
 
-  pub decide_learns : (d : Call V S) (l : Lead V) (i : ℕ) (v : V) (k : Call V S → Call V S) → Goes k → Learns d (decide n sv me d l i v k)
-  decide_learns d l i v k g = append_learns d.node.armed me (Known i v) d _ tt (λ b. on k _ _ refl g)
+  pub decide_learns : {d : Call V S} (l : Lead V) (i : ℕ) (v : V) {k : Call V S → Call V S} → Goes k → Learns d (decide n sv me d l i v k)
+  decide_learns {d} l i v {k} g = append_learns d.node.armed me _ tt (λ b. on refl g)
 
-  pub choose_learns : (d : Call V S) (l : Lead V) (i : ℕ) (o : Option (Proposal V)) (k : Call V S → Call V S) → Goes k → Learns d (choose n sv me d l i o k)
-  choose_learns d l i None k g = same refl
-  choose_learns d l i (Some p) k g = propose_learns (effect.Adopts me i (sv.size p.value)) d l i p.value k g
+  pub choose_learns : {d : Call V S} (l : Lead V) (i : ℕ) (o : Option (Proposal V)) {k : Call V S → Call V S} → Goes k → Learns d (choose n sv me d l i o k)
+  choose_learns l i None g = same refl
+  choose_learns {d} l i (Some p) {k} g = propose_learns (effect.Adopts me i (sv.size p.value)) l i p.value g
 
-  pub lead_learns : (d : Call V S) (l : Lead V) (o : Option (Proposal V)) (k : Call V S → Call V S) → Goes k → Learns d (lead n sv me d l o k)
-  lead_learns d l (Some p) k g = if_learns (is_majority n l.accepted_by) (decide_learns d l p.instance p.value k g) (same refl)
-  lead_learns d l None k g =
+  pub lead_learns : {d : Call V S} (l : Lead V) (o : Option (Proposal V)) {k : Call V S → Call V S} → Goes k → Learns d (lead n sv me d l o k)
+  lead_learns {d} l (Some p) {k} g = if_learns (is_majority n l.accepted_by) (decide_learns l p.instance p.value g) (same refl)
+  lead_learns {d} l None {k} g =
       if_learns l.active (same refl)
-      (if_learns (is_majority n l.counted) (choose_learns d l (suc (length (known d.node.log))) (best (suc (length (known d.node.log))) l.reported) k g) (same refl))
+      (if_learns (is_majority n l.counted) (choose_learns l (suc (length (known d.node.log))) (best (suc (length (known d.node.log))) l.reported) g) (same refl))
 
-  pub turn_learns : (d : Call V S) (r : Role V) (k : Call V S → Call V S) → Goes k → Learns d (turn n sv me d r k)
-  turn_learns d Follower k g = same refl
-  turn_learns d (Leads l) k g = lead_learns d l l.proposal k g
+  pub turn_learns : {d : Call V S} (r : Role V) {k : Call V S → Call V S} → Goes k → Learns d (turn n sv me d r k)
+  turn_learns Follower g = same refl
+  turn_learns {d} (Leads l) {k} g = lead_learns l l.proposal g
 
   pub settle_learns : (f : ℕ) (d : Call V S) → Learns d (settle f n sv me d)
   settle_learns zero d = same refl
-  settle_learns (suc f) d = turn_learns d d.node.role (settle f n sv me) (settle_learns f)
+  settle_learns (suc f) d = turn_learns d.node.role (settle_learns f)
 
 -- ---- values that fit
 
-module _ (service : Declarations) (good : IsService service) (checked : IsChecked service) where
+module _ {service : Declarations} (good : IsService service) (checked : IsChecked service) where
   -- a front of values that fit fits
-  pub begins_fit : (vs ws : List Value) → Begins vs ws → values_fit service ws ≡ true → values_fit service vs ≡ true
-  begins_fit vs ws b h = shorter b.0 vs (subst (λ (us : List Value). values_fit service us ≡ true) (sym b.1) h)
+  pub begins_fit : (vs : List Value) {ws : List Value} → Begins vs ws → values_fit service ws ≡ true → values_fit service vs ≡ true
+  begins_fit vs b h = shorter b.0 vs (subst (λ (us : List Value). values_fit service us ≡ true) (sym b.1) h)
     where
       shorter : (rest us : List Value) → values_fit service (us ++ rest) ≡ true → values_fit service us ≡ true
       shorter [] us k = subst (λ (xs : List Value). values_fit service xs ≡ true) (append-nil us) k
       shorter (v ∷ rest) us k = fits_front service good checked us v (shorter rest (us ++ v ∷ []) (subst (λ (xs : List Value). values_fit service xs ≡ true) (sym (append_assoc us (v ∷ []) rest)) k))
 
   -- what a call knows at first fits where what it knows in the end does
-  pub fits_before : (d e : CallHere) → Learns d e → values_fit service (known e.node.log) ≡ true → values_fit service (known d.node.log) ≡ true
-  fits_before d e l h = begins_fit (known d.node.log) (known e.node.log) l.begins h
+  pub fits_before : {d e : CallHere} → Learns d e → values_fit service (known e.node.log) ≡ true → values_fit service (known d.node.log) ≡ true
+  fits_before {d} {e} l h = begins_fit (known d.node.log) l.begins h
 
 pub later_none : (written : List (List ℕ)) → later written None ≡ None
 later_none [] = refl
 later_none (bytes ∷ written) = ap one_later (later_none written)
 
 -- where the whole runs on, so does what is left of it
-pub rest_runs : {K : Type 0} (records : K → List (List ℕ)) (gives : K → List ℕ → Answer → K → Type 0) (faults : K → ℕ) (service : Declarations) (past : List Value) (whole rest : CallHere → CallHere) (x y : NodeValue K) (before after : Draft)
+pub rest_runs : {K : Type 0} {records : K → List (List ℕ)} {gives : K → List ℕ → Answer → K → Type 0} {faults : K → ℕ} {service : Declarations} (past : List Value) {whole rest : CallHere → CallHere} (x y : NodeValue K) (before after : Draft)
     → LeadsOn records gives faults service whole rest x.keeper y.keeper (so_far records service past x before) (so_far records service past y after)
     → RunsOn service whole (so_far records service past x before) → RunsOn service rest (so_far records service past y after)
-rest_runs records gives faults service past whole rest x y before after h runs =
+rest_runs {records} {service} past {whole} x y before after h runs =
     subst (λ (d : CallHere). values_fit service (known d.node.log) ≡ true)
     (ap (λ (f : Option Failure). whole (record (so_far records service past x before) { node = record (so_far records service past x before).node { armed = f } })) (sym (later_none h.written)) ∙ h.comes None)
     runs

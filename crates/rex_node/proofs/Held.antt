@@ -33,66 +33,66 @@ short_isn't_held offset (k ∷ a ∷ b ∷ c ∷ []) l = refl
 short_isn't_held offset (k ∷ a ∷ b ∷ c ∷ d ∷ content) l = absurd (omega arith)
 
 -- the instance of a known value is above the offset or isn't
-known_held : (offset instance : ℕ) (value : List ℕ) → HasSpelling (Known instance value) → is_held offset (record_bytes (Known instance value)) ≡ nat_lt offset instance
-known_held offset instance value s =
+known_held : (offset : ℕ) {instance : ℕ} {value : List ℕ} → HasSpelling (Known instance value) → is_held offset (record_bytes (Known instance value)) ≡ nat_lt offset instance
+known_held offset {instance} s =
     let few : instance < 2 ^ 32 = (let last = s.in_range.0.last in omega arith) in
     ap (λ (n : ℕ). nat_lt offset n) (from_be_bytes-to_be_bytes_4 instance few)
 
 -- a state is looked into where none comes behind it
-only_last : (later : Bool) (last bad : Option ℕ) → (later ≡ false → last ≡ bad) → (if not later then last else None) ≡ (if later then None else bad)
-only_last true last bad h = refl
-only_last false last bad h = h refl
+only_last : (later : Bool) {last bad : Option ℕ} → (later ≡ false → last ≡ bad) → (if not later then last else None) ≡ (if later then None else bad)
+only_last true h = refl
+only_last false h = h refl
 
 -- a record with a state, behind which none comes, is the one whose state was read, and this is where that is bad, if it is
 abbrev pub IsLast : Declarations → Option ℕ → Rec → List Rec → Type 0
 IsLast service last r rs = (saved : Saved) → checkpoint_in r ≡ Some saved → has_state rs ≡ false → last ≡ bad_at (state_in service saved.snapshot)
 
 -- what a record holds is bad where the record is
-pub bad_is : (service : Declarations) (offset : ℕ) (last : Option ℕ) (r : Rec) (rs : List Rec) → HasSpelling r → IsLast service last r rs
+pub bad_is : (service : Declarations) (offset : ℕ) {last : Option ℕ} (r : Rec) (rs : List Rec) → HasSpelling r → IsLast service last r rs
     → bad_behind last (get_or (record_bytes r) 0 0) (is_held offset (record_bytes r)) (drop 9 (record_bytes r)) (has_state rs) ≡ bad_in service offset r rs
-bad_is service offset last (Promised ballot) rs s h = refl
-bad_is service offset last (Accepted ballot instance value) rs s h = refl
-bad_is service offset last (Known instance value) rs s h =
-    ap (λ (held : Bool). if held then bad_at (delta_in value) else None) (known_held offset instance value s)
-bad_is service offset last (Checkpoint deltas snapshot) rs s h =
-    only_last (has_state rs) last (bad_at (state_in service snapshot)) (h (record { deltas = deltas; snapshot = snapshot }) refl)
-bad_is service offset last (Dropped deltas) rs s h = refl
-bad_is service offset last (Transferred deltas snapshot) rs s h =
-    only_last (has_state rs) last (bad_at (state_in service snapshot)) (h (record { deltas = deltas; snapshot = snapshot }) refl)
+bad_is service offset (Promised ballot) rs s h = refl
+bad_is service offset (Accepted ballot instance value) rs s h = refl
+bad_is service offset (Known instance value) rs s h =
+    ap (λ (held : Bool). if held then bad_at (delta_in value) else None) (known_held offset s)
+bad_is service offset {last} (Checkpoint deltas snapshot) rs s h =
+    only_last (has_state rs) (h (record { deltas = deltas; snapshot = snapshot }) refl)
+bad_is service offset (Dropped deltas) rs s h = refl
+bad_is service offset {last} (Transferred deltas snapshot) rs s h =
+    only_last (has_state rs) (h (record { deltas = deltas; snapshot = snapshot }) refl)
 
 -- ---- the last state that records have
 
 -- the one before them, where they have none
-none_later : (rs : List Rec) (before : Option Saved) → has_state rs ≡ false → fold (λ (b : Option Saved) x. Some x) before (filter_map checkpoint_in rs) ≡ before
-none_later [] before e = refl
-none_later (Promised ballot ∷ rs) before e = none_later rs before e
-none_later (Accepted ballot instance value ∷ rs) before e = none_later rs before e
-none_later (Known instance value ∷ rs) before e = none_later rs before e
-none_later (Checkpoint deltas snapshot ∷ rs) before e = absurd (cc)
-none_later (Dropped deltas ∷ rs) before e = none_later rs before e
-none_later (Transferred deltas snapshot ∷ rs) before e = absurd (cc)
+none_later : (rs : List Rec) {before : Option Saved} → has_state rs ≡ false → fold (λ (b : Option Saved) x. Some x) before (filter_map checkpoint_in rs) ≡ before
+none_later [] e = refl
+none_later (Promised ballot ∷ rs) {before} e = none_later rs e
+none_later (Accepted ballot instance value ∷ rs) {before} e = none_later rs e
+none_later (Known instance value ∷ rs) {before} e = none_later rs e
+none_later (Checkpoint deltas snapshot ∷ rs) e = absurd (cc)
+none_later (Dropped deltas ∷ rs) {before} e = none_later rs e
+none_later (Transferred deltas snapshot ∷ rs) e = absurd (cc)
 
 -- that of a record behind which none comes
-last_later : (front : List Rec) (r : Rec) (rs : List Rec) (saved : Saved) (before : Option Saved) → checkpoint_in r ≡ Some saved → has_state rs ≡ false
+last_later : (front : List Rec) (r : Rec) (rs : List Rec) {saved : Saved} (before : Option Saved) → checkpoint_in r ≡ Some saved → has_state rs ≡ false
     → fold (λ (b : Option Saved) x. Some x) before (filter_map checkpoint_in (front ++ r ∷ rs)) ≡ Some saved
-last_later [] (Promised ballot) rs saved before is e = absurd (cc)
-last_later [] (Accepted ballot instance value) rs saved before is e = absurd (cc)
-last_later [] (Known instance value) rs saved before is e = absurd (cc)
-last_later [] (Checkpoint deltas snapshot) rs saved before is e = none_later rs (Some (record { deltas = deltas; snapshot = snapshot })) e ∙ is
-last_later [] (Dropped deltas) rs saved before is e = absurd (cc)
-last_later [] (Transferred deltas snapshot) rs saved before is e = none_later rs (Some (record { deltas = deltas; snapshot = snapshot })) e ∙ is
-last_later (Promised ballot ∷ front) r rs saved before is e = last_later front r rs saved before is e
-last_later (Accepted ballot instance value ∷ front) r rs saved before is e = last_later front r rs saved before is e
-last_later (Known instance value ∷ front) r rs saved before is e = last_later front r rs saved before is e
-last_later (Checkpoint deltas snapshot ∷ front) r rs saved before is e = last_later front r rs saved (Some (record { deltas = deltas; snapshot = snapshot })) is e
-last_later (Dropped deltas ∷ front) r rs saved before is e = last_later front r rs saved before is e
-last_later (Transferred deltas snapshot ∷ front) r rs saved before is e = last_later front r rs saved (Some (record { deltas = deltas; snapshot = snapshot })) is e
+last_later [] (Promised ballot) rs before is e = absurd (cc)
+last_later [] (Accepted ballot instance value) rs before is e = absurd (cc)
+last_later [] (Known instance value) rs before is e = absurd (cc)
+last_later [] (Checkpoint deltas snapshot) rs before is e = none_later rs e ∙ is
+last_later [] (Dropped deltas) rs before is e = absurd (cc)
+last_later [] (Transferred deltas snapshot) rs before is e = none_later rs e ∙ is
+last_later (Promised ballot ∷ front) r rs {saved} before is e = last_later front r rs before is e
+last_later (Accepted ballot instance value ∷ front) r rs {saved} before is e = last_later front r rs before is e
+last_later (Known instance value ∷ front) r rs {saved} before is e = last_later front r rs before is e
+last_later (Checkpoint deltas snapshot ∷ front) r rs {saved} before is e = last_later front r rs (Some (record { deltas = deltas; snapshot = snapshot })) is e
+last_later (Dropped deltas ∷ front) r rs {saved} before is e = last_later front r rs before is e
+last_later (Transferred deltas snapshot ∷ front) r rs {saved} before is e = last_later front r rs (Some (record { deltas = deltas; snapshot = snapshot })) is e
 
 -- so it is the one that was read
-pub is_last : (service : Declarations) (last : Option ℕ) (all front : List Rec) (r : Rec) (rs : List Rec) → all ≡ front ++ r ∷ rs → last ≡ bad_at (state_at service (snapshot_of (checkpoint all)))
+pub is_last : (service : Declarations) {last : Option ℕ} {all : List Rec} (front : List Rec) (r : Rec) (rs : List Rec) → all ≡ front ++ r ∷ rs → last ≡ bad_at (state_at service (snapshot_of (checkpoint all)))
     → IsLast service last r rs
-is_last service last all front r rs parts read = λ saved is none.
-    let found : checkpoint all ≡ Some saved = ap checkpoint parts ∙ last_later front r rs saved None is none in
+is_last service {all} front r rs parts read = λ saved is none.
+    let found : checkpoint all ≡ Some saved = ap checkpoint parts ∙ last_later front r rs None is none in
     read ∙ ap (λ (o : Option Saved). bad_at (state_at service (snapshot_of o))) found
 
 -- so is the version of the last checkpoint, if there is one, where this record is the last one
@@ -121,14 +121,14 @@ kind_of (Transferred deltas snapshot) false = refl
 
 -- ---- one list of bytes
 
-module _ (kept : List (List ℕ)) (rs : List Rec) (s : Spell kept rs) where
+module _ {kept : List (List ℕ)} {rs : List Rec} (s : Spell kept rs) where
   -- there are as many records
   pub many : length kept ≡ length rs
   many = ap length s.bytes ∙ length-map rs record_bytes
 
   -- each list of bytes spells its record
-  pub spelled_at : (index : ℕ) (d : Rec) → index < length rs → slice_index_or kept index [] ≡ record_bytes (get_or rs index d)
-  spelled_at index d there = ap (λ (lists : List (List ℕ)). slice_index_or lists index []) s.bytes ∙ get_or-map record_bytes rs index d [] there
+  pub spelled_at : {index : ℕ} (d : Rec) → index < length rs → slice_index_or kept index [] ≡ record_bytes (get_or rs index d)
+  spelled_at {index} d there = ap (λ (lists : List (List ℕ)). slice_index_or lists index []) s.bytes ∙ get_or-map record_bytes rs index d [] there
 
 -- ---- from the last record on
 
@@ -138,8 +138,8 @@ pub record IsLooked (offset : ℕ) (kept : List (List ℕ)) (last : Option ℕ) 
       → found ≡ first_bad service offset (suc (length rs - back)) (drop (length rs - back) rs)
   pub more : (rs : List Rec) → Spell kept rs → later ≡ has_state (drop (length rs - back) rs)
 
-pub looked_none : (offset : ℕ) (kept : List (List ℕ)) (last : Option ℕ) → IsLooked offset kept last 0 None false
-looked_none offset kept last = record {
+pub looked_none : {offset : ℕ} {kept : List (List ℕ)} {last : Option ℕ} → IsLooked offset kept last 0 None false
+looked_none {offset} = record {
   bad = λ service rs h read. ap (first_bad service offset (suc (length rs - 0))) (sym (none_left rs));
   more = λ rs h. ap has_state (sym (none_left rs));
 }
@@ -147,7 +147,7 @@ looked_none offset kept last = record {
     none_left : (rs : List Rec) → drop (length rs - 0) rs ≡ []
     none_left rs = ap (λ (n : ℕ). drop n rs) (let e : length rs - 0 ≡ length rs = omega arith in e) ∙ drop-length rs
 
-module _ (offset : ℕ) (kept : List (List ℕ)) (last : Option ℕ) (back index : ℕ) (found now : Option Place) (later now_later : Bool) (bytes : List ℕ) (bad : Option ℕ) (h : IsLooked offset kept last back found later)
+module _ {offset : ℕ} {kept : List (List ℕ)} {last : Option ℕ} {back index : ℕ} {found now : Option Place} {later now_later : Bool} {bytes : List ℕ} {bad : Option ℕ} (h : IsLooked offset kept last back found later)
     (few : back < length kept) (index_is : index ≡ length kept - 1 - back) (bytes_are : bytes ≡ slice_index_or kept index [])
     (bad_is_so : bad ≡ bad_behind last (get_or bytes 0 0) (is_held offset bytes) (drop 9 bytes) later)
     (now_is : now ≡ place_or (index + 1) bad found) (then_is : now_later ≡ (later || is_state_kind (get_or bytes 0 0))) where
@@ -156,7 +156,7 @@ module _ (offset : ℕ) (kept : List (List ℕ)) (last : Option ℕ) (back index
     d = Promised 0
 
     long : length kept ≡ length rs
-    long = many kept rs s
+    long = many s
 
     there : index < length rs
     there = omega (arith, few, index_is, long)
@@ -168,7 +168,7 @@ module _ (offset : ℕ) (kept : List (List ℕ)) (last : Option ℕ) (back index
     spelling = (s.records.each index d there).spelling
 
     spelled : bytes ≡ record_bytes r
-    spelled = bytes_are ∙ spelled_at kept rs s index d there
+    spelled = bytes_are ∙ spelled_at s d there
 
     after : length rs - back ≡ suc index
     after = omega (arith, few, index_is, long)
@@ -195,7 +195,7 @@ module _ (offset : ℕ) (kept : List (List ℕ)) (last : Option ℕ) (back index
       bad_here =
           bad_is_so ∙ ap (λ (b : List ℕ). bad_behind last (get_or b 0 0) (is_held offset b) (drop 9 b) later) spelled
           ∙ ap (bad_behind last (get_or (record_bytes r) 0 0) (is_held offset (record_bytes r)) (drop 9 (record_bytes r))) (h.more rs s)
-          ∙ bad_is service offset last r (drop (length rs - back) rs) spelling (is_last service last rs (take index rs) r (drop (length rs - back) rs) whole read)
+          ∙ bad_is service offset r (drop (length rs - back) rs) spelling (is_last service (take index rs) r (drop (length rs - back) rs) whole read)
 
       bad_now : now ≡ first_bad service offset (suc (length rs - (back + 1))) (drop (length rs - (back + 1)) rs)
       bad_now =
@@ -213,24 +213,24 @@ module _ (offset : ℕ) (kept : List (List ℕ)) (last : Option ℕ) (back index
 pub record EndsSo (kept : List (List ℕ)) (index : ℕ) (old : Bool) : Type 0 where
   pub is : (rs : List Rec) → Spell kept rs → old ≡ ends_old (take index rs)
 
-pub ends_more : (kept : List (List ℕ)) (index : ℕ) (before after : Bool) (bytes : List ℕ) → EndsSo kept index before → index < length kept → bytes ≡ slice_index_or kept index []
+pub ends_more : {kept : List (List ℕ)} {index : ℕ} {before after : Bool} {bytes : List ℕ} → EndsSo kept index before → index < length kept → bytes ≡ slice_index_or kept index []
     → after ≡ old_behind before (get_or bytes 0 0) (drop 9 bytes) → EndsSo kept (index + 1) after
-ends_more kept index before after bytes h lt bytes_are e = record { is = is }
+ends_more {kept} {index} {before} {after} h lt bytes_are e = record { is = is }
   where
     is : (rs : List Rec) → Spell kept rs → after ≡ ends_old (take (index + 1) rs)
     is rs s =
         let d = Promised 0 in
-        let there : index < length rs = omega (arith, lt, many kept rs s) in
+        let there : index < length rs = omega (arith, lt, many s) in
         let r = get_or rs index d in
-        e ∙ ap (λ (b : List ℕ). old_behind before (get_or b 0 0) (drop 9 b)) (bytes_are ∙ spelled_at kept rs s index d there)
+        e ∙ ap (λ (b : List ℕ). old_behind before (get_or b 0 0) (drop 9 b)) (bytes_are ∙ spelled_at s d there)
         ∙ old_is before r ∙ ap (λ (b : Bool). old_in b r) (h.is rs s) ∙ sym (fold_push old_in false (take index rs) r)
         ∙ ap (λ (others : List Rec). ends_old others) (sym (take_more rs index d there))
 
 -- ---- the last state
 
-none_of : (number : ℕ) (o : Option ℕ) (later : Option Place) → place_or number o later ≡ None → (o ≡ None) × (later ≡ None)
-none_of number None later e = (refl, e)
-none_of number (Some at) later e = absurd (cc)
+none_of : (number : ℕ) (o : Option ℕ) {later : Option Place} → place_or number o later ≡ None → (o ≡ None) × (later ≡ None)
+none_of number None e = (refl, e)
+none_of number (Some at) e = absurd (cc)
 
 good_of : (q : Result StateValue ℕ) → bad_at q ≡ None → IsOk q
 good_of (Ok s) e = refl
@@ -241,33 +241,33 @@ abbrev IsGood : Declarations → List Rec → Option Saved → Saved → Type 0
 IsGood service rs before saved = ((has_state rs ≡ false) × (before ≡ Some saved)) ⊎ IsOk (state_in service saved.snapshot)
 
 -- so it does with a record more before them that has a state
-good_more : (service : Declarations) (deltas : ℕ) (snapshot : List ℕ) (rs : List Rec) (saved : Saved) → (if has_state rs then None else bad_at (state_in service snapshot)) ≡ None
+good_more : (service : Declarations) {deltas : ℕ} {snapshot : List ℕ} (rs : List Rec) {saved : Saved} → (if has_state rs then None else bad_at (state_in service snapshot)) ≡ None
     → IsGood service rs (Some (record { deltas = deltas; snapshot = snapshot })) saved → IsOk (state_in service saved.snapshot)
-good_more service deltas snapshot rs saved none (inl h) =
+good_more service {snapshot} rs {saved} none (inl h) =
     let here : bad_at (state_in service snapshot) ≡ None = ap (λ (t : Bool). if t then None else bad_at (state_in service snapshot)) (sym h.0) ∙ none in
     let same : snapshot ≡ saved.snapshot = ap (λ (x : Saved). x.snapshot) (same_Some _ saved h.1) in
     subst (λ (bytes : List ℕ). IsOk (state_in service bytes)) same (good_of (state_in service snapshot) here)
-good_more service deltas snapshot rs saved none (inr h) = h
+good_more service rs none (inr h) = h
 
 -- where no record is bad, the last snapshot spells a state, unless it stands before them
-last_good : (service : Declarations) (offset : ℕ) (rs : List Rec) (n : ℕ) (before : Option Saved) (saved : Saved) → first_bad service offset n rs ≡ None
+last_good : (service : Declarations) (offset : ℕ) (rs : List Rec) (n : ℕ) {before : Option Saved} {saved : Saved} → first_bad service offset n rs ≡ None
     → fold (λ (b : Option Saved) x. Some x) before (filter_map checkpoint_in rs) ≡ Some saved → IsGood service rs before saved
-last_good service offset [] n before saved good e = inl (refl, e)
-last_good service offset (Promised ballot ∷ rs) n before saved good e = last_good service offset rs (suc n) before saved good e
-last_good service offset (Accepted ballot instance value ∷ rs) n before saved good e = last_good service offset rs (suc n) before saved good e
-last_good service offset (Known instance value ∷ rs) n before saved good e =
-    last_good service offset rs (suc n) before saved (none_of n (if nat_lt offset instance then bad_at (delta_in value) else None) (first_bad service offset (suc n) rs) good).1 e
-last_good service offset (Checkpoint deltas snapshot ∷ rs) n before saved good e =
-    let parts = none_of n (if has_state rs then None else bad_at (state_in service snapshot)) (first_bad service offset (suc n) rs) good in
-    inr (good_more service deltas snapshot rs saved parts.0 (last_good service offset rs (suc n) (Some (record { deltas = deltas; snapshot = snapshot })) saved parts.1 e))
-last_good service offset (Dropped deltas ∷ rs) n before saved good e = last_good service offset rs (suc n) before saved good e
-last_good service offset (Transferred deltas snapshot ∷ rs) n before saved good e =
-    let parts = none_of n (if has_state rs then None else bad_at (state_in service snapshot)) (first_bad service offset (suc n) rs) good in
-    inr (good_more service deltas snapshot rs saved parts.0 (last_good service offset rs (suc n) (Some (record { deltas = deltas; snapshot = snapshot })) saved parts.1 e))
+last_good service offset [] n good e = inl (refl, e)
+last_good service offset (Promised ballot ∷ rs) n {before} {saved} good e = last_good service offset rs (suc n) good e
+last_good service offset (Accepted ballot instance value ∷ rs) n {before} {saved} good e = last_good service offset rs (suc n) good e
+last_good service offset (Known instance value ∷ rs) n {before} {saved} good e =
+    last_good service offset rs (suc n) (none_of n (if nat_lt offset instance then bad_at (delta_in value) else None) good).1 e
+last_good service offset (Checkpoint deltas snapshot ∷ rs) n {saved} good e =
+    let parts = none_of n (if has_state rs then None else bad_at (state_in service snapshot)) good in
+    inr (good_more service rs parts.0 (last_good service offset rs (suc n) parts.1 e))
+last_good service offset (Dropped deltas ∷ rs) n {before} {saved} good e = last_good service offset rs (suc n) good e
+last_good service offset (Transferred deltas snapshot ∷ rs) n {saved} good e =
+    let parts = none_of n (if has_state rs then None else bad_at (state_in service snapshot)) good in
+    inr (good_more service rs parts.0 (last_good service offset rs (suc n) parts.1 e))
 
 -- so it is of all records
-pub saved_good : (service : Declarations) (offset : ℕ) (rs : List Rec) (snapshot : List ℕ) → first_bad service offset 1 rs ≡ None → snapshot_of (checkpoint rs) ≡ Some snapshot → IsOk (state_in service snapshot)
-saved_good service offset rs snapshot good e = by (checkpoint rs) refl e
+pub saved_good : (service : Declarations) (offset : ℕ) (rs : List Rec) {snapshot : List ℕ} → first_bad service offset 1 rs ≡ None → snapshot_of (checkpoint rs) ≡ Some snapshot → IsOk (state_in service snapshot)
+saved_good service offset rs {snapshot} good e = by (checkpoint rs) refl e
   where
     or_none : (saved : Saved) → IsGood service rs None saved → IsOk (state_in service saved.snapshot)
     or_none saved (inl h) = let f = h.1 in absurd (cc)
@@ -275,7 +275,7 @@ saved_good service offset rs snapshot good e = by (checkpoint rs) refl e
 
     by : (o : Option Saved) → checkpoint rs ≡ o → snapshot_of o ≡ Some snapshot → IsOk (state_in service snapshot)
     by None f g = absurd (cc)
-    by (Some saved) f g = subst (λ (bytes : List ℕ). IsOk (state_in service bytes)) (same_Some saved.snapshot snapshot g) (or_none saved (last_good service offset rs 1 None saved good f))
+    by (Some saved) f g = subst (λ (bytes : List ℕ). IsOk (state_in service bytes)) (same_Some saved.snapshot snapshot g) (or_none saved (last_good service offset rs 1 good f))
 
 -- so the state that was read isn't bad
 pub read_good : (service : Declarations) (offset : ℕ) (rs : List Rec) → first_bad service offset 1 rs ≡ None → bad_at (state_at service (snapshot_of (checkpoint rs))) ≡ None
@@ -287,13 +287,13 @@ read_good service offset rs good = by (snapshot_of (checkpoint rs)) refl
 
     by : (o : Option (List ℕ)) → snapshot_of (checkpoint rs) ≡ o → bad_at (state_at service o) ≡ None
     by None e = refl
-    by (Some snapshot) e = fine (state_in service snapshot) (saved_good service offset rs snapshot good e)
+    by (Some snapshot) e = fine (state_in service snapshot) (saved_good service offset rs good e)
 
 -- ---- records that were read
 
-module _ (service : Declarations) (kept : List (List ℕ)) (x : Recovered) (r : IsRead kept x) where
-  pub none_bad : (found : Option Place) → found ≡ first_bad service x.offset 1 r.rs → found ≡ None → IsFound service kept x
-  none_bad found is none = record { read = r; good = ap (λ (y : Recovered). first_bad service y.offset 1 r.rs) (sym r.is) ∙ sym is ∙ none }
+module _ (service : Declarations) {kept : List (List ℕ)} {x : Recovered} (r : IsRead kept x) where
+  pub none_bad : {found : Option Place} → found ≡ first_bad service x.offset 1 r.rs → found ≡ None → IsFound service kept x
+  none_bad is none = record { read = r; good = ap (λ (y : Recovered). first_bad service y.offset 1 r.rs) (sym r.is) ∙ sym is ∙ none }
 
   -- so it isn't bad where no record is
   pub not_bad : (at : ℕ) → IsFound service kept x → Err at ≡ state_at service x.snapshot → ⊥
@@ -305,6 +305,6 @@ module _ (service : Declarations) (kept : List (List ℕ)) (x : Recovered) (r : 
       some_none : bad_at {A = StateValue} (Err at) ≡ None → ⊥
       some_none e = cc
 
-pub saved_so : (service : Declarations) (snapshot : Option (List ℕ)) (s : StateValue) → Ok s ≡ state_at service snapshot → IsSaved service snapshot s
-saved_so service None s e = cc
-saved_so service (Some bytes) s e = sym e
+pub saved_so : (service : Declarations) (snapshot : Option (List ℕ)) {s : StateValue} → Ok s ≡ state_at service snapshot → IsSaved service snapshot s
+saved_so service None e = cc
+saved_so service (Some bytes) e = sym e

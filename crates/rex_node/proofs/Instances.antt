@@ -60,11 +60,11 @@ from_kept first (p ∷ ps) = by (leb first p.instance) (from_kept first ps)
     by false ih = ih
 
 -- no proposal for a lower instance is there
-last_none : (b i least : ℕ) (ps : List Kept) → i < least → AreRising least ps → has_last b i (map proposal_in ps) ≡ false
-last_none b i least [] l h = refl
-last_none b i least (p ∷ ps) l h =
+last_none : (b : ℕ) {i : ℕ} (least : ℕ) (ps : List Kept) → i < least → AreRising least ps → has_last b i (map proposal_in ps) ≡ false
+last_none b least [] l h = refl
+last_none b {i} least (p ∷ ps) l h =
     let first = h.0 in
-    by (eqb p.ballot b) (eqb p.instance i) (ne_eqb p.instance i (λ e. omega arith)) (last_none b i (p.instance + 1) ps (omega arith) h.1)
+    by (eqb p.ballot b) (eqb p.instance i) (ne_eqb p.instance i (λ e. omega arith)) (last_none b (p.instance + 1) ps (omega arith) h.1)
   where
     by : (t u : Bool) → u ≡ false → has_last b i (map proposal_in ps) ≡ false → cond t (u || has_last b i (map proposal_in ps)) (has_last b i (map proposal_in ps)) ≡ false
     by true true e ih = e
@@ -80,13 +80,13 @@ last_kept b i least (p ∷ ps) h = by (eqb p.ballot b) refl (eqb p.instance i) r
         → cond t (u || has_last b i (map proposal_in ps)) (has_last b i (map proposal_in ps)) ≡ is_of_ballot b (cond u (Some p) (proposal_for i ps))
     by true e true f ih = sym e
     by true e false f ih = ih
-    by false e true f ih = last_none b i (p.instance + 1) ps (let g = eqb-true p.instance i f in omega arith) h.1 ∙ sym e
+    by false e true f ih = last_none b (p.instance + 1) ps (let g = eqb-true p.instance i f in omega arith) h.1 ∙ sym e
     by false e false f ih = ih
 
 -- a proposal for a later instance takes the same place among those from an instance on
-pub placed_from : (first : ℕ) (p : Proposal Value) (ps : List (Proposal Value)) → first ≤ p.instance → from_on first (placed p ps) ≡ placed p (from_on first ps)
-placed_from first p [] l = rw (le-leb first p.instance l) refl
-placed_from first p (q ∷ qs) l = go (eqb p.instance q.instance) refl (ltb p.instance q.instance) refl (leb first q.instance) refl (placed_from first p qs l)
+pub placed_from : {first : ℕ} (p : Proposal Value) (ps : List (Proposal Value)) → first ≤ p.instance → from_on first (placed p ps) ≡ placed p (from_on first ps)
+placed_from {first} p [] l = rw (le-leb first p.instance l) refl
+placed_from {first} p (q ∷ qs) l = go (eqb p.instance q.instance) refl (ltb p.instance q.instance) refl (leb first q.instance) refl (placed_from p qs l)
   where
     here : leb first p.instance ≡ true
     here = le-leb first p.instance l

@@ -63,10 +63,10 @@ use Rattle.rex_node.proofs.Reaching.{still_reached}
 
 -- ---- what is executed
 
-shorter : (p : Event → Bool) (es : List Event) (n : ℕ) → length es ≤ n → length (filter p es) ≤ n
-shorter p es n h = omega (arith, length-filter p es, count_by-le-length p es)
+shorter : (p : Event → Bool) (es : List Event) {n : ℕ} → length es ≤ n → length (filter p es) ≤ n
+shorter p es h = omega (arith, length-filter p es, count_by-le-length p es)
 
-module _ (service : Declarations) (good : IsService service) (values : List Value) (a : ActingValue) (h : Executes service values a) (v : Value) (cut : IsCutAt service values a v) where
+module _ {service : Declarations} (good : IsService service) {values : List Value} {a : ActingValue} (h : Executes service values a) {v : Value} (cut : IsCutAt service values a v) where
   first : GoesFirst service a.recorder.start a.recorder.state a.proposed a.recorder.live
   first = cuts_go_first service a.recorder.start a.recorder.state a.proposed a.recorder.live good h.recorder.sound cut.consistent h.recorder.runs
 
@@ -80,7 +80,7 @@ module _ (service : Declarations) (good : IsService service) (values : List Valu
   recorder_settled = record {
     sound = run_keeps service a.recorder.start first.state (below a.proposed a.recorder.live) good h.recorder.sound first.first;
     runs = first.rest;
-    few = shorter (λ e. not (is_below a.proposed e)) a.recorder.live 4096 h.recorder.few;
+    few = shorter (λ e. not (is_below a.proposed e)) a.recorder.live h.recorder.few;
     queue = h.recorder.queue;
   }
 
@@ -101,12 +101,12 @@ module _ (service : Declarations) (good : IsService service) (values : List Valu
 
   released_settled : (seed : ℕ) → released (service_of service seed) true values v ≡ releases_in (Some a)
   released_settled seed =
-      ap (λ (s : StateValue). map release_effect (releases s.clients (events_of v))) (start_is service values a h)
+      ap (λ (s : StateValue). map release_effect (releases s.clients (events_of v))) (start_is h)
       ∙ ap (λ (es : List Event). map release_effect (releases a.recorder.start.clients es)) cut.events
 
 -- ---- a node that executes, or doesn't
 
-module _ (service : Declarations) (good : IsService service) (seed : ℕ) (values : List Value) (acceptor : AcceptorValue) (p : ProposerValue) (v : Value) where
+module _ {service : Declarations} (good : IsService service) (seed : ℕ) (values : List Value) (acceptor : AcceptorValue) (p : ProposerValue) (v : Value) where
   abbrev IsCut : Option ActingValue → Type 0
   IsCut w = IfSome w (λ (a : ActingValue). IsCutAt service values a v)
 
@@ -116,19 +116,19 @@ module _ (service : Declarations) (good : IsService service) (seed : ℕ) (value
 
   acting_known : (w : Option ActingValue) → IsActing service values acceptor (Some p) w → IsCut w → IsActing service (values ++ v ∷ []) acceptor (Some (closed p)) (option_map (settling service) w)
   acting_known None h c = tt
-  acting_known (Some a) h c = record { executes = executes_settled service good values a h.executes v c; open_is_cut = tt }
+  acting_known (Some a) h c = record { executes = executes_settled good h.executes c; open_is_cut = tt }
 
   stamped_known : (w : Option ActingValue) → length values < 65535 → HasStamps values w → IsCut w → HasStamps (values ++ v ∷ []) (option_map (settling service) w)
   stamped_known None few h c = tt
-  stamped_known (Some a) few h c = subst (λ (es : List Event). NumbersReplies (values ++ v ∷ []) (noting a.answers es)) c.events (noted_next values a.answers h few v)
+  stamped_known (Some a) few h c = subst (λ (es : List Event). NumbersReplies (values ++ v ∷ []) (noting a.answers es)) c.events (noted_next h few v)
 
   work_is : (w : Option ActingValue) → IsActing service values acceptor (Some p) w → IsCut w → work_known (service_of service seed) (is_some w) (values ++ v ∷ []) (work_of w) ≡ work_of (option_map (settling service) w)
   work_is None h c = refl
-  work_is (Some a) h c = work_settled service good values a h.executes v c seed
+  work_is (Some a) h c = work_settled good h.executes c seed
 
   released_are : (w : Option ActingValue) → IsActing service values acceptor (Some p) w → IsCut w → released (service_of service seed) (is_some w) values v ≡ releases_in w
   released_are None h c = refl
-  released_are (Some a) h c = released_settled service good values a h.executes v c seed
+  released_are (Some a) h c = released_settled good h.executes c seed
 
 active_same : (service : Declarations) (w : Option ActingValue) → is_some (option_map (settling service) w) ≡ is_some w
 active_same service None = refl
@@ -138,16 +138,16 @@ replayed_same : (w : Option ActingValue) (i replayed : ℕ) → replayed_known (
 replayed_same None i replayed = refl
 replayed_same (Some a) i replayed = refl
 
-replayed_from : (w : Option ActingValue) (based i replayed known : ℕ) → i ≡ known + 1 → based ≤ replayed → replayed ≤ known → based ≤ replayed_to w i replayed
-replayed_from None based i replayed known e h k = h
-replayed_from (Some a) based i replayed known e h k = omega (arith, e, h, k)
+replayed_from : (w : Option ActingValue) {based i replayed known : ℕ} → i ≡ known + 1 → based ≤ replayed → replayed ≤ known → based ≤ replayed_to w i replayed
+replayed_from None e h k = h
+replayed_from (Some a) e h k = omega (arith, e, h, k)
 
-replayed_most : (w : Option ActingValue) (i replayed known : ℕ) → i ≡ known + 1 → replayed ≤ known → replayed_to w i replayed ≤ known + 1
-replayed_most None i replayed known e h = omega (arith, h)
-replayed_most (Some a) i replayed known e h = omega (arith, e)
+replayed_most : (w : Option ActingValue) {i replayed known : ℕ} → i ≡ known + 1 → replayed ≤ known → replayed_to w i replayed ≤ known + 1
+replayed_most None e h = omega (arith, h)
+replayed_most (Some a) e h = omega (arith, e)
 
-proposes_closed : (nodes id : ℕ) (a : AcceptorValue) (p : ProposerValue) → Proposes nodes id a p → Proposes nodes id a (closed p)
-proposes_closed nodes id a p h = record {
+proposes_closed : {nodes id : ℕ} {a : AcceptorValue} {p : ProposerValue} → Proposes nodes id a p → Proposes nodes id a (closed p)
+proposes_closed {p} h = record {
   nodes_are = h.nodes_are;
   own = h.own;
   ballot = h.ballot;
@@ -157,28 +157,28 @@ proposes_closed nodes id a p h = record {
   open_one = tt;
 }
 
-lead_closed : (known more : ℕ) (a : AcceptorValue) (p : ProposerValue) (active now : Bool) → LeadFits known (lead_of a p active) → LeadFits more (lead_of a (closed p) now)
-lead_closed known more a p active now h = record { ballot = h.ballot; reported = h.reported; next = λ q e. absurd (none q e) }
+lead_closed : {known more : ℕ} (a : AcceptorValue) (p : ProposerValue) {active now : Bool} → LeadFits known (lead_of a p active) → LeadFits more (lead_of a (closed p) now)
+lead_closed a p h = record { ballot = h.ballot; reported = h.reported; next = λ q e. absurd (none q e) }
   where
     none : (q : Proposal Value) → None ≡ Some q → ⊥
     none q e = cc
 
 -- an active node has replayed all that it knows
-known_all : (service : Declarations) (w : Option ActingValue) (i replayed known more : ℕ) → i ≡ known + 1 → more ≡ known + 1 → is_some (option_map (settling service) w) ≡ true → replayed_to w i replayed ≡ more
-known_all service None i replayed known more e f t = absurd (false≢true t)
-known_all service (Some a) i replayed known more e f t = e ∙ sym f
+known_all : (service : Declarations) (w : Option ActingValue) {i : ℕ} (replayed known : ℕ) {more : ℕ} → i ≡ known + 1 → more ≡ known + 1 → is_some (option_map (settling service) w) ≡ true → replayed_to w i replayed ≡ more
+known_all service None replayed known e f t = absurd (false≢true t)
+known_all service (Some a) replayed known e f t = e ∙ sym f
 
 -- what was replayed is still what was replayed
-ahead_known : (service : Declarations) (values : List Value) (v : Value) (w : Option ActingValue) (i replayed : ℕ) (ahead : Option StateValue) (start : StateValue) → replayed ≤ length values
+ahead_known : (service : Declarations) (values : List Value) (v : Value) (w : Option ActingValue) (i : ℕ) {replayed : ℕ} (ahead : Option StateValue) (start : StateValue) → replayed ≤ length values
     → (w ≡ None → run service (start_of service) (trace_of (take replayed values)) ≡ Some (ahead_of ahead start))
     → option_map (settling service) w ≡ None → run service (start_of service) (trace_of (take (replayed_to w i replayed) (values ++ v ∷ []))) ≡ Some (ahead_of ahead start)
-ahead_known service values v None i replayed ahead start few h e = ap (λ (vs : List Value). run service (start_of service) (trace_of vs)) (take-append-le replayed values (v ∷ []) few) ∙ h refl
-ahead_known service values v (Some a) i replayed ahead start few h e = absurd (cc)
+ahead_known service values v None i {replayed} ahead start few h e = ap (λ (vs : List Value). run service (start_of service) (trace_of vs)) (take-append-le replayed values (v ∷ []) few) ∙ h refl
+ahead_known service values v (Some a) i ahead start few h e = absurd (cc)
 
 -- ---- a node that learns
 
-module _ {K : Type 0} (records : K → List (List ℕ)) (gives : K → List ℕ → Answer → K → Type 0) (faults : K → ℕ) (service : Declarations) (past : List Value) (good : IsService service) (x : NodeValue K) (u : IsUp service x (here_of records service past x)) (id : (0 < x.id) × (x.id ≤ x.nodes)) (few : x.nodes ≤ most_nodes) (reached : HasReached service x.offset x.known x.reached) (decoded : HasDecoded service x.decoded)
-    (p : ProposerValue) (e : x.proposer ≡ Some p) (i : ℕ) (v : Value) (next : i ≡ length x.known + 1) (there : ballots.IsInstance i) (short : IsValue v) (fits : values_fit service (x.known ++ v ∷ []) ≡ true) (cut : IsOwnCut service x v) where
+module _ {K : Type 0} (records : K → List (List ℕ)) (gives : K → List ℕ → Answer → K → Type 0) (faults : K → ℕ) {service : Declarations} (past : List Value) (good : IsService service) {x : NodeValue K} (u : IsUp service x (here_of records service past x)) (id : (0 < x.id) × (x.id ≤ x.nodes)) (few : x.nodes ≤ most_nodes) (reached : HasReached service x.offset x.known x.reached) (decoded : HasDecoded service x.decoded)
+    {p : ProposerValue} (e : x.proposer ≡ Some p) {i : ℕ} {v : Value} (next : i ≡ length x.known + 1) (there : ballots.IsInstance i) (short : IsValue v) (fits : values_fit service (x.known ++ v ∷ []) ≡ true) (cut : IsOwnCut service x v) where
   abbrev log : List (Rec Value StateValue)
   log = log_of service past (records x.keeper)
 
@@ -202,12 +202,12 @@ module _ {K : Type 0} (records : K → List (List ℕ)) (gives : K → List ℕ 
 
   module _ (keeper : K) (grown : records keeper ≡ records x.keeper ++ record_bytes (kept.Known i v) ∷ []) where
     log_is : log_of service past (records keeper) ≡ Known i v ∷ log
-    log_is = log_written records gives faults service past x u (kept.Known i v) spelled due refl (records keeper) grown
+    log_is = log_written records gives faults past u spelled due refl grown
 
     z_logged : IsLogged service (z_at keeper) (log_of service past (records keeper))
     z_logged = subst (IsLogged service (z_at keeper)) (sym log_is)
-        (logged_as service (record x { known = x.known ++ v ∷ [] }) (z_at keeper) (Known i v ∷ log) refl refl refl refl refl refl
-        (logged_known service x log (logged_of records service past x u) i v place (instance_fits i there) fits))
+        (logged_as refl refl refl refl refl refl
+        (logged_known (logged_of records service past x u) place (instance_fits there) fits))
 
     z_beside : Beside records service past (z_at keeper)
     z_beside =
@@ -215,14 +215,14 @@ module _ {K : Type 0} (records : K → List (List ℕ)) (gives : K → List ℕ 
         let based : x.base ≤ x.replayed = b.based in
         let replayed : x.replayed ≤ length x.known = b.replayed in
         record {
-          based = replayed_from x.acting x.base i x.replayed (length x.known) next based replayed;
-          replayed = subst (λ (n : ℕ). replayed_to x.acting i x.replayed ≤ n) (let n : length x.known + 1 ≡ length (x.known ++ v ∷ []) = omega (arith, length_push x.known v) in n) (replayed_most x.acting i x.replayed (length x.known) next replayed);
-          ahead = ahead_known service x.known v x.acting i x.replayed x.ahead x.start replayed b.ahead;
-          caught_up = known_all service x.acting i x.replayed (length x.known) (length (x.known ++ v ∷ [])) next (omega (arith, length_push x.known v));
-          proposer = proposes_closed x.nodes x.id x.acceptor p (subst (IsProposer x.nodes x.id x.acceptor) e b.proposer);
-          acting = acting_known service good seed_any x.known x.acceptor p v x.acting acting cut;
-          stamped = stamped_known service good seed_any x.known x.acceptor p v x.acting (let last = there.last in omega (arith, next, last)) b.stamped cut;
-          role = lead_closed (length x.known) (length (x.known ++ v ∷ [])) x.acceptor p (is_some x.acting) (is_some (option_map (settling service) x.acting))
+          based = replayed_from x.acting next based replayed;
+          replayed = subst (λ (n : ℕ). replayed_to x.acting i x.replayed ≤ n) (let n : length x.known + 1 ≡ length (x.known ++ v ∷ []) = omega (arith, length_push x.known v) in n) (replayed_most x.acting next replayed);
+          ahead = ahead_known service x.known v x.acting i x.ahead x.start replayed b.ahead;
+          caught_up = known_all service x.acting x.replayed (length x.known) next (omega (arith, length_push x.known v));
+          proposer = proposes_closed (subst (IsProposer x.nodes x.id x.acceptor) e b.proposer);
+          acting = acting_known good seed_any x.known x.acceptor p v x.acting acting cut;
+          stamped = stamped_known good seed_any x.known x.acceptor p v x.acting (let last = there.last in omega (arith, next, last)) b.stamped cut;
+          role = lead_closed x.acceptor p
               (subst (λ (o : Option ProposerValue). RoleFits (length x.known) (role_of x.acceptor o (is_some x.acting))) e b.role);
         }
       where
@@ -230,22 +230,19 @@ module _ {K : Type 0} (records : K → List (List ℕ)) (gives : K → List ℕ 
         seed_any = x.seed
 
     z_kept : IsKept records service past (z_at keeper)
-    z_kept = record { id = id; few = few; up = λ t. up_of records service past (z_at keeper) z_logged z_beside; reached = still_reached service x.offset x.known (x.known ++ v ∷ []) x.reached (omega (arith, length_push x.known v)) (λ n l. take-append-le n x.known (v ∷ []) l) reached; decoded = decoded }
+    z_kept = record { id = id; few = few; up = λ t. up_of records service past (z_at keeper) z_logged z_beside; reached = still_reached service x.offset x.reached (omega (arith, length_push x.known v)) (λ n l. take-append-le n x.known (v ∷ []) l) reached; decoded = decoded }
 
     -- the model's call comes to the same
-    z_comes : (before after : Draft) (f : Option Failure) → after.effects.items ≡ before.effects.items ++ effect.Known x.id i ∷ releases_in x.acting → map (message_in past) after.sends.items ≡ map (message_in past) before.sends.items ++ others x.nodes x.id (Chose i v)
+    z_comes : (before after : Draft) {f : Option Failure} → after.effects.items ≡ before.effects.items ++ effect.Known x.id i ∷ releases_in x.acting → map (message_in past) after.sends.items ≡ map (message_in past) before.sends.items ++ others x.nodes x.id (Chose i v)
         → send (learned (service_of service x.seed) x.id lead i v (known log) (armed_with f (logged (Known i v) None (so_far records service past x before)))) (others x.nodes x.id (Chose i v))
         ≡ armed_with f (so_far records service past (z_at keeper) after)
-    z_comes before after f effects sends =
-        call_is (Known i v ∷ log) (log_of service past (records keeper)) x.up f (leading lead None [] (is_some x.acting)) (work_known (service_of service x.seed) (is_some x.acting) (known log ++ v ∷ []) (work_of x.acting)) (work_of (option_map (settling service) x.acting))
-        (replayed_known (is_some x.acting) i x.replayed) (replayed_to x.acting i x.replayed)
-        (map (message_in past) before.sends.items ++ others x.nodes x.id (Chose i v)) (map (message_in past) after.sends.items)
-        (before.effects.items ++ (effect.Known x.id i ∷ released (service_of service x.seed) (is_some x.acting) (known log) v)) after.effects.items
+    z_comes before after {f} effects sends =
+        call_is
         (sym log_is)
-        (ap (λ (vs : List Value). work_known (service_of service x.seed) (is_some x.acting) (vs ++ v ∷ []) (work_of x.acting)) (sym u.known) ∙ work_is service good x.seed x.known x.acceptor p v x.acting acting cut)
+        (ap (λ (vs : List Value). work_known (service_of service x.seed) (is_some x.acting) (vs ++ v ∷ []) (work_of x.acting)) (sym u.known) ∙ work_is good x.seed x.known x.acceptor p v x.acting acting cut)
         (replayed_same x.acting i x.replayed)
         (sym sends)
-        (ap (λ (es : List Effect). before.effects.items ++ (effect.Known x.id i ∷ es)) (ap (λ (vs : List Value). released (service_of service x.seed) (is_some x.acting) vs v) (sym u.known) ∙ released_are service good x.seed x.known x.acceptor p v x.acting acting cut) ∙ sym effects)
+        (ap (λ (es : List Effect). before.effects.items ++ (effect.Known x.id i ∷ es)) (ap (λ (vs : List Value). released (service_of service x.seed) (is_some x.acting) vs v) (sym u.known) ∙ released_are good x.seed x.known x.acceptor p v x.acting acting cut) ∙ sym effects)
         ∙ ap (λ (t : Bool). record (armed_with f (so_far records service past (z_at keeper) after)) { node = record (armed_with f (so_far records service past (z_at keeper) after)).node { role = leading lead None [] t } }) (sym (active_same service x.acting))
 
   abbrev whole : (CallHere → CallHere) → CallHere → CallHere
@@ -255,16 +252,16 @@ module _ {K : Type 0} (records : K → List (List ℕ)) (gives : K → List ℕ 
   rest k d = k (send (learned (service_of service x.seed) x.id lead i v (known log) d) (others x.nodes x.id (Chose i v)))
 
   -- the call goes on with the value known
-  learns_on : (up : x.up ≡ true) (y z : NodeValue K) (before mid after : Draft) → Keeps records faults gives x y (record_bytes (kept.Known i v)) → mid.effects.items ≡ before.effects.items → mid.sends.items ≡ before.sends.items
+  learns_on : (up : x.up ≡ true) {y z : NodeValue K} (before mid after : Draft) → Keeps records faults gives x y (record_bytes (kept.Known i v)) → mid.effects.items ≡ before.effects.items → mid.sends.items ≡ before.sends.items
       → z ≡ knowing service y i v → after.effects.items ≡ mid.effects.items ++ effect.Known y.id i ∷ releases_in y.acting → map (message_in past) after.sends.items ≡ map (message_in past) mid.sends.items ++ others y.nodes y.id (Chose i v)
       → Learns records gives faults service past i v x z before after On
-  learns_on up y z before mid after h effects sends z_is more_effects more_sends =
+  learns_on up {y} {z} before mid after h effects sends z_is more_effects more_sends =
       subst (λ (o : Option ProposerValue). IfSome o (λ (q : ProposerValue). (k : CallHere → CallHere) → Comes records gives faults service past (λ d. decide x.nodes (service_of service x.seed) x.id d (lead_of x.acceptor q (is_some x.acting)) i v k) k x z before after On)) (sym e)
       (λ k. subst (λ (n : NodeValue K). Comes records gives faults service past (whole k) k x n before after On) (sym all) (
-        leads_then records gives faults service (whole k) (rest k) k x.keeper y.keeper y.keeper (so_far records service past x before) (logged (Known i v) None (so_far records service past x before)) (so_far records service past (z_at y.keeper) after)
-            (written_on records gives faults service past x u (kept.Known i v) spelled due refl y before (whole k) (rest k) (λ f. refl) h)
-            (leads_same records gives faults service (rest k) k y.keeper (logged (Known i v) None (so_far records service past x before)) (so_far records service past (z_at y.keeper) after) (ap length (log_is y.keeper h.records))
-            (λ f. ap k (z_comes y.keeper h.records before after f effects_are sends_are))),
+        leads_then records gives faults service
+            (written_on records gives faults past u spelled due refl y before (rest k) (λ f. refl) h)
+            (leads_same records gives faults service (ap length (log_is y.keeper h.records))
+            (λ f. ap k (z_comes y.keeper h.records before after effects_are sends_are))),
         z_kept y.keeper h.records,
         up,
       ))
@@ -282,52 +279,52 @@ module _ {K : Type 0} (records : K → List (List ℕ)) (gives : K → List ℕ 
       sends_are = more_sends ∙ ap (λ (n : NodeValue K). map (message_in past) mid.sends.items ++ others n.nodes n.id (Chose i v)) y_is ∙ ap (λ (ms : List Sent). map (message_in past) ms ++ others x.nodes x.id (Chose i v)) sends
 
   -- or the node is down
-  learns_down : (y : NodeValue K) (before after : Draft) → Falls records faults gives x y (record_bytes (kept.Known i v)) → after.effects.items ≡ before.effects.items ++ effect.Down x.id ∷ [] → after.sends.items ≡ []
+  learns_down : {y : NodeValue K} (before after : Draft) → Falls records faults gives x y (record_bytes (kept.Known i v)) → after.effects.items ≡ before.effects.items ++ effect.Down x.id ∷ [] → after.sends.items ≡ []
       → Learns records gives faults service past i v x y before after Down
-  learns_down y before after h effects sends =
+  learns_down {y} before after h effects sends =
       subst (λ (o : Option ProposerValue). IfSome o (λ (q : ProposerValue). (k : CallHere → CallHere) → Comes records gives faults service past (λ d. decide x.nodes (service_of service x.seed) x.id d (lead_of x.acceptor q (is_some x.acting)) i v k) k x y before after Down)) (sym e)
-      (λ k. written_down records gives faults service past x u (kept.Known i v) spelled due refl y before (whole k) (rest k) (λ f. refl) after refl h effects sends k)
+      (λ k. written_down records gives faults past u spelled due refl y before (rest k) (λ f. refl) after refl h effects sends k)
 
   -- or memory was short with the known value written down
-  learns_broken : (y z : NodeValue K) (before : Draft) → Keeps records faults gives x y (record_bytes (kept.Known i v)) → z.keeper ≡ y.keeper → z.base ≡ y.base → LearnsShort records gives faults service past i v x z before
-  learns_broken y z before h keeper based =
+  learns_broken : {y z : NodeValue K} (before : Draft) → Keeps records faults gives x y (record_bytes (kept.Known i v)) → z.keeper ≡ y.keeper → z.base ≡ y.base → LearnsShort records gives faults service past i v x z before
+  learns_broken {y} {z} before h keeper based =
       inr (subst (λ (o : Option ProposerValue). IfSome o (λ (q : ProposerValue). (k : CallHere → CallHere) → LosesFirst k → BreaksOff records gives faults service past (λ d. decide x.nodes (service_of service x.seed) x.id d (lead_of x.acceptor q (is_some x.acting)) i v k) x z before)) (sym e)
-      (λ k loses. broken_written records gives faults service past x u (kept.Known i v) spelled due refl y before (whole k) (rest k) (λ f. refl) z refl h keeper based
+      (λ k loses. broken_written records gives faults past u spelled due refl y before (rest k) (λ f. refl) refl h keeper based
       (λ d. loses (send (learned (service_of service x.seed) x.id lead i v (known log) d) (others x.nodes x.id (Chose i v))))))
 
 -- ---- the same of the call
 
-module _ {K : Type 0} (records : K → List (List ℕ)) (gives : K → List ℕ → Answer → K → Type 0) (faults : K → ℕ) (service : Declarations) (past : List Value) (good : IsService service) (x : NodeValue K) (kept_so : IsKept records service past x) (up : x.up ≡ true) (leads : IsSome x.proposer)
-    (i : ℕ) (v : Value) (next : i ≡ length x.known + 1) (there : ballots.IsInstance i) (short : IsValue v) (fits : values_fit service (x.known ++ v ∷ []) ≡ true) (cut : IsOwnCut service x v) where
+module _ {K : Type 0} {records : K → List (List ℕ)} (gives : K → List ℕ → Answer → K → Type 0) (faults : K → ℕ) {service : Declarations} {past : List Value} (good : IsService service) {x : NodeValue K} (kept_so : IsKept records service past x) (up : x.up ≡ true) (leads : IsSome x.proposer)
+    {i : ℕ} {v : Value} (next : i ≡ length x.known + 1) (there : ballots.IsInstance i) (short : IsValue v) (fits : values_fit service (x.known ++ v ∷ []) ≡ true) (cut : IsOwnCut service x v) where
   -- its recorder can settle
-  pub learn_settles : (y : NodeValue K) → y ≡ record x { keeper = y.keeper } → IfSome y.acting (CanSettle service)
-  learn_settles y y_is =
+  pub learn_settles : {y : NodeValue K} → y ≡ record x { keeper = y.keeper } → IfSome y.acting (CanSettle service)
+  learn_settles y_is =
       let s = some_of x.proposer leads in
       subst (λ (n : NodeValue K). IfSome n.acting (CanSettle service)) (sym y_is)
-      (can_settle service good x.seed x.known x.acceptor s.0 v x.acting (subst (λ (o : Option ProposerValue). IsActing service x.known x.acceptor o x.acting) s.1 (kept_so.up up).acting) cut)
+      (can_settle good x.seed x.known x.acceptor s.0 v x.acting (subst (λ (o : Option ProposerValue). IsActing service x.known x.acceptor o x.acting) s.1 (kept_so.up up).acting) cut)
 
-  module _ (w : Value) (w_is : w ≡ v) (y : NodeValue K) (before mid : Draft) (g : Going) (h : Appends records faults gives x y before mid (record_bytes (kept.Known i w)) g) where
+  module _ {w : Value} (w_is : w ≡ v) (y : NodeValue K) (before mid : Draft) (g : Going) (h : Appends records faults gives x y before mid (record_bytes (kept.Known i w)) g) where
     same_rec : (let r : KeptRec = kept.Known i w in r) ≡ kept.Known i v
     same_rec = ap (λ (z : Value). kept.Known i z) w_is
 
     pub learn_parts : g ≡ On → y ≡ record x { keeper = y.keeper }
-    learn_parts e = let k : Appends records faults gives x y before mid (record_bytes (kept.Known i v)) On = appends_as records gives faults x y before mid (kept.Known i w) (kept.Known i v) g On same_rec e h in k.0.parts
+    learn_parts e = let k : Appends records faults gives x y before mid (record_bytes (kept.Known i v)) On = appends_as records gives faults x y before mid same_rec e h in k.0.parts
 
     pub learn_down : g ≡ Down → Learns records gives faults service past i v x y before mid Down
     learn_down e =
         let s = some_of x.proposer leads in
-        let k : Appends records faults gives x y before mid (record_bytes (kept.Known i v)) Down = appends_as records gives faults x y before mid (kept.Known i w) (kept.Known i v) g Down same_rec e h in
-        learns_down records gives faults service past good x (kept_so.up up) kept_so.id kept_so.few kept_so.reached kept_so.decoded s.0 s.1 i v next there short fits cut y before mid k.0 k.1 k.2
+        let k : Appends records faults gives x y before mid (record_bytes (kept.Known i v)) Down = appends_as records gives faults x y before mid same_rec e h in
+        learns_down records gives faults past good (kept_so.up up) kept_so.id kept_so.few kept_so.reached kept_so.decoded s.1 next there short fits cut before mid k.0 k.1 k.2
 
-    pub learn_on : g ≡ On → (z : NodeValue K) (after : Draft) → z ≡ knowing service y i v → after.effects.items ≡ mid.effects.items ++ effect.Known y.id i ∷ releases_in y.acting → map (message_in past) after.sends.items ≡ map (message_in past) mid.sends.items ++ others y.nodes y.id (content_in past (sent.Chosen i v))
+    pub learn_on : g ≡ On → {z : NodeValue K} (after : Draft) → z ≡ knowing service y i v → after.effects.items ≡ mid.effects.items ++ effect.Known y.id i ∷ releases_in y.acting → map (message_in past) after.sends.items ≡ map (message_in past) mid.sends.items ++ others y.nodes y.id (content_in past (sent.Chosen i v))
         → Learns records gives faults service past i v x z before after On
-    learn_on e z after z_is effects sends =
+    learn_on e {z} after z_is effects sends =
         let s = some_of x.proposer leads in
-        let k : Appends records faults gives x y before mid (record_bytes (kept.Known i v)) On = appends_as records gives faults x y before mid (kept.Known i w) (kept.Known i v) g On same_rec e h in
-        learns_on records gives faults service past good x (kept_so.up up) kept_so.id kept_so.few kept_so.reached kept_so.decoded s.0 s.1 i v next there short fits cut up y z before mid after k.0 k.1 k.2 z_is effects sends
+        let k : Appends records faults gives x y before mid (record_bytes (kept.Known i v)) On = appends_as records gives faults x y before mid same_rec e h in
+        learns_on records gives faults past good (kept_so.up up) kept_so.id kept_so.few kept_so.reached kept_so.decoded s.1 next there short fits cut up before mid after k.0 k.1 k.2 z_is effects sends
 
-    pub learn_stuck : g ≡ On → (z : NodeValue K) → z.keeper ≡ y.keeper → z.base ≡ y.base → LearnsShort records gives faults service past i v x z before
-    learn_stuck e z keeper based =
+    pub learn_stuck : g ≡ On → {z : NodeValue K} → z.keeper ≡ y.keeper → z.base ≡ y.base → LearnsShort records gives faults service past i v x z before
+    learn_stuck e {z} keeper based =
         let s = some_of x.proposer leads in
-        let k : Appends records faults gives x y before mid (record_bytes (kept.Known i v)) On = appends_as records gives faults x y before mid (kept.Known i w) (kept.Known i v) g On same_rec e h in
-        learns_broken records gives faults service past good x (kept_so.up up) kept_so.id kept_so.few kept_so.reached kept_so.decoded s.0 s.1 i v next there short fits cut y z before k.0 keeper based
+        let k : Appends records faults gives x y before mid (record_bytes (kept.Known i v)) On = appends_as records gives faults x y before mid same_rec e h in
+        learns_broken records gives faults past good (kept_so.up up) kept_so.id kept_so.few kept_so.reached kept_so.decoded s.1 next there short fits cut before k.0 keeper based

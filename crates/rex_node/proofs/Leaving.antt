@@ -25,20 +25,20 @@ pub no_work_left : (w : Option ActingValue) → work_left (is_some w) (work_of w
 no_work_left None = refl
 no_work_left (Some a) = refl
 
-pub replayed_from : (w : Option ActingValue) (based replayed : ℕ) → based ≤ replayed → based ≤ replayed_left (is_some w) based replayed
-replayed_from None based replayed h = h
-replayed_from (Some a) based replayed h = omega arith
+pub replayed_from : (w : Option ActingValue) {based replayed : ℕ} → based ≤ replayed → based ≤ replayed_left (is_some w) based replayed
+replayed_from None h = h
+replayed_from (Some a) h = omega arith
 
-pub replayed_to : (w : Option ActingValue) (based replayed known : ℕ) → based ≤ replayed → replayed ≤ known → replayed_left (is_some w) based replayed ≤ known
-replayed_to None based replayed known h k = k
-replayed_to (Some a) based replayed known h k = omega (arith, h, k)
+pub replayed_to : (w : Option ActingValue) {based replayed known : ℕ} → based ≤ replayed → replayed ≤ known → replayed_left (is_some w) based replayed ≤ known
+replayed_to None h k = k
+replayed_to (Some a) h k = omega (arith, h, k)
 
-pub state_left : (P : ℕ → StateValue → Type 0) (w : Option ActingValue) (ahead : Option StateValue) (start : StateValue) (based replayed : ℕ) → P based start → (w ≡ None → P replayed (ahead_of ahead start))
+pub state_left : (P : ℕ → StateValue → Type 0) (w : Option ActingValue) (ahead : Option StateValue) {start : StateValue} {based replayed : ℕ} → P based start → (w ≡ None → P replayed (ahead_of ahead start))
     → P (replayed_left (is_some w) based replayed) (ahead_of (ahead_left (is_some w) ahead) start)
-state_left P None ahead start based replayed h k = k refl
-state_left P (Some a) ahead start based replayed h k = h
+state_left P None ahead h k = k refl
+state_left P (Some a) ahead h k = h
 
-module _ {K : Type 0} (records : K → List (List ℕ)) (service : Declarations) (past : List Value) (x : NodeValue K) (u : IsUp service x (here_of records service past x)) where
+module _ {K : Type 0} (records : K → List (List ℕ)) {service : Declarations} (past : List Value) {x : NodeValue K} (u : IsUp service x (here_of records service past x)) where
   -- the node is then a follower, as in the model
   pub leaves : here_of records service past (leaving x) ≡ (with_role Follower (begin (here_of records service past x))).node
   leaves =
@@ -60,10 +60,10 @@ module _ {K : Type 0} (records : K → List (List ℕ)) (service : Declarations)
     old_base = u.old_base;
     start = u.start;
     replayed = record {
-      based = subst (λ (b : ℕ). b ≤ replayed_left (is_some x.acting) x.base x.replayed) u.base (replayed_from x.acting x.base x.replayed based);
-      replayed = replayed_to x.acting x.base x.replayed (length (known (here_of records service past x).log)) based u.replayed.replayed;
+      based = subst (λ (b : ℕ). b ≤ replayed_left (is_some x.acting) x.base x.replayed) u.base (replayed_from x.acting based);
+      replayed = replayed_to x.acting based u.replayed.replayed;
     };
-    ahead = λ _. state_left (λ n s. run service (start_of service) (trace_of (take n x.known)) ≡ Some s) x.acting x.ahead x.start x.base x.replayed u.start u.ahead;
+    ahead = λ _. state_left (λ n s. run service (start_of service) (trace_of (take n x.known)) ≡ Some s) x.acting x.ahead u.start u.ahead;
     caught_up = λ t. absurd (false≢true t);
     proposer = tt;
     acting = tt;
@@ -76,5 +76,5 @@ module _ {K : Type 0} (records : K → List (List ℕ)) (service : Declarations)
       based : x.base ≤ x.replayed
       based = subst (λ (b : ℕ). b ≤ x.replayed) (sym u.base) u.replayed.based
 
-pub node_left : {K : Type 0} (records : K → List (List ℕ)) (service : Declarations) (past : List Value) (x : NodeValue K) → IsResting records service past x → IsResting records service past (leaving x)
-node_left records service past x h = record { id = h.id; few = h.few; up = λ t. up_left records service past x (h.up t); reached = h.reached; decoded = h.decoded; rests = λ t. tt }
+pub node_left : {K : Type 0} {records : K → List (List ℕ)} {service : Declarations} {past : List Value} {x : NodeValue K} → IsResting records service past x → IsResting records service past (leaving x)
+node_left {records} {service} {past} {x} h = record { id = h.id; few = h.few; up = λ t. up_left records past (h.up t); reached = h.reached; decoded = h.decoded; rests = λ t. tt }

@@ -13,9 +13,9 @@ push a [] (r ∷ c) x y z e k = absurd (omega (arith, k))
 push a (q ∷ b) [] x y z e k = absurd (omega (arith, k))
 
 -- limits of as many lanes as were gone over, with one more
-pub limits_more : (a b c : List ℕ) (i x y z : ℕ) → i < length c → length a ≡ length c → length b ≡ length c → x ≡ get_or a i 0 → y ≡ get_or b i 0 → z ≡ get_or c i 0
+pub limits_more : (a b c : List ℕ) {i x y z : ℕ} → i < length c → length a ≡ length c → length b ≡ length c → x ≡ get_or a i 0 → y ≡ get_or b i 0 → z ≡ get_or c i 0
     → limits_between (take i a) (take i b) (take i c) ++ min (x + z) y ∷ [] ≡ limits_between (take (i + 1) a) (take (i + 1) b) (take (i + 1) c)
-limits_more a b c i x y z there e k xe ye ze =
+limits_more a b c {i} {x} {y} {z} there e k xe ye ze =
     let la : length (take i a) ≡ length (take i c) = omega (arith, length-take i a, length-take i c, e, there) in
     let lb : length (take i b) ≡ length (take i c) = omega (arith, length-take i b, length-take i c, k, there) in
     sym (push (take i a) (take i b) (take i c) x y z la lb)

@@ -60,8 +60,8 @@ pub record Chosen {K : Type 0} (x : NodeValue K) (from ballot i : ℕ) (v : Valu
   pub q_is : proposal_for i x.acceptor.accepted ≡ Some q
   pub v_is : q.value ≡ v
 
-pub chosen_of : {K : Type 0} (x : NodeValue K) (from ballot i : ℕ) (v : Value) → acceptance_vote_on x.proposer ballot i from ≡ vote.Quorum → option_map (λ (q : Kept). q.value) (proposal_for i x.acceptor.accepted) ≡ Some v → Chosen x from ballot i v
-chosen_of {K} x from ballot i v vote_is value_is = by x.proposer refl vote_is (proposal_for i x.acceptor.accepted) refl value_is
+pub chosen_of : {K : Type 0} {x : NodeValue K} {from ballot i : ℕ} {v : Value} → acceptance_vote_on x.proposer ballot i from ≡ vote.Quorum → option_map (λ (q : Kept). q.value) (proposal_for i x.acceptor.accepted) ≡ Some v → Chosen x from ballot i v
+chosen_of {K} {x} {from} {ballot} {i} {v} vote_is value_is = by x.proposer refl vote_is (proposal_for i x.acceptor.accepted) refl value_is
   where
     by : (o : Option ProposerValue) → x.proposer ≡ o → acceptance_vote_on o ballot i from ≡ vote.Quorum → (a : Option Kept) → proposal_for i x.acceptor.accepted ≡ a → option_map (λ (q : Kept). q.value) a ≡ Some v → Chosen x from ballot i v
     by None e f a s t = absurd (cc)
@@ -70,8 +70,8 @@ chosen_of {K} x from ballot i v vote_is value_is = by x.proposer refl vote_is (p
         let n = is_quorum (acceptance_refusal p ballot i from) p.nodes (length p.accepted + 1) f in
         record { p = p; p_is = e; none = n.0; many = n.1; q = q; q_is = s; v_is = same_Some q.value v t }
 
-module _ {K : Type 0} (records : K → List (List ℕ)) (gives : K → List ℕ → Answer → K → Type 0) (faults : K → ℕ) (service : Declarations) (past : List Value) (good : IsService service) (checked : IsChecked service) (x : NodeValue K) (node : IsResting records service past x) (up : x.up ≡ true) (from ballot i : ℕ) (there : IsNodeOf x.nodes from) (before : Draft)
-    (v : Value) (c : Chosen x from ballot i v) where
+module _ {K : Type 0} {records : K → List (List ℕ)} (gives : K → List ℕ → Answer → K → Type 0) (faults : K → ℕ) {service : Declarations} {past : List Value} (good : IsService service) (checked : IsChecked service) {x : NodeValue K} (node : IsResting records service past x) (up : x.up ≡ true) {from ballot i : ℕ} (there : IsNodeOf x.nodes from) (before : Draft)
+    {v : Value} (c : Chosen x from ballot i v) where
   u : IsUp service x (here_of records service past x)
   u = node.up up
 
@@ -100,16 +100,16 @@ module _ {K : Type 0} (records : K → List (List ℕ)) (gives : K → List ℕ 
   q_place = lead_fits.next (proposal_in c.q) proposal_is
 
   q_instance : c.q.instance ≡ i
-  q_instance = found_instance i x.acceptor.accepted c.q c.q_is
+  q_instance = found_instance x.acceptor.accepted c.q_is
 
   pub choose_next : i ≡ length x.known + 1
   choose_next = let e : c.q.instance ≡ suc (length x.known) = q_place.0 in omega (arith, e, q_instance)
 
   pub choose_there : ballots.IsInstance i
-  choose_there = subst ballots.IsInstance q_instance (fits_instance c.q.instance q_place.1)
+  choose_there = subst ballots.IsInstance q_instance (fits_instance q_place.1)
 
   pub choose_short : IsValue v
-  choose_short = subst IsValue c.v_is (found_all (λ (q : Kept). IsValue q.value) i x.acceptor.accepted c.q u.short c.q_is)
+  choose_short = subst IsValue c.v_is (found_all (λ (q : Kept). IsValue q.value) i x.acceptor.accepted u.short c.q_is)
 
   pub choose_leads : IsSome x.proposer
   choose_leads = subst (λ (o : Option ProposerValue). IsSome o) (sym c.p_is) refl
@@ -133,7 +133,7 @@ module _ {K : Type 0} (records : K → List (List ℕ)) (gives : K → List ℕ 
 
   majority : is_majority x.nodes (c.p.accepted ++ from ∷ []) ≡ true
   majority =
-      majority_more x.nodes x.id x.acceptor c.p proposes (is_some x.acting) sv from ballot i (one records gives faults service past x node up from ballot i there before) (so_far records service past x before) (parts records gives faults service past x node up from ballot i there before c.p c.p_is c.none).2
+      majority_more proposes (is_some x.acting) sv ballot i (one records gives faults service past x node up from ballot i there before) (so_far records service past x before) (parts records gives faults service past x node up from ballot i there before c.p c.p_is c.none).2
       ∙ c.many
 
   vote_at : acceptance_vote c.p ballot i from ≡ vote.Quorum
@@ -144,7 +144,7 @@ module _ {K : Type 0} (records : K → List (List ℕ)) (gives : K → List ℕ 
 
   decides : (d : CallHere) → d.node.role ≡ role_of x.acceptor x.proposer (is_some x.acting) → whole d ≡ decide x.nodes sv x.id d l i v rest
   decides d role =
-      whole_is records gives faults service past x node up from ballot i there before c.p c.p_is d role
+      whole_is records gives faults service past x node up from ballot i there before c.p_is d role
       ∙ ap (λ (w : Vote). outcome x.nodes sv x.id from (lead_of x.acceptor c.p (is_some x.acting)) w d) vote_at
       ∙ ap (λ (t : ℕ). settle t x.nodes sv x.id (led (Leading more) d)) turns_are
       ∙ ap (λ (o : Option (Proposal Value)). lead_on x.nodes sv x.id (led (Leading more) d) more o rest) proposal_is
@@ -154,13 +154,13 @@ module _ {K : Type 0} (records : K → List (List ℕ)) (gives : K → List ℕ 
       ∙ decide_led x.nodes sv x.id d l (Leading more) (open_of x.acceptor c.p.open_instance) (c.p.accepted ++ from ∷ []) i v rest
 
   leads_decide : Leads records gives faults service whole (λ d. decide x.nodes sv x.id d l i v rest) x.keeper x.keeper (so_far records service past x before) (so_far records service past x before)
-  leads_decide = leads_same records gives faults service whole (λ d. decide x.nodes sv x.id d l i v rest) x.keeper (so_far records service past x before) (so_far records service past x before) refl (λ f. decides (armed_with f (so_far records service past x before)) refl)
+  leads_decide = leads_same records gives faults service refl (λ f. decides (armed_with f (so_far records service past x before)) refl)
 
   -- what it knows then runs on
   pub choose_fits : RunsOn service whole (so_far records service past x before) → values_fit service (x.known ++ v ∷ []) ≡ true
   choose_fits runs =
       subst (λ (vs : List Value). values_fit service (vs ++ v ∷ []) ≡ true) (sym u.known)
-      (fits_before service good checked d (rest d) (settle_learns x.nodes sv x.id (2 * length c.p.reported + 2) d)
+      (fits_before good checked (settle_learns x.nodes sv x.id (2 * length c.p.reported + 2) d)
       (subst (λ (e : CallHere). values_fit service (known e.node.log) ≡ true) (decides (so_far records service past x before) refl) runs))
     where
       d : CallHere
@@ -173,36 +173,36 @@ module _ {K : Type 0} (records : K → List (List ℕ)) (gives : K → List ℕ 
       subst (λ (o : Option ProposerValue). IfSome o (λ (q : ProposerValue). (k : CallHere → CallHere) → Comes records gives faults service past (λ d. decide x.nodes sv x.id d (lead_of x.acceptor q (is_some x.acting)) i v k) k x z before mid g)) c.p_is learns rest
 
   -- the append failed
-  pub choose_down : (z : NodeValue K) (mid : Draft) → IsSame x z → Learns records gives faults service past i v x z before mid Down → Ends records gives faults service past whole x z before mid Down
-  choose_down z mid same learns =
+  pub choose_down : {z : NodeValue K} (mid : Draft) → IsSame x z → Learns records gives faults service past i v x z before mid Down → Ends records gives faults service past whole x z before mid Down
+  choose_down {z} mid same learns =
       let o = learns_at z mid Down learns in
       let down : IsDown z = o.1 in (
-        (leads_fell records gives faults service whole (λ d. decide x.nodes sv x.id d l i v rest) x.id x.keeper x.keeper z.keeper (so_far records service past x before) (so_far records service past x before) (so_far records service past z mid) leads_decide o.0, o.1),
+        (leads_fell records gives faults service leads_decide o.0, o.1),
         record {
           id = (subst (λ (n : ℕ). 0 < n) (sym same.id) node.id.0, let least = node.id.1 in let a : z.id ≡ x.id = same.id in let b : z.nodes ≡ x.nodes = same.nodes in omega (arith, least));
           few = subst (λ (n : ℕ). n ≤ most_nodes) (sym same.nodes) node.few;
           up = λ t. absurd (false≢true (sym down.down ∙ t));
-          reached = bare_reached service z.offset z.known z.reached down.bare;
+          reached = bare_reached service z.offset z.known down.bare;
           decoded = subst (HasDecoded service) (sym same.decoded) node.decoded;
           rests = λ t. absurd (false≢true (sym down.down ∙ t));
         },
       )
 
   -- memory was short as it did
-  pub choose_stuck : (z : NodeValue K) → LearnsShort records gives faults service past i v x z before → IsStuck records gives faults service past whole x z before
-  choose_stuck z (inl s) = inl s
-  choose_stuck z (inr b) =
-      inr (breaks_later records gives faults service past whole (λ d. decide x.nodes sv x.id d l i v rest) x x z before before leads_decide
+  pub choose_stuck : {z : NodeValue K} → LearnsShort records gives faults service past i v x z before → IsStuck records gives faults service past whole x z before
+  choose_stuck (inl s) = inl s
+  choose_stuck {z} (inr b) =
+      inr (breaks_later x z before leads_decide
       (subst (λ (o : Option ProposerValue). IfSome o (λ (q : ProposerValue). (k : CallHere → CallHere) → LosesFirst k → BreaksOff records gives faults service past (λ d. decide x.nodes sv x.id d (lead_of x.acceptor q (is_some x.acting)) i v k) x z before)) c.p_is b
       rest (settle_loses (2 * length c.p.reported + 2) x.nodes x.id sv)))
 
-  module _ (z : NodeValue K) (mid : Draft) (same : IsSame x z) (learns : Learns records gives faults service past i v x z before mid On) (known_is : z ≡ record (knowing service x i v) { keeper = z.keeper }) (longer : length (records x.keeper) < length (records z.keeper))
-      (turns : ℕ) (turns_is : turns ≡ 2 * reports_of x.proposer + 3) where
+  module _ {z : NodeValue K} (mid : Draft) (same : IsSame x z) (learns : Learns records gives faults service past i v x z before mid On) (known_is : z ≡ record (knowing service x i v) { keeper = z.keeper }) (longer : length (records x.keeper) < length (records z.keeper))
+      {turns : ℕ} (turns_is : turns ≡ 2 * reports_of x.proposer + 3) where
     comes_z : Comes records gives faults service past (λ d. decide x.nodes sv x.id d l i v rest) rest x z before mid On
     comes_z = learns_at z mid On learns
 
     leads_z : Leads records gives faults service whole rest x.keeper z.keeper (so_far records service past x before) (so_far records service past z mid)
-    leads_z = leads_then records gives faults service whole (λ d. decide x.nodes sv x.id d l i v rest) rest x.keeper x.keeper z.keeper (so_far records service past x before) (so_far records service past x before) (so_far records service past z mid) leads_decide comes_z.0
+    leads_z = leads_then records gives faults service leads_decide comes_z.0
 
     left : turns - 1 ≡ 2 * length c.p.reported + 2
     left = let e : turns ≡ 2 * length c.p.reported + 3 = turns_is ∙ ap (λ (o : Option ProposerValue). 2 * reports_of o + 3) c.p_is in omega (arith, e)
@@ -234,21 +234,21 @@ module _ {K : Type 0} (records : K → List (List ℕ)) (gives : K → List ℕ 
         (let few : above (length (x.known ++ v ∷ [])) c.p.reported ≤ length c.p.reported = above_most (length (x.known ++ v ∷ [])) c.p.reported in omega (arith, few, left))
 
     rest_of : settle (turns - 1) z.nodes (service_of service z.seed) z.id ≡ rest
-    rest_of = settles_as records gives faults service past x z (turns - 1) same ∙ ap (λ (t : ℕ). settle t x.nodes sv x.id) left
+    rest_of = settles_as records gives faults service past (turns - 1) same ∙ ap (λ (t : ℕ). settle t x.nodes sv x.id) left
 
     pub chosen_runs : RunsOn service whole (so_far records service past x before) → RunsOn service (settle (turns - 1) z.nodes (service_of service z.seed) z.id) (so_far records service past z mid)
-    chosen_runs runs = subst (λ (k : CallHere → CallHere). RunsOn service k (so_far records service past z mid)) (sym rest_of) (rest_runs records gives faults service past whole rest x z before mid leads_z runs)
+    chosen_runs runs = subst (λ (k : CallHere → CallHere). RunsOn service k (so_far records service past z mid)) (sym rest_of) (rest_runs past x z before mid leads_z runs)
 
     pub chosen_count : faults x.keeper < 2 ^ 64 - 1 → faults z.keeper < 2 ^ 64 - 1
     chosen_count h = subst (λ (n : ℕ). n < 2 ^ 64 - 1) (sym leads_z.counted) h
 
     -- as going on ends, so does the call
     pub chosen_ends : (y : NodeValue K) (after : Draft) (result : Result Going AllocError) → IfOk result (Ends records gives faults service past (settle (turns - 1) z.nodes (service_of service z.seed) z.id) z y mid after) → IfOk result (Ends records gives faults service past whole x y before after)
-    chosen_ends y after (Ok going) h = ends_then records gives faults service past whole rest x z y before mid after going same.id leads_z (subst (λ (k : CallHere → CallHere). Ends records gives faults service past k z y mid after going) rest_of h)
+    chosen_ends y after (Ok going) h = ends_then x z before mid after going same.id leads_z (subst (λ (k : CallHere → CallHere). Ends records gives faults service past k z y mid after going) rest_of h)
     chosen_ends y after (Err e) h = tt
 
     pub chosen_stuck : (y : NodeValue K) (result : Result Going AllocError) → OnErr result (IsStuck records gives faults service past (settle (turns - 1) z.nodes (service_of service z.seed) z.id) z y mid) → OnErr result (IsStuck records gives faults service past whole x y before)
     chosen_stuck y (Ok going) h = tt
     chosen_stuck y (Err e) h =
-        inr (breaks_after records gives faults service past whole rest x z y before mid leads_z longer (chosen_kept.up chosen_up).base (settle_loses (2 * length c.p.reported + 2) x.nodes x.id sv)
+        inr (breaks_after z y mid leads_z longer (chosen_kept.up chosen_up).base (settle_loses (2 * length c.p.reported + 2) x.nodes x.id sv)
         (subst (λ (k : CallHere → CallHere). IsStuck records gives faults service past k z y mid) rest_of h))

@@ -22,31 +22,31 @@ use Rattle.rex_node.proofs.Recalling.{recovered_says, stands_behind}
 use Rattle.rex_node.proofs.SavedAgain.{base_there, is_due, spelling}
 
 -- records say the same as themselves
-pub says_itself : (service : Declarations) (start : StateValue) (x : Recovered) → SaysTheSame service start x x
-says_itself service start x = record { promised = refl; accepted = refl; offset = refl; known = refl; base = refl; state = λ s. s }
+pub says_itself : {service : Declarations} {start : StateValue} {x : Recovered} → SaysTheSame service start x x
+says_itself = record { promised = refl; accepted = refl; offset = refl; known = refl; base = refl; state = λ s. s }
 
-pub spells_itself : (service : Declarations) (start : StateValue) (lists : List (List ℕ)) → StillSay service start lists lists
-spells_itself service start lists rs h = record { again = rs; spelled = h; same = says_itself service start (recovered rs) }
+pub spells_itself : {service : Declarations} {start : StateValue} {lists : List (List ℕ)} → StillSay service start lists lists
+spells_itself {service} {start} rs h = record { again = rs; spelled = h; same = says_itself }
 
 -- and so do the same records
-pub spells_as : {K : Type 0} (records : K → List (List ℕ)) (service : Declarations) (start : StateValue) (x y : NodeValue K) → records y.keeper ≡ records x.keeper → StillSay service start (records x.keeper) (records y.keeper)
-spells_as records service start x y e = subst (StillSay service start (records x.keeper)) (sym e) (spells_itself service start (records x.keeper))
+pub spells_as : {K : Type 0} (records : K → List (List ℕ)) {service : Declarations} {start : StateValue} (x y : NodeValue K) → records y.keeper ≡ records x.keeper → StillSay service start (records x.keeper) (records y.keeper)
+spells_as records {service} {start} x y e = subst (StillSay service start (records x.keeper)) (sym e) (spells_itself)
 
 -- one more that is of the state at their base says the same
-says_again : (service : Declarations) (start : StateValue) (x : Recovered) (snapshot : List ℕ) → IsSaved service (Some snapshot) start → SaysTheSame service start x (after x (kept.Checkpoint x.base snapshot))
-says_again service start x snapshot spelled = record { promised = refl; accepted = refl; offset = refl; known = refl; base = refl; state = λ s. spelled }
+says_again : {service : Declarations} {start : StateValue} {x : Recovered} {snapshot : List ℕ} → IsSaved service (Some snapshot) start → SaysTheSame service start x (after x (kept.Checkpoint x.base snapshot))
+says_again spelled = record { promised = refl; accepted = refl; offset = refl; known = refl; base = refl; state = λ s. spelled }
 
-module _ {K : Type 0} (records : K → List (List ℕ)) (gives : K → List ℕ → Answer → K → Type 0) (faults : K → ℕ) (service : Declarations) (past : List Value) (x : NodeValue K) (node : IsResting records service past x) (due : refusal_of_migrate (here_of records service past x) ≡ None)
-    (r : KeptRec) (is : IsCheckpoint service Two x.base x.start r) (rs : List KeptRec) (spelled : Spell (records x.keeper) rs) where
+module _ {K : Type 0} {records : K → List (List ℕ)} (gives : K → List ℕ → Answer → K → Type 0) (faults : K → ℕ) {service : Declarations} {past : List Value} {x : NodeValue K} (node : IsResting records service past x) (due : refusal_of_migrate (here_of records service past x) ≡ None)
+    {r : KeptRec} (is : IsCheckpoint service Two x.base x.start r) {rs : List KeptRec} (spelled : Spell (records x.keeper) rs) where
   follows : Follows rs r
   follows = record {
     spelling = spelling records gives faults service past x node due r is;
-    due = subst (λ (s : Standing). IsDue s r) (sym (stands_behind service past (records x.keeper) rs spelled)) (is_due records gives faults service past x node due r is);
+    due = subst (λ (s : Standing). IsDue s r) (sym (stands_behind service past spelled)) (is_due records gives faults service past x node due r is);
   }
 
   -- the base is that of the records
   based : x.base ≡ (recovered rs).base
-  based = base_there records gives faults service past x node due r is ∙ sym (recovered_says service past (records x.keeper) rs (recovered rs) spelled refl).base
+  based = base_there records gives faults service past x node due r is ∙ sym (recovered_says service past spelled refl).base
 
   said : recovered (rs ++ r ∷ []) ≡ after (recovered rs) (kept.Checkpoint (recovered rs).base is.snapshot)
   said =
@@ -54,14 +54,14 @@ module _ {K : Type 0} (records : K → List (List ℕ)) (gives : K → List ℕ 
       ∙ ap (λ (n : ℕ). after (recovered rs) (kept.Checkpoint n is.snapshot)) based
 
   -- the last checkpoint is kept again
-  pub spells_again : (lists : List (List ℕ)) → lists ≡ records x.keeper ++ record_bytes r ∷ [] → SpellsTheSame service x.start rs lists
-  spells_again lists e = record {
+  pub spells_again : {lists : List (List ℕ)} → lists ≡ records x.keeper ++ record_bytes r ∷ [] → SpellsTheSame service x.start rs lists
+  spells_again e = record {
     again = rs ++ r ∷ [];
     spelled = subst (λ (bs : List (List ℕ)). Spell bs (rs ++ r ∷ [])) (sym e) (spell_more (records x.keeper) rs r spelled follows);
-    same = subst (SaysTheSame service x.start (recovered rs)) (sym said) (says_again service x.start (recovered rs) is.snapshot is.spells);
+    same = subst (SaysTheSame service x.start (recovered rs)) (sym said) (says_again is.spells);
   }
 
   -- or its append failed
-  pub spells_anyway : (b : Bool) (lists : List (List ℕ)) → lists ≡ failed_records b (records x.keeper) (record_bytes r) → SpellsTheSame service x.start rs lists
-  spells_anyway true lists e = spells_again lists e
-  spells_anyway false lists e = subst (SpellsTheSame service x.start rs) (sym e) (spells_itself service x.start (records x.keeper) rs spelled)
+  pub spells_anyway : (b : Bool) {lists : List (List ℕ)} → lists ≡ failed_records b (records x.keeper) (record_bytes r) → SpellsTheSame service x.start rs lists
+  spells_anyway true {lists} e = spells_again e
+  spells_anyway false e = subst (SpellsTheSame service x.start rs) (sym e) (spells_itself rs spelled)

@@ -49,9 +49,9 @@ use Rattle.rex_node.proofs.Leaving.{no_work_left, role_active}
 -- ---- what was accepted
 
 -- from a later instance on, of those from an earlier one on
-from_on_both : (i j : ℕ) (ps : List (Proposal Value)) → i ≤ j → from_on j (from_on i ps) ≡ from_on j ps
-from_on_both i j [] le = refl
-from_on_both i j (p ∷ ps) le = go (leb i p.instance) refl (leb j p.instance) refl (from_on_both i j ps le)
+from_on_both : {i j : ℕ} (ps : List (Proposal Value)) → i ≤ j → from_on j (from_on i ps) ≡ from_on j ps
+from_on_both [] le = refl
+from_on_both {i} {j} (p ∷ ps) le = go (leb i p.instance) refl (leb j p.instance) refl (from_on_both ps le)
   where
     go : (early : Bool) → leb i p.instance ≡ early → (late : Bool) → leb j p.instance ≡ late → from_on j (from_on i ps) ≡ from_on j ps
         → from_on j (cond early (p ∷ from_on i ps) (from_on i ps)) ≡ cond late (p ∷ from_on j ps) (from_on j ps)
@@ -61,8 +61,8 @@ from_on_both i j (p ∷ ps) le = go (leb i p.instance) refl (leb j p.instance) r
     go false e false l ih = ih
 
 -- above a later offset
-pub accepted_above : (k o : ℕ) (ps : List Kept) (qs : List (Proposal Value)) → o ≤ k → map proposal_in ps ≡ from_on (suc o) qs → map proposal_in (above k ps) ≡ from_on (suc k) qs
-accepted_above k o ps qs le h = above_from k ps ∙ ap (from_on (suc k)) h ∙ from_on_both (suc o) (suc k) qs (omega arith)
+pub accepted_above : {k o : ℕ} (ps : List Kept) (qs : List (Proposal Value)) → o ≤ k → map proposal_in ps ≡ from_on (suc o) qs → map proposal_in (above k ps) ≡ from_on (suc k) qs
+accepted_above {k} {o} ps qs le h = above_from k ps ∙ ap (from_on (suc k)) h ∙ from_on_both qs (omega arith)
 
 -- a node that forgets acceptances follows as it would
 pub followed_same : (id : ℕ) (a b : AcceptorValue) (p : Option ProposerValue) (active : Bool) → followed id (role_of a p active) ≡ followed id (role_of b p active)
@@ -71,7 +71,7 @@ followed_same id a b (Some p) active = refl
 
 -- ---- the record
 
-module _ {K : Type 0} (records : K → List (List ℕ)) (gives : K → List ℕ → Answer → K → Type 0) (faults : K → ℕ) (service : Declarations) (past : List Value) (x : NodeValue K) (node : IsResting records service past x) (up : x.up ≡ true) (before : Draft) (k : ℕ) (bytes : List ℕ) (s : StateValue)
+module _ {K : Type 0} {records : K → List (List ℕ)} (gives : K → List ℕ → Answer → K → Type 0) (faults : K → ℕ) {service : Declarations} {past : List Value} {x : NodeValue K} (node : IsResting records service past x) (up : x.up ≡ true) (before : Draft) {k : ℕ} {bytes : List ℕ} {s : StateValue}
     (more : length x.known < k) (there : IsInstance k) (short : IsValue bytes) (spelled : state_in service bytes ≡ Ok s) (leads : LeadTo service past k s) (fits : values_fit service (first k past) ≡ true) (y : NodeValue K) (mid : Draft) where
   u : IsUp service x (here_of records service past x)
   u = node.up up
@@ -118,7 +118,7 @@ module _ {K : Type 0} (records : K → List (List ℕ)) (gives : K → List ℕ 
 
   -- ---- its append failed
 
-  module _ (h : Appends records faults gives x y before mid (record_bytes r) Down) (z : NodeValue K) (z_is : z ≡ fallen_moved (nat_lt (length (records x.keeper)) (length (records y.keeper))) y k) where
+  module _ (h : Appends records faults gives x y before mid (record_bytes r) Down) {z : NodeValue K} (z_is : z ≡ fallen_moved (nat_lt (length (records x.keeper)) (length (records y.keeper))) y k) where
     kept_is : (b : Bool) → records y.keeper ≡ failed_records b (records x.keeper) (record_bytes r) → nat_lt (length (records x.keeper)) (length (records y.keeper)) ≡ b
     kept_is true e = lt-ltb (length (records x.keeper)) (length (records y.keeper)) (omega (arith, ap length e, length_push (records x.keeper) (record_bytes r)))
     kept_is false e = le-ltb (length (records x.keeper)) (length (records y.keeper)) (omega (arith, ap length e))
@@ -152,7 +152,7 @@ module _ {K : Type 0} (records : K → List (List ℕ)) (gives : K → List ℕ 
     moved_down = (
       (
         subst (λ (j : K). Fell records gives faults service call x.id x.keeper j (so_far records service past x before) (so_far records service past z mid)) (sym z_keeper)
-            (fell_append records gives faults service call rest x.id (rec_of service past r) (so_far records service past x before) call_is x.keeper y.keeper (record_bytes r) stated h.0.kept h.0.answer h.0.records h.0.faults (so_far records service past z mid) down_at),
+            (fell_append records gives faults service call_is x.keeper y.keeper stated h.0.kept h.0.answer h.0.records h.0.faults down_at),
         record { down = ap (λ (n : NodeValue K). n.up) z_at; bare = ap (λ (n : NodeValue K). n.reached) z_at },
       ),
       subst (IsResting records service past) (sym z_at) (record { id = node.id; few = node.few; up = λ t. absurd (false≢true t); reached = tt; decoded = node.decoded; rests = λ t. absurd (false≢true t) }),
@@ -162,18 +162,18 @@ module _ {K : Type 0} (records : K → List (List ℕ)) (gives : K → List ℕ 
 
   module _ (h : Appends records faults gives x y before mid (record_bytes r) On) where
     -- memory is short then
-    pub moved_stuck : (z : NodeValue K) → z.keeper ≡ y.keeper → z.base ≡ k → IsStuck records gives faults service past call x z before
-    moved_stuck z keeper based =
-        inr (breaks_here records gives faults service past call rest x y z before mid (appended_leads records gives faults service past x y before mid r spelling due stated call rest call_is h)
+    pub moved_stuck : {z : NodeValue K} → z.keeper ≡ y.keeper → z.base ≡ k → IsStuck records gives faults service past call x z before
+    moved_stuck {z} keeper based =
+        inr (breaks_here y z mid (appended_leads records gives faults service past x y before mid spelling due stated call_is h)
         (omega (arith, ap length h.0.records, length_push (records x.keeper) (record_bytes r)))
-        (based ∙ sym long ∙ ap base (sym (ap (λ (j : K). log_of service past (records j)) keeper ∙ appended_log records gives faults service past x y before mid r spelling due stated h)))
+        (based ∙ sym long ∙ ap base (sym (ap (λ (j : K). log_of service past (records j)) keeper ∙ appended_log records gives faults service past x y before mid spelling due stated h)))
         (λ d. refl) (ap records keeper) (ap faults keeper) (inl keeper))
 
     -- the node is a follower at the state
     abbrev follower : K → NodeValue K
     follower j = record x { keeper = j; acceptor = forgetting x.acceptor k; offset = k; known = first k past; base = k; start = s; replayed = k; ahead = None; reached = None; proposer = None; acting = None }
 
-    module _ (z : NodeValue K) (z_is : z ≡ leaving (record y { offset = k; known = first k past ++ []; acceptor = forgetting y.acceptor k; base = k; start = s; replayed = k; ahead = None; reached = None })) (after : Draft)
+    module _ {z : NodeValue K} (z_is : z ≡ leaving (record y { offset = k; known = first k past ++ []; acceptor = forgetting y.acceptor k; base = k; start = s; replayed = k; ahead = None; reached = None })) {after : Draft}
         (told : Tells mid after (effect.Transferred y.id k ∷ followed y.id (role_of y.acceptor y.proposer (is_some y.acting)))) where
       left_same : (t : Bool) → replayed_left t k k ≡ k
       left_same true = refl
@@ -192,11 +192,11 @@ module _ {K : Type 0} (records : K → List (List ℕ)) (gives : K → List ℕ 
           ∙ ap (λ (o : Option StateValue). record (follower y.keeper) { ahead = o }) (none_left (is_some x.acting))
 
       log_is : log_of service past (records y.keeper) ≡ said ∷ log
-      log_is = appended_log records gives faults service past x y before mid r spelling due stated h
+      log_is = appended_log records gives faults service past x y before mid spelling due stated h
 
       -- the model's call comes to the same
-      here_is : (ms : List (Message Value)) (es : List Effect) → call_at (here_of records service past (follower y.keeper)) ms (es ++ (effect.Transferred x.id k ∷ followed x.id (role_of x.acceptor x.proposer (is_some x.acting)))) ≡ rest (logged (rec_of service past r) None (call_at (here_of records service past x) ms es))
-      here_is ms es =
+      here_is : {ms : List (Message Value)} (es : List Effect) → call_at (here_of records service past (follower y.keeper)) ms (es ++ (effect.Transferred x.id k ∷ followed x.id (role_of x.acceptor x.proposer (is_some x.acting)))) ≡ rest (logged (rec_of service past r) None (call_at (here_of records service past x) ms es))
+      here_is {ms} es =
           ap (λ (l : List (Rec Value StateValue)). at l no_work k (effect.Transferred x.id k)) log_is
           ∙ ap (λ (w : Work). at (said ∷ log) w k (effect.Transferred x.id k)) (sym (no_work_left x.acting))
           ∙ ap (λ (t : Bool). at (said ∷ log) (work_left t (work_of x.acting)) k (effect.Transferred x.id k)) (sym (role_active service x.known x.acceptor x.proposer x.acting u.acting))
@@ -215,12 +215,12 @@ module _ {K : Type 0} (records : K → List (List ℕ)) (gives : K → List ℕ 
 
       comes : so_far records service past z after ≡ rest (logged (rec_of service past r) None (so_far records service past x before))
       comes =
-          far records service past z after (before.effects.items ++ (effect.Transferred x.id k ∷ followed x.id (role_of x.acceptor x.proposer (is_some x.acting)))) (map (message_in past) before.sends.items)
+          far records service past z after
           (told.effects_are ∙ ap (λ (es : List Effect). es ++ (effect.Transferred y.id k ∷ followed y.id (role_of y.acceptor y.proposer (is_some y.acting)))) h.1
           ∙ ap (λ (n : NodeValue K). before.effects.items ++ (effect.Transferred n.id k ∷ followed n.id (role_of n.acceptor n.proposer (is_some n.acting)))) h.0.parts)
           (ap (map (message_in past)) (told.sends_are ∙ h.2))
           ∙ ap (λ (n : NodeValue K). call_at (here_of records service past n) (map (message_in past) before.sends.items) (before.effects.items ++ (effect.Transferred x.id k ∷ followed x.id (role_of x.acceptor x.proposer (is_some x.acting))))) followed_at
-          ∙ here_is (map (message_in past) before.sends.items) before.effects.items
+          ∙ here_is before.effects.items
 
       -- it is kept
       logged_here : IsLogged service (follower y.keeper) (said ∷ log)
@@ -228,7 +228,7 @@ module _ {K : Type 0} (records : K → List (List ℕ)) (gives : K → List ℕ 
           let l = logged_of records service past x u in
           record {
             promised = l.promised;
-            accepted = accepted_above k (offset log) x.acceptor.accepted (last_accepted log) (omega (arith, l.offset_is, l.low, l.few, more)) l.accepted
+            accepted = accepted_above x.acceptor.accepted (last_accepted log) (omega (arith, l.offset_is, l.low, l.few, more)) l.accepted
                 ∙ ap (λ (n : ℕ). from_on (suc n) (last_accepted log)) (sym long);
             offset_is = sym long;
             low = le_refl k;
@@ -266,9 +266,9 @@ module _ {K : Type 0} (records : K → List (List ℕ)) (gives : K → List ℕ 
       moved_on =
           let resting : IsResting records service past z = subst (IsResting records service past) (sym followed_at) follower_node in (
             (
-              leads_then records gives faults service call rest (λ d. d) x.keeper y.keeper z.keeper (so_far records service past x before) (so_far records service past y mid) (so_far records service past z after)
-                  (appended_leads records gives faults service past x y before mid r spelling due stated call rest call_is h) last,
-              within records service past z resting,
+              leads_then records gives faults service
+                  (appended_leads records gives faults service past x y before mid spelling due stated call_is h) last,
+              within resting,
               ap (λ (n : NodeValue K). n.up) followed_at ∙ up,
             ),
             resting,
@@ -280,12 +280,12 @@ module _ {K : Type 0} (records : K → List (List ℕ)) (gives : K → List ℕ 
           last : Leads records gives faults service rest (λ d. d) y.keeper z.keeper (so_far records service past y mid) (so_far records service past z after)
           last =
               subst (λ (j : K). Leads records gives faults service rest (λ d. d) y.keeper j (so_far records service past y mid) (so_far records service past z after)) (sym keeper)
-              (leads_same records gives faults service rest (λ d. d) y.keeper (so_far records service past y mid) (so_far records service past z after) (ap (λ (j : K). length (log_of service past (records j))) keeper)
-              (λ f. ap (λ (d : CallHere). rest (armed_with f d)) (appended_here records gives faults service past x y before mid r spelling due stated h) ∙ ap (armed_with f) (sym comes)))
+              (leads_same records gives faults service (ap (λ (j : K). length (log_of service past (records j))) keeper)
+              (λ f. ap (λ (d : CallHere). rest (armed_with f d)) (appended_here records gives faults service past x y before mid spelling due stated h) ∙ ap (armed_with f) (sym comes)))
 
 -- ---- a state that is told
 
-module _ {K : Type 0} (records : K → List (List ℕ)) (gives : K → List ℕ → Answer → K → Type 0) (faults : K → ℕ) (service : Declarations) (past : List Value) (x : NodeValue K) (node : IsResting records service past x) (up : x.up ≡ true) (before : Draft) (k : ℕ) where
+module _ {K : Type 0} {records : K → List (List ℕ)} (gives : K → List ℕ → Answer → K → Type 0) (faults : K → ℕ) {service : Declarations} {past : List Value} {x : NodeValue K} (node : IsResting records service past x) (up : x.up ≡ true) (before : Draft) (k : ℕ) where
   -- the values before one that is taken over fit
   pub told_fits : length x.known < k → RunsOn service (on_snapshot (service_of service x.seed) x.id (first k past)) (so_far records service past x before) → values_fit service (first k past) ≡ true
   told_fits more runs = subst (λ (d : CallHere). values_fit service (known d.node.log) ≡ true) taken runs
@@ -299,14 +299,14 @@ module _ {K : Type 0} (records : K → List (List ℕ)) (gives : K → List ℕ 
           (lt-leb (length (first k past)) (length (known (here_of records service past x).log)) (omega (arith, first_length k past, more, ap (λ (vs : List Value). length vs) (node.up up).known)))
 
   -- one after no more values than are known is ignored
-  pub snapshot_ignored : (after : Draft) (next : ℕ) → k ≤ length x.known → next ≡ length x.known + 1 → after.effects.items ≡ before.effects.items ++ effect.IgnoredInstance k next ∷ [] → after.sends.items ≡ before.sends.items
+  pub snapshot_ignored : (after : Draft) {next : ℕ} → k ≤ length x.known → next ≡ length x.known + 1 → after.effects.items ≡ before.effects.items ++ effect.IgnoredInstance k next ∷ [] → after.sends.items ≡ before.sends.items
       → EndsWell records gives faults service past x x before after (on_snapshot (service_of service x.seed) x.id (first k past))
-  snapshot_ignored after next few next_is effects sends =
-      ends_same records gives faults service past x x before after (on_snapshot (service_of service x.seed) x.id (first k past)) refl node up
+  snapshot_ignored after {next} few next_is effects sends =
+      ends_same records gives faults service past x x before after refl node up
       (λ f. ap (λ (t : Bool). cond t (says f (length (first k past)) (suc (length (known (here_of records service past x).log)))) (takes f)) (le-leb (length (first k past)) (length (known (here_of records service past x).log)) (omega (arith, first_length k past, few, ap (λ (vs : List Value). length vs) (node.up up).known)))
       ∙ ap (λ (n : ℕ). says f n (suc (length (known (here_of records service past x).log)))) (first_length k past)
       ∙ ap (λ (n : ℕ). says f k n) (sym here)
-      ∙ ap (armed_with f) (sym (far records service past x after _ _ effects (ap (map (message_in past)) sends))))
+      ∙ ap (armed_with f) (sym (far records service past x after effects (ap (map (message_in past)) sends))))
     where
       says : Option Failure → ℕ → ℕ → CallHere
       says f n m = say (effect.IgnoredInstance n m) (armed_with f (so_far records service past x before))

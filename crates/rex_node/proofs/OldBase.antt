@@ -28,44 +28,44 @@ IsSome (rec.Checkpoint k bytes) = 0 < k
 IsSome (rec.Transferred k bytes) = 0 < k
 IsSome r = Unit {0}
 
-promised_some : (l : Left) (x : KeptRec × Left) → promised_at l ≡ Ok x → IsSome x.0
+promised_some : (l : Left) {x : KeptRec × Left} → promised_at l ≡ Ok x → IsSome x.0
 unfolding promised_at
-promised_some l x e =
+promised_some l {x} e =
     let b = bind_ok (allowed_at w64 is_ballot l) (λ n. Ok (rec.Promised n.0, n.1)) x e in
     subst (λ (y : KeptRec × Left). IsSome y.0) (ok_is (rec.Promised b.0.0, b.0.1) x b.2) tt
 
-accepted_some : (l : Left) (x : KeptRec × Left) → accepted_at l ≡ Ok x → IsSome x.0
+accepted_some : (l : Left) {x : KeptRec × Left} → accepted_at l ≡ Ok x → IsSome x.0
 unfolding accepted_at
-accepted_some l x e =
+accepted_some l {x} e =
     let b = bind_ok (allowed_at w64 is_ballot l) (λ n. allowed_at w32 is_instance n.1 >>= λ i. value_at i.1 >>= λ v. Ok (rec.Accepted n.0 i.0 v.0, v.1)) x e in
     let i = bind_ok (allowed_at w32 is_instance b.0.1) (λ i. value_at i.1 >>= λ v. Ok (rec.Accepted b.0.0 i.0 v.0, v.1)) x b.2 in
     let v = bind_ok (value_at i.0.1) (λ v. Ok (rec.Accepted b.0.0 i.0.0 v.0, v.1)) x i.2 in
     subst (λ (y : KeptRec × Left). IsSome y.0) (ok_is (rec.Accepted b.0.0 i.0.0 v.0.0, v.0.1) x v.2) tt
 
-known_some : (s : Standing) (l : Left) (x : KeptRec × Left) → known_at s l ≡ Ok x → IsSome x.0
+known_some : (s : Standing) (l : Left) {x : KeptRec × Left} → known_at s l ≡ Ok x → IsSome x.0
 unfolding known_at
-known_some s l x e =
+known_some s l {x} e =
     let i = bind_ok (allowed_at w32 _ l) (λ i. value_at i.1 >>= λ v. Ok (rec.Known i.0 v.0, v.1)) x e in
     let v = bind_ok (value_at i.0.1) (λ v. Ok (rec.Known i.0.0 v.0, v.1)) x i.2 in
     subst (λ (y : KeptRec × Left). IsSome y.0) (ok_is (rec.Known i.0.0 v.0.0, v.0.1) x v.2) tt
 
-checkpoint_some : (s : Standing) (l : Left) (x : KeptRec × Left) → checkpoint_at s l ≡ Ok x → IsSome x.0
+checkpoint_some : (s : Standing) (l : Left) {x : KeptRec × Left} → checkpoint_at s l ≡ Ok x → IsSome x.0
 unfolding checkpoint_at
-checkpoint_some s l x e =
+checkpoint_some s l {x} e =
     let k = bind_ok (allowed_at w32 (is_between (max 1 s.offset) s.count) l) (λ k. value_at k.1 >>= λ v. Ok (rec.Checkpoint k.0 v.0, v.1)) x e in
     let v = bind_ok (value_at k.0.1) (λ v. Ok (rec.Checkpoint k.0.0 v.0, v.1)) x k.2 in
     let range = is_between-true (max 1 s.offset) s.count k.0.0 (allowed_is w32 (is_between (max 1 s.offset) s.count) l k.0 k.1) in
     subst (λ (y : KeptRec × Left). IsSome y.0) (ok_is (rec.Checkpoint k.0.0 v.0.0, v.0.1) x v.2) (omega (arith, range.0, le-max_left 1 s.offset))
 
-dropped_some : (s : Standing) (l : Left) (x : KeptRec × Left) → dropped_at s l ≡ Ok x → IsSome x.0
+dropped_some : (s : Standing) (l : Left) {x : KeptRec × Left} → dropped_at s l ≡ Ok x → IsSome x.0
 unfolding dropped_at
-dropped_some s l x e =
+dropped_some s l {x} e =
     let k = bind_ok (allowed_at w32 _ l) (λ k. Ok (rec.Dropped k.0, k.1)) x e in
     subst (λ (y : KeptRec × Left). IsSome y.0) (ok_is (rec.Dropped k.0.0, k.0.1) x k.2) tt
 
-transferred_some : (s : Standing) (l : Left) (x : KeptRec × Left) → transferred_at s l ≡ Ok x → IsSome x.0
+transferred_some : (s : Standing) (l : Left) {x : KeptRec × Left} → transferred_at s l ≡ Ok x → IsSome x.0
 unfolding transferred_at
-transferred_some s l x e =
+transferred_some s l {x} e =
     let k = bind_ok (allowed_at w32 (λ n. is_instance n && nat_lt s.count n) l) (λ k. value_at k.1 >>= λ v. Ok (rec.Transferred k.0 v.0, v.1)) x e in
     let v = bind_ok (value_at k.0.1) (λ v. Ok (rec.Transferred k.0.0 v.0, v.1)) x k.2 in
     let above = ltb-true s.count k.0.0 (and_parts (is_instance k.0.0) (nat_lt s.count k.0.0) (allowed_is w32 (λ n. is_instance n && nat_lt s.count n) l k.0 k.1)).1 in
@@ -75,26 +75,26 @@ content_some : (s : Standing) (at code : ℕ) (l : Left) (x : KeptRec × Left) �
 content_some s at code l x e = by (code == 1) (code == 2) (code == 3) (code == 4) (code == 5) (code == 6) e
   where
     by : (a b c d f g : Bool) → (if a then promised_at l else if b then accepted_at l else if c then known_at s l else if d then checkpoint_at s l else if f then dropped_at s l else if g then transferred_at s l else Err at) ≡ Ok x → IsSome x.0
-    by true b c d f g e = promised_some l x e
-    by false true c d f g e = accepted_some l x e
-    by false false true d f g e = known_some s l x e
-    by false false false true f g e = checkpoint_some s l x e
-    by false false false false true g e = dropped_some s l x e
-    by false false false false false true e = transferred_some s l x e
+    by true b c d f g e = promised_some l e
+    by false true c d f g e = accepted_some l e
+    by false false true d f g e = known_some s l e
+    by false false false true f g e = checkpoint_some s l e
+    by false false false false true g e = dropped_some s l e
+    by false false false false false true e = transferred_some s l e
     by false false false false false false e = absurd cc
 
-read_some : (s : Standing) (l : Left) (x : KeptRec × Left) → record_at s l ≡ Ok x → IsSome x.0
+read_some : (s : Standing) (l : Left) {x : KeptRec × Left} → record_at s l ≡ Ok x → IsSome x.0
 unfolding record_at
-read_some s l x e =
+read_some s l {x} e =
     let code = bind_ok (number_at w8 l) (λ n. content_at s l.at n.0 n.1) x e in
     content_some s l.at code.0.0 code.0.1 x code.2
 
-record_some : (s : Standing) (bytes : List ℕ) (r : KeptRec) → record_in s bytes ≡ Ok r → IsSome r
+record_some : (s : Standing) (bytes : List ℕ) {r : KeptRec} → record_in s bytes ≡ Ok r → IsSome r
 unfolding record_in
-record_some s bytes r e =
+record_some s bytes {r} e =
     let x = bind_ok (record_at s (all_left bytes)) (λ y. cond (length y.1.rest == 0) (Ok y.0) (Err y.1.at)) r e in
     let g = test_ok (length x.0.1.rest == 0) x.0.1.at x.0.0 r x.2 in
-    subst IsSome g.1 (read_some s (all_left bytes) x.0 x.1)
+    subst IsSome g.1 (read_some s (all_left bytes) x.1)
 
 -- ---- what the records say
 
@@ -114,7 +114,7 @@ based_step service past log bytes h = by (record_in (standing_in log) bytes) ref
   where
     by : (q : Result KeptRec ℕ) → record_in (standing_in log) bytes ≡ q → HasBase (log_with service past log q)
     by (Err at) e = h
-    by (Ok r) e = based_with service past log r (record_some (standing_in log) bytes r e) h
+    by (Ok r) e = based_with service past log r (record_some (standing_in log) bytes e) h
 
 based_from : (service : Declarations) (past : List Value) (log : List (Rec Value StateValue)) (kept : List (List ℕ)) → HasBase log → HasBase (fold (λ log bytes. log_with service past log (record_in (standing_in log) bytes)) log kept)
 based_from service past log [] h = h

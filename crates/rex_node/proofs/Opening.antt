@@ -46,8 +46,8 @@ use Rattle.rex_node.proofs.GoingLemmas.{leads_same, leads_then}
 use Rattle.rex_node.proofs.Written.{appends_as, call_is, broken_written, log_written, written_on, written_down}
 
 -- the parts that a node has of its records don't know its role
-pub logged_as : {K : Type 0} (service : Declarations) (x y : NodeValue K) (log : List (Rec Value StateValue)) → y.acceptor ≡ x.acceptor → y.offset ≡ x.offset → y.known ≡ x.known → y.base ≡ x.base → y.old_base ≡ x.old_base → y.start ≡ x.start → IsLogged service x log → IsLogged service y log
-logged_as service x y log a f k b o s h = record {
+pub logged_as : {K : Type 0} {service : Declarations} {x y : NodeValue K} {log : List (Rec Value StateValue)} → y.acceptor ≡ x.acceptor → y.offset ≡ x.offset → y.known ≡ x.known → y.base ≡ x.base → y.old_base ≡ x.old_base → y.start ≡ x.start → IsLogged service x log → IsLogged service y log
+logged_as {service} {x} {y} a f k b o s h = record {
   promised = ap (λ (v : AcceptorValue). v.promised) a ∙ h.promised;
   accepted = ap (λ (v : AcceptorValue). map proposal_in v.accepted) a ∙ h.accepted;
   offset_is = f ∙ h.offset_is;
@@ -79,10 +79,10 @@ opened_is p i = go (counting.is_majority p.nodes 1)
     go true = refl
     go false = refl
 
-own_open : (a : AcceptorValue) (p : ProposerValue) (i : ℕ) (v : Value) → proposal_for i (accepting a (own p i v)).accepted ≡ Some (own p i v)
-own_open a p i v = proposals_are_replaced.replaced a.accepted (own p i v)
+own_open : (a : AcceptorValue) (p : ProposerValue) {i : ℕ} {v : Value} → proposal_for i (accepting a (own p i v)).accepted ≡ Some (own p i v)
+own_open a p {i} {v} = proposals_are_replaced.replaced a.accepted (own p i v)
 
-module _ (nodes id : ℕ) (there : 0 < id) (few : id ≤ nodes) (a : AcceptorValue) (p : ProposerValue) (h : Proposes nodes id a p) (i : ℕ) (v : Value) where
+module _ {nodes id : ℕ} (there : 0 < id) (few : id ≤ nodes) {a : AcceptorValue} {p : ProposerValue} (h : Proposes nodes id a p) (i : ℕ) (v : Value) where
   once_opened : (t : Bool) → CountsOnce (opened_by t p i)
   once_opened true = record { own = h.once.own; promises = h.once.promises; acceptances = counted_none p.nodes }
   once_opened false = record {
@@ -93,7 +93,7 @@ module _ (nodes id : ℕ) (there : 0 < id) (few : id ≤ nodes) (a : AcceptorVal
 
   has_opened : (t : Bool) → HasOpen (accepting a (own p i v)) p.ballot (opened_by t p i).open_instance
   has_opened true = tt
-  has_opened false = (own p i v, own_open a p i v, refl)
+  has_opened false = (own p i v, own_open a p, refl)
 
   promised_same : p.ballot ≡ max a.promised p.ballot
   promised_same = let e : p.ballot ≡ a.promised = h.ballot in omega arith
@@ -106,21 +106,21 @@ module _ (nodes id : ℕ) (there : 0 < id) (few : id ≤ nodes) (a : AcceptorVal
   proposes_opened = subst (Proposes nodes id (accepting a (own p i v))) (sym (opened_is p i)) (by_opened (counting.is_majority p.nodes 1))
 
 -- what is executed has the cut that was proposed
-acts_opened : (service : Declarations) (values : List Value) (a : AcceptorValue) (p : ProposerValue) (w : ActingValue) (i : ℕ) (v : Value) → ActsFor service values (open_of a p.open_instance) w → IsCutAt service values w v → ActsFor service values (open_of (accepting a (own p i v)) (proposed p i).open_instance) w
-acts_opened service values a p w i v h cut = subst (λ (q : ProposerValue). ActsFor service values (open_of (accepting a (own p i v)) q.open_instance) w) (sym (opened_is p i)) (go (counting.is_majority p.nodes 1))
+acts_opened : {service : Declarations} {values : List Value} (a : AcceptorValue) (p : ProposerValue) {w : ActingValue} (i : ℕ) {v : Value} → ActsFor service values (open_of a p.open_instance) w → IsCutAt service values w v → ActsFor service values (open_of (accepting a (own p i v)) (proposed p i).open_instance) w
+acts_opened {service} {values} a p {w} i {v} h cut = subst (λ (q : ProposerValue). ActsFor service values (open_of (accepting a (own p i v)) q.open_instance) w) (sym (opened_is p i)) (go (counting.is_majority p.nodes 1))
   where
     go : (t : Bool) → ActsFor service values (open_of (accepting a (own p i v)) (opened_by t p i).open_instance) w
     go true = record { executes = h.executes; open_is_cut = tt }
-    go false = record { executes = h.executes; open_is_cut = subst (λ (o : Option Kept). OpenIsCut service values w (option_map proposal_in o)) (sym (own_open a p i v)) cut }
+    go false = record { executes = h.executes; open_is_cut = subst (λ (o : Option Kept). OpenIsCut service values w (option_map proposal_in o)) (sym (own_open a p)) cut }
 
 pub acting_opened : (service : Declarations) (values : List Value) (a : AcceptorValue) (p : ProposerValue) (w : Option ActingValue) (i : ℕ) (v : Value) → IsActing service values a (Some p) w → IfSome w (λ (b : ActingValue). IsCutAt service values b v)
     → IsActing service values (accepting a (own p i v)) (Some (proposed p i)) w
 acting_opened service values a p None i v h cut = tt
-acting_opened service values a p (Some w) i v h cut = acts_opened service values a p w i v h cut
+acting_opened service values a p (Some w) i v h cut = acts_opened a p i h cut
 
 -- the numbers of what it leads with stay in their ranges
-pub role_opened : (known : ℕ) (a : AcceptorValue) (p : ProposerValue) (active : Bool) (i : ℕ) (v : Value) → i ≡ suc known → IsInstance i → LeadFits known (lead_of a p active) → LeadFits known (lead_of (accepting a (own p i v)) (proposed p i) active)
-role_opened known a p active i v next there h = subst (λ (q : ProposerValue). LeadFits known (lead_of (accepting a (own p i v)) q active)) (sym (opened_is p i)) (go (counting.is_majority p.nodes 1))
+pub role_opened : {known : ℕ} (a : AcceptorValue) (p : ProposerValue) {active : Bool} {i : ℕ} (v : Value) → i ≡ suc known → IsInstance i → LeadFits known (lead_of a p active) → LeadFits known (lead_of (accepting a (own p i v)) (proposed p i) active)
+role_opened {known} a p {active} {i} v next there h = subst (λ (q : ProposerValue). LeadFits known (lead_of (accepting a (own p i v)) q active)) (sym (opened_is p i)) (go (counting.is_majority p.nodes 1))
   where
     none : (q : Proposal Value) → None ≡ Some q → (q.instance ≡ suc known) × IsInstance q.instance
     none q e = absurd (cc)
@@ -132,15 +132,15 @@ role_opened known a p active i v next there h = subst (λ (q : ProposerValue). L
       reported = h.reported;
       next = λ q e.
           subst (λ (z : Proposal Value). (z.instance ≡ suc known) × IsInstance z.instance)
-          (same_Some (proposal_of p.ballot i v) q (ap (option_map proposal_in) (sym (own_open a p i v)) ∙ e)) (next, there);
+          (same_Some (proposal_of p.ballot i v) q (ap (option_map proposal_in) (sym (own_open a p)) ∙ e)) (next, there);
     }
 
 -- where it isn't alone it leads with that proposal
-pub lead_opened : (a : AcceptorValue) (p : ProposerValue) (active : Bool) (id i : ℕ) (v : Value) → ballots.node_of p.ballot ≡ id → counting.is_majority p.nodes 1 ≡ false
+pub lead_opened : (a : AcceptorValue) (p : ProposerValue) {active : Bool} {id i : ℕ} {v : Value} → ballots.node_of p.ballot ≡ id → counting.is_majority p.nodes 1 ≡ false
     → Leading (lead_of (accepting a (own p i v)) (proposed p i) active) ≡ leading (lead_of a p active) (Some (proposal_of p.ballot i v)) (id ∷ []) active
-lead_opened a p active id i v e many =
+lead_opened a p {active} {i} {v} e many =
     ap (λ (q : ProposerValue). Leading (lead_of (accepting a (own p i v)) q active)) (opened_is p i ∙ ap (λ (t : Bool). opened_by t p i) many)
-    ∙ ap (λ (o : Option Kept). leading (lead_of a p active) (option_map proposal_in o) (ballots.node_of p.ballot ∷ []) active) (own_open a p i v)
+    ∙ ap (λ (o : Option Kept). leading (lead_of a p active) (option_map proposal_in o) (ballots.node_of p.ballot ∷ []) active) (own_open a p)
     ∙ ap (λ (n : ℕ). leading (lead_of a p active) (Some (proposal_of p.ballot i v)) (n ∷ []) active) e
 
 -- an optional value that is there
@@ -150,8 +150,8 @@ some_of (Some x) h = (x, refl)
 
 -- ---- a node that proposes
 
-module _ {K : Type 0} (records : K → List (List ℕ)) (gives : K → List ℕ → Answer → K → Type 0) (faults : K → ℕ) (service : Declarations) (past : List Value) (x : NodeValue K) (u : IsUp service x (here_of records service past x)) (id : (0 < x.id) × (x.id ≤ x.nodes)) (few : x.nodes ≤ most_nodes) (reached : HasReached service x.offset x.known x.reached) (decoded : HasDecoded service x.decoded)
-    (p : ProposerValue) (e : x.proposer ≡ Some p) (i : ℕ) (v : Value) (next : i ≡ length x.known + 1) (there : ballots.IsInstance i) (short : IsValue v) (cut : IsOwnCut service x v) where
+module _ {K : Type 0} (records : K → List (List ℕ)) (gives : K → List ℕ → Answer → K → Type 0) (faults : K → ℕ) {service : Declarations} (past : List Value) {x : NodeValue K} (u : IsUp service x (here_of records service past x)) (id : (0 < x.id) × (x.id ≤ x.nodes)) (few : x.nodes ≤ most_nodes) (reached : HasReached service x.offset x.known x.reached) (decoded : HasDecoded service x.decoded)
+    {p : ProposerValue} (e : x.proposer ≡ Some p) {i : ℕ} {v : Value} (next : i ≡ length x.known + 1) (there : ballots.IsInstance i) (short : IsValue v) (cut : IsOwnCut service x v) where
   abbrev r : Rec Value StateValue
   r = Accepted p.ballot i v
 
@@ -165,7 +165,7 @@ module _ {K : Type 0} (records : K → List (List ℕ)) (gives : K → List ℕ 
   lead_fits = subst (λ (o : Option ProposerValue). RoleFits (length x.known) (role_of x.acceptor o (is_some x.acting))) e (beside_of records service past x u).role
 
   pub spelled : HasSpelling (kept.Accepted p.ballot i v)
-  spelled = record { in_range = (fits_ballot p.ballot lead_fits.ballot, there, short) }
+  spelled = record { in_range = (fits_ballot lead_fits.ballot, there, short) }
 
   abbrev z_at : K → NodeValue K
   z_at keeper = record x { keeper = keeper; acceptor = accepting x.acceptor (own p i v); proposer = Some (proposed p i) }
@@ -175,7 +175,7 @@ module _ {K : Type 0} (records : K → List (List ℕ)) (gives : K → List ℕ 
     z = record x { keeper = keeper; acceptor = accepting x.acceptor (own p i v); proposer = Some (proposed p i) }
 
     log_is : log_of service past (records keeper) ≡ r ∷ log
-    log_is = log_written records gives faults service past x u (kept.Accepted p.ballot i v) spelled tt refl (records keeper) grown
+    log_is = log_written records gives faults past u spelled tt refl grown
 
     late : offset log < i
     late =
@@ -184,8 +184,8 @@ module _ {K : Type 0} (records : K → List (List ℕ)) (gives : K → List ℕ 
 
     z_logged : IsLogged service z (log_of service past (records keeper))
     z_logged = subst (IsLogged service z) (sym log_is)
-        (logged_as service (record x { acceptor = accepting x.acceptor (own p i v) }) z (r ∷ log) refl refl refl refl refl refl
-        (logged_accepted service x log (logged_of records service past x u) p.ballot i v lead_fits.ballot (instance_fits i there) short late))
+        (logged_as refl refl refl refl refl refl
+        (logged_accepted (logged_of records service past x u) lead_fits.ballot (instance_fits there) short late))
 
     z_beside : Beside records service past z
     z_beside = let b = beside_of records service past x u in record {
@@ -193,38 +193,36 @@ module _ {K : Type 0} (records : K → List (List ℕ)) (gives : K → List ℕ 
       replayed = b.replayed;
       ahead = b.ahead;
       caught_up = b.caught_up;
-      proposer = proposes_opened x.nodes x.id id.0 id.1 x.acceptor p proposes i v;
+      proposer = proposes_opened id.0 id.1 proposes i v;
       acting = acting_opened service x.known x.acceptor p x.acting i v (subst (λ (o : Option ProposerValue). IsActing service x.known x.acceptor o x.acting) e u.acting) cut;
       stamped = b.stamped;
-      role = role_opened (length x.known) x.acceptor p (is_some x.acting) i v (omega (arith, next)) (instance_fits i there) lead_fits;
+      role = role_opened x.acceptor p v (omega (arith, next)) (instance_fits there) lead_fits;
     }
 
     z_kept : IsKept records service past z
     z_kept = record { id = id; few = few; up = λ t. up_of records service past z z_logged z_beside; reached = reached; decoded = decoded }
 
     -- the model's call comes to the same
-    z_comes : (told : Effect) (before after : Draft) (k : CallHere → CallHere) (f : Option Failure) → after.effects.items ≡ before.effects.items ++ told ∷ [] → map (message_in past) after.sends.items ≡ map (message_in past) before.sends.items ++ others x.nodes x.id (Accept p.ballot i v)
+    z_comes : (told : Effect) (before after : Draft) (k : CallHere → CallHere) {f : Option Failure} → after.effects.items ≡ before.effects.items ++ told ∷ [] → map (message_in past) after.sends.items ≡ map (message_in past) before.sends.items ++ others x.nodes x.id (Accept p.ballot i v)
         → k (send (say told (led (leading (lead_of x.acceptor p (is_some x.acting)) (Some (proposal_of p.ballot i v)) (x.id ∷ []) (is_some x.acting)) (armed_with f (logged r None (so_far records service past x before))))) (others x.nodes x.id (Accept p.ballot i v)))
         ≡ k (led (leading (lead_of x.acceptor p (is_some x.acting)) (Some (proposal_of p.ballot i v)) (x.id ∷ []) (is_some x.acting)) (armed_with f (so_far records service past z after)))
-    z_comes told before after k f effects sends =
-        ap k (call_is (r ∷ log) (log_of service past (records keeper)) x.up f (leading (lead_of x.acceptor p (is_some x.acting)) (Some (proposal_of p.ballot i v)) (x.id ∷ []) (is_some x.acting)) (work_of x.acting) (work_of x.acting) x.replayed x.replayed
-        (map (message_in past) before.sends.items ++ others x.nodes x.id (Accept p.ballot i v)) (map (message_in past) after.sends.items) (before.effects.items ++ told ∷ []) after.effects.items
+    z_comes told before after k {f} effects sends =
+        ap k (call_is
         (sym log_is) refl refl (sym sends) (sym effects))
 
   -- the call goes on with its proposal open
-  pub opens_on : (up : x.up ≡ true) (told : Effect) (y z : NodeValue K) (before mid after : Draft) → Keeps records faults gives x y (record_bytes (kept.Accepted p.ballot i v)) → mid.effects.items ≡ before.effects.items → mid.sends.items ≡ before.sends.items
+  pub opens_on : (up : x.up ≡ true) (told : Effect) {y z : NodeValue K} (before mid after : Draft) → Keeps records faults gives x y (record_bytes (kept.Accepted p.ballot i v)) → mid.effects.items ≡ before.effects.items → mid.sends.items ≡ before.sends.items
       → z ≡ opened y i v → after.effects.items ≡ mid.effects.items ++ told ∷ [] → FromLead y (λ l. map (message_in past) after.sends.items ≡ map (message_in past) mid.sends.items ++ others y.nodes y.id (content_in past (sent.Accept l.ballot i v)))
       → Opens records gives faults service past told i v x z before after On
-  opens_on up told y z before mid after h effects sends z_is more_effects more_sends =
+  opens_on up told {y} {z} before mid after h effects sends z_is more_effects more_sends =
       subst (λ (o : Option ProposerValue). IfSome o (λ (q : ProposerValue). (k : CallHere → CallHere) → Comes records gives faults service past (λ d. propose x.nodes x.id told d (lead_of x.acceptor q (is_some x.acting)) i v k) (λ d. k (led (leading (lead_of x.acceptor q (is_some x.acting)) (Some (proposal_of q.ballot i v)) (x.id ∷ []) (is_some x.acting)) d)) x z before after On))
       (sym e)
       (λ k. subst (λ (n : NodeValue K). Comes records gives faults service past (λ d. propose x.nodes x.id told d (lead_of x.acceptor p (is_some x.acting)) i v k) (λ d. k (led (leading (lead_of x.acceptor p (is_some x.acting)) (Some (proposal_of p.ballot i v)) (x.id ∷ []) (is_some x.acting)) d)) x n before after On) (sym all) (
-        leads_then records gives faults service (λ d. propose x.nodes x.id told d (lead_of x.acceptor p (is_some x.acting)) i v k) (λ d. k (send (say told (led (leading (lead_of x.acceptor p (is_some x.acting)) (Some (proposal_of p.ballot i v)) (x.id ∷ []) (is_some x.acting)) d)) (others x.nodes x.id (Accept p.ballot i v)))) (λ d. k (led (leading (lead_of x.acceptor p (is_some x.acting)) (Some (proposal_of p.ballot i v)) (x.id ∷ []) (is_some x.acting)) d))
-            x.keeper y.keeper y.keeper (so_far records service past x before) (logged r None (so_far records service past x before)) (so_far records service past (z_at y.keeper) after)
-            (written_on records gives faults service past x u (kept.Accepted p.ballot i v) spelled tt refl y before (λ d. propose x.nodes x.id told d (lead_of x.acceptor p (is_some x.acting)) i v k) (λ d. k (send (say told (led (leading (lead_of x.acceptor p (is_some x.acting)) (Some (proposal_of p.ballot i v)) (x.id ∷ []) (is_some x.acting)) d)) (others x.nodes x.id (Accept p.ballot i v)))) (λ f. refl) h)
-            (leads_same records gives faults service (λ d. k (send (say told (led (leading (lead_of x.acceptor p (is_some x.acting)) (Some (proposal_of p.ballot i v)) (x.id ∷ []) (is_some x.acting)) d)) (others x.nodes x.id (Accept p.ballot i v)))) (λ d. k (led (leading (lead_of x.acceptor p (is_some x.acting)) (Some (proposal_of p.ballot i v)) (x.id ∷ []) (is_some x.acting)) d))
-            y.keeper (logged r None (so_far records service past x before)) (so_far records service past (z_at y.keeper) after) (ap length (log_is y.keeper h.records))
-            (λ f. z_comes y.keeper h.records told before after k f (more_effects ∙ ap (λ (es : List Effect). es ++ told ∷ []) effects) sends_are)),
+        leads_then records gives faults service
+            (written_on records gives faults past u spelled tt refl y before (λ d. k (send (say told (led (leading (lead_of x.acceptor p (is_some x.acting)) (Some (proposal_of p.ballot i v)) (x.id ∷ []) (is_some x.acting)) d)) (others x.nodes x.id (Accept p.ballot i v)))) (λ f. refl) h)
+            (leads_same records gives faults service
+             (ap length (log_is y.keeper h.records))
+            (λ f. z_comes y.keeper h.records told before after k (more_effects ∙ ap (λ (es : List Effect). es ++ told ∷ []) effects) sends_are)),
         z_kept y.keeper h.records,
         up,
       ))
@@ -241,55 +239,55 @@ module _ {K : Type 0} (records : K → List (List ℕ)) (gives : K → List ℕ 
           (subst (λ (n : NodeValue K). FromLead n (λ l. map (message_in past) after.sends.items ≡ map (message_in past) mid.sends.items ++ others n.nodes n.id (content_in past (sent.Accept l.ballot i v)))) y_is more_sends))
 
   -- or the node is down
-  pub opens_down : (told : Effect) (y : NodeValue K) (before after : Draft) → Falls records faults gives x y (record_bytes (kept.Accepted p.ballot i v)) → after.effects.items ≡ before.effects.items ++ effect.Down x.id ∷ [] → after.sends.items ≡ []
+  pub opens_down : (told : Effect) {y : NodeValue K} (before after : Draft) → Falls records faults gives x y (record_bytes (kept.Accepted p.ballot i v)) → after.effects.items ≡ before.effects.items ++ effect.Down x.id ∷ [] → after.sends.items ≡ []
       → Opens records gives faults service past told i v x y before after Down
-  opens_down told y before after h effects sends =
+  opens_down told {y} before after h effects sends =
       subst (λ (o : Option ProposerValue). IfSome o (λ (q : ProposerValue). (k : CallHere → CallHere) → Comes records gives faults service past (λ d. propose x.nodes x.id told d (lead_of x.acceptor q (is_some x.acting)) i v k) (λ d. k (led (leading (lead_of x.acceptor q (is_some x.acting)) (Some (proposal_of q.ballot i v)) (x.id ∷ []) (is_some x.acting)) d)) x y before after Down))
       (sym e)
-      (λ k. written_down records gives faults service past x u (kept.Accepted p.ballot i v) spelled tt refl y before (λ d. propose x.nodes x.id told d (lead_of x.acceptor p (is_some x.acting)) i v k) (λ d. k (send (say told (led (leading (lead_of x.acceptor p (is_some x.acting)) (Some (proposal_of p.ballot i v)) (x.id ∷ []) (is_some x.acting)) d)) (others x.nodes x.id (Accept p.ballot i v)))) (λ f. refl)
+      (λ k. written_down records gives faults past u spelled tt refl y before (λ d. k (send (say told (led (leading (lead_of x.acceptor p (is_some x.acting)) (Some (proposal_of p.ballot i v)) (x.id ∷ []) (is_some x.acting)) d)) (others x.nodes x.id (Accept p.ballot i v)))) (λ f. refl)
       after refl h effects sends (λ d. k (led (leading (lead_of x.acceptor p (is_some x.acting)) (Some (proposal_of p.ballot i v)) (x.id ∷ []) (is_some x.acting)) d)))
 
   -- or memory was short with the acceptance written down
-  pub opens_broken : (told : Effect) (y z : NodeValue K) (before : Draft) → Keeps records faults gives x y (record_bytes (kept.Accepted p.ballot i v)) → z.keeper ≡ y.keeper → z.base ≡ y.base → OpensShort records gives faults service past told i v x z before
-  opens_broken told y z before h keeper based =
+  pub opens_broken : (told : Effect) {y z : NodeValue K} (before : Draft) → Keeps records faults gives x y (record_bytes (kept.Accepted p.ballot i v)) → z.keeper ≡ y.keeper → z.base ≡ y.base → OpensShort records gives faults service past told i v x z before
+  opens_broken told {y} {z} before h keeper based =
       inr (subst (λ (o : Option ProposerValue). IfSome o (λ (q : ProposerValue). (k : CallHere → CallHere) → LosesFirst k → BreaksOff records gives faults service past (λ d. propose x.nodes x.id told d (lead_of x.acceptor q (is_some x.acting)) i v k) x z before))
       (sym e)
-      (λ k loses. broken_written records gives faults service past x u (kept.Accepted p.ballot i v) spelled tt refl y before (λ d. propose x.nodes x.id told d (lead_of x.acceptor p (is_some x.acting)) i v k) (λ d. k (send (say told (led (leading (lead_of x.acceptor p (is_some x.acting)) (Some (proposal_of p.ballot i v)) (x.id ∷ []) (is_some x.acting)) d)) (others x.nodes x.id (Accept p.ballot i v)))) (λ f. refl)
-      z refl h keeper based (λ d. loses (send (say told (led (leading (lead_of x.acceptor p (is_some x.acting)) (Some (proposal_of p.ballot i v)) (x.id ∷ []) (is_some x.acting)) d)) (others x.nodes x.id (Accept p.ballot i v))))))
+      (λ k loses. broken_written records gives faults past u spelled tt refl y before (λ d. k (send (say told (led (leading (lead_of x.acceptor p (is_some x.acting)) (Some (proposal_of p.ballot i v)) (x.id ∷ []) (is_some x.acting)) d)) (others x.nodes x.id (Accept p.ballot i v)))) (λ f. refl)
+      refl h keeper based (λ d. loses (send (say told (led (leading (lead_of x.acceptor p (is_some x.acting)) (Some (proposal_of p.ballot i v)) (x.id ∷ []) (is_some x.acting)) d)) (others x.nodes x.id (Accept p.ballot i v))))))
 
 -- ---- the same of the call
 
-module _ {K : Type 0} (records : K → List (List ℕ)) (gives : K → List ℕ → Answer → K → Type 0) (faults : K → ℕ) (service : Declarations) (past : List Value) (x : NodeValue K) (kept_so : IsKept records service past x) (up : x.up ≡ true) (leads : IsSome x.proposer)
-    (i : ℕ) (v : Value) (next : i ≡ length x.known + 1) (there : ballots.IsInstance i) (short : IsValue v) (cut : IsOwnCut service x v)
-    (b : ℕ) (b_is : b ≡ unwrap_or (option_map (λ (p : ProposerValue). p.ballot) x.proposer) 0) where
-  b_own : (p : ProposerValue) → x.proposer ≡ Some p → b ≡ p.ballot
-  b_own p e = b_is ∙ ap (λ (o : Option ProposerValue). unwrap_or (option_map (λ (q : ProposerValue). q.ballot) o) 0) e
+module _ {K : Type 0} {records : K → List (List ℕ)} (gives : K → List ℕ → Answer → K → Type 0) (faults : K → ℕ) {service : Declarations} {past : List Value} {x : NodeValue K} (kept_so : IsKept records service past x) (up : x.up ≡ true) (leads : IsSome x.proposer)
+    {i : ℕ} {v : Value} (next : i ≡ length x.known + 1) (there : ballots.IsInstance i) (short : IsValue v) (cut : IsOwnCut service x v)
+    {b : ℕ} (b_is : b ≡ unwrap_or (option_map (λ (p : ProposerValue). p.ballot) x.proposer) 0) where
+  b_own : {p : ProposerValue} → x.proposer ≡ Some p → b ≡ p.ballot
+  b_own e = b_is ∙ ap (λ (o : Option ProposerValue). unwrap_or (option_map (λ (q : ProposerValue). q.ballot) o) 0) e
 
-  pub propose_spelled : (w : Value) → w ≡ v → HasSpelling (kept.Accepted b i w)
-  propose_spelled w w_is =
+  pub propose_spelled : {w : Value} → w ≡ v → HasSpelling (kept.Accepted b i w)
+  propose_spelled {w} w_is =
       let s = some_of x.proposer leads in
-      subst (λ (n : ℕ). HasSpelling (kept.Accepted n i w)) (sym (b_own s.0 s.1)) (subst (λ (z : Value). HasSpelling (kept.Accepted s.0.ballot i z)) (sym w_is)
-      (spelled records gives faults service past x (kept_so.up up) kept_so.id kept_so.few kept_so.reached kept_so.decoded s.0 s.1 i v next there short cut))
+      subst (λ (n : ℕ). HasSpelling (kept.Accepted n i w)) (sym (b_own s.1)) (subst (λ (z : Value). HasSpelling (kept.Accepted s.0.ballot i z)) (sym w_is)
+      (spelled records gives faults past (kept_so.up up) kept_so.id kept_so.few kept_so.reached kept_so.decoded s.1 next there short cut))
 
-  module _ (told : Effect) (w : Value) (w_is : w ≡ v) (y : NodeValue K) (before mid : Draft) (g : Going) (h : Appends records faults gives x y before mid (record_bytes (kept.Accepted b i w)) g) where
-    same_rec : (p : ProposerValue) → x.proposer ≡ Some p → (let r : KeptRec = kept.Accepted b i w in r) ≡ kept.Accepted p.ballot i v
-    same_rec p e = ap (λ (n : ℕ). kept.Accepted n i w) (b_own p e) ∙ ap (λ (z : Value). kept.Accepted p.ballot i z) w_is
+  module _ (told : Effect) {w : Value} (w_is : w ≡ v) (y : NodeValue K) (before mid : Draft) (g : Going) (h : Appends records faults gives x y before mid (record_bytes (kept.Accepted b i w)) g) where
+    same_rec : {p : ProposerValue} → x.proposer ≡ Some p → (let r : KeptRec = kept.Accepted b i w in r) ≡ kept.Accepted p.ballot i v
+    same_rec {p} e = ap (λ (n : ℕ). kept.Accepted n i w) (b_own e) ∙ ap (λ (z : Value). kept.Accepted p.ballot i z) w_is
 
     pub propose_down : g ≡ Down → Opens records gives faults service past told i v x y before mid Down
     propose_down e =
         let s = some_of x.proposer leads in
-        let k : Appends records faults gives x y before mid (record_bytes (kept.Accepted s.0.ballot i v)) Down = appends_as records gives faults x y before mid (kept.Accepted b i w) (kept.Accepted s.0.ballot i v) g Down (same_rec s.0 s.1) e h in
-        opens_down records gives faults service past x (kept_so.up up) kept_so.id kept_so.few kept_so.reached kept_so.decoded s.0 s.1 i v next there short cut told y before mid k.0 k.1 k.2
+        let k : Appends records faults gives x y before mid (record_bytes (kept.Accepted s.0.ballot i v)) Down = appends_as records gives faults x y before mid (same_rec s.1) e h in
+        opens_down records gives faults past (kept_so.up up) kept_so.id kept_so.few kept_so.reached kept_so.decoded s.1 next there short cut told before mid k.0 k.1 k.2
 
-    pub propose_on : g ≡ On → (z : NodeValue K) (after : Draft) → z ≡ opened y i v → after.effects.items ≡ mid.effects.items ++ told ∷ [] → FromLead y (λ l. map (message_in past) after.sends.items ≡ map (message_in past) mid.sends.items ++ others y.nodes y.id (content_in past (sent.Accept l.ballot i v)))
+    pub propose_on : g ≡ On → {z : NodeValue K} (after : Draft) → z ≡ opened y i v → after.effects.items ≡ mid.effects.items ++ told ∷ [] → FromLead y (λ l. map (message_in past) after.sends.items ≡ map (message_in past) mid.sends.items ++ others y.nodes y.id (content_in past (sent.Accept l.ballot i v)))
         → Opens records gives faults service past told i v x z before after On
-    propose_on e z after z_is effects sends =
+    propose_on e {z} after z_is effects sends =
         let s = some_of x.proposer leads in
-        let k : Appends records faults gives x y before mid (record_bytes (kept.Accepted s.0.ballot i v)) On = appends_as records gives faults x y before mid (kept.Accepted b i w) (kept.Accepted s.0.ballot i v) g On (same_rec s.0 s.1) e h in
-        opens_on records gives faults service past x (kept_so.up up) kept_so.id kept_so.few kept_so.reached kept_so.decoded s.0 s.1 i v next there short cut up told y z before mid after k.0 k.1 k.2 z_is effects sends
+        let k : Appends records faults gives x y before mid (record_bytes (kept.Accepted s.0.ballot i v)) On = appends_as records gives faults x y before mid (same_rec s.1) e h in
+        opens_on records gives faults past (kept_so.up up) kept_so.id kept_so.few kept_so.reached kept_so.decoded s.1 next there short cut up told before mid after k.0 k.1 k.2 z_is effects sends
 
-    pub propose_stuck : g ≡ On → (z : NodeValue K) → z.keeper ≡ y.keeper → z.base ≡ y.base → OpensShort records gives faults service past told i v x z before
-    propose_stuck e z keeper based =
+    pub propose_stuck : g ≡ On → {z : NodeValue K} → z.keeper ≡ y.keeper → z.base ≡ y.base → OpensShort records gives faults service past told i v x z before
+    propose_stuck e {z} keeper based =
         let s = some_of x.proposer leads in
-        let k : Appends records faults gives x y before mid (record_bytes (kept.Accepted s.0.ballot i v)) On = appends_as records gives faults x y before mid (kept.Accepted b i w) (kept.Accepted s.0.ballot i v) g On (same_rec s.0 s.1) e h in
-        opens_broken records gives faults service past x (kept_so.up up) kept_so.id kept_so.few kept_so.reached kept_so.decoded s.0 s.1 i v next there short cut told y z before k.0 keeper based
+        let k : Appends records faults gives x y before mid (record_bytes (kept.Accepted s.0.ballot i v)) On = appends_as records gives faults x y before mid (same_rec s.1) e h in
+        opens_broken records gives faults past (kept_so.up up) kept_so.id kept_so.few kept_so.reached kept_so.decoded s.1 next there short cut told before k.0 keeper based

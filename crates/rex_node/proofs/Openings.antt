@@ -47,20 +47,20 @@ module _ (n : ℕ) (sv : Service Value StateValue) (me : ℕ) (l : Lead Value) (
   abbrev left : ℕ
   left = 2 * length l.reported + 2
 
-  settle_at : (t : Bool) → is_majority n (me ∷ []) ≡ t → settle (enough l.reported) n sv me (led opens_to d) ≡ cond t (decide n sv me (led opens_to d) (record { ballot = l.ballot; counted = l.counted; reported = l.reported; proposal = Some p; accepted_by = me ∷ []; active = l.active }) p.instance p.value (settle left n sv me)) (led opens_to d)
-  settle_at t e =
+  settle_at : {t : Bool} → is_majority n (me ∷ []) ≡ t → settle (enough l.reported) n sv me (led opens_to d) ≡ cond t (decide n sv me (led opens_to d) (record { ballot = l.ballot; counted = l.counted; reported = l.reported; proposal = Some p; accepted_by = me ∷ []; active = l.active }) p.instance p.value (settle left n sv me)) (led opens_to d)
+  settle_at e =
       ap (λ (f : ℕ). settle f n sv me (led opens_to d)) (more_turns l.reported)
       ∙ ap (λ (u : Bool). cond u (decide n sv me (led opens_to d) (record { ballot = l.ballot; counted = l.counted; reported = l.reported; proposal = Some p; accepted_by = me ∷ []; active = l.active }) p.instance p.value (settle left n sv me)) (led opens_to d)) e
 
   -- it waits for a majority
   pub stays_open : d.node.role ≡ leading l (Some p) (me ∷ []) l.active → is_majority n (me ∷ []) ≡ false → settle (enough l.reported) n sv me (led (leading l (Some p) (me ∷ []) l.active) d) ≡ d
-  stays_open role e = settle_at false e ∙ ap (λ (r : Role Value). led r d) (sym role)
+  stays_open role e = settle_at e ∙ ap (λ (r : Role Value). led r d) (sym role)
 
   -- or it has one and knows the value
   pub knows_at_once : is_majority n (me ∷ []) ≡ true
       → settle (enough l.reported) n sv me (led (leading l (Some p) (me ∷ []) l.active) d)
       ≡ decide n sv me d (record { ballot = l.ballot; counted = l.counted; reported = l.reported; proposal = None; accepted_by = []; active = l.active }) p.instance p.value (settle (2 * length l.reported + 2) n sv me)
-  knows_at_once e = settle_at true e ∙ at d.node.armed
+  knows_at_once e = settle_at e ∙ at d.node.armed
     where
       at : (a : Option Failure)
           → decide n sv me (armed_with a (led opens_to d)) (record { ballot = l.ballot; counted = l.counted; reported = l.reported; proposal = Some p; accepted_by = me ∷ []; active = l.active }) p.instance p.value (settle left n sv me)
@@ -70,9 +70,9 @@ module _ (n : ℕ) (sv : Service Value StateValue) (me : ℕ) (l : Lead Value) (
       at (Some (After (suc before) kept)) = refl
 
 -- an active node without an open proposal goes no further
-pub settles_active : (f n : ℕ) (sv : Service Value StateValue) (me : ℕ) (d : CallHere) (l : Lead Value) → d.node.role ≡ Leads l → l.proposal ≡ None → l.active ≡ true → settle f n sv me d ≡ d
-settles_active zero n sv me d l role none active = refl
-settles_active (suc f) n sv me d l role none active =
+pub settles_active : (f n : ℕ) (sv : Service Value StateValue) (me : ℕ) {d : CallHere} {l : Lead Value} → d.node.role ≡ Leads l → l.proposal ≡ None → l.active ≡ true → settle f n sv me d ≡ d
+settles_active zero n sv me role none active = refl
+settles_active (suc f) n sv me {d} {l} role none active =
     ap (λ (r : Role Value). turn n sv me d r (settle f n sv me)) role
     ∙ ap (λ (o : Option (Proposal Value)). lead n sv me d l o (settle f n sv me)) none
     ∙ ap (λ (t : Bool). lead n sv me d (record l { active = t }) None (settle f n sv me)) active
@@ -95,16 +95,16 @@ module _ (p : ProposerValue) (instance : ℕ) where
       by false e = ap is_candidate (proposed_open e)
 
 -- the node itself is a majority in the model just where its proposer says so
-pub own_majority : (nodes id : ℕ) (acceptor : AcceptorValue) (p : ProposerValue) → (0 < id) × (id ≤ nodes) → Proposes nodes id acceptor p → is_majority nodes (id ∷ []) ≡ counting.is_majority p.nodes 1
-own_majority nodes id acceptor p there h =
-    majority_is nodes (id ∷ []) (counted_push nodes [] id (counted_none nodes) (record { first = there.0; last = there.1 }) refl)
+pub own_majority : {nodes id : ℕ} {acceptor : AcceptorValue} {p : ProposerValue} → (0 < id) × (id ≤ nodes) → Proposes nodes id acceptor p → is_majority nodes (id ∷ []) ≡ counting.is_majority p.nodes 1
+own_majority {nodes} {id} there h =
+    majority_is (counted_push nodes [] id (counted_none nodes) (record { first = there.0; last = there.1 }) refl)
     ∙ ap (λ (n : ℕ). counting.is_majority n 1) (sym h.nodes_are)
 
 -- its role is then the model's
-pub opened_role : (acceptor : AcceptorValue) (p : ProposerValue) (active : Bool) (id instance : ℕ) (value : Value) → node_of p.ballot ≡ id → counting.is_majority p.nodes 1 ≡ false
+pub opened_role : (acceptor : AcceptorValue) (p : ProposerValue) {active : Bool} {id instance : ℕ} {value : Value} → node_of p.ballot ≡ id → counting.is_majority p.nodes 1 ≡ false
     → role_of (accepting acceptor (record { instance = instance; ballot = p.ballot; value = value })) (Some (proposed p instance)) active
     ≡ leading (lead_of acceptor p active) (Some (proposal_of p.ballot instance value)) (id ∷ []) active
-opened_role acceptor p active id instance value own alone =
+opened_role acceptor p {active} {instance} {value} own alone =
     ap (λ (q : ProposerValue). role_of (accepting acceptor kept) (Some q) active) (proposed_open p instance alone)
     ∙ ap (λ (o : Option Kept). leading (lead_of acceptor p active) (option_map proposal_in o) (node_of p.ballot ∷ []) active) (proposal_for-with acceptor.accepted kept)
     ∙ ap (λ (m : ℕ). leading (lead_of acceptor p active) (Some (proposal_of p.ballot instance value)) (m ∷ []) active) own

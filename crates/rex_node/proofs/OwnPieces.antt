@@ -34,59 +34,59 @@ use Rattle.rex_node.proofs.Openings.{from_lead, lead_from}
 use Rattle.rex_node.proofs.ProposedCuts.{idle_leads}
 use Rattle.rex_node.proofs.Proposing.{piece_cut, piece_faithful, piece_fits}
 
-add_one : (n : ℕ) → suc n ≡ n + 1
-add_one n = omega arith
+add_one : {n : ℕ} → suc n ≡ n + 1
+add_one = omega arith
 
 -- what is executed, and the piece of it
-own_piece : (w : Option ActingValue) (limits : Option (List ℕ)) (p : Piece) → IsOwnPiece w limits p → (a : ActingValue) × (w ≡ Some a) × IsPieceOf a (cut_in a limits) p
-own_piece None limits p h = absurd h
-own_piece (Some a) limits p h = (a, refl, h)
+own_piece : (w : Option ActingValue) (limits : Option (List ℕ)) {p : Piece} → IsOwnPiece w limits p → (a : ActingValue) × (w ≡ Some a) × IsPieceOf a (cut_in a limits) p
+own_piece None limits h = absurd h
+own_piece (Some a) limits h = (a, refl, h)
 
 module _ {K : Type 0} (records : K → List (List ℕ)) (gives : K → List ℕ → Answer → K → Type 0) (faults : K → ℕ) (service : Declarations) (past : List Value) where
   -- a call that does the same ends as the other
-  ends_as : (whole other : CallHere → CallHere) (x y : NodeValue K) (first draft : Draft) (going : Going) → ((f : Option Failure) → other (armed_with f (so_far records service past x first)) ≡ whole (armed_with f (so_far records service past x first)))
+  ends_as : (whole other : CallHere → CallHere) (x : NodeValue K) {y : NodeValue K} (first draft : Draft) (going : Going) → ((f : Option Failure) → other (armed_with f (so_far records service past x first)) ≡ whole (armed_with f (so_far records service past x first)))
       → Ends records gives faults service past whole x y first draft going → Ends records gives faults service past other x y first draft going
-  ends_as whole other x y first draft On same h = (
+  ends_as whole other x {y} first draft On same h = (
     (
-      leads_then records gives faults service other whole (λ d. d) x.keeper x.keeper y.keeper (so_far records service past x first) (so_far records service past x first) (so_far records service past y draft)
-          (leads_same records gives faults service other whole x.keeper (so_far records service past x first) (so_far records service past x first) refl same) h.0.0,
+      leads_then records gives faults service
+          (leads_same records gives faults service refl same) h.0.0,
       h.0.1,
       h.0.2,
     ),
     h.1,
   )
-  ends_as whole other x y first draft Down same h = (
+  ends_as whole other x {y} first draft Down same h = (
     (
-      leads_fell records gives faults service other whole x.id x.keeper x.keeper y.keeper (so_far records service past x first) (so_far records service past x first) (so_far records service past y draft)
-          (leads_same records gives faults service other whole x.keeper (so_far records service past x first) (so_far records service past x first) refl same) h.0.0,
+      leads_fell records gives faults service
+          (leads_same records gives faults service refl same) h.0.0,
       h.0.1,
     ),
     h.1,
   )
 
-module _ {K : Type 0} (records : K → List (List ℕ)) (service : Declarations) (past : List Value) (x : NodeValue K) (node : IsResting records service past x) (p : Piece) (has : HasPiece service x p) where
+module _ {K : Type 0} {records : K → List (List ℕ)} {service : Declarations} {past : List Value} {x : NodeValue K} (node : IsResting records service past x) {p : Piece} (has : HasPiece service x p) where
   is_up : IsUp service x (here_of records service past x)
   is_up = node.up has.can.up
 
   -- what is executed
   abbrev one : (a : ActingValue) × (x.acting ≡ Some a) × IsPieceOf a (cut_in a has.limits) p
-  one = own_piece x.acting has.limits p has.can.piece
+  one = own_piece x.acting has.limits has.can.piece
 
   runs : Executes service x.known one.0
   runs = executes service x.known x.acceptor x.proposer x.acting one.0 is_up.acting one.1
 
   -- the value of the piece runs on after what is known
-  pub own_fits : IsService service → (vs : List Value) (v : Value) → vs ≡ x.known → v ≡ p.value → values_fit service (vs ++ v ∷ []) ≡ true
-  own_fits good vs v vs_are v_is =
+  pub own_fits : IsService service → {vs : List Value} {v : Value} → vs ≡ x.known → v ≡ p.value → values_fit service (vs ++ v ∷ []) ≡ true
+  own_fits good {v} vs_are v_is =
       subst (λ (ws : List Value). values_fit service (ws ++ v ∷ []) ≡ true) (sym vs_are)
-      (subst (λ (w : Value). values_fit service (x.known ++ w ∷ []) ≡ true) (sym v_is) (piece_fits service good x.known one.0 runs is_up.fits has.limits has.many p one.2))
+      (subst (λ (w : Value). values_fit service (x.known ++ w ∷ []) ≡ true) (sym v_is) (piece_fits good runs is_up.fits has.limits has.many one.2))
 
   -- and it is the cut that the node proposed last, once that is the piece's
-  pub own_cut : IsService service → (y : NodeValue K) (v : Value) → y ≡ with_cut x p.cut.counts → v ≡ p.value → IsOwnCut service y v
-  own_cut good y v y_is v_is =
+  pub own_cut : IsService service → {y : NodeValue K} {v : Value} → y ≡ with_cut x p.cut.counts → v ≡ p.value → IsOwnCut service y v
+  own_cut good {v} y_is v_is =
       subst (λ (z : NodeValue K). IsOwnCut service z v) (sym y_is)
       (subst (λ (w : Option ActingValue). IfSome (option_map (cut_at p.cut.counts) w) (λ (a : ActingValue). IsCutAt service x.known a v)) (sym one.1)
-      (subst (λ (w : Value). IsCutAt service x.known (cut_at p.cut.counts one.0) w) (sym v_is) (piece_cut service good x.known one.0 runs is_up.fits has.limits has.many p one.2)))
+      (subst (λ (w : Value). IsCutAt service x.known (cut_at p.cut.counts one.0) w) (sym v_is) (piece_cut good runs is_up.fits has.limits has.many one.2)))
 
   -- ---- the call
 
@@ -127,7 +127,7 @@ module _ {K : Type 0} (records : K → List (List ℕ)) (service : Declarations)
       same_call : propose_cut service x.seed x.nodes x.id cut l now ≡ proposes p.events p.value l now
       same_call =
           ap (λ (vs : List Value). of_live (suc (length vs)) cut (work_of x.acting).live) (sym is_up.known)
-          ∙ ap (λ (i : ℕ). of_live i cut (work_of x.acting).live) (add_one (length x.known))
+          ∙ ap (λ (i : ℕ). of_live i cut (work_of x.acting).live) (add_one)
           ∙ ap (λ (w : Option ActingValue). of_live (length x.known + 1) cut (work_of w).live) one.1
           ∙ ap (λ (c : List ℕ). of_live (length x.known + 1) c one.0.recorder.live) one.2.cut_is
           ∙ ap (λ (e : ℕ). of_parts (length x.known + 1) e (value_at (cut_in one.0 has.limits) one.0.recorder.live)) (sym one.2.events)
@@ -140,15 +140,15 @@ module _ {K : Type 0} (records : K → List (List ℕ)) (service : Declarations)
       -- a call of the node with this cut is one of the node
       ends_with : (l : Lead Value) (going : Going) → EndsBy (proposes p.events p.value l) at going → EndsBy (propose_cut service x.seed x.nodes x.id cut l) x going
       ends_with l going h =
-          ends_as records gives faults service past (proposes p.events p.value l) (propose_cut service x.seed x.nodes x.id cut l) x y before after going (λ f. same_call before l f) (begins_here l going h)
+          ends_as records gives faults service past (proposes p.events p.value l) (propose_cut service x.seed x.nodes x.id cut l) x before after going (λ f. same_call before l f) (begins_here l going h)
         where
           begins_here : (m : Lead Value) (going : Going) → EndsBy (proposes p.events p.value m) at going → EndsBy (proposes p.events p.value m) x going
           begins_here m On k = ((subst (λ (d : CallHere). LeadsOn records gives faults service (proposes p.events p.value m) (λ e. e) x.keeper y.keeper d (so_far records service past y after)) (draft_with before) k.0.0, k.0.1, k.0.2), k.1)
           begins_here m Down k = ((subst (λ (d : CallHere). Fell records gives faults service (proposes p.events p.value m) x.id x.keeper y.keeper d (so_far records service past y after)) (draft_with before) k.0.0, k.0.1), k.1)
 
-      pub piece_ends : (mid : NodeValue K) → mid ≡ with_cut x p.cut.counts → (value : Value) → value ≡ p.value → (going : Going)
+      pub piece_ends : {mid : NodeValue K} → mid ≡ with_cut x p.cut.counts → {value : Value} → value ≡ p.value → (going : Going)
           → ProposesCut records gives faults service past p.events value mid y before after going → ProposesPiece records gives faults service past p.cut.counts x y before after going
-      piece_ends mid mid_is value value_is going h =
+      piece_ends {mid} mid_is value_is going h =
           from_lead x (λ l. EndsBy (propose_cut service x.seed x.nodes x.id cut l) x going)
           (λ q leads. ends_with (lead_of x.acceptor q (is_some x.acting)) going
           (subst (λ (t : Bool). EndsBy (proposes p.events p.value (lead_of x.acceptor q t)) at going) (active_same x.acting)
@@ -165,8 +165,8 @@ module _ {K : Type 0} (records : K → List (List ℕ)) (service : Declarations)
       cut_back None = refl
       cut_back (Some a) = refl
 
-      short_back : (mid z : NodeValue K) → mid ≡ with_cut x cut → (counts : List ℕ) → counts ≡ cut_before x.acting cut → z ≡ with_cut y counts → Stands records faults gives mid y → Stands records faults gives x z
-      short_back mid z mid_is counts counts_are z_is s = record {
+      short_back : {mid z : NodeValue K} → mid ≡ with_cut x cut → {counts : List ℕ} → counts ≡ cut_before x.acting cut → z ≡ with_cut y counts → Stands records faults gives mid y → Stands records faults gives x z
+      short_back {mid} {z} mid_is {counts} counts_are z_is s = record {
         parts =
             z_is
             ∙ ap (λ (n : NodeValue K). with_cut n counts) s.parts
@@ -191,19 +191,19 @@ module _ {K : Type 0} (records : K → List (List ℕ)) (service : Declarations)
       -- a call of the node with this cut is one of the node
       breaks_with : (l : Lead Value) → BreaksBy (proposes p.events p.value l) at → BreaksBy (propose_cut service x.seed x.nodes x.id cut l) x
       breaks_with l h =
-          breaks_as records gives faults service past (propose_cut service x.seed x.nodes x.id cut l) (proposes p.events p.value l) x y before (λ f. same_call before l f)
+          breaks_as {same = proposes p.events p.value l} (λ f. same_call before l f)
           (record { stops = subst (λ (d : CallHere). StopsShort records gives faults service (proposes p.events p.value l) x.keeper y.keeper d (log_of service past (records y.keeper))) (draft_with before) h.stops; based = h.based })
 
       abbrev ProposesAt : ℕ → Value → NodeValue K → Type 0
       ProposesAt events v n =
           FromLead n (λ l. BreaksOff records gives faults service past (λ d. propose n.nodes n.id (effect.Proposes n.id (length n.known + 1) events) d l (length n.known + 1) v (settle (enough l.reported) n.nodes (service_of service n.seed) n.id)) n y before)
 
-      pub piece_short : (mid z : NodeValue K) → mid ≡ with_cut x p.cut.counts → (value : Value) → value ≡ p.value → (counts : List ℕ) → counts ≡ cut_before x.acting p.cut.counts → z ≡ with_cut y counts
+      pub piece_short : {mid z : NodeValue K} → mid ≡ with_cut x p.cut.counts → {value : Value} → value ≡ p.value → {counts : List ℕ} → counts ≡ cut_before x.acting p.cut.counts → z ≡ with_cut y counts
           → ProposesCutShort records gives faults service past p.events value mid y before → ProposesPieceShort records gives faults service past p.cut.counts x z before
-      piece_short mid z mid_is value value_is counts counts_are z_is (inl s) = inl (short_back mid z mid_is counts counts_are z_is s)
-      piece_short mid z mid_is value value_is counts counts_are z_is (inr b) =
+      piece_short {mid} {z} mid_is value_is {counts} counts_are z_is (inl s) = inl (short_back mid_is counts_are z_is s)
+      piece_short {mid} {z} mid_is value_is counts_are z_is (inr b) =
           inr (from_lead x (λ l. BreaksOff records gives faults service past (propose_cut service x.seed x.nodes x.id cut l) x z before)
-          (λ q leads. breaks_kept records gives faults service past (propose_cut service x.seed x.nodes x.id cut (lead_of x.acceptor q (is_some x.acting))) x y z before (ap (λ (n : NodeValue K). n.keeper) z_is) (ap (λ (n : NodeValue K). n.base) z_is)
+          (λ q leads. breaks_kept (ap (λ (n : NodeValue K). n.keeper) z_is) (ap (λ (n : NodeValue K). n.base) z_is)
           (breaks_with (lead_of x.acceptor q (is_some x.acting))
           (subst (λ (t : Bool). BreaksBy (proposes p.events p.value (lead_of x.acceptor q t)) at) (active_same x.acting)
           (lead_from at (λ l. BreaksBy (proposes p.events p.value l) at) q leads b_at)))))
@@ -232,7 +232,7 @@ module _ {K : Type 0} (records : K → List (List ℕ)) (service : Declarations)
   up_now = node.up has.can.up
 
   abbrev has_one : (a : ActingValue) × (x.acting ≡ Some a) × IsPieceOf a (cut_in a has.limits) p
-  has_one = own_piece x.acting has.limits p has.can.piece
+  has_one = own_piece x.acting has.limits has.can.piece
 
   abbrev a : ActingValue
   a = has_one.0
@@ -250,7 +250,7 @@ module _ {K : Type 0} (records : K → List (List ℕ)) (service : Declarations)
   live = (work_of x.acting).live
 
   counts_of_it : counts ≡ counts_in a has.limits
-  counts_of_it = counts_are records service past x node has.can.up a has_one.1 has.limits
+  counts_of_it = counts_are node has.can.up has_one.1 has.limits
 
   -- what is computed from the node's counts and live events is computed from what it executes
   there : {T : Type 0} (f : List ℕ → List Event → T) → f counts live ≡ f (counts_in a has.limits) a.recorder.live
@@ -260,7 +260,7 @@ module _ {K : Type 0} (records : K → List (List ℕ)) (service : Declarations)
   faithful =
       ap (λ (vs : List Value). is_faithful service x.seed vs (greatest_cut counts live) live) (sym up_now.known)
       ∙ there (λ cs es. is_faithful service x.seed x.known (greatest_cut cs es) es)
-      ∙ piece_faithful service good x.known a (executes service x.known x.acceptor x.proposer x.acting a up_now.acting has_one.1) up_now.fits has.limits has.many p has_one.2 x.seed
+      ∙ piece_faithful good (executes service x.known x.acceptor x.proposer x.acting a up_now.acting has_one.1) up_now.fits has.limits has.many has_one.2 x.seed
 
   some : 0 < length (below (greatest_cut counts live) live)
   some = subst (λ (n : ℕ). 0 < n) (sym (there (λ cs es. length (below (greatest_cut cs es) es)))) has_one.2.some
@@ -287,21 +287,21 @@ module _ {K : Type 0} (records : K → List (List ℕ)) (service : Declarations)
 
 module _ {K : Type 0} (records : K → List (List ℕ)) (gives : K → List ℕ → Answer → K → Type 0) (faults : K → ℕ) (service : Declarations) (past : List Value) where
   -- a cut ends as its piece is proposed
-  pub cut_ends : (x : NodeValue K) (node : IsResting records service past x) (p : Piece) (has : HasPiece service x p) → IsService service → (y : NodeValue K) (first draft : Draft) (going : Going)
+  pub cut_ends : {x : NodeValue K} (node : IsResting records service past x) (p : Piece) (has : HasPiece service x p) → IsService service → {y : NodeValue K} (first draft : Draft) (going : Going)
       → ProposesPiece records gives faults service past p.cut.counts x y first draft going
       → Ends records gives faults service past (lanes.cut service x.seed x.nodes x.id (counts_for service (here_of records service past x) has.limits)) x y first draft going
-  cut_ends x node p has good y first draft going h =
+  cut_ends {x} node p has good {y} first draft going h =
       let o = idle_leads x.acceptor x.proposer has.can.idle in
-      ends_as records gives faults service past (propose_cut service x.seed x.nodes x.id p.cut.counts (lead_of x.acceptor o.0 (is_some x.acting))) (lanes.cut service x.seed x.nodes x.id (counts_for service (here_of records service past x) has.limits)) x y first draft going
+      ends_as records gives faults service past (propose_cut service x.seed x.nodes x.id p.cut.counts (lead_of x.acceptor o.0 (is_some x.acting))) (lanes.cut service x.seed x.nodes x.id (counts_for service (here_of records service past x) has.limits)) x first draft going
       (λ f. cuts_piece records service past x node p has good o.0 o.1 first f)
       (lead_from x (λ l. Ends records gives faults service past (propose_cut service x.seed x.nodes x.id p.cut.counts l) x y first draft going) o.0 o.1 h)
 
-  pub cut_short : (x : NodeValue K) (node : IsResting records service past x) (p : Piece) (has : HasPiece service x p) → IsService service → (y : NodeValue K) (first : Draft)
+  pub cut_short : {x : NodeValue K} (node : IsResting records service past x) (p : Piece) (has : HasPiece service x p) → IsService service → {y : NodeValue K} {first : Draft}
       → ProposesPieceShort records gives faults service past p.cut.counts x y first
       → IsStuck records gives faults service past (lanes.cut service x.seed x.nodes x.id (counts_for service (here_of records service past x) has.limits)) x y first
-  cut_short x node p has good y first (inl s) = inl s
-  cut_short x node p has good y first (inr b) =
+  cut_short node p has good (inl s) = inl s
+  cut_short {x} node p has good {y} {first} (inr b) =
       let o = idle_leads x.acceptor x.proposer has.can.idle in
-      inr (breaks_as records gives faults service past (lanes.cut service x.seed x.nodes x.id (counts_for service (here_of records service past x) has.limits)) (propose_cut service x.seed x.nodes x.id p.cut.counts (lead_of x.acceptor o.0 (is_some x.acting))) x y first
+      inr (breaks_as
       (λ f. cuts_piece records service past x node p has good o.0 o.1 first f)
       (lead_from x (λ l. BreaksOff records gives faults service past (propose_cut service x.seed x.nodes x.id p.cut.counts l) x y first) o.0 o.1 b))

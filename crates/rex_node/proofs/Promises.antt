@@ -42,12 +42,12 @@ on_err_anyway (Ok x) P p = tt
 on_err_anyway (Err e) P p = p
 
 -- what an append came to
-pub appends_at : {K : Type 0} (records : K → List (List ℕ)) (gives : K → List ℕ → Answer → K → Type 0) (faults : K → ℕ) (x y : NodeValue K) (before mid : Draft) (r s : KeptRec) (g h : Going) → r ≡ s → g ≡ h
+pub appends_at : {K : Type 0} (records : K → List (List ℕ)) (gives : K → List ℕ → Answer → K → Type 0) (faults : K → ℕ) (x y : NodeValue K) (before mid : Draft) (r : KeptRec) {s : KeptRec} {g h : Going} → r ≡ s → g ≡ h
     → Appends records faults gives x y before mid (record_bytes r) g → Appends records faults gives x y before mid (record_bytes s) h
-appends_at records gives faults x y before mid r s g h a b k =
+appends_at records gives faults x y before mid r {s} {g} a b k =
     subst (λ (z : Going). Appends records faults gives x y before mid (record_bytes s) z) b (subst (λ (z : KeptRec). Appends records faults gives x y before mid (record_bytes z) g) a k)
 
-module _ {K : Type 0} (records : K → List (List ℕ)) (gives : K → List ℕ → Answer → K → Type 0) (faults : K → ℕ) (service : Declarations) (past : List Value) (x : NodeValue K) (node : IsResting records service past x) (up : x.up ≡ true) (before : Draft) (from b : ℕ) where
+module _ {K : Type 0} {records : K → List (List ℕ)} (gives : K → List ℕ → Answer → K → Type 0) (faults : K → ℕ) {service : Declarations} {past : List Value} {x : NodeValue K} (node : IsResting records service past x) (up : x.up ≡ true) (before : Draft) (from b : ℕ) where
   u : IsUp service x (here_of records service past x)
   u = node.up up
 
@@ -58,12 +58,12 @@ module _ {K : Type 0} (records : K → List (List ℕ)) (gives : K → List ℕ 
     prepare = on_prepare x.id from b first
 
     -- one from an instance on whose value isn't held is told the state at the base
-    pub prepare_old : Begins (known (here_of records service past x).log) past → (after : Draft) → x.acceptor.promised ≤ b → first ≤ x.offset → TellsBase service x from before after → EndsWell records gives faults service past x x before after prepare
-    prepare_old begins after more old t =
-        ends_same records gives faults service past x x before after prepare refl node up
+    pub prepare_old : Begins (known (here_of records service past x).log) past → {after : Draft} → x.acceptor.promised ≤ b → first ≤ x.offset → TellsBase service x from before after → EndsWell records gives faults service past x x before after prepare
+    prepare_old begins {after} more old t =
+        ends_same records gives faults service past x x before after refl node up
         (λ f. ap (λ (t : Bool). cond t (nacks f) (cond (nat_le first (offset (here_of records service past x).log)) (tells f) (others f))) (le-ltb b (promise (here_of records service past x).log) (omega (arith, more, u.promised)))
         ∙ ap (λ (t : Bool). cond t (tells f) (others f)) (le-leb first (offset (here_of records service past x).log) (subst (λ (o : ℕ). first ≤ o) u.offset old))
-        ∙ ap (armed_with f) (sym (tells_base records service past x u begins before after from t)))
+        ∙ ap (armed_with f) (sym (tells_base records u begins t)))
       where
         nacks : Option Failure → CallHere
         nacks f = send (armed_with f (so_far records service past x before)) (answer x.id from (Nack b (promise (here_of records service past x).log)))
@@ -78,9 +78,9 @@ module _ {K : Type 0} (records : K → List (List ℕ)) (gives : K → List ℕ 
             (promised x.id from b first (armed_with f (so_far records service past x before)))
 
     -- the same promise is made again
-    pub prepare_again : (after : Draft) → b ≡ x.acceptor.promised → x.offset < first → Sends before after (answering x.id from (sent.Promise b (from_instance first x.acceptor.accepted))) → EndsWell records gives faults service past x x before after prepare
-    prepare_again after same late s =
-        ends_same records gives faults service past x x before after prepare refl node up
+    pub prepare_again : {after : Draft} → b ≡ x.acceptor.promised → x.offset < first → Sends before after (answering x.id from (sent.Promise b (from_instance first x.acceptor.accepted))) → EndsWell records gives faults service past x x before after prepare
+    prepare_again {after} same late s =
+        ends_same records gives faults service past x x before after refl node up
         (λ f. ap (λ (t : Bool). cond t (nacks f) (cond (nat_le first (offset (here_of records service past x).log)) (tells f) (cond (nat_lt (promise (here_of records service past x).log) b) (raises f) (again f)))) (le-ltb b (promise (here_of records service past x).log) (omega (arith, same, u.promised)))
         ∙ ap (λ (t : Bool). cond t (tells f) (cond (nat_lt (promise (here_of records service past x).log) b) (raises f) (again f))) (lt-leb first (offset (here_of records service past x).log) (subst (λ (o : ℕ). o < first) u.offset late))
         ∙ ap (λ (t : Bool). cond t (raises f) (again f)) (le-ltb (promise (here_of records service past x).log) b (omega (arith, same, u.promised)))
@@ -125,23 +125,23 @@ module _ {K : Type 0} (records : K → List (List ℕ)) (gives : K → List ℕ 
 
       pub raise_down : Appends records faults gives x y before mid (record_bytes (kept.Promised b)) Down
           → (Fell records gives faults service prepare x.id x.keeper y.keeper (so_far records service past x before) (so_far records service past y mid) × IsDown y) × IsResting records service past y
-      raise_down h = recorded_down records gives faults service past x y before mid node up (kept.Promised b) spelled tt refl refl prepare _ raises_is h
+      raise_down h = recorded_down gives faults y before mid node up spelled tt refl refl raises_is h
 
-      pub raise_stuck : Appends records faults gives x y before mid (record_bytes (kept.Promised b)) On → (z : NodeValue K) → z.keeper ≡ y.keeper → z.base ≡ y.base → IsStuck records gives faults service past prepare x z before
-      raise_stuck h z keeper based = recorded_stuck records gives faults service past x y before mid node up (kept.Promised b) spelled tt refl refl prepare (λ e. promised x.id from b first (follow x.id (effect.Promised x.id b ∷ []) e)) raises_is h (λ d. refl) z keeper based
+      pub raise_stuck : Appends records faults gives x y before mid (record_bytes (kept.Promised b)) On → {z : NodeValue K} → z.keeper ≡ y.keeper → z.base ≡ y.base → IsStuck records gives faults service past prepare x z before
+      raise_stuck h {z} keeper based = recorded_stuck gives faults y before mid node up spelled tt refl refl raises_is h (λ d. refl) keeper based
 
-      pub raise_on : Appends records faults gives x y before mid (record_bytes (kept.Promised b)) On → (z : NodeValue K) (told after : Draft) → z ≡ record (leaving y) { acceptor = promising y.acceptor b }
+      pub raise_on : Appends records faults gives x y before mid (record_bytes (kept.Promised b)) On → {z : NodeValue K} {told after : Draft} → z ≡ record (leaving y) { acceptor = promising y.acceptor b }
           → Tells mid told (effect.Promised y.id b ∷ followed y.id (role_of y.acceptor y.proposer (is_some y.acting)))
           → Sends told after (answering z.id from (sent.Promise b (from_instance first z.acceptor.accepted))) → EndsWell records gives faults service past x z before after prepare
-      raise_on h z told after z_is t s =
-          recorded_on records gives faults service past x y before mid node up (kept.Promised b) spelled tt refl refl prepare (λ e. promised x.id from b first (follow x.id (effect.Promised x.id b ∷ []) e)) raises_is h z after
-          (follows_keeper records gives faults service past x y before mid node up (kept.Promised b) spelled tt refl refl h a x.known logged_here (le_refl _) (λ n l. refl) z z_here)
-          (follows_node records gives faults service past x y before mid node up (kept.Promised b) spelled tt refl refl h a x.known logged_here (le_refl _) (λ n l. refl) z z_here)
-          (follows_up records gives faults service past x y before mid node up (kept.Promised b) spelled tt refl refl h a x.known logged_here (le_refl _) (λ n l. refl) z z_here)
+      raise_on h {z} {told} {after} z_is t s =
+          recorded_on gives faults y before mid node up spelled tt refl refl raises_is h after
+          (follows_keeper gives faults y before mid node up spelled tt refl refl h logged_here (le_refl _) (λ n l. refl) z_here)
+          (follows_node gives faults y before mid node up spelled tt refl refl h logged_here (le_refl _) (λ n l. refl) z_here)
+          (follows_up gives faults y before mid node up spelled tt refl refl h logged_here (le_refl _) (λ n l. refl) z_here)
           (λ f. refl)
           (sends_to records service past z told after from (sent.Promise b (from_instance first z.acceptor.accepted)) s
           ∙ ap (λ (e : CallHere). send e (answer z.id from (Promise b (map proposal_in (from_instance first z.acceptor.accepted)))))
-          (follows_to records gives faults service past x y before mid node up (kept.Promised b) spelled tt refl refl h a x.known logged_here (le_refl _) (λ n l. refl) z z_here told (effect.Promised x.id b)
+          (follows_to gives faults y before mid node up spelled tt refl refl h logged_here (le_refl _) (λ n l. refl) z_here
           (subst (λ (i : ℕ). Tells mid told (effect.Promised i b ∷ followed y.id (role_of y.acceptor y.proposer (is_some y.acting)))) (ap (λ (n : NodeValue K). n.id) h.0.parts) t))
           ∙ ap (λ (n : NodeValue K). send (follow x.id (effect.Promised x.id b ∷ []) (logged (Promised b) None (so_far records service past x before))) (answer n.id from (Promise b (map proposal_in (from_instance first n.acceptor.accepted))))) z_here
           ∙ ap (λ (ps : List (Proposal Value)). send (follow x.id (effect.Promised x.id b ∷ []) (logged (Promised b) None (so_far records service past x before))) (answer x.id from (Promise b ps))) (from_kept first x.acceptor.accepted ∙ ap (from_on first) u.accepted))
@@ -154,7 +154,7 @@ module _ {K : Type 0} (records : K → List (List ℕ)) (gives : K → List ℕ 
 
           logged_here : IsLogged service (record x { keeper = y.keeper; acceptor = promising x.acceptor b; known = x.known }) (Promised b ∷ log_of service past (records x.keeper))
           logged_here =
-              let l : IsLogged service (record x { acceptor = promising x.acceptor b }) (Promised b ∷ log_of service past (records x.keeper)) = logged_promised service x (log_of service past (records x.keeper)) (logged_of records service past x u) b (ballot_fits b ballot) in
+              let l : IsLogged service (record x { acceptor = promising x.acceptor b }) (Promised b ∷ log_of service past (records x.keeper)) = logged_promised (logged_of records service past x u) (ballot_fits ballot) in
               record { promised = l.promised; accepted = l.accepted; offset_is = l.offset_is; low = l.low; known = l.known; base = l.base; old_base = l.old_base; few = l.few; start = l.start; short = l.short; fits = l.fits; numbers = l.numbers }
 
   -- ---- an Accept
@@ -171,7 +171,7 @@ module _ {K : Type 0} (records : K → List (List ℕ)) (gives : K → List ℕ 
     abbrev accept : CallHere → CallHere
     accept = on_accept x.id from b i v
 
-    module _ (fresh : Bool) (answer_is : answer_to_accept x.acceptor b i ≡ asked.Accept fresh) where
+    module _ {fresh : Bool} (answer_is : answer_to_accept x.acceptor b i ≡ asked.Accept fresh) where
       not_less : nat_lt b (promise (here_of records service past x).log) ≡ false
       not_less = ap (nat_lt b) (sym u.promised) ∙ (asked_parts (nat_lt b x.acceptor.promised) (is_of_ballot b (proposal_for i x.acceptor.accepted)) fresh x.acceptor.promised answer_is).0
 
@@ -200,18 +200,18 @@ module _ {K : Type 0} (records : K → List (List ℕ)) (gives : K → List ℕ 
           ∙ ap (λ (t : Bool). cond t (send (armed_with f (so_far records service past x before)) (answer x.id from (Voted b i))) (accepts f)) has_it
 
     -- one whose value isn't held is told the state at the base
-    pub accept_old : Begins (known (here_of records service past x).log) past → (fresh : Bool) (after : Draft) → answer_to_accept x.acceptor b i ≡ asked.Accept fresh → i ≤ x.offset → TellsBase service x from before after → EndsWell records gives faults service past x x before after accept
-    accept_old begins fresh after e old t =
-        ends_same records gives faults service past x x before after accept refl node up
-        (λ f. after_promise fresh e f
-        ∙ ap (λ (t : Bool). cond t (answer_base x.id from (armed_with f (so_far records service past x before))) (goes fresh e f)) (le-leb i (offset (here_of records service past x).log) (subst (λ (o : ℕ). i ≤ o) u.offset old))
-        ∙ ap (armed_with f) (sym (tells_base records service past x u begins before after from t)))
+    pub accept_old : Begins (known (here_of records service past x).log) past → {fresh : Bool} {after : Draft} → answer_to_accept x.acceptor b i ≡ asked.Accept fresh → i ≤ x.offset → TellsBase service x from before after → EndsWell records gives faults service past x x before after accept
+    accept_old begins {fresh} {after} e old t =
+        ends_same records gives faults service past x x before after refl node up
+        (λ f. after_promise e f
+        ∙ ap (λ (t : Bool). cond t (answer_base x.id from (armed_with f (so_far records service past x before))) (goes e f)) (le-leb i (offset (here_of records service past x).log) (subst (λ (o : ℕ). i ≤ o) u.offset old))
+        ∙ ap (armed_with f) (sym (tells_base records u begins t)))
 
     -- the last acceptance for the instance is at the ballot
-    pub accept_again : (after : Draft) → answer_to_accept x.acceptor b i ≡ asked.Accept false → x.offset < i → Sends before after (answering x.id from (sent.Accepted b i)) → EndsWell records gives faults service past x x before after accept
-    accept_again after e late s =
-        ends_same records gives faults service past x x before after accept refl node up
-        (λ f. accept_is false e late f ∙ ap (armed_with f) (sym (sends_to records service past x before after from (sent.Accepted b i) s)))
+    pub accept_again : {after : Draft} → answer_to_accept x.acceptor b i ≡ asked.Accept false → x.offset < i → Sends before after (answering x.id from (sent.Accepted b i)) → EndsWell records gives faults service past x x before after accept
+    accept_again {after} e late s =
+        ends_same records gives faults service past x x before after refl node up
+        (λ f. accept_is e late f ∙ ap (armed_with f) (sym (sends_to records service past x before after from (sent.Accepted b i) s)))
 
     -- or it is accepted
     module _ (ballot : IsBallot b) (there : IsInstance i) (short : IsValue v) (late : x.offset < i) (e : answer_to_accept x.acceptor b i ≡ asked.Accept true) (y : NodeValue K) (mid : Draft) where
@@ -220,23 +220,23 @@ module _ {K : Type 0} (records : K → List (List ℕ)) (gives : K → List ℕ 
 
       pub accept_down : Appends records faults gives x y before mid (record_bytes (kept.Accepted b i v)) Down
           → (Fell records gives faults service accept x.id x.keeper y.keeper (so_far records service past x before) (so_far records service past y mid) × IsDown y) × IsResting records service past y
-      accept_down h = recorded_down records gives faults service past x y before mid node up (kept.Accepted b i v) valued tt refl refl accept _ (accept_is true e late) h
+      accept_down h = recorded_down gives faults y before mid node up valued tt refl refl (accept_is e late) h
 
-      pub accept_stuck : Appends records faults gives x y before mid (record_bytes (kept.Accepted b i v)) On → (z : NodeValue K) → z.keeper ≡ y.keeper → z.base ≡ y.base → IsStuck records gives faults service past accept x z before
-      accept_stuck h z keeper based = recorded_stuck records gives faults service past x y before mid node up (kept.Accepted b i v) valued tt refl refl accept (λ n. send (follow x.id (effect.Accepted x.id b i ∷ []) n) (answer x.id from (Voted b i))) (accept_is true e late) h (λ d. refl) z keeper based
+      pub accept_stuck : Appends records faults gives x y before mid (record_bytes (kept.Accepted b i v)) On → {z : NodeValue K} → z.keeper ≡ y.keeper → z.base ≡ y.base → IsStuck records gives faults service past accept x z before
+      accept_stuck h {z} keeper based = recorded_stuck gives faults y before mid node up valued tt refl refl (accept_is e late) h (λ d. refl) keeper based
 
-      pub accept_on : Appends records faults gives x y before mid (record_bytes (kept.Accepted b i v)) On → (z : NodeValue K) (told after : Draft) → z ≡ record (leaving y) { acceptor = accepting y.acceptor (record { instance = i; ballot = b; value = v }) }
+      pub accept_on : Appends records faults gives x y before mid (record_bytes (kept.Accepted b i v)) On → {z : NodeValue K} {told after : Draft} → z ≡ record (leaving y) { acceptor = accepting y.acceptor (record { instance = i; ballot = b; value = v }) }
           → Tells mid told (effect.Accepted y.id b i ∷ followed y.id (role_of y.acceptor y.proposer (is_some y.acting)))
           → Sends told after (answering z.id from (sent.Accepted b i)) → EndsWell records gives faults service past x z before after accept
-      accept_on h z told after z_is t s =
-          recorded_on records gives faults service past x y before mid node up (kept.Accepted b i v) valued tt refl refl accept (λ n. send (follow x.id (effect.Accepted x.id b i ∷ []) n) (answer x.id from (Voted b i))) (accept_is true e late) h z after
-          (follows_keeper records gives faults service past x y before mid node up (kept.Accepted b i v) valued tt refl refl h a x.known logged_here (le_refl _) (λ n l. refl) z z_here)
-          (follows_node records gives faults service past x y before mid node up (kept.Accepted b i v) valued tt refl refl h a x.known logged_here (le_refl _) (λ n l. refl) z z_here)
-          (follows_up records gives faults service past x y before mid node up (kept.Accepted b i v) valued tt refl refl h a x.known logged_here (le_refl _) (λ n l. refl) z z_here)
+      accept_on h {z} {told} {after} z_is t s =
+          recorded_on gives faults y before mid node up valued tt refl refl (accept_is e late) h after
+          (follows_keeper gives faults y before mid node up valued tt refl refl h logged_here (le_refl _) (λ n l. refl) z_here)
+          (follows_node gives faults y before mid node up valued tt refl refl h logged_here (le_refl _) (λ n l. refl) z_here)
+          (follows_up gives faults y before mid node up valued tt refl refl h logged_here (le_refl _) (λ n l. refl) z_here)
           (λ f. refl)
           (sends_to records service past z told after from (sent.Accepted b i) s
           ∙ ap (λ (n : CallHere). send n (answer z.id from (Voted b i)))
-          (follows_to records gives faults service past x y before mid node up (kept.Accepted b i v) valued tt refl refl h a x.known logged_here (le_refl _) (λ n l. refl) z z_here told (effect.Accepted x.id b i)
+          (follows_to gives faults y before mid node up valued tt refl refl h logged_here (le_refl _) (λ n l. refl) z_here
           (subst (λ (j : ℕ). Tells mid told (effect.Accepted j b i ∷ followed y.id (role_of y.acceptor y.proposer (is_some y.acting)))) (ap (λ (n : NodeValue K). n.id) h.0.parts) t))
           ∙ ap (λ (j : ℕ). send (follow x.id (effect.Accepted x.id b i ∷ []) (logged (Accepted b i v) None (so_far records service past x before))) (answer j from (Voted b i))) (ap (λ (n : NodeValue K). n.id) z_here))
         where
@@ -249,5 +249,5 @@ module _ {K : Type 0} (records : K → List (List ℕ)) (gives : K → List ℕ 
           logged_here : IsLogged service (record x { keeper = y.keeper; acceptor = accepting x.acceptor (record { instance = i; ballot = b; value = v }); known = x.known }) (Accepted b i v ∷ log_of service past (records x.keeper))
           logged_here =
               let l : IsLogged service (record x { acceptor = accepting x.acceptor (record { instance = i; ballot = b; value = v }) }) (Accepted b i v ∷ log_of service past (records x.keeper)) =
-              logged_accepted service x (log_of service past (records x.keeper)) (logged_of records service past x u) b i v (ballot_fits b ballot) (instance_fits i there) short (subst (λ (o : ℕ). o < i) u.offset late) in
+              logged_accepted (logged_of records service past x u) (ballot_fits ballot) (instance_fits there) short (subst (λ (o : ℕ). o < i) u.offset late) in
               record { promised = l.promised; accepted = l.accepted; offset_is = l.offset_is; low = l.low; known = l.known; base = l.base; old_base = l.old_base; few = l.few; start = l.start; short = l.short; fits = l.fits; numbers = l.numbers }

@@ -31,36 +31,36 @@ use Rattle.rex_node.specs.Parts.{ActingValue, Executes, IsCutAt, OpenIsCut}
 
 -- ---- consistent cuts
 
-has_push : (x e : Event) (es : List Event) → Has x (es ++ e ∷ []) → Has x es ⊎ (e ≡ x)
-has_push x e [] (inl h) = inr h
-has_push x e [] (inr h) = absurd h
-has_push x e (y ∷ ys) (inl h) = inl (inl h)
-has_push x e (y ∷ ys) (inr h) = go (has_push x e ys h)
+has_push : {x e : Event} (es : List Event) → Has x (es ++ e ∷ []) → Has x es ⊎ (e ≡ x)
+has_push [] (inl h) = inr h
+has_push [] (inr h) = absurd h
+has_push (y ∷ ys) (inl h) = inl (inl h)
+has_push {x} {e} (y ∷ ys) (inr h) = go (has_push ys h)
   where
     go : Has x ys ⊎ (e ≡ x) → Has x (y ∷ ys) ⊎ (e ≡ x)
     go (inl k) = inl (inr k)
     go (inr k) = inr k
 
-precedes_push : (d x e : Event) (es : List Event) → Precedes d x (es ++ e ∷ []) → Precedes d x es ⊎ (e ≡ x)
-precedes_push d x e [] (inl h) = absurd h.1
-precedes_push d x e [] (inr h) = absurd h
-precedes_push d x e (y ∷ ys) (inl h) = go (has_push x e ys h.1)
+precedes_push : (d : Event) {x e : Event} (es : List Event) → Precedes d x (es ++ e ∷ []) → Precedes d x es ⊎ (e ≡ x)
+precedes_push d [] (inl h) = absurd h.1
+precedes_push d [] (inr h) = absurd h
+precedes_push d {x} {e} (y ∷ ys) (inl h) = go (has_push ys h.1)
   where
     go : Has x ys ⊎ (e ≡ x) → Precedes d x (y ∷ ys) ⊎ (e ≡ x)
     go (inl k) = inl (inl (h.0, k))
     go (inr k) = inr k
-precedes_push d x e (y ∷ ys) (inr h) = go (precedes_push d x e ys h)
+precedes_push d {x} {e} (y ∷ ys) (inr h) = go (precedes_push d ys h)
   where
     go : Precedes d x ys ⊎ (e ≡ x) → Precedes d x (y ∷ ys) ⊎ (e ≡ x)
     go (inl k) = inl (inr k)
     go (inr k) = inr k
 
 -- a consistent cut stays one with an event that isn't below it
-pub consistent_push : (cut : List ℕ) (es : List Event) (e : Event) → IsConsistent es cut → is_below cut e ≡ false → IsConsistent (es ++ e ∷ []) cut
-consistent_push cut es e c out = record { closed = λ d x o. closed o.0 d x o.1 }
+pub consistent_push : {cut : List ℕ} {es : List Event} (e : Event) → IsConsistent es cut → is_below cut e ≡ false → IsConsistent (es ++ e ∷ []) cut
+consistent_push {cut} {es} e c out = record { closed = λ d x o. closed o.0 d x o.1 }
   where
     step : (d x : Event) → ConflictsBefore (es ++ e ∷ []) d x → is_below cut x ≡ true → is_below cut d ≡ true
-    step d x s b = go (precedes_push d x e es s.before)
+    step d x s b = go (precedes_push d es s.before)
       where
         go : Precedes d x es ⊎ (e ≡ x) → is_below cut d ≡ true
         go (inl k) = c.closed d x ([], record { before = k; meets = s.meets }) b
@@ -78,10 +78,10 @@ below_push cut es e out = filter-append (is_below cut) es (e ∷ []) ∙ ap (λ 
 beyond_push : (cut : List ℕ) (es : List Event) (e : Event) → is_below cut e ≡ false → beyond cut (es ++ e ∷ []) ≡ beyond cut es ++ e ∷ []
 beyond_push cut es e out = filter-append (λ x. not (is_below cut x)) es (e ∷ []) ∙ ap (λ t. beyond cut es ++ cond (not t) (e ∷ []) []) out
 
-module _ (service : Declarations) (good : IsService service) (values : List Value) (a : ActingValue) (h : Executes service values a) (value : Value) (c : IsCutAt service values a value) where
+module _ {service : Declarations} (good : IsService service) {values : List Value} {a : ActingValue} (h : Executes service values a) {value : Value} (c : IsCutAt service values a value) where
   -- an event that goes on from the live state isn't below counts that the live ones are not below
-  not_below : (counts : List ℕ) (e : Event) (after : StateValue) → IsWithin (counts_of a.recorder.state) counts → next service a.recorder.state e ≡ Some after → is_below counts e ≡ false
-  not_below counts e after w k =
+  not_below : (counts : List ℕ) (e : Event) {after : StateValue} → IsWithin (counts_of a.recorder.state) counts → next service a.recorder.state e ≡ Some after → is_below counts e ≡ false
+  not_below counts e {after} w k =
       let n : IsNext service a.recorder.state e after = next_is service a.recorder.state e after k in
       let index : (lane_of a.recorder.state e.lane).done ≡ e.index = eqb-true _ _ n.index in
       le-ltb e.index (count_at counts e.lane) (omega (arith, w e.lane, count_is a.recorder.state e.lane, index))
@@ -101,20 +101,20 @@ module _ (service : Declarations) (good : IsService service) (values : List Valu
   mid_within = subst (λ (s : StateValue). IsWithin (counts_of a.recorder.state) (counts_of s)) (sym mid) (λ lane. (runs_rise service go.state a.recorder.state (beyond a.proposed a.recorder.live) go.rest).rise lane)
 
   -- with one event more
-  cut_pushed : (e : Event) (after : StateValue) (queue : List Request) (dice : Lcg) → next service a.recorder.state e ≡ Some after
+  cut_pushed : (e : Event) {after : StateValue} {queue : List Request} {dice : Lcg} → next service a.recorder.state e ≡ Some after
       → IsCutAt service values (record { recorder = record { start = a.recorder.start; live = a.recorder.live ++ e ∷ []; state = after; queue = queue }; dice = dice; proposed = a.proposed; answers = a.answers }) value
-  cut_pushed e after queue dice k = record {
-    consistent = consistent_push a.proposed a.recorder.live e c.consistent out;
+  cut_pushed e {after} k = record {
+    consistent = consistent_push e c.consistent out;
     within = λ lane. le_trans (c.within lane) ((runs_rise service a.recorder.state after (e ∷ []) (run-push service a.recorder.state a.recorder.state after [] e refl k)).rise lane);
     events = c.events ∙ sym (below_push a.proposed a.recorder.live e out);
     others =
-        beyond_push (counts_of (state_after service (trace_of (values ++ value ∷ [])))) a.recorder.live e (not_below (counts_of (state_after service (trace_of (values ++ value ∷ [])))) e after mid_within k)
+        beyond_push (counts_of (state_after service (trace_of (values ++ value ∷ [])))) a.recorder.live e (not_below (counts_of (state_after service (trace_of (values ++ value ∷ [])))) e mid_within k)
         ∙ ap (λ (es : List Event). es ++ e ∷ []) c.others
         ∙ sym (beyond_push a.proposed a.recorder.live e out);
   }
     where
       out : is_below a.proposed e ≡ false
-      out = not_below a.proposed e after c.within k
+      out = not_below a.proposed e c.within k
 
   -- after an event, or none, whatever the queue is then
   abbrev with_turn : Turn → List Request → Lcg → ActingValue
@@ -125,21 +125,21 @@ module _ (service : Declarations) (good : IsService service) (values : List Valu
     answers = a.answers;
   }
 
-  cut_turned : (t : Turn) (queue : List Request) (dice : Lcg) → IsRecorder service (with_turn t queue dice).recorder → IsCutAt service values (with_turn t queue dice) value
-  cut_turned (turn.Done e) queue dice k =
+  cut_turned : (t : Turn) {queue : List Request} {dice : Lcg} → IsRecorder service (with_turn t queue dice).recorder → IsCutAt service values (with_turn t queue dice) value
+  cut_turned (turn.Done e) {queue} {dice} k =
       let r = run-first service a.recorder.state (unwrap_or (next service a.recorder.state e) a.recorder.state) e [] (sym (run-then service a.recorder.start a.recorder.state a.recorder.live (e ∷ []) h.recorder.runs) ∙ k.runs) in
-      cut_pushed e (unwrap_or (next service a.recorder.state e) a.recorder.state) queue dice (r.1 ∙ r.2)
-  cut_turned turn.Full queue dice k = record { consistent = c.consistent; within = c.within; events = c.events; others = c.others }
-  cut_turned turn.Idle queue dice k = record { consistent = c.consistent; within = c.within; events = c.events; others = c.others }
-  cut_turned (turn.Held by) queue dice k = record { consistent = c.consistent; within = c.within; events = c.events; others = c.others }
-  cut_turned (turn.Zero semaphore) queue dice k = record { consistent = c.consistent; within = c.within; events = c.events; others = c.others }
-  cut_turned turn.Unsignalled queue dice k = record { consistent = c.consistent; within = c.within; events = c.events; others = c.others }
-  cut_turned turn.Unfit queue dice k = record { consistent = c.consistent; within = c.within; events = c.events; others = c.others }
+      cut_pushed e (r.1 ∙ r.2)
+  cut_turned turn.Full k = record { consistent = c.consistent; within = c.within; events = c.events; others = c.others }
+  cut_turned turn.Idle k = record { consistent = c.consistent; within = c.within; events = c.events; others = c.others }
+  cut_turned (turn.Held by) k = record { consistent = c.consistent; within = c.within; events = c.events; others = c.others }
+  cut_turned (turn.Zero semaphore) k = record { consistent = c.consistent; within = c.within; events = c.events; others = c.others }
+  cut_turned turn.Unsignalled k = record { consistent = c.consistent; within = c.within; events = c.events; others = c.others }
+  cut_turned turn.Unfit k = record { consistent = c.consistent; within = c.within; events = c.events; others = c.others }
 
 -- an open proposal stays the cut that it is
-pub open_turned : (service : Declarations) → IsService service → (values : List Value) (a : ActingValue) → Executes service values a → (t : Turn) (queue : List Request) (dice : Lcg)
+pub open_turned : {service : Declarations} → IsService service → {values : List Value} {a : ActingValue} → Executes service values a → (t : Turn) {queue : List Request} (dice : Lcg)
     → IsRecorder service (record { start = a.recorder.start; live = live_after a.recorder.live t; state = recorders.state_after service a.recorder.state t; queue = queue })
     → (o : Option (Proposal Value)) → OpenIsCut service values a o
     → OpenIsCut service values (record { recorder = record { start = a.recorder.start; live = live_after a.recorder.live t; state = recorders.state_after service a.recorder.state t; queue = queue }; dice = dice; proposed = a.proposed; answers = a.answers }) o
-open_turned service good values a h t queue dice k None c = tt
-open_turned service good values a h t queue dice k (Some p) c = cut_turned service good values a h p.value c t queue dice k
+open_turned good h t dice k None c = tt
+open_turned {service} good {values} {a} h t {queue} dice k (Some p) c = cut_turned good h c t k

@@ -31,8 +31,8 @@ use Rattle.rex_node.proofs.Stuck.{breaks_after, settle_loses}
 use Rattle.rex_node.proofs.Openings.{candidate_same, from_lead, knows_at_once, lead_from, opened_role, own_majority, proposed_closed, proposed_open, settles_active, stays_open}
 use Rattle.rex_node.proofs.Reaching.{bare_reached}
 
-false_or_true : (t : Bool) → t ≡ true → t ≡ false → ⊥
-false_or_true t e f = false≢true (sym f ∙ e)
+false_or_true : {t : Bool} → t ≡ true → t ≡ false → ⊥
+false_or_true e f = false≢true (sym f ∙ e)
 
 -- ---- results
 
@@ -47,8 +47,8 @@ on_error P Q (Err e) f h = f h
 -- ---- a proposal
 
 -- what is told of a proposal
-pub told_same : (id other instance next events : ℕ) → id ≡ other → instance ≡ next → effect.Proposes id instance events ≡ effect.Proposes other next events
-told_same id other instance next events e f = ap (λ (n : ℕ). effect.Proposes n instance events) e ∙ ap (λ (n : ℕ). effect.Proposes other n events) f
+pub told_same : {id other instance next events : ℕ} → id ≡ other → instance ≡ next → effect.Proposes id instance events ≡ effect.Proposes other next events
+told_same {other} {instance} {events} e f = ap (λ (n : ℕ). effect.Proposes n instance events) e ∙ ap (λ (n : ℕ). effect.Proposes other n events) f
 
 -- a node without an open proposal leads
 pub idle_leads : (acceptor : AcceptorValue) (o : Option ProposerValue) → IsIdle acceptor o → (p : ProposerValue) × (o ≡ Some p)
@@ -57,20 +57,20 @@ idle_leads acceptor (Some p) h = (p, refl)
 
 module _ {K : Type 0} (records : K → List (List ℕ)) (gives : K → List ℕ → Answer → K → Type 0) (faults : K → ℕ) (service : Declarations) (past : List Value) where
   -- a node that is down is kept
-  down_kept : (x y : NodeValue K) → IsResting records service past x → IsSame x y → IsDown y → IsResting records service past y
-  down_kept x y node same down = record {
+  down_kept : {x y : NodeValue K} → IsResting records service past x → IsSame x y → IsDown y → IsResting records service past y
+  down_kept {x} {y} node same down = record {
     id = subst (λ (n : ℕ). (0 < n) × (n ≤ y.nodes)) (sym same.id) (subst (λ (n : ℕ). (0 < x.id) × (x.id ≤ n)) (sym same.nodes) node.id);
     few = subst (λ (n : ℕ). n ≤ most_nodes) (sym same.nodes) node.few;
-    up = λ t. absurd (false_or_true y.up t down.down);
-    reached = bare_reached service y.offset y.known y.reached down.bare;
+    up = λ t. absurd (false_or_true t down.down);
+    reached = bare_reached service y.offset y.known down.bare;
     decoded = subst (HasDecoded service) (sym same.decoded) node.decoded;
-    rests = λ t. absurd (false_or_true y.up t down.down);
+    rests = λ t. absurd (false_or_true t down.down);
   }
 
-  up_kept : (y : NodeValue K) → IsKept records service past y → HasGoneOn y.proposer (is_some y.acting) → IsResting records service past y
-  up_kept y kept rests = record { id = kept.id; few = kept.few; up = kept.up; reached = kept.reached; decoded = kept.decoded; rests = λ _. rests }
+  up_kept : {y : NodeValue K} → IsKept records service past y → HasGoneOn y.proposer (is_some y.acting) → IsResting records service past y
+  up_kept kept rests = record { id = kept.id; few = kept.few; up = kept.up; reached = kept.reached; decoded = kept.decoded; rests = λ _. rests }
 
-  module _ (x : NodeValue K) (node : IsResting records service past x) (up : x.up ≡ true) (a : ActingValue) (acts : x.acting ≡ Some a) (events instance : ℕ) (value : Value) (told : Effect) (told_is : told ≡ effect.Proposes x.id (length x.known + 1) events) (next : instance ≡ length x.known + 1)
+  module _ {x : NodeValue K} (node : IsResting records service past x) (up : x.up ≡ true) {a : ActingValue} (acts : x.acting ≡ Some a) {events instance : ℕ} (value : Value) {told : Effect} (told_is : told ≡ effect.Proposes x.id (length x.known + 1) events) (next : instance ≡ length x.known + 1)
       (mid : NodeValue K) (before between : Draft) where
     abbrev sv : Service Value StateValue
     sv = service_of service x.seed
@@ -100,9 +100,9 @@ module _ {K : Type 0} (records : K → List (List ℕ)) (gives : K → List ℕ 
         → Comes records gives faults service past (λ d. propose x.nodes x.id told d l instance value k)
         (λ d. k (led (leading l (Some (proposal_of l.ballot instance value)) (x.id ∷ []) l.active) d)) x mid before between going
 
-    opens_next : (going : Going) → Opens records gives faults service past told instance value x mid before between going → (p : ProposerValue) → x.proposer ≡ Some p
+    opens_next : (going : Going) → Opens records gives faults service past told instance value x mid before between going → {p : ProposerValue} → x.proposer ≡ Some p
         → ComesAt going (length x.known + 1) (effect.Proposes x.id (length x.known + 1) events) (lead_of x.acceptor p (is_some x.acting))
-    opens_next going h p leads =
+    opens_next going h {p} leads =
         subst (λ (n : ℕ). ComesAt going n (effect.Proposes x.id (length x.known + 1) events) (lead_of x.acceptor p (is_some x.acting))) next
         (subst (λ (t : Effect). ComesAt going instance t (lead_of x.acceptor p (is_some x.acting))) told_is
         (lead_from x (OpensAt going) p leads h (goes (lead_of x.acceptor p (is_some x.acting)))))
@@ -110,10 +110,10 @@ module _ {K : Type 0} (records : K → List (List ℕ)) (gives : K → List ℕ 
     -- ---- the append failed
 
     pub cut_fell : Opens records gives faults service past told instance value x mid before between Down → IsSame x mid → ProposesCut records gives faults service past events value x mid before between Down
-    cut_fell h same = from_lead x (EndsAt mid between Down) (λ p leads. fell p (opens_next Down h p leads))
+    cut_fell h same = from_lead x (EndsAt mid between Down) (λ p leads. fell p (opens_next Down h leads))
       where
         fell : (p : ProposerValue) → ComesAt Down (length x.known + 1) (effect.Proposes x.id (length x.known + 1) events) (lead_of x.acceptor p (is_some x.acting)) → EndsAt mid between Down (lead_of x.acceptor p (is_some x.acting))
-        fell p o = (o, down_kept x mid node same o.1)
+        fell p o = (o, down_kept node same o.1)
 
     -- ---- memory was short
 
@@ -131,7 +131,7 @@ module _ {K : Type 0} (records : K → List (List ℕ)) (gives : K → List ℕ 
 
     -- ---- the node goes on
 
-    module _ (h : Opens records gives faults service past told instance value x mid before between On) (parts : HasOpened x mid instance value On) (p : ProposerValue) (leads : x.proposer ≡ Some p) where
+    module _ (h : Opens records gives faults service past told instance value x mid before between On) (parts : HasOpened x mid instance value On) {p : ProposerValue} (leads : x.proposer ≡ Some p) where
       abbrev l : Lead Value
       l = lead_of x.acceptor p (is_some x.acting)
 
@@ -146,13 +146,13 @@ module _ {K : Type 0} (records : K → List (List ℕ)) (gives : K → List ℕ 
       counted_between = appended.counted
 
       pub kept_between : IsKept records service past mid
-      kept_between = (opens_next On h p leads).1
+      kept_between = (opens_next On h leads).1
 
       proposes : Proposes x.nodes x.id x.acceptor p
       proposes = subst (IsProposer x.nodes x.id x.acceptor) leads (node.up up).proposer
 
       alone : is_majority x.nodes (x.id ∷ []) ≡ counting.is_majority p.nodes 1
-      alone = own_majority x.nodes x.id x.acceptor p node.id proposes
+      alone = own_majority node.id proposes
 
       mid_proposer : mid.proposer ≡ Some (proposed p instance)
       mid_proposer = ap (λ (z : NodeValue K). z.proposer) parts ∙ ap (option_map (λ (q : ProposerValue). proposed q instance)) leads
@@ -176,8 +176,8 @@ module _ {K : Type 0} (records : K → List (List ℕ)) (gives : K → List ℕ 
       open_or_closed true e = ap has_open (mid_proposer ∙ ap (λ (q : ProposerValue). Some q) (proposed_closed p instance e))
       open_or_closed false e = ap has_open (mid_proposer ∙ ap (λ (q : ProposerValue). Some q) (proposed_open p instance e))
 
-      majority_where : (t : Bool) → has_open mid.proposer ≡ not t → counting.is_majority p.nodes 1 ≡ t
-      majority_where t e = by (counting.is_majority p.nodes 1) t (λ u k. open_or_closed u k) e refl
+      majority_where : {t : Bool} → has_open mid.proposer ≡ not t → counting.is_majority p.nodes 1 ≡ t
+      majority_where {t} e = by (counting.is_majority p.nodes 1) t (λ u k. open_or_closed u k) e refl
         where
           by : (u t : Bool) → ((v : Bool) → counting.is_majority p.nodes 1 ≡ v → has_open mid.proposer ≡ not v) → has_open mid.proposer ≡ not t → counting.is_majority p.nodes 1 ≡ u → u ≡ t
           by true true f e k = refl
@@ -189,16 +189,16 @@ module _ {K : Type 0} (records : K → List (List ℕ)) (gives : K → List ℕ 
 
       ends_open : has_open mid.proposer ≡ true → EndsAt mid between On l
       ends_open e =
-          let o = opens_next On h p leads in (
+          let o = opens_next On h leads in (
             (
-              leads_then records gives faults service (whole_of (length x.known + 1) (effect.Proposes x.id (length x.known + 1) events) l) (open_at (length x.known + 1) l) (λ d. d) x.keeper mid.keeper mid.keeper
-                  (so_far records service past x before) (so_far records service past mid between) (so_far records service past mid between) o.0
-                  (leads_same records gives faults service (open_at (length x.known + 1) l) (λ d. d) mid.keeper (so_far records service past mid between) (so_far records service past mid between) refl
-                  (λ f. stays_open x.nodes sv x.id l (proposal_of p.ballot (length x.known + 1) value) (armed_with f (so_far records service past mid between)) role (alone ∙ majority_where false e))),
+              leads_then records gives faults service
+                   o.0
+                  (leads_same records gives faults service refl
+                  (λ f. stays_open x.nodes sv x.id l (proposal_of p.ballot (length x.known + 1) value) (armed_with f (so_far records service past mid between)) role (alone ∙ majority_where e))),
               o.1,
               o.2,
             ),
-            up_kept mid o.1 rests_between,
+            up_kept o.1 rests_between,
           )
         where
           role : (here_of records service past mid).role ≡ leading l (Some (proposal_of p.ballot (length x.known + 1) value)) (x.id ∷ []) l.active
@@ -206,7 +206,7 @@ module _ {K : Type 0} (records : K → List (List ℕ)) (gives : K → List ℕ 
               ap (λ (c : AcceptorValue). role_of c mid.proposer (is_some mid.acting)) mid_acceptor
               ∙ ap (λ (q : Option ProposerValue). role_of (accepting x.acceptor (record { instance = instance; ballot = p.ballot; value = value })) q (is_some mid.acting)) mid_proposer
               ∙ ap (λ (w : Option ActingValue). role_of (accepting x.acceptor (record { instance = instance; ballot = p.ballot; value = value })) (Some (proposed p instance)) (is_some w)) mid_acting
-              ∙ opened_role x.acceptor p (is_some x.acting) x.id instance value proposes.own (majority_where false e)
+              ∙ opened_role x.acceptor p proposes.own (majority_where e)
               ∙ ap (λ (n : ℕ). leading l (Some (proposal_of p.ballot n value)) (x.id ∷ []) l.active) next
 
       -- ---- where the node is a majority by itself, and knows the value
@@ -216,7 +216,7 @@ module _ {K : Type 0} (records : K → List (List ℕ)) (gives : K → List ℕ 
         closed_one = record p { open_instance = None; accepted = [] }
 
         mid_closed : mid.proposer ≡ Some closed_one
-        mid_closed = mid_proposer ∙ ap (λ (q : ProposerValue). Some q) (proposed_closed p instance (majority_where true closed_now))
+        mid_closed = mid_proposer ∙ ap (λ (q : ProposerValue). Some q) (proposed_closed p instance (majority_where closed_now))
 
         abbrev left : ℕ
         left = 2 * length l.reported + 2
@@ -243,16 +243,16 @@ module _ {K : Type 0} (records : K → List (List ℕ)) (gives : K → List ℕ 
 
         to_decide : LeadsOn records gives faults service (whole_of (length x.known + 1) (effect.Proposes x.id (length x.known + 1) events) l) (decides x.nodes x.seed x.id (is_some x.acting) (length x.known + 1)) x.keeper mid.keeper (so_far records service past x before) (so_far records service past mid between)
         to_decide =
-            leads_then records gives faults service (whole_of (length x.known + 1) (effect.Proposes x.id (length x.known + 1) events) l) (open_at (length x.known + 1) l) (decides x.nodes x.seed x.id (is_some x.acting) (length x.known + 1)) x.keeper mid.keeper mid.keeper
-            (so_far records service past x before) (so_far records service past mid between) (so_far records service past mid between) (opens_next On h p leads).0
-            (leads_same records gives faults service (open_at (length x.known + 1) l) (decides x.nodes x.seed x.id (is_some x.acting) (length x.known + 1)) mid.keeper (so_far records service past mid between) (so_far records service past mid between) refl
-            (λ f. knows_at_once x.nodes sv x.id l (proposal_of p.ballot (length x.known + 1) value) (armed_with f (so_far records service past mid between)) (alone ∙ majority_where true closed_now)))
+            leads_then records gives faults service
+             (opens_next On h leads).0
+            (leads_same records gives faults service refl
+            (λ f. knows_at_once x.nodes sv x.id l (proposal_of p.ballot (length x.known + 1) value) (armed_with f (so_far records service past mid between)) (alone ∙ majority_where closed_now)))
 
         -- memory was short as it learned
         short_learned : length (records x.keeper) < length (records mid.keeper) → LearnsShort records gives faults service past instance value mid y between → BreaksAt y l
         short_learned longer short =
-            let o = opens_next On h p leads in
-            breaks_after records gives faults service past (whole_of (length x.known + 1) (effect.Proposes x.id (length x.known + 1) events) l) (decides x.nodes x.seed x.id (is_some x.acting) (length x.known + 1)) x mid y before between to_decide longer (o.1.up o.2).base (λ d. refl) (by short)
+            let o = opens_next On h leads in
+            breaks_after mid y between to_decide longer (o.1.up o.2).base (λ d. refl) (by short)
           where
             by : LearnsShort records gives faults service past instance value mid y between → IsStuck records gives faults service past (decides x.nodes x.seed x.id (is_some x.acting) (length x.known + 1)) mid y between
             by (inl s) = inl s
@@ -269,16 +269,16 @@ module _ {K : Type 0} (records : K → List (List ℕ)) (gives : K → List ℕ 
         ends_learned On hl learned same_now =
             let o = learns_next On hl in (
               (
-                leads_then records gives faults service (whole_of (length x.known + 1) (effect.Proposes x.id (length x.known + 1) events) l) (decides x.nodes x.seed x.id (is_some x.acting) (length x.known + 1)) (λ d. d) x.keeper mid.keeper y.keeper
-                    (so_far records service past x before) (so_far records service past mid between) (so_far records service past y after) to_decide
-                    (leads_then records gives faults service (decides x.nodes x.seed x.id (is_some x.acting) (length x.known + 1)) (settle left x.nodes sv x.id) (λ d. d) mid.keeper y.keeper y.keeper
-                    (so_far records service past mid between) (so_far records service past y after) (so_far records service past y after) o.0
-                    (leads_same records gives faults service (settle left x.nodes sv x.id) (λ d. d) y.keeper (so_far records service past y after) (so_far records service past y after) refl
-                    (λ f. settles_active left x.nodes sv x.id (armed_with f (so_far records service past y after)) (lead_of y.acceptor (closed closed_one) true) role refl refl))),
+                leads_then records gives faults service
+                     to_decide
+                    (leads_then records gives faults service
+                     o.0
+                    (leads_same records gives faults service refl
+                    (λ f. settles_active left x.nodes sv x.id role refl refl))),
                 o.1,
                 o.2,
               ),
-              up_kept y o.1 rests,
+              up_kept o.1 rests,
             )
           where
             y_proposer : y.proposer ≡ Some (closed closed_one)
@@ -295,24 +295,24 @@ module _ {K : Type 0} (records : K → List (List ℕ)) (gives : K → List ℕ 
         ends_learned Down hl learned same_now =
             let o = learns_next Down hl in (
               (
-                leads_fell records gives faults service (whole_of (length x.known + 1) (effect.Proposes x.id (length x.known + 1) events) l) (decides x.nodes x.seed x.id (is_some x.acting) (length x.known + 1)) x.id x.keeper mid.keeper y.keeper
-                    (so_far records service past x before) (so_far records service past mid between) (so_far records service past y after) to_decide
+                leads_fell records gives faults service
+                     to_decide
                     (subst (λ (id : ℕ). Fell records gives faults service (decides x.nodes x.seed x.id (is_some x.acting) (length x.known + 1)) id mid.keeper y.keeper (so_far records service past mid between) (so_far records service past y after)) same.id o.0),
                 o.1,
               ),
-              down_kept x y node (record { id = same_now.id ∙ same.id; nodes = same_now.nodes ∙ same.nodes; seed = same_now.seed ∙ same.seed; decoded = same_now.decoded ∙ same.decoded }) o.1,
+              down_kept node (record { id = same_now.id ∙ same.id; nodes = same_now.nodes ∙ same.nodes; seed = same_now.seed ∙ same.seed; decoded = same_now.decoded ∙ same.decoded }) o.1,
             )
 
     -- ---- the same, whatever the node leads with
 
     pub cut_waits : Opens records gives faults service past told instance value x mid before between On → HasOpened x mid instance value On → has_open mid.proposer ≡ true → ProposesCut records gives faults service past events value x mid before between On
-    cut_waits h parts e = from_lead x (EndsAt mid between On) (λ p leads. ends_open h parts p leads e)
+    cut_waits h parts e = from_lead x (EndsAt mid between On) (λ p leads. ends_open h parts leads e)
 
     pub cut_known : Opens records gives faults service past told instance value x mid before between On → HasOpened x mid instance value On → has_open mid.proposer ≡ false → IsSame x mid
-        → (y : NodeValue K) (after : Draft) (going : Going) → Learns records gives faults service past instance value mid y between after going → HasLearned service mid y instance value going → IsSame mid y
+        → {y : NodeValue K} (after : Draft) (going : Going) → Learns records gives faults service past instance value mid y between after going → HasLearned service mid y instance value going → IsSame mid y
         → ProposesCut records gives faults service past events value x y before after going
-    cut_known h parts e same y after going hl learned same_now = from_lead x (EndsAt y after going) (λ p leads. ends_learned h parts p leads e same y after going hl learned same_now)
+    cut_known h parts e same {y} after going hl learned same_now = from_lead x (EndsAt y after going) (λ p leads. ends_learned h parts leads e same y after going hl learned same_now)
 
     pub cut_stuck : Opens records gives faults service past told instance value x mid before between On → HasOpened x mid instance value On → has_open mid.proposer ≡ false → IsSame x mid
-        → (y : NodeValue K) (after : Draft) → length (records x.keeper) < length (records mid.keeper) → LearnsShort records gives faults service past instance value mid y between → ProposesCutShort records gives faults service past events value x y before
-    cut_stuck h parts e same y after longer short = inr (from_lead x (BreaksAt y) (λ p leads. short_learned h parts p leads e same y after longer short))
+        → {y : NodeValue K} (after : Draft) → length (records x.keeper) < length (records mid.keeper) → LearnsShort records gives faults service past instance value mid y between → ProposesCutShort records gives faults service past events value x y before
+    cut_stuck h parts e same {y} after longer short = inr (from_lead x (BreaksAt y) (λ p leads. short_learned h parts leads e same y after longer short))

@@ -35,7 +35,7 @@ use Rattle.rex_node.specs.Parts.{ActingValue, Executes, IsCutAt}
 
 -- ---- counts
 
-module _ (service : Declarations) (a : ActingValue) (h : IsRecorder service a.recorder) where
+module _ {service : Declarations} (a : ActingValue) (h : IsRecorder service a.recorder) where
   -- a count for each lane
   pub firsts_long : length (counts_of a.recorder.start) ≡ service.lanes
   firsts_long = length-map a.recorder.start.lanes done_of ∙ h.sound.by.complete.lanes
@@ -71,13 +71,13 @@ module _ (service : Declarations) (a : ActingValue) (h : IsRecorder service a.re
         to = subst (λ (cs : List ℕ). IsWithin cs (counts_in a limits)) (sym c.counts) live.to;
       }
 
-  pub trace_cut : (live : List Event) (counts : List ℕ) (limits : Option (List ℕ)) → live ≡ a.recorder.live → counts ≡ counts_in a limits → IsService service → AreLimits service limits → IsCutOf live counts
-  trace_cut live counts limits live_is counts_are good many =
+  pub trace_cut : {live : List Event} {counts : List ℕ} (limits : Option (List ℕ)) → live ≡ a.recorder.live → counts ≡ counts_in a limits → IsService service → AreLimits service limits → IsCutOf live counts
+  trace_cut {counts} limits live_is counts_are good many =
       subst (λ (es : List Event). IsCutOf es counts) (sym live_is) (subst (λ (cs : List ℕ). IsCutOf a.recorder.live cs) (sym counts_are) (counts_cut good limits many))
 
 -- ---- a piece
 
-module _ (service : Declarations) (good : IsService service) (values : List Value) (a : ActingValue) (h : Executes service values a) (fit : values_fit service values ≡ true) (limits : Option (List ℕ)) (many : AreLimits service limits) (p : Piece) (piece : IsPieceOf a (cut_in a limits) p) where
+module _ {service : Declarations} (good : IsService service) {values : List Value} {a : ActingValue} (h : Executes service values a) (fit : values_fit service values ≡ true) (limits : Option (List ℕ)) (many : AreLimits service limits) {p : Piece} (piece : IsPieceOf a (cut_in a limits) p) where
   abbrev cut : List ℕ
   cut = cut_in a limits
 
@@ -85,7 +85,7 @@ module _ (service : Declarations) (good : IsService service) (values : List Valu
   live = a.recorder.live
 
   cut_of : IsCutOf live (counts_in a limits)
-  cut_of = counts_cut service a h.recorder good limits many
+  cut_of = counts_cut a h.recorder good limits many
 
   read : delta_in (value_at cut live) ≡ Ok (delta_at cut live)
   read = subst (λ (v : Value). delta_in v ≡ Ok (delta_at cut live)) piece.value piece.again
@@ -94,7 +94,7 @@ module _ (service : Declarations) (good : IsService service) (values : List Valu
   pub piece_faithful : (seed : ℕ) → is_faithful service seed values (cut_in a limits) a.recorder.live ≡ true
   piece_faithful seed =
       faithful_at service seed values a.recorder.start a.recorder.state live (counts_in a limits) good fit h.recorder.sound h.known h.recorder.runs cut_of
-      (counts_long service a h.recorder limits many) read piece.spelled.delta piece.spelled.short
+      (counts_long a h.recorder limits many) read piece.spelled.delta piece.spelled.short
 
   pub piece_fits : values_fit service (values ++ p.value ∷ []) ≡ true
   piece_fits =
@@ -123,7 +123,7 @@ module _ (service : Declarations) (good : IsService service) (values : List Valu
       ∙ beyond_same service a.recorder.start go.state a.recorder.state cut live go.first go.rest
 
   within : IsWithin (counts_of a.recorder.state) cut
-  within lane = le_trans ((greatest_is (counts_in a limits) live cut_of).within lane) ((counts_live service a h.recorder limits many).to lane)
+  within lane = le_trans ((greatest_is (counts_in a limits) live cut_of).within lane) ((counts_live a h.recorder limits many).to lane)
 
   -- it is a cut of what is executed
   pub piece_cut : IsCutAt service values (record a { proposed = p.cut.counts }) p.value

@@ -12,24 +12,24 @@ use Rattle.rex_durable.specs.declared.recovery.Recovered.{Recovered}
 use Rattle.rex_log.specs.Log.{first}
 
 -- a node that keeps none
-pub bare_reached : (service : Declarations) (offset : ℕ) (values : List Value) (o : Option ReachedValue) → o ≡ None → HasReached service offset values o
-bare_reached service offset values o none = subst (HasReached service offset values) (sym none) tt
+pub bare_reached : (service : Declarations) (offset : ℕ) (values : List Value) {o : Option ReachedValue} → o ≡ None → HasReached service offset values o
+bare_reached service offset values none = subst (HasReached service offset values) (sym none) tt
 
 -- the one after the first so many values
-pub now_reached : (service : Declarations) (offset base : ℕ) (values : List Value) (count : ℕ) (state : StateValue) → count ≤ length values → run service (start_of service) (trace_of (take count values)) ≡ Some state
+pub now_reached : (service : Declarations) (offset base : ℕ) (values : List Value) {count : ℕ} {state : StateValue} → count ≤ length values → run service (start_of service) (trace_of (take count values)) ≡ Some state
     → HasReached service offset values (reached_at offset base count state)
-now_reached service zero base values count state among runs = by (base == count)
+now_reached service zero base values {count} {state} among runs = by (base == count)
   where
     by : (t : Bool) → HasReached service zero values (if t then None else Some (record { count = count; state = state }))
     by true = tt
     by false = record { all_held = refl; among = among; runs = runs }
-now_reached service (suc offset) base values count state among runs = tt
+now_reached service (suc offset) base values among runs = tt
 
 -- other values that begin with these
-pub still_reached : (service : Declarations) (offset : ℕ) (values more : List Value) (o : Option ReachedValue) → length values ≤ length more → ((n : ℕ) → n ≤ length values → take n more ≡ take n values)
+pub still_reached : (service : Declarations) (offset : ℕ) {values more : List Value} (o : Option ReachedValue) → length values ≤ length more → ((n : ℕ) → n ≤ length values → take n more ≡ take n values)
     → HasReached service offset values o → HasReached service offset more o
-still_reached service offset values more None longer front h = tt
-still_reached service offset values more (Some r) longer front h = record {
+still_reached service offset None longer front h = tt
+still_reached service offset (Some r) longer front h = record {
   all_held = h.all_held;
   among = le_trans h.among longer;
   runs = ap (λ (vs : List Value). run service (start_of service) (trace_of vs)) (front r.count h.among) ∙ h.runs;
@@ -38,24 +38,24 @@ still_reached service offset values more (Some r) longer front h = record {
 -- ---- a node that comes up again
 
 -- a node that forgot none knows what it holds
-all_known : (past : List Value) (offset : ℕ) (held : List Value) → offset ≡ 0 → first offset past ++ held ≡ held
-all_known past offset held e = ap (λ (n : ℕ). first n past ++ held) e
+all_known : (past : List Value) {offset : ℕ} {held : List Value} → offset ≡ 0 → first offset past ++ held ≡ held
+all_known past {held} e = ap (λ (n : ℕ). first n past ++ held) e
 
-pub again_reached : {K : Type 0} (service : Declarations) (past : List Value) (x : NodeValue K) (said : Recovered) (o : Option ReachedValue) → KeepsReached x said o → HasReached service x.offset (knows past x) x.reached
+pub again_reached : {K : Type 0} (service : Declarations) (past : List Value) (x : NodeValue K) (said : Recovered) {o : Option ReachedValue} → KeepsReached x said o → HasReached service x.offset (knows past x) x.reached
     → HasReached service said.offset (first said.offset past ++ said.known) o
-again_reached service past x said o (inl none) h = bare_reached service said.offset (first said.offset past ++ said.known) o none
-again_reached service past x said o (inr (same, alike)) h = subst (HasReached service said.offset (first said.offset past ++ said.known)) (sym same) (by x.reached alike h)
+again_reached service past x said {o} (inl none) h = bare_reached service said.offset (first said.offset past ++ said.known) none
+again_reached service past x said (inr (same, alike)) h = subst (HasReached service said.offset (first said.offset past ++ said.known)) (sym same) (by x.reached alike h)
   where
     by : (r : Option ReachedValue) → BeginAlike r x.known said.offset said.known → HasReached service x.offset (knows past x) r → HasReached service said.offset (first said.offset past ++ said.known) r
     by None alike h = tt
     by (Some r) (zero_is, (among, front)) h =
-        let here : first said.offset past ++ said.known ≡ said.known = all_known past said.offset said.known zero_is in record {
+        let here : first said.offset past ++ said.known ≡ said.known = all_known past zero_is in record {
           all_held = zero_is;
           among = subst (λ (vs : List Value). r.count ≤ length vs) (sym here) among;
           runs =
               ap (λ (vs : List Value). run service (start_of service) (trace_of (take r.count vs))) here
               ∙ ap (λ (vs : List Value). run service (start_of service) (trace_of vs)) front
-              ∙ ap (λ (vs : List Value). run service (start_of service) (trace_of (take r.count vs))) (sym (all_known past x.offset x.known h.all_held))
+              ∙ ap (λ (vs : List Value). run service (start_of service) (trace_of (take r.count vs))) (sym (all_known past h.all_held))
               ∙ h.runs;
         }
 
@@ -66,4 +66,4 @@ reached_beside service past others x h = by x.reached h
   where
     by : (r : Option ReachedValue) → HasReached service x.offset (knows past x) r → HasReached service x.offset (knows others x) r
     by None h = tt
-    by (Some r) h = subst (λ (vs : List Value). IsReached service x.offset vs r) (all_known past x.offset x.known h.all_held ∙ sym (all_known others x.offset x.known h.all_held)) h
+    by (Some r) h = subst (λ (vs : List Value). IsReached service x.offset vs r) (all_known past h.all_held ∙ sym (all_known others h.all_held)) h

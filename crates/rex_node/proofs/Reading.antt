@@ -62,7 +62,7 @@ module _ (service : Declarations) (past : List Value) where
       let rest = drop (suc n) kept in
       let parts : kept ≡ front ++ bytes ∷ rest = sym (take-append-drop n kept) ∙ ap (λ (bs : List (List ℕ)). front ++ bs) (drop-cons kept n [] h.there) in
       let bad : record_in (standing_in (log_of service past front)) bytes ≡ Err at =
-      subst (λ (s : Standing). record_in s bytes ≡ Err at) (stands_behind service past front h.before h.spelled) h.bad in
+      subst (λ (s : Standing). record_in s bytes ≡ Err at) (stands_behind service past h.spelled) h.bad in
       let less = fewer front bytes rest at bad in
       let same : length (log_of service past (front ++ bytes ∷ rest)) ≡ length (front ++ bytes ∷ rest) = subst (λ (lists : List (List ℕ)). AreRead service past lists) parts all in
       absurd (omega arith)
@@ -110,9 +110,9 @@ module _ (service : Declarations) where
       (sym (list_all-append (spells service) (take n vs) (drop n vs)) ∙ ap (list_all (spells service)) (take-append-drop n vs) ∙ h)).1
 
   -- where each state is spelled, and each known value spells a delta, nothing that records hold is bad
-  good_read : (past : List Value) (kept : List (List ℕ)) (place : Place) → AreStated service kept → list_all (spells service) (known (log_of service past kept)) ≡ true → HasFirstBad service kept (Some place) → ⊥
-  good_read past kept place stated fit h =
-      let said = recovered_says service past kept h.rs (durable.recovered h.rs) h.spelled refl in
+  good_read : (past : List Value) {kept : List (List ℕ)} {place : Place} → AreStated service kept → list_all (spells service) (known (log_of service past kept)) ≡ true → HasFirstBad service kept (Some place) → ⊥
+  good_read past {kept} {place} stated fit h =
+      let said = recovered_says service past h.spelled refl in
       let values : list_all (spells service) (durable.known h.rs) ≡ true =
       ap (λ (vs : List Value). list_all (spells service) vs) said.held ∙ fits_past (durable.offset h.rs) (known (log_of service past kept)) fit in
       let states : list_all (is_stated service) (map record_bytes h.rs) ≡ true = subst (λ (lists : List (List ℕ)). AreStated service lists) h.spelled.bytes stated in
@@ -125,5 +125,5 @@ module _ (service : Declarations) where
   pub only_memory : (past : List Value) (kept : List (List ℕ)) (fault : RestartFault) → IsRestartFault service kept fault → AreRead service past kept → AreStated service kept
       → list_all (spells service) (known (log_of service past kept)) ≡ true → fault ≡ OutOfMemory
   only_memory past kept (BadRecord number at) (inl h) all stated fit = absurd (not_refused service past kept number at all h)
-  only_memory past kept (BadRecord number at) (inr h) all stated fit = absurd (good_read past kept (record { number = number; at = at }) stated fit h)
+  only_memory past kept (BadRecord number at) (inr h) all stated fit = absurd (good_read past stated fit h)
   only_memory past kept OutOfMemory h all stated fit = refl

@@ -21,58 +21,58 @@ use Rattle.rex_node.specs.Restarting.{ends_old, old_in}
 
 module _ (service : Declarations) (past : List Value) where
   -- what was recovered from lists of bytes is what they say
-  pub recovered_says : (lists : List (List ℕ)) (rs : List KeptRec) (x : Recovered) → Spell lists rs → x ≡ recovered rs → Says service x (log_of service past lists)
-  recovered_says lists rs x h e =
+  pub recovered_says : {lists : List (List ℕ)} {rs : List KeptRec} {x : Recovered} → Spell lists rs → x ≡ recovered rs → Says service x (log_of service past lists)
+  recovered_says {rs} {x} h e =
       subst (λ (bs : List (List ℕ)). Says service x (log_of service past bs)) (sym h.bytes)
       (subst (λ (y : Recovered). Says service y (log_of service past (map record_bytes rs))) (sym e) (records_say service past rs h.records).0)
 
   -- ---- the version of the last checkpoint
 
   -- with one record more
-  old_more : (log : List (Rec Value StateValue)) (r : KeptRec) (before : Bool) → before ≡ has_old_base log → old_in before r ≡ has_old_base (rec_of service past r ∷ log)
-  old_more log (rec.Promised b) before e = e
-  old_more log (rec.Accepted b i v) before e = e
-  old_more log (rec.Known i v) before e = e
-  old_more log (rec.Checkpoint k bytes) before e = refl
-  old_more log (rec.Dropped k) before e = e
-  old_more log (rec.Transferred k bytes) before e = e
+  old_more : (log : List (Rec Value StateValue)) (r : KeptRec) {before : Bool} → before ≡ has_old_base log → old_in before r ≡ has_old_base (rec_of service past r ∷ log)
+  old_more log (rec.Promised b) e = e
+  old_more log (rec.Accepted b i v) e = e
+  old_more log (rec.Known i v) e = e
+  old_more log (rec.Checkpoint k bytes) e = refl
+  old_more log (rec.Dropped k) e = e
+  old_more log (rec.Transferred k bytes) e = e
 
   -- so many first records are read, and say so of it
   record SaysOld (rs : List KeptRec) : Type 0 where
     pub front : Front service past rs
     pub old_is : ends_old rs ≡ has_old_base (log_of service past (map record_bytes rs))
 
-  says_old : (rs : List KeptRec) → AreRecords rs → (k : ℕ) → k ≤ length rs → SaysOld (take k rs)
-  says_old rs h zero le = subst (λ (xs : List KeptRec). SaysOld xs) (sym (nothing rs)) (record { front = front_none service past; old_is = refl })
+  says_old : {rs : List KeptRec} → AreRecords rs → (k : ℕ) → k ≤ length rs → SaysOld (take k rs)
+  says_old {rs} h zero le = subst (λ (xs : List KeptRec). SaysOld xs) (sym (nothing rs)) (record { front = front_none service past; old_is = refl })
     where
       nothing : (xs : List KeptRec) → take zero xs ≡ []
       nothing [] = refl
       nothing (x ∷ xs) = refl
-  says_old rs h (suc k) le =
+  says_old {rs} h (suc k) le =
       let d = rec.Promised 0 in
       let there : k < length rs = omega arith in
       let before = take k rs in
       let r = get_or rs k d in
-      let said = says_old rs h k (omega arith) in
+      let said = says_old h k (omega arith) in
       let counts = counts_front rs h k (omega arith) in
       let follows = h.each k d there in
       subst (λ (xs : List KeptRec). SaysOld xs) (sym (take_one_more rs k d there))
       (record {
         front = front_more service past before r counts follows said.front;
         old_is =
-            fold_push old_in _ before r ∙ old_more (log_of service past (map record_bytes before)) r (ends_old before) said.old_is
+            fold_push old_in _ before r ∙ old_more (log_of service past (map record_bytes before)) r said.old_is
             ∙ ap (λ (log : List (Rec Value StateValue)). has_old_base log) (sym (log_front service past before r counts follows said.front));
       })
 
-  all_say_old : (rs : List KeptRec) → AreRecords rs → SaysOld rs
-  all_say_old rs h = rw (take_all (length rs) rs (omega arith)) at (says_old rs h (length rs) (omega arith))
+  all_say_old : {rs : List KeptRec} → AreRecords rs → SaysOld rs
+  all_say_old {rs} h = rw (take_all (length rs) rs (omega arith)) at (says_old h (length rs) (omega arith))
 
   -- the last checkpoint is in the old version where the records say so
-  pub old_base_is : (lists : List (List ℕ)) (rs : List KeptRec) → Spell lists rs → ends_old rs ≡ has_old_base (log_of service past lists)
-  old_base_is lists rs h = subst (λ (bs : List (List ℕ)). ends_old rs ≡ has_old_base (log_of service past bs)) (sym h.bytes) (all_say_old rs h.records).old_is
+  pub old_base_is : {lists : List (List ℕ)} {rs : List KeptRec} → Spell lists rs → ends_old rs ≡ has_old_base (log_of service past lists)
+  old_base_is {rs} h = subst (λ (bs : List (List ℕ)). ends_old rs ≡ has_old_base (log_of service past bs)) (sym h.bytes) (all_say_old h.records).old_is
 
   -- ---- where the next record stands
 
-  pub stands_behind : (lists : List (List ℕ)) (rs : List KeptRec) → Spell lists rs → standing rs ≡ standing_in (log_of service past lists)
-  stands_behind lists rs h =
-      subst (λ (bs : List (List ℕ)). standing rs ≡ standing_in (log_of service past bs)) (sym h.bytes) (stands_there service past rs (counts_all rs h.records) (all_say_old rs h.records).front)
+  pub stands_behind : {lists : List (List ℕ)} {rs : List KeptRec} → Spell lists rs → standing rs ≡ standing_in (log_of service past lists)
+  stands_behind {rs} h =
+      subst (λ (bs : List (List ℕ)). standing rs ≡ standing_in (log_of service past bs)) (sym h.bytes) (stands_there service past rs (counts_all rs h.records) (all_say_old h.records).front)

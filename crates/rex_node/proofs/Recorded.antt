@@ -35,12 +35,12 @@ use Rattle.rex_node.specs.Stated.{is_stated}
 module _ {K : Type 0} (records : K → List (List ℕ)) (service : Declarations) (past : List Value) (z : NodeValue K) (before after : Draft) (to : ℕ) (content : Content) where
   -- one more message is sent in the model too
   pub sends_to : Sends before after (answering z.id to content) → so_far records service past z after ≡ send (so_far records service past z before) (answer z.id to (content_in past content))
-  sends_to s = far records service past z after _ _ s.effects_are (ap (map (message_in past)) s.sends_are ∙ map-append (message_in past) before.sends.items (answering z.id to content))
+  sends_to s = far records service past z after s.effects_are (ap (map (message_in past)) s.sends_are ∙ map-append (message_in past) before.sends.items (answering z.id to content))
 
 -- ---- one record
 
-module _ {K : Type 0} (records : K → List (List ℕ)) (gives : K → List ℕ → Answer → K → Type 0) (faults : K → ℕ) (service : Declarations) (past : List Value) (x y : NodeValue K) (before mid : Draft) (node : IsResting records service past x) (up : x.up ≡ true)
-    (r : KeptRec) (spelling : HasSpelling r) (due : IsDue (standing_in (log_of service past (records x.keeper))) r) (stated : is_stated service (record_bytes r) ≡ true)
+module _ {K : Type 0} {records : K → List (List ℕ)} (gives : K → List ℕ → Answer → K → Type 0) (faults : K → ℕ) {service : Declarations} {past : List Value} {x : NodeValue K} (y : NodeValue K) (before mid : Draft) (node : IsResting records service past x) (up : x.up ≡ true)
+    {r : KeptRec} (spelling : HasSpelling r) (due : IsDue (standing_in (log_of service past (records x.keeper))) r) (stated : is_stated service (record_bytes r) ≡ true)
     (plain : base (rec_of service past r ∷ log_of service past (records x.keeper)) ≡ base (log_of service past (records x.keeper))) where
   abbrev log : List (Rec Value StateValue)
   log = log_of service past (records x.keeper)
@@ -51,33 +51,33 @@ module _ {K : Type 0} (records : K → List (List ℕ)) (gives : K → List ℕ 
   u : IsUp service x (here_of records service past x)
   u = node.up up
 
-  module _ (whole k : CallHere → CallHere) (is : (f : Option Failure) → whole (armed_with f (so_far records service past x before)) ≡ append f x.id one (armed_with f (so_far records service past x before)) k) where
+  module _ {whole k : CallHere → CallHere} (is : (f : Option Failure) → whole (armed_with f (so_far records service past x before)) ≡ append f x.id one (armed_with f (so_far records service past x before)) k) where
     -- the append failed
     pub recorded_down : Appends records faults gives x y before mid (record_bytes r) Down
         → (Fell records gives faults service whole x.id x.keeper y.keeper (so_far records service past x before) (so_far records service past y mid) × IsDown y) × IsResting records service past y
     recorded_down h = (
-      (appended_fell records gives faults service past x y before mid r spelling due stated whole k is u.base plain h, record { down = ap (λ (n : NodeValue K). n.up) h.0.parts; bare = ap (λ (n : NodeValue K). n.reached) h.0.parts }),
+      (appended_fell records gives faults service past x y before mid spelling due stated is u.base plain h, record { down = ap (λ (n : NodeValue K). n.up) h.0.parts; bare = ap (λ (n : NodeValue K). n.reached) h.0.parts }),
       subst (IsResting records service past) (sym h.0.parts) (record { id = node.id; few = node.few; up = λ t. absurd (false≢true t); reached = tt; decoded = node.decoded; rests = λ t. absurd (false≢true t) }),
     )
 
     -- the record is there when memory is short
-    pub recorded_stuck : Appends records faults gives x y before mid (record_bytes r) On → LosesFirst k → (z : NodeValue K) → z.keeper ≡ y.keeper → z.base ≡ y.base → IsStuck records gives faults service past whole x z before
-    recorded_stuck h loses z keeper based =
-        inr (breaks_here records gives faults service past whole k x y z before mid (appended_leads records gives faults service past x y before mid r spelling due stated whole k is h)
+    pub recorded_stuck : Appends records faults gives x y before mid (record_bytes r) On → LosesFirst k → {z : NodeValue K} → z.keeper ≡ y.keeper → z.base ≡ y.base → IsStuck records gives faults service past whole x z before
+    recorded_stuck h loses {z} keeper based =
+        inr (breaks_here y z mid (appended_leads records gives faults service past x y before mid spelling due stated is h)
         (omega (arith, ap length h.0.records, length_push (records x.keeper) (record_bytes r)))
         (based ∙ ap (λ (n : NodeValue K). n.base) h.0.parts ∙ u.base ∙ sym plain
-        ∙ ap base (sym (ap (λ (j : K). log_of service past (records j)) keeper ∙ appended_log records gives faults service past x y before mid r spelling due stated h)))
+        ∙ ap base (sym (ap (λ (j : K). log_of service past (records j)) keeper ∙ appended_log records gives faults service past x y before mid spelling due stated h)))
         loses (ap records keeper) (ap faults keeper) (inl keeper))
 
     -- or the call ends with the record
-    pub recorded_on : Appends records faults gives x y before mid (record_bytes r) On → (z : NodeValue K) (after : Draft) → z.keeper ≡ y.keeper → IsResting records service past z → z.up ≡ true
+    pub recorded_on : Appends records faults gives x y before mid (record_bytes r) On → {z : NodeValue K} (after : Draft) → z.keeper ≡ y.keeper → IsResting records service past z → z.up ≡ true
         → ((f : Option Failure) → k (armed_with f (logged one None (so_far records service past x before))) ≡ armed_with f (k (logged one None (so_far records service past x before))))
         → so_far records service past z after ≡ k (logged one None (so_far records service past x before)) → EndsWell records gives faults service past x z before after whole
-    recorded_on h z after keeper n t arms e = (
+    recorded_on h {z} after keeper n t arms e = (
       (
-        leads_then records gives faults service whole k (λ d. d) x.keeper y.keeper z.keeper (so_far records service past x before) (so_far records service past y mid) (so_far records service past z after)
-            (appended_leads records gives faults service past x y before mid r spelling due stated whole k is h) last,
-        within records service past z n,
+        leads_then records gives faults service
+            (appended_leads records gives faults service past x y before mid spelling due stated is h) last,
+        within n,
         t,
       ),
       n,
@@ -86,18 +86,18 @@ module _ {K : Type 0} (records : K → List (List ℕ)) (gives : K → List ℕ 
         last : Leads records gives faults service k (λ d. d) y.keeper z.keeper (so_far records service past y mid) (so_far records service past z after)
         last =
             subst (λ (j : K). Leads records gives faults service k (λ d. d) y.keeper j (so_far records service past y mid) (so_far records service past z after)) (sym keeper)
-            (leads_same records gives faults service k (λ d. d) y.keeper (so_far records service past y mid) (so_far records service past z after) (ap (λ (j : K). length (log_of service past (records j))) keeper)
-            (λ f. ap (λ (d : CallHere). k (armed_with f d)) (appended_here records gives faults service past x y before mid r spelling due stated h) ∙ arms f ∙ ap (armed_with f) (sym e)))
+            (leads_same records gives faults service (ap (λ (j : K). length (log_of service past (records j))) keeper)
+            (λ f. ap (λ (d : CallHere). k (armed_with f d)) (appended_here records gives faults service past x y before mid spelling due stated h) ∙ arms f ∙ ap (armed_with f) (sym e)))
 
   -- ---- the node leaves its role then
 
-  module _ (h : Appends records faults gives x y before mid (record_bytes r) On) (a : AcceptorValue) (vs : List Value)
+  module _ (h : Appends records faults gives x y before mid (record_bytes r) On) {a : AcceptorValue} {vs : List Value}
       (logged_here : IsLogged service (record x { keeper = y.keeper; acceptor = a; known = vs }) (rec_of service past r ∷ log_of service past (records x.keeper)))
       (more : length x.known ≤ length vs) (front : (n : ℕ) → n ≤ length x.known → take n vs ≡ take n x.known)
-      (z : NodeValue K) (z_is : z ≡ record (leaving x) { keeper = y.keeper; acceptor = a; known = vs }) where
+      {z : NodeValue K} (z_is : z ≡ record (leaving x) { keeper = y.keeper; acceptor = a; known = vs }) where
     -- it is kept
     pub follows_node : IsResting records service past z
-    follows_node = subst (IsResting records service past) (sym z_is) (follower_node records service past x node up y.keeper one a vs (appended_log records gives faults service past x y before mid r spelling due stated h) plain logged_here more front)
+    follows_node = subst (IsResting records service past) (sym z_is) (follower_node node up (appended_log records gives faults service past x y before mid spelling due stated h) plain logged_here more front)
 
     pub follows_up : z.up ≡ true
     follows_up = ap (λ (n : NodeValue K). n.up) z_is ∙ up
@@ -106,13 +106,13 @@ module _ {K : Type 0} (records : K → List (List ℕ)) (gives : K → List ℕ 
     follows_keeper = ap (λ (n : NodeValue K). n.keeper) z_is
 
     -- it has told what it did, and that it follows
-    pub follows_to : (after : Draft) (cause : Effect) → Tells mid after (cause ∷ followed y.id (role_of y.acceptor y.proposer (is_some y.acting)))
+    pub follows_to : {after : Draft} {cause : Effect} → Tells mid after (cause ∷ followed y.id (role_of y.acceptor y.proposer (is_some y.acting)))
         → so_far records service past z after ≡ follow x.id (cause ∷ []) (logged one None (so_far records service past x before))
-    follows_to after cause t =
-        far records service past z after (before.effects.items ++ (cause ∷ followed x.id (role_of x.acceptor x.proposer (is_some x.acting)))) (map (message_in past) before.sends.items)
+    follows_to {after} {cause} t =
+        far records service past z after
         (t.effects_are ∙ ap (λ (es : List Effect). es ++ (cause ∷ followed y.id (role_of y.acceptor y.proposer (is_some y.acting)))) h.1
         ∙ ap (λ (n : NodeValue K). before.effects.items ++ (cause ∷ followed n.id (role_of n.acceptor n.proposer (is_some n.acting)))) h.0.parts)
         (ap (map (message_in past)) (t.sends_are ∙ h.2))
         ∙ ap (λ (n : Here). call_at n (map (message_in past) before.sends.items) (before.effects.items ++ (cause ∷ followed x.id (role_of x.acceptor x.proposer (is_some x.acting)))))
         (ap (here_of records service past) z_is
-        ∙ follower_here records service past x node up y.keeper one a vs (appended_log records gives faults service past x y before mid r spelling due stated h) plain logged_here more front (map (message_in past) before.sends.items) before.effects.items)
+        ∙ follower_here node up (appended_log records gives faults service past x y before mid spelling due stated h) plain logged_here more front (map (message_in past) before.sends.items) before.effects.items)

@@ -30,34 +30,34 @@ use Rattle.rex_node.proofs.Appended.{IsLogged, Beside, logged_of, beside_of, up_
 use Rattle.rex_node.proofs.Leaving.{role_active}
 use Rattle.rex_node.proofs.Reaching.{now_reached}
 
-module _ {K : Type 0} (records : K → List (List ℕ)) (service : Declarations) (past : List Value) (x : NodeValue K) (node : IsKept records service past x) (up : x.up ≡ true) where
-  module _ (count : ℕ) (from : StateValue) (from_runs : run service (start_of service) (trace_of (take count x.known)) ≡ Some from) where
+module _ {K : Type 0} {records : K → List (List ℕ)} {service : Declarations} {past : List Value} {x : NodeValue K} (node : IsKept records service past x) (up : x.up ≡ true) where
+  module _ (count : ℕ) {from : StateValue} (from_runs : run service (start_of service) (trace_of (take count x.known)) ≡ Some from) where
     pub from_sound : IsService service → IsChecked service → IsSound service from
     from_sound good checked = run_keeps service (start_of service) from (trace_of (take count x.known)) good (start_keeps service good checked) from_runs
 
-    pub rest_runs_to : (rest : List Value) → rest ≡ drop count x.known → run service from (trace_of rest) ≡ run service (start_of service) (trace_of x.known)
-    rest_runs_to rest rest_is =
+    pub rest_runs_to : {rest : List Value} → rest ≡ drop count x.known → run service from (trace_of rest) ≡ run service (start_of service) (trace_of x.known)
+    rest_runs_to rest_is =
         ap (λ (vs : List Value). run service from (trace_of vs)) rest_is
         ∙ sym (run-then service (start_of service) from (trace_of (take count x.known)) (trace_of (drop count x.known)) from_runs)
         ∙ ap (run service (start_of service)) (sym (trace_both (take count x.known) (drop count x.known)) ∙ ap trace_of (take-append-drop count x.known))
 
-    pub rest_runs : (rest : List Value) → rest ≡ drop count x.known → IsSome (run service from (trace_of rest))
-    rest_runs rest rest_is =
+    pub rest_runs : {rest : List Value} → rest ≡ drop count x.known → IsSome (run service from (trace_of rest))
+    rest_runs {rest} rest_is =
         let r = fits_run service x.known (node.up up).fits in
-        subst (λ (o : Option StateValue). IsSome o) (sym (rest_runs_to rest rest_is ∙ r.1)) refl
+        subst (λ (o : Option StateValue). IsSome o) (sym (rest_runs_to rest_is ∙ r.1)) refl
 
 -- ---- all that the node knows was replayed
 
-module _ {K : Type 0} (records : K → List (List ℕ)) (gives : K → List ℕ → Answer → K → Type 0) (faults : K → ℕ) (service : Declarations) (past : List Value) (x : NodeValue K) (node : IsResting records service past x) (up : x.up ≡ true) (none : x.acting ≡ None) (n : ℕ) (n_is : n ≡ length x.known) (s : StateValue) where
+module _ {K : Type 0} {records : K → List (List ℕ)} (gives : K → List ℕ → Answer → K → Type 0) (faults : K → ℕ) {service : Declarations} {past : List Value} {x : NodeValue K} (node : IsResting records service past x) (up : x.up ≡ true) (none : x.acting ≡ None) {n : ℕ} (n_is : n ≡ length x.known) (s : StateValue) where
   abbrev pub after_replay : NodeValue K
   after_replay = record x { replayed = n; ahead = Some s; reached = reached_at x.offset x.base n s }
 
   u : IsUp service x (here_of records service past x)
   u = node.up up
 
-  pub replay_does : eqb x.replayed n ≡ false → (step : Step) → step.effects ≡ Replayed x.id n ∷ [] → step.sends ≡ []
+  pub replay_does : eqb x.replayed n ≡ false → {step : Step} → step.effects ≡ Replayed x.id n ∷ [] → step.sends ≡ []
       → Does records gives faults service past (replay x.id) x after_replay step
-  replay_does old step effects sends = inl (record {
+  replay_does old {step} effects sends = inl (record {
     written = [];
     grown = sym (append-nil (records x.keeper));
     appends = (refl, refl);
@@ -90,7 +90,7 @@ module _ {K : Type 0} (records : K → List (List ℕ)) (gives : K → List ℕ 
   pub replay_stays : run service (start_of service) (trace_of x.known) ≡ Some s → StaysResting records service past x after_replay
   replay_stays runs = record {
     same = record { id = refl; nodes = refl; seed = refl; decoded = refl };
-    kept = record { id = node.id; few = node.few; up = λ t. up_after; reached = now_reached service x.offset x.base x.known n s (subst (λ (k : ℕ). k ≤ length x.known) (sym n_is) (le_refl (length x.known))) (ap (λ (vs : List Value). run service (start_of service) (trace_of vs)) whole ∙ runs); decoded = node.decoded; rests = node.rests };
+    kept = record { id = node.id; few = node.few; up = λ t. up_after; reached = now_reached service x.offset x.base x.known (subst (λ (k : ℕ). k ≤ length x.known) (sym n_is) (le_refl (length x.known))) (ap (λ (vs : List Value). run service (start_of service) (trace_of vs)) whole ∙ runs); decoded = node.decoded; rests = node.rests };
   }
     where
       l : IsLogged service x (log_of service past (records x.keeper))

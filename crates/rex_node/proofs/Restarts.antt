@@ -34,10 +34,10 @@ abbrev saved_in : Declarations → Option (List ℕ) → Option StateValue
 saved_in service snapshot = option_map (λ bytes. read_state service (state_in service bytes)) snapshot
 
 -- the state that was read is the one that they spell
-saved_is : (service : Declarations) (bytes : List ℕ) (s : StateValue) → IsSaved service (Some bytes) s → saved_in service (Some bytes) ≡ Some s
-saved_is service bytes s e = ap (λ q. Some (read_state service q)) e
+saved_is : (service : Declarations) (bytes : List ℕ) {s : StateValue} → IsSaved service (Some bytes) s → saved_in service (Some bytes) ≡ Some s
+saved_is service bytes e = ap (λ q. Some (read_state service q)) e
 
-module _ (service : Declarations) (log : List (Rec Value StateValue)) (x : Recovered) (start : StateValue) (says : Says service x log) (fit : values_fit service (known log) ≡ true) (right : HasRightBase service log) where
+module _ {service : Declarations} {log : List (Rec Value StateValue)} {x : Recovered} (start : StateValue) (says : Says service x log) (fit : values_fit service (known log) ≡ true) (right : HasRightBase service log) where
   -- it is that of the values up to the base, where the records have that state
   start_runs : IsSaved service x.snapshot start → HasSnapshot x.base x.snapshot → run service (start_of service) (trace_of (take x.base (known log))) ≡ Some start
   start_runs saved there = by x.snapshot says.state saved there
@@ -46,15 +46,15 @@ module _ (service : Declarations) (log : List (Rec Value StateValue)) (x : Recov
           → run service (start_of service) (trace_of (take x.base (known log))) ≡ Some start
       by None e s none = ap (λ (n : ℕ). run service (start_of service) (trace_of (take n (known log)))) none ∙ ap Some (sym s)
       by (Some bytes) e s some =
-          let r : start ≡ state_after service (trace_of (take (base log) (known log))) = (right start (sym e ∙ saved_is service bytes start s)).1 in
+          let r : start ≡ state_after service (trace_of (take (base log) (known log))) = (right start (sym e ∙ saved_is service bytes s)).1 in
           let same : state_after service (trace_of (take (base log) (known log))) ≡ state_after service (trace_of (take x.base (known log))) =
           ap (λ (n : ℕ). state_after service (trace_of (take n (known log)))) (sym says.base) in
           let f = front_runs service x.base (known log) fit in
           f.1 ∙ ap Some (sym (state_is service (trace_of (take x.base (known log))) f.0 f.1) ∙ sym (r ∙ same))
 
 -- the first values of the past, and those that are held, are all that the records know
-whole_is : (service : Declarations) (past : List Value) (log : List (Rec Value StateValue)) (x : Recovered) → Says service x log → HasForgotten past log → first x.offset past ++ x.known ≡ known log
-whole_is service past log x says forgotten =
+whole_is : {service : Declarations} (past : List Value) {log : List (Rec Value StateValue)} {x : Recovered} → Says service x log → HasForgotten past log → first x.offset past ++ x.known ≡ known log
+whole_is past {log} {x} says forgotten =
     let front : first x.offset past ≡ take x.offset (known log) = subst (λ (o : ℕ). first o past ≡ take o (known log)) (sym says.offset) forgotten in
     ap (λ (vs : List Value). vs ++ x.known) front ∙ ap (λ (vs : List Value). take x.offset (known log) ++ vs) says.held ∙ take-append-drop x.offset (known log)
 
@@ -67,15 +67,15 @@ last_decoded service (Some d) before h k = h
 
 -- ---- the node
 
-short_values : (promised : ℕ) (ps : List Kept) → All (MayBeAccepted promised) ps → All (λ (p : Kept). IsValue p.value) ps
-short_values promised ps h = All-weaker (MayBeAccepted promised) (λ (p : Kept). IsValue p.value) (λ p k. k.proposal.value) ps h
+short_values : {promised : ℕ} (ps : List Kept) → All (MayBeAccepted promised) ps → All (λ (p : Kept). IsValue p.value) ps
+short_values {promised} ps h = All-weaker (MayBeAccepted promised) (λ (p : Kept). IsValue p.value) (λ p k. k.proposal.value) ps h
 
-module _ {K : Type 0} (records : K → List (List ℕ)) (service : Declarations) (past : List Value) (before : NodeValue K) (x : Recovered) (start : StateValue) (old : Bool) (reached : Option ReachedValue) (decoded : Option DecodedValue) (h : IsRecalled service (records before.keeper) x start old) where
+module _ {K : Type 0} (records : K → List (List ℕ)) {service : Declarations} (past : List Value) (before : NodeValue K) {x : Recovered} {start : StateValue} {old : Bool} (reached : Option ReachedValue) (decoded : Option DecodedValue) (h : IsRecalled service (records before.keeper) x start old) where
   abbrev log : List (Rec Value StateValue)
   log = log_of service past (records before.keeper)
 
   said : Says service x log
-  said = recovered_says service past (records before.keeper) h.found.read.rs x h.found.read.spelled h.found.read.is
+  said = recovered_says service past h.found.read.spelled h.found.read.is
 
   abbrev up_again : NodeValue K
   up_again = risen before x start old reached decoded
@@ -109,10 +109,10 @@ module _ {K : Type 0} (records : K → List (List ℕ)) (service : Declarations)
 
   module _ (fit : values_fit service (known log) ≡ true) (right : HasRightBase service log) (forgotten : HasForgotten past log) where
     all_known : first x.offset past ++ x.known ≡ known log
-    all_known = whole_is service past log x said forgotten
+    all_known = whole_is past said forgotten
 
     runs_there : run service (start_of service) (trace_of (take x.base (first x.offset past ++ x.known))) ≡ Some start
-    runs_there = subst (λ (vs : List Value). run service (start_of service) (trace_of (take x.base vs)) ≡ Some start) (sym all_known) (start_runs service log x start said fit right h.start_is h.found.read.fits.snapshot)
+    runs_there = subst (λ (vs : List Value). run service (start_of service) (trace_of (take x.base vs)) ≡ Some start) (sym all_known) (start_runs start said fit right h.start_is h.found.read.fits.snapshot)
 
     node_up : IsUp service (whole past up_again) (here_of records service past up_again)
     node_up = record {
@@ -122,7 +122,7 @@ module _ {K : Type 0} (records : K → List (List ℕ)) (service : Declarations)
       low = h.found.read.fits.dropped;
       known = all_known;
       base = said.base;
-      old_base = h.old_is ∙ old_base_is service past (records before.keeper) h.found.read.rs h.found.read.spelled;
+      old_base = h.old_is ∙ old_base_is service past h.found.read.spelled;
       start = runs_there;
       replayed = record {
         based = subst (λ (n : ℕ). n ≤ x.base) said.base (omega arith);
@@ -130,7 +130,7 @@ module _ {K : Type 0} (records : K → List (List ℕ)) (service : Declarations)
       };
       ahead = λ _. runs_there;
       caught_up = λ t. absurd (false≢true t);
-      short = short_values x.promised x.accepted h.found.read.fits.accepted;
+      short = short_values x.accepted h.found.read.fits.accepted;
       proposer = tt;
       acting = tt;
       stamped = tt;
@@ -140,4 +140,4 @@ module _ {K : Type 0} (records : K → List (List ℕ)) (service : Declarations)
 
     pub is_node : (0 < before.id) × (before.id ≤ before.nodes) → before.nodes ≤ most_nodes → KeepsReached before x reached → HasReached service before.offset (knows past before) before.reached → HasDecoded service decoded
         → IsNode records service past up_again
-    is_node there few keeps was spelled = record { id = there; few = few; up = λ _. node_up; reached = again_reached service past before x reached keeps was; decoded = spelled; rests = λ _. tt }
+    is_node there few keeps was spelled = record { id = there; few = few; up = λ _. node_up; reached = again_reached service past before x keeps was; decoded = spelled; rests = λ _. tt }

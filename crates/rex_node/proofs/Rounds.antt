@@ -66,9 +66,9 @@ module _ {K : Type 0} (x z : NodeValue K) (z_is : z ≡ x) (s : StateValue) (n :
 
 module _ {V S : Type 0} (n : ℕ) (sv : Service V S) (me : ℕ) where
   -- without a proposal, and active or without a majority
-  settle_rests : (t : ℕ) (d : Call V S) (l : Lead V) → d.node.role ≡ Leading l → l.proposal ≡ None → (l.active || not (is_majority n l.counted)) ≡ true → settle t n sv me d ≡ d
-  settle_rests zero d l role none stops = refl
-  settle_rests (suc t) d l role none stops =
+  settle_rests : (t : ℕ) {d : Call V S} {l : Lead V} → d.node.role ≡ Leading l → l.proposal ≡ None → (l.active || not (is_majority n l.counted)) ≡ true → settle t n sv me d ≡ d
+  settle_rests zero role none stops = refl
+  settle_rests (suc t) {d} {l} role none stops =
       ap (λ (r : Role V). turn n sv me d r (settle t n sv me)) role ∙ ap (λ (o : Option (Proposal V)). lead n sv me d l o (settle t n sv me)) none ∙ by l.active (is_majority n l.counted) stops
     where
       by : (a m : Bool) → (a || not m) ≡ true → cond a d (cond m (choose n sv me d l (suc (length (known d.node.log))) (best (suc (length (known d.node.log))) l.reported) (settle t n sv me)) d) ≡ d
@@ -76,25 +76,25 @@ module _ {V S : Type 0} (n : ℕ) (sv : Service V S) (me : ℕ) where
       by false true e = absurd (cc)
       by false false e = refl
 
-  settle_follows : (t : ℕ) (d : Call V S) → d.node.role ≡ Role.Follower → settle t n sv me d ≡ d
-  settle_follows zero d role = refl
-  settle_follows (suc t) d role = ap (λ (r : Role V). turn n sv me d r (settle t n sv me)) role
+  settle_follows : (t : ℕ) {d : Call V S} → d.node.role ≡ Role.Follower → settle t n sv me d ≡ d
+  settle_follows zero role = refl
+  settle_follows (suc t) {d} role = ap (λ (r : Role V). turn n sv me d r (settle t n sv me)) role
 
-module _ {K : Type 0} (records : K → List (List ℕ)) (gives : K → List ℕ → Answer → K → Type 0) (faults : K → ℕ) (service : Declarations) (past : List Value) (x : NodeValue K) (kept_so : IsKept records service past x) (up : x.up ≡ true) (turns : ℕ) (before : Draft) where
+module _ {K : Type 0} {records : K → List (List ℕ)} (gives : K → List ℕ → Answer → K → Type 0) (faults : K → ℕ) {service : Declarations} {past : List Value} {x : NodeValue K} (kept_so : IsKept records service past x) (up : x.up ≡ true) (turns : ℕ) (before : Draft) where
   abbrev settles : CallHere → CallHere
   settles = settle turns x.nodes (service_of service x.seed) x.id
 
   u : IsUp service x (here_of records service past x)
   u = kept_so.up up
 
-  same_majority : (p : ProposerValue) → x.proposer ≡ Some p → is_majority x.nodes p.promised ≡ counting.is_majority p.nodes (length p.promised)
-  same_majority p e =
+  same_majority : {p : ProposerValue} → x.proposer ≡ Some p → is_majority x.nodes p.promised ≡ counting.is_majority p.nodes (length p.promised)
+  same_majority {p} e =
       let h : Proposes x.nodes x.id x.acceptor p = subst (IsProposer x.nodes x.id x.acceptor) e u.proposer in
-      bridges.majority_is x.nodes p.promised (subst (λ (n : ℕ). AreCounted n p.promised) h.nodes_are h.once.promises) ∙ ap (λ (n : ℕ). counting.is_majority n (length p.promised)) (sym h.nodes_are)
+      bridges.majority_is (subst (λ (n : ℕ). AreCounted n p.promised) h.nodes_are h.once.promises) ∙ ap (λ (n : ℕ). counting.is_majority n (length p.promised)) (sym h.nodes_are)
 
   -- what its proposer and its being active say
-  rests_with : (p : ProposerValue) (active : Bool) → may_lead p active ≡ false → IsFree (Some p) active → ((active || is_candidate p) ≡ true) × HasGoneOn (Some p) active
-  rests_with p active g free = by active (is_candidate p) p.open_instance free.0 g free.1
+  rests_with : (p : ProposerValue) {active : Bool} → may_lead p active ≡ false → IsFree (Some p) active → ((active || is_candidate p) ≡ true) × HasGoneOn (Some p) active
+  rests_with p {active} g free = by active (is_candidate p) p.open_instance free.0 g free.1
     where
       by : (a c : Bool) (o : Option ℕ) → o ≡ None → (not a && is_none o && not c) ≡ false → (a ≡ true → c ≡ false) → ((a || c) ≡ true) × (c ≡ not (a || is_some o))
       by true c o n e f = (refl, f refl)
@@ -102,36 +102,36 @@ module _ {K : Type 0} (records : K → List (List ℕ)) (gives : K → List ℕ 
       by false false o n e f = absurd (let q : is_none o ≡ true = ap (λ (z : Option ℕ). is_none z) n in let r : (is_none o && true) ≡ false = e in let s : (is_none o && true) ≡ true = ap (λ (t : Bool). t && true) q in cc)
 
   stays : HasGoneOn x.proposer (is_some x.acting) → ((f : Option Failure) → settles (armed_with f (so_far records service past x before)) ≡ armed_with f (so_far records service past x before)) → GoesRound records gives faults service past turns x x before before (Done On)
-  stays gone same = ((leads_same records gives faults service settles (λ d. d) x.keeper (so_far records service past x before) (so_far records service past x before) refl same, kept_so, up), record { id = kept_so.id; few = kept_so.few; up = kept_so.up; reached = kept_so.reached; decoded = kept_so.decoded; rests = λ t. gone })
+  stays gone same = ((leads_same records gives faults service refl same, kept_so, up), record { id = kept_so.id; few = kept_so.few; up = kept_so.up; reached = kept_so.reached; decoded = kept_so.decoded; rests = λ t. gone })
 
   pub round_rests : goes_on x.proposer (is_some x.acting) ≡ false → IsFree x.proposer (is_some x.acting) → GoesRound records gives faults service past turns x x before before (Done On)
   round_rests g free = by x.proposer refl g free
     where
       by : (o : Option ProposerValue) → x.proposer ≡ o → goes_on o (is_some x.acting) ≡ false → IsFree o (is_some x.acting) → GoesRound records gives faults service past turns x x before before (Done On)
       by None e g free = stays (subst (λ (o : Option ProposerValue). HasGoneOn o (is_some x.acting)) (sym e) tt)
-          (λ f. settle_follows x.nodes (service_of service x.seed) x.id turns (armed_with f (so_far records service past x before)) (ap (λ (o : Option ProposerValue). role_of x.acceptor o (is_some x.acting)) e))
+          (λ f. settle_follows x.nodes (service_of service x.seed) x.id turns (ap (λ (o : Option ProposerValue). role_of x.acceptor o (is_some x.acting)) e))
       by (Some p) e g free =
-          let r = rests_with p (is_some x.acting) g free in
+          let r = rests_with p g free in
           stays (subst (λ (o : Option ProposerValue). HasGoneOn o (is_some x.acting)) (sym e) r.1)
-          (λ f. settle_rests x.nodes (service_of service x.seed) x.id turns (armed_with f (so_far records service past x before)) (lead_of x.acceptor p (is_some x.acting)) (ap (λ (o : Option ProposerValue). role_of x.acceptor o (is_some x.acting)) e) (ap (open_of x.acceptor) free.0)
-          (ap (λ (t : Bool). is_some x.acting || not t) (same_majority p e) ∙ r.0))
+          (λ f. settle_rests x.nodes (service_of service x.seed) x.id turns (ap (λ (o : Option ProposerValue). role_of x.acceptor o (is_some x.acting)) e) (ap (open_of x.acceptor) free.0)
+          (ap (λ (t : Bool). is_some x.acting || not t) (same_majority e) ∙ r.0))
 
   -- ---- it is active
 
-  module _ (may : MayGoOn x turns) (goes : goes_on x.proposer (is_some x.acting) ≡ true) (i : ℕ) (next : i ≡ length x.known + 1) (unreported : reported_value x.proposer i ≡ None) (z : NodeValue K) (h : IsActive service x z) (after : Draft)
+  module _ (may : MayGoOn x turns) (goes : goes_on x.proposer (is_some x.acting) ≡ true) {i : ℕ} (next : i ≡ length x.known + 1) (unreported : reported_value x.proposer i ≡ None) {z : NodeValue K} (h : IsActive service x z) (after : Draft)
       (effects : after.effects.items ≡ before.effects.items ++ effect.Active x.id (unwrap_or (option_map (λ (p : ProposerValue). p.ballot) x.proposer) 0) ∷ []) (sends : after.sends.items ≡ before.sends.items) where
-    module _ (p : ProposerValue) (e : x.proposer ≡ Some p) where
+    module _ {p : ProposerValue} (e : x.proposer ≡ Some p) where
       goes_p : may_lead p (is_some x.acting) ≡ true
       goes_p = subst (λ (o : Option ProposerValue). goes_on o (is_some x.acting) ≡ true) e goes
 
       idle : x.acting ≡ None
-      idle = (goes_parts p x.acting goes_p).0
+      idle = (goes_parts p goes_p).0
 
       none : p.open_instance ≡ None
-      none = (goes_parts p x.acting goes_p).1
+      none = (goes_parts p goes_p).1
 
       majority : counting.is_majority p.nodes (length p.promised) ≡ true
-      majority = (goes_parts p x.acting goes_p).2
+      majority = (goes_parts p goes_p).2
 
       proposes : Proposes x.nodes x.id x.acceptor p
       proposes = subst (IsProposer x.nodes x.id x.acceptor) e u.proposer
@@ -165,11 +165,11 @@ module _ {K : Type 0} (records : K → List (List ℕ)) (gives : K → List ℕ 
           omega (arith, m)
 
       -- the model's node is active too
-      activates : (f : Option Failure) → settles (armed_with f (so_far records service past x before)) ≡ activate (service_of service x.seed) x.id l (armed_with f (so_far records service past x before))
-      activates f =
+      activates : {f : Option Failure} → settles (armed_with f (so_far records service past x before)) ≡ activate (service_of service x.seed) x.id l (armed_with f (so_far records service past x before))
+      activates {f} =
           ap (λ (t : ℕ). settle t x.nodes (service_of service x.seed) x.id (armed_with f (so_far records service past x before))) some
-          ∙ turn_chooses x.nodes (service_of service x.seed) x.id (armed_with f (so_far records service past x before)) l (settle (turns - 1) x.nodes (service_of service x.seed) x.id)
-          (ap (λ (o : Option ProposerValue). role_of x.acceptor o (is_some x.acting)) e) (ap (open_of x.acceptor) none) (ap (λ (w : Option ActingValue). is_some w) idle) (same_majority p e ∙ majority)
+          ∙ turn_chooses x.nodes (service_of service x.seed) x.id (armed_with f (so_far records service past x before)) (settle (turns - 1) x.nodes (service_of service x.seed) x.id)
+          (ap (λ (o : Option ProposerValue). role_of x.acceptor o (is_some x.acting)) e) (ap (open_of x.acceptor) none) (ap (λ (w : Option ActingValue). is_some w) idle) (same_majority e ∙ majority)
           ∙ ap (λ (o : Option (Proposal Value)). choose x.nodes (service_of service x.seed) x.id (armed_with f (so_far records service past x before)) l (suc (length (known (so_far records service past x before).node.log))) o (settle (turns - 1) x.nodes (service_of service x.seed) x.id))
           (ap (λ (j : ℕ). best j (map proposal_in p.reported)) place ∙ best_none)
 
@@ -181,9 +181,8 @@ module _ {K : Type 0} (records : K → List (List ℕ)) (gives : K → List ℕ 
 
       comes : (f : Option Failure) → settles (armed_with f (so_far records service past x before)) ≡ armed_with f (so_far records service past z_at after)
       comes f =
-          activates f
-          ∙ call_is (log_of service past (records x.keeper)) (log_of service past (records x.keeper)) x.up f (leading (lead_of x.acceptor p (is_some x.acting)) None [] true) (work_of (Some (fresh x.seed p.ballot h.state told))) (work_of (Some (fresh x.seed p.ballot h.state told)))
-          (length (known (log_of service past (records x.keeper)))) (length x.known) (map (message_in past) before.sends.items) (map (message_in past) after.sends.items) (before.effects.items ++ effect.Active x.id p.ballot ∷ []) after.effects.items
+          activates
+          ∙ call_is
           refl refl (ap (λ (vs : List Value). length vs) (sym u.known)) (ap (map (message_in past)) (sym sends))
           (sym (effects ∙ ap (λ (o : Option ProposerValue). before.effects.items ++ effect.Active x.id (unwrap_or (option_map (λ (q : ProposerValue). q.ballot) o) 0) ∷ []) e))
           ∙ ap (λ (r : Role Value). record (armed_with f (so_far records service past z_at after)) { node = record (armed_with f (so_far records service past z_at after)).node { role = r } }) role_is
@@ -199,15 +198,15 @@ module _ {K : Type 0} (records : K → List (List ℕ)) (gives : K → List ℕ 
         open_is_cut = subst (λ (o : Option ℕ). OpenIsCut service x.known (fresh x.seed p.ballot h.state told) (open_of x.acceptor o)) (sym none) tt;
       }
 
-      lead_same : (k : ℕ) (a b : Bool) → LeadFits k (lead_of x.acceptor p a) → LeadFits k (lead_of x.acceptor p b)
-      lead_same k a b f = record { ballot = f.ballot; reported = f.reported; next = f.next }
+      lead_same : {k : ℕ} {a b : Bool} → LeadFits k (lead_of x.acceptor p a) → LeadFits k (lead_of x.acceptor p b)
+      lead_same f = record { ballot = f.ballot; reported = f.reported; next = f.next }
 
       z_up : IsUp service z_at (here_of records service past z_at)
       z_up =
           let b = beside_of records service past x u in
           let g = logged_of records service past x u in
           up_of records service past z_at
-          (logged_as service x z_at (log_of service past (records x.keeper)) refl refl refl refl refl refl g)
+          (logged_as refl refl refl refl refl refl g)
           (record {
             based = g.few;
             replayed = le_refl (length x.known);
@@ -215,24 +214,24 @@ module _ {K : Type 0} (records : K → List (List ℕ)) (gives : K → List ℕ 
             caught_up = λ _. refl;
             proposer = b.proposer;
             acting = subst (λ (o : Option ProposerValue). IsActing service x.known x.acceptor o (Some (fresh x.seed p.ballot h.state told))) (sym e) acts;
-            stamped = stamped_in x.known h.state.clients h.sound.by.complete.clients;
+            stamped = stamped_in h.sound.by.complete.clients;
             role = subst (λ (o : Option ProposerValue). RoleFits (length x.known) (role_of x.acceptor o true)) (sym e)
-                (lead_same (length x.known) (is_some x.acting) true (subst (λ (o : Option ProposerValue). RoleFits (length x.known) (role_of x.acceptor o (is_some x.acting))) e b.role));
+                (lead_same (subst (λ (o : Option ProposerValue). RoleFits (length x.known) (role_of x.acceptor o (is_some x.acting))) e b.role));
           })
 
       z_reached : HasReached service x.offset x.known (reached_at x.offset x.base (length x.known) h.state)
-      z_reached = now_reached service x.offset x.base x.known (length x.known) h.state (le_refl (length x.known)) (ap (λ (vs : List Value). run service (start_of service) (trace_of vs)) (take_all (length x.known) x.known (le_refl (length x.known))) ∙ h.runs)
+      z_reached = now_reached service x.offset x.base x.known (le_refl (length x.known)) (ap (λ (vs : List Value). run service (start_of service) (trace_of vs)) (take_all (length x.known) x.known (le_refl (length x.known))) ∙ h.runs)
 
       gone : HasGoneOn x.proposer true
       gone = subst (λ (o : Option ProposerValue). HasGoneOn o true) (sym e) (ap not majority)
 
       active_at : GoesRound records gives faults service past turns x z before after (Done On)
       active_at = subst (λ (n : NodeValue K). GoesRound records gives faults service past turns x n before after (Done On)) (sym z_is)
-          ((leads_same records gives faults service settles (λ d. d) x.keeper (so_far records service past x before) (so_far records service past z_at after) refl comes, record { id = kept_so.id; few = kept_so.few; up = λ t. z_up; reached = z_reached; decoded = kept_so.decoded }, up), record { id = kept_so.id; few = kept_so.few; up = λ t. z_up; reached = z_reached; decoded = kept_so.decoded; rests = λ t. gone })
+          ((leads_same records gives faults service refl comes, record { id = kept_so.id; few = kept_so.few; up = λ t. z_up; reached = z_reached; decoded = kept_so.decoded }, up), record { id = kept_so.id; few = kept_so.few; up = λ t. z_up; reached = z_reached; decoded = kept_so.decoded; rests = λ t. gone })
 
     pub round_active : GoesRound records gives faults service past turns x z before after (Done On)
     round_active = by x.proposer refl
       where
         by : (o : Option ProposerValue) → x.proposer ≡ o → GoesRound records gives faults service past turns x z before after (Done On)
         by None e = absurd (let t : false ≡ true = subst (λ (o : Option ProposerValue). goes_on o (is_some x.acting) ≡ true) e goes in cc)
-        by (Some p) e = active_at p e
+        by (Some p) e = active_at e

@@ -49,7 +49,7 @@ use Rattle.rex_node.proofs.Fronts.{front_runs}
 
 -- ---- the state that was replayed
 
-module _ {K : Type 0} (records : K → List (List ℕ)) (service : Declarations) (past : List Value) (x : NodeValue K) (u : IsUp service x (here_of records service past x)) where
+module _ {K : Type 0} (records : K → List (List ℕ)) {service : Declarations} (past : List Value) {x : NodeValue K} (u : IsUp service x (here_of records service past x)) where
   replayed_runs_with : (w : Option ActingValue) → x.acting ≡ w → run service (start_of service) (trace_of (take x.replayed x.known)) ≡ Some (replayed_with w (state_of x))
   replayed_runs_with None e = u.ahead e
   replayed_runs_with (Some a) e =
@@ -73,9 +73,9 @@ front_fits service n vs h =
     and_from _ _ (spelled_first (spells service) n vs q.0) (ap (λ (o : Option StateValue). is_some o) (front_runs service n vs h).1)
 
 -- the state after the first values is within the limits
-pub front_limited : {K : Type 0} (records : K → List (List ℕ)) (service : Declarations) (past : List Value) (x : NodeValue K) → IsUp service x (here_of records service past x) → IsService service → IsChecked service → (n : ℕ) → n ≤ length x.known → (s : StateValue)
+pub front_limited : {K : Type 0} (records : K → List (List ℕ)) {service : Declarations} (past : List Value) {x : NodeValue K} → IsUp service x (here_of records service past x) → IsService service → IsChecked service → {n : ℕ} → n ≤ length x.known → {s : StateValue}
     → run service (start_of service) (trace_of (take n x.known)) ≡ Some s → IsLimited s
-front_limited records service past x u good checked n le s runs =
+front_limited records {service} past {x} u good checked {n} le {s} runs =
     let l = values_limited service (take n x.known) s good checked (front_fits service n x.known u.fits) (omega (arith, le, (logged_of records service past x u).numbers.few, ap length u.known, length-take-le n x.known le)) runs in
     record {
       lanes = All-weaker (λ (lane : Lane). lane.done ≤ 268431360) HasFewEvents (λ lane h. record { few = h }) s.lanes l.lanes;
@@ -85,9 +85,9 @@ front_limited records service past x u good checked n le s runs =
 
 -- ---- refusals
 
-pub refused_none : (up : Bool) (o : Option Refusal) → if_up up o ≡ None → (up ≡ true) × (o ≡ None)
-refused_none true o e = (refl, e)
-refused_none false o e = absurd (cc)
+pub refused_none : (up : Bool) {o : Option Refusal} → if_up up o ≡ None → (up ≡ true) × (o ≡ None)
+refused_none true e = (refl, e)
+refused_none false e = absurd (cc)
 
 -- nothing is due
 record IsFree (h : Here) : Type 0 where
@@ -96,7 +96,7 @@ record IsFree (h : Here) : Type 0 where
   pub idle : nat_lt 0 (length h.work.live) ≡ false
 
 free : (h : Here) → refusal_of_checkpoint h ≡ None → IsFree h
-free h e = by (h.replayed == base h.log) (nat_lt 0 (length h.work.live)) refl refl (refused_none h.up _ e)
+free h e = by (h.replayed == base h.log) (nat_lt 0 (length h.work.live)) refl refl (refused_none h.up e)
   where
     by : (s t : Bool) → (h.replayed == base h.log) ≡ s → nat_lt 0 (length h.work.live) ≡ t
         → (h.up ≡ true) × (◌≡◌ {A = Option Refusal} (if h.replayed == base h.log then Some why.Nothing else if nat_lt 0 (length h.work.live) then Some (why.Live (length h.work.live)) else None) None) → IsFree h
@@ -112,19 +112,19 @@ free h e = by (h.replayed == base h.log) (nat_lt 0 (length h.work.live)) refl re
 
 -- ---- the state is saved
 
-module _ {K : Type 0} (records : K → List (List ℕ)) (service : Declarations) (past : List Value) (x : NodeValue K) (node : IsResting records service past x) (due : refusal_of_checkpoint (here_of records service past x) ≡ None) (s : StateValue) (s_is : s ≡ replayed_state x)
+module _ {K : Type 0} {records : K → List (List ℕ)} {service : Declarations} {past : List Value} {x : NodeValue K} (node : IsResting records service past x) (due : refusal_of_checkpoint (here_of records service past x) ≡ None) {s : StateValue} (s_is : s ≡ replayed_state x)
     (good : IsService service) (checked : IsChecked service) where
   up_now : IsUp service x (here_of records service past x)
   up_now = node.up (free (here_of records service past x) due).up
 
   runs_now : run service (start_of service) (trace_of (take x.replayed x.known)) ≡ Some s
-  runs_now = replayed_runs records service past x up_now ∙ ap Some (sym s_is)
+  runs_now = replayed_runs records past up_now ∙ ap Some (sym s_is)
 
   pub replayed_sound_now : IsSound service s
   replayed_sound_now = run_keeps service (start_of service) s (trace_of (take x.replayed x.known)) good (start_keeps service good checked) runs_now
 
   pub replayed_limited : IsLimited s
-  replayed_limited = front_limited records service past x up_now good checked x.replayed (beside_of records service past x up_now).replayed s runs_now
+  replayed_limited = front_limited records past up_now good checked (beside_of records service past x up_now).replayed runs_now
 
 -- ---- the call
 
@@ -171,13 +171,13 @@ module _ {K : Type 0} (records : K → List (List ℕ)) (gives : K → List ℕ 
       ap (rec_of service past) rec.is ∙ ap (λ (q : Result StateValue ℕ). Checkpoint (version_in rec.snapshot) x.replayed (read_state service q)) rec.spells
       ∙ ap (λ (v : Version). Checkpoint v x.replayed s) rec.version_is
 
-  log_saved : (lists : List (List ℕ)) → lists ≡ records x.keeper ++ record_bytes r ∷ [] → log_of service past lists ≡ said ∷ log
-  log_saved lists e = ap (log_of service past) e ∙ log_then service past (records x.keeper) r spelling is_due ∙ ap (λ (m : Rec Value StateValue). m ∷ log) rec_is
+  log_saved : {lists : List (List ℕ)} → lists ≡ records x.keeper ++ record_bytes r ∷ [] → log_of service past lists ≡ said ∷ log
+  log_saved e = ap (log_of service past) e ∙ log_then service past (records x.keeper) r spelling is_due ∙ ap (λ (m : Rec Value StateValue). m ∷ log) rec_is
 
   state_now : state_after service (trace_of (take x.replayed (known log))) ≡ s
   state_now =
       ap (λ (vs : List Value). state_after service (trace_of (take x.replayed vs))) (sym u.known)
-      ∙ state_is service (trace_of (take x.replayed x.known)) (replayed_state x) (replayed_runs records service past x u) ∙ sym s_is
+      ∙ state_is service (trace_of (take x.replayed x.known)) (replayed_state x) (replayed_runs records past u) ∙ sym s_is
 
   -- the model appends the state
   appends : (g : Option Failure) → call (armed_with g (begin h)) ≡ append g x.id said (armed_with g (begin h)) (say (effect.Checkpointed x.id x.replayed))
@@ -196,7 +196,7 @@ module _ {K : Type 0} (records : K → List (List ℕ)) (gives : K → List ℕ 
     -- it is kept
     module _ (k : Saves records faults gives version x y s (record_bytes r)) (effects : step.effects ≡ effect.Checkpointed x.id x.replayed ∷ []) where
       log_is : log_of service past (records y.keeper) ≡ said ∷ log
-      log_is = log_saved (records y.keeper) k.records_are
+      log_is = log_saved k.records_are
 
       comes : say (effect.Checkpointed x.id x.replayed) (logged said None (begin h)) ≡ call_of records service past y step
       comes =
@@ -221,7 +221,7 @@ module _ {K : Type 0} (records : K → List (List ℕ)) (gives : K → List ℕ 
       z_up =
           let l = logged_of records service past x u in
           let b = beside_of records service past x u in
-          let runs : run service (start_of service) (trace_of (take x.replayed x.known)) ≡ Some s = replayed_runs records service past x u ∙ ap Some (sym s_is) in
+          let runs : run service (start_of service) (trace_of (take x.replayed x.known)) ≡ Some s = replayed_runs records past u ∙ ap Some (sym s_is) in
           up_of records service past (record (rebased version x s) { keeper = y.keeper })
           (subst (IsLogged service (record (rebased version x s) { keeper = y.keeper })) (sym log_is)
           (record {
@@ -248,9 +248,9 @@ module _ {K : Type 0} (records : K → List (List ℕ)) (gives : K → List ℕ 
 
     -- its append failed
     module _ (k : FallsSaving records faults gives x y (record_bytes r)) (effects : step.effects ≡ effect.Down x.id ∷ []) where
-      log_in : (b : Bool) (lists : List (List ℕ)) → lists ≡ failed_records b (records x.keeper) (record_bytes r) → log_of service past lists ≡ (if b then said ∷ log else log)
-      log_in true lists e = log_saved lists e
-      log_in false lists e = ap (log_of service past) e
+      log_in : (b : Bool) {lists : List (List ℕ)} → lists ≡ failed_records b (records x.keeper) (record_bytes r) → log_of service past lists ≡ (if b then said ∷ log else log)
+      log_in true {lists} e = log_saved e
+      log_in false e = ap (log_of service past) e
 
       base_in : (b : Bool) → (if b then x.replayed else x.base) ≡ base (if b then said ∷ log else log)
       base_in true = refl
@@ -261,12 +261,12 @@ module _ {K : Type 0} (records : K → List (List ℕ)) (gives : K → List ℕ 
           ap (λ (ms : List _). call_at (here_of records service past y) (map (message_in past) ms) step.effects) sends
           ∙ ap (λ (es : List Effect). call_at (here_of records service past y) [] es) effects
           ∙ ap (λ (n : NodeValue K). call_at (here_of records service past n) [] (effect.Down x.id ∷ [])) k.parts
-          ∙ ap (λ (l : List (Rec Value StateValue)). call_at (record (here_of records service past (fallen_with k.kept x)) { log = l }) [] (effect.Down x.id ∷ [])) (log_in k.kept (records y.keeper) k.records_are)
+          ∙ ap (λ (l : List (Rec Value StateValue)). call_at (record (here_of records service past (fallen_with k.kept x)) { log = l }) [] (effect.Down x.id ∷ [])) (log_in k.kept k.records_are)
           ∙ ap (λ (b : ℕ). call_at (record (here_of records service past (fallen_with k.kept x)) { log = if k.kept then said ∷ log else log; replayed = b }) [] (effect.Down x.id ∷ [])) (base_in k.kept)
 
       pub fell_does : Does records gives faults service past call x y step
       fell_does =
-          inr (fell_append records gives faults service call (say (effect.Checkpointed x.id x.replayed)) x.id said (begin h) appends x.keeper y.keeper (record_bytes r) stated k.kept k.answer k.records_are k.faults_are (call_of records service past y step) downs).fails
+          inr (fell_append records gives faults service appends x.keeper y.keeper stated k.kept k.answer k.records_are k.faults_are downs).fails
 
       pub fell_down : EndsDown x.id (faults x.keeper) (faults y.keeper) y.up step
       fell_down = record { down = λ l. ap last_of effects; only = λ e. k.faults_are; quiet = λ l. sends; falls = λ l. ap (λ (n : NodeValue K). n.up) k.parts }

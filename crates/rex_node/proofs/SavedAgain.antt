@@ -49,7 +49,7 @@ record IsOld (h : Here) : Type 0 where
   pub old : has_old_base h.log ≡ true
 
 old_there : (h : Here) → refusal_of_migrate h ≡ None → IsOld h
-old_there h e = by (has_old_base h.log) refl (refused_none h.up _ e)
+old_there h e = by (has_old_base h.log) refl (refused_none h.up e)
   where
     by : (b : Bool) → has_old_base h.log ≡ b → (h.up ≡ true) × (◌≡◌ {A = Option Refusal} (if has_old_base h.log then None else Some why.Nothing) None) → IsOld h
     by true a r = record { up = r.0; old = a }
@@ -57,7 +57,7 @@ old_there h e = by (has_old_base h.log) refl (refused_none h.up _ e)
 
 -- ---- the state at the base
 
-module _ {K : Type 0} (records : K → List (List ℕ)) (service : Declarations) (past : List Value) (x : NodeValue K) (node : IsResting records service past x) (due : refusal_of_migrate (here_of records service past x) ≡ None) (good : IsService service) (checked : IsChecked service) where
+module _ {K : Type 0} {records : K → List (List ℕ)} {service : Declarations} {past : List Value} {x : NodeValue K} (node : IsResting records service past x) (due : refusal_of_migrate (here_of records service past x) ≡ None) (good : IsService service) (checked : IsChecked service) where
   up_now : IsUp service x (here_of records service past x)
   up_now = node.up (old_there (here_of records service past x) due).up
 
@@ -65,7 +65,7 @@ module _ {K : Type 0} (records : K → List (List ℕ)) (service : Declarations)
   start_sound = run_keeps service (start_of service) x.start (trace_of (take x.base x.known)) good (start_keeps service good checked) up_now.start
 
   pub start_limited : IsLimited x.start
-  start_limited = front_limited records service past x up_now good checked x.base (logged_of records service past x up_now).few x.start up_now.start
+  start_limited = front_limited records past up_now good checked (logged_of records service past x up_now).few up_now.start
 
 -- ---- the call
 
@@ -113,8 +113,8 @@ module _ {K : Type 0} (records : K → List (List ℕ)) (gives : K → List ℕ 
       ap (rec_of service past) rec.is ∙ ap (λ (q : Result StateValue ℕ). Checkpoint (version_in rec.snapshot) x.base (read_state service q)) rec.spells
       ∙ ap (λ (v : Version). Checkpoint v x.base x.start) rec.version_is
 
-  log_saved : (lists : List (List ℕ)) → lists ≡ records x.keeper ++ record_bytes r ∷ [] → log_of service past lists ≡ said ∷ log
-  log_saved lists e = ap (log_of service past) e ∙ log_then service past (records x.keeper) r spelling is_due ∙ ap (λ (m : Rec Value StateValue). m ∷ log) rec_is
+  log_saved : {lists : List (List ℕ)} → lists ≡ records x.keeper ++ record_bytes r ∷ [] → log_of service past lists ≡ said ∷ log
+  log_saved e = ap (log_of service past) e ∙ log_then service past (records x.keeper) r spelling is_due ∙ ap (λ (m : Rec Value StateValue). m ∷ log) rec_is
 
   state_now : state_after service (trace_of (take x.base (known log))) ≡ x.start
   state_now =
@@ -135,7 +135,7 @@ module _ {K : Type 0} (records : K → List (List ℕ)) (gives : K → List ℕ 
     -- it is kept
     module _ (k : Migrates records faults gives x y (record_bytes r)) (effects : step.effects ≡ effect.Migrated x.id x.base ∷ []) where
       log_is : log_of service past (records y.keeper) ≡ said ∷ log
-      log_is = log_saved (records y.keeper) k.records_are
+      log_is = log_saved k.records_are
 
       comes : say (effect.Migrated x.id x.base) (logged said None (begin h)) ≡ call_of records service past y step
       comes =
@@ -197,9 +197,9 @@ module _ {K : Type 0} (records : K → List (List ℕ)) (gives : K → List ℕ 
 
     -- its append failed
     module _ (k : Falls records faults gives x y (record_bytes r)) (effects : step.effects ≡ effect.Down x.id ∷ []) where
-      log_in : (b : Bool) (lists : List (List ℕ)) → lists ≡ failed_records b (records x.keeper) (record_bytes r) → log_of service past lists ≡ (if b then said ∷ log else log)
-      log_in true lists e = log_saved lists e
-      log_in false lists e = ap (log_of service past) e
+      log_in : (b : Bool) {lists : List (List ℕ)} → lists ≡ failed_records b (records x.keeper) (record_bytes r) → log_of service past lists ≡ (if b then said ∷ log else log)
+      log_in true {lists} e = log_saved e
+      log_in false e = ap (log_of service past) e
 
       base_in : (b : Bool) → x.base ≡ base (if b then said ∷ log else log)
       base_in true = refl
@@ -210,12 +210,12 @@ module _ {K : Type 0} (records : K → List (List ℕ)) (gives : K → List ℕ 
           ap (λ (ms : List _). call_at (here_of records service past y) (map (message_in past) ms) step.effects) sends
           ∙ ap (λ (es : List Effect). call_at (here_of records service past y) [] es) effects
           ∙ ap (λ (n : NodeValue K). call_at (here_of records service past n) [] (effect.Down x.id ∷ [])) k.parts
-          ∙ ap (λ (l : List (Rec Value StateValue)). call_at (record (here_of records service past (fallen x)) { log = l }) [] (effect.Down x.id ∷ [])) (log_in k.kept (records y.keeper) k.records)
+          ∙ ap (λ (l : List (Rec Value StateValue)). call_at (record (here_of records service past (fallen x)) { log = l }) [] (effect.Down x.id ∷ [])) (log_in k.kept k.records)
           ∙ ap (λ (b : ℕ). call_at (record (here_of records service past (fallen x)) { log = if k.kept then said ∷ log else log; replayed = b }) [] (effect.Down x.id ∷ [])) (base_in k.kept)
 
       pub fell_does : Does records gives faults service past call x y step
       fell_does =
-          inr (fell_append records gives faults service call (say (effect.Migrated x.id x.base)) x.id said (begin h) appends x.keeper y.keeper (record_bytes r) stated k.kept k.answer k.records k.faults (call_of records service past y step) downs).fails
+          inr (fell_append records gives faults service appends x.keeper y.keeper stated k.kept k.answer k.records k.faults downs).fails
 
       pub fell_down : EndsDown x.id (faults x.keeper) (faults y.keeper) y.up step
       fell_down = record { down = λ l. ap last_of effects; only = λ e. k.faults; quiet = λ l. sends; falls = λ l. ap (λ (n : NodeValue K). n.up) k.parts }

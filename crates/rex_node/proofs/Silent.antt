@@ -12,22 +12,22 @@ use Rattle.rex_gate.specs.Numbers.{is_reply_to, replies_to}
 use Rattle.rex_cluster.specs.Values.{Value, events_of, read_delta}
 
 -- a kind that is told to reply to the client does
-told : (client : ℕ) (kind : Kind) → is_reply_to client kind ≡ true → (value : ℤ) × (kind ≡ Reply client value)
-told client (Reply c value) t = (value, ap (λ (n : ℕ). Reply n value) (eqb-true c client t))
-told client _ t = absurd (false≢true t)
+told : {client : ℕ} (kind : Kind) → is_reply_to client kind ≡ true → (value : ℤ) × (kind ≡ Reply client value)
+told {client} (Reply c value) t = (value, ap (λ (n : ℕ). Reply n value) (eqb-true c client t))
+told _ t = absurd (false≢true t)
 
-not_told : (client : ℕ) (kind : Kind) (b : Bool) → is_reply_to client kind ≡ b → ((value : ℤ) → kind ≡ Reply client value → ⊥) → b ≡ false
-not_told client kind true t h = let r = told client kind t in absurd (h r.0 r.1)
-not_told client kind false t h = refl
+not_told : {client : ℕ} {kind : Kind} (b : Bool) → is_reply_to client kind ≡ b → ((value : ℤ) → kind ≡ Reply client value → ⊥) → b ≡ false
+not_told {client} {kind} true t h = let r = told kind t in absurd (h r.0 r.1)
+not_told false t h = refl
 
-events_silent : (client : ℕ) (es : List Event) → RepliesToNone client es → replies_to client es ≡ false
-events_silent client [] h = refl
-events_silent client (e ∷ es) h =
-    rw (not_told client e.kind (is_reply_to client e.kind) refl (h e (inl refl))) (events_silent client es (λ f has. h f (inr has)))
+events_silent : {client : ℕ} (es : List Event) → RepliesToNone client es → replies_to client es ≡ false
+events_silent [] h = refl
+events_silent {client} (e ∷ es) h =
+    rw (not_told (is_reply_to client e.kind) refl (h e (inl refl))) (events_silent es (λ f has. h f (inr has)))
 
-pub value_silent : (client : ℕ) (value : Value) → ((d : Delta) → delta_in value ≡ Ok d → RepliesToNone client d.events) → replies_to client (events_of value) ≡ false
-value_silent client value h = by (delta_in value) refl
+pub value_silent : {client : ℕ} (value : Value) → ((d : Delta) → delta_in value ≡ Ok d → RepliesToNone client d.events) → replies_to client (events_of value) ≡ false
+value_silent {client} value h = by (delta_in value) refl
   where
     by : (r : Result Delta ℕ) → delta_in value ≡ r → replies_to client (read_delta r).events ≡ false
-    by (Ok d) is = events_silent client d.events (h d is)
+    by (Ok d) is = events_silent d.events (h d is)
     by (Err at) is = refl

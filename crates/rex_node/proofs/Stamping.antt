@@ -55,14 +55,14 @@ last_append client n (u ∷ us) vs =
 
 -- ---- one value more
 
-module _ (values : List Value) (a : AnswersValue) (h : NumbersReplies values a) (few : length values < 65535) (v : Value) where
+module _ {values : List Value} {a : AnswersValue} (h : NumbersReplies values a) (few : length values < 65535) (v : Value) where
   next : next_number a.count ≡ suc (length values)
   next = ap next_number h.count ∙ ap (λ (t : Bool). cond t (suc (length values)) (length values)) (lt-ltb (length values) 4294967295 (omega (arith, few)))
 
-  stamp_next : (client : ℕ) → client ≤ 256 → (t : Bool) → 0 < unwrap_or (cond t (Some (suc (length values))) (stamp_of a client)) 0
+  stamp_next : {client : ℕ} → client ≤ 256 → (t : Bool) → 0 < unwrap_or (cond t (Some (suc (length values))) (stamp_of a client)) 0
       → unwrap_or (cond t (Some (suc (length values))) (stamp_of a client)) 0 ≡ max (last_reply client 1 values) (cond t (1 + length values) 0)
-  stamp_next client l true some = let m = last_most client 0 values in omega (arith, m)
-  stamp_next client l false some = let s = h.stamps client l some in omega (arith, s)
+  stamp_next {client} l true some = let m = last_most client 0 values in omega (arith, m)
+  stamp_next {client} l false some = let s = h.stamps client l some in omega (arith, s)
 
   pub noted_next : NumbersReplies (values ++ v ∷ []) (noting a (events_of v))
   noted_next = record {
@@ -70,7 +70,7 @@ module _ (values : List Value) (a : AnswersValue) (h : NumbersReplies values a) 
     count = next ∙ sym (length_push values v);
     stamps = λ client l some.
         ap (λ (o : Option ℕ). unwrap_or o 0) (told client l)
-        ∙ stamp_next client l (replies_to client (events_of v)) (subst (λ (o : Option ℕ). 0 < unwrap_or o 0) (told client l) some)
+        ∙ stamp_next l (replies_to client (events_of v)) (subst (λ (o : Option ℕ). 0 < unwrap_or o 0) (told client l) some)
         ∙ sym (last_push client 1 values v);
   }
     where
@@ -82,8 +82,8 @@ module _ (values : List Value) (a : AnswersValue) (h : NumbersReplies values a) 
 -- ---- a node that is active from here on
 
 -- a state says of no reply in which value it is
-pub stamped_in : (values : List Value) (clients : List Entry) → length clients ≡ 257 → NumbersReplies values (answers_at clients (length values))
-stamped_in values clients many = record {
+pub stamped_in : {values : List Value} {clients : List Entry} → length clients ≡ 257 → NumbersReplies values (answers_at clients (length values))
+stamped_in {values} {clients} many = record {
   clients = state_long clients ∙ many;
   count = refl;
   stamps = λ client l some. absurd (none client l some);
@@ -101,8 +101,8 @@ stamped_in values clients many = record {
 -- ---- the values that are held
 
 -- where the values that aren't held are no more than the offset it doesn't matter which of them has a reply
-pub held_last : (offset : ℕ) (values : List Value) (client : ℕ) → offset ≤ length values → last_held offset (drop offset values) client ≡ max (last_reply client 1 values) offset
-held_last offset values client low =
+pub held_last : {offset : ℕ} (values : List Value) (client : ℕ) → offset ≤ length values → last_held offset (drop offset values) client ≡ max (last_reply client 1 values) offset
+held_last {offset} values client low =
     let long : length (take offset values) ≡ offset = length-take-le offset values low in
     let most = last_most client 0 (take offset values) in
     let parts : last_reply client 1 values ≡ max (last_reply client 1 (take offset values)) (last_reply client (suc offset) (drop offset values)) =
@@ -128,8 +128,8 @@ rest_silent : (client offset : ℕ) (values : List Value) (i : ℕ) → IsSilent
 rest_silent client offset values i silent = ap (λ (k : ℕ). last_reply client k (drop (suc i) values)) (let m : suc (suc offset + i) ≡ suc offset + suc i = omega arith in m) ∙ silent
 
 -- the last one that replies
-pub found_last : (client offset : ℕ) (values : List Value) (i : ℕ) (d : Value) → i < length values → replies_to client (events_of (slice_index_or values i d)) ≡ true → IsSilent client offset values (suc i) → suc (offset + i) ≡ last_held offset values client
-found_last client offset values i d l some silent =
+pub found_last : (client offset : ℕ) (values : List Value) {i : ℕ} (d : Value) → i < length values → replies_to client (events_of (slice_index_or values i d)) ≡ true → IsSilent client offset values (suc i) → suc (offset + i) ≡ last_held offset values client
+found_last client offset values {i} d l some silent =
     let before : length (take i values) ≡ i = length-take-le i values (omega (arith, l)) in
     let most = last_most client offset (take i values) in
     let rest : last_reply client (suc (suc offset + i)) (drop (suc i) values) ≡ 0 = rest_silent client offset values i silent in

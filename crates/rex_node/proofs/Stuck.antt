@@ -31,15 +31,15 @@ module _ {V S : Type 0} (n : ℕ) (sv : Service V S) (me : ℕ) where
   if_keeps true d e f h k = h
   if_keeps false d e f h k = k
 
-  lost : (d : Call V S) (armed : Option Failure) → armed ≡ Some (After 0 false) → (r : Rec V S) (k : Call V S → Call V S) → Keeps d (append armed me r d k)
-  lost d armed e r k = ap (λ (o : Option Failure). (append o me r d k).node.log) e
+  lost : (d : Call V S) {armed : Option Failure} → armed ≡ Some (After 0 false) → (r : Rec V S) (k : Call V S → Call V S) → Keeps d (append armed me r d k)
+  lost d e r k = ap (λ (o : Option Failure). (append o me r d k).node.log) e
 
   choose_loses : (d : Call V S) → d.node.armed ≡ Some (After 0 false) → (l : Lead V) (i : ℕ) (o : Option (Proposal V)) (k : Call V S → Call V S) → Keeps d (choose n sv me d l i o k)
   choose_loses d e l i None k = refl
-  choose_loses d e l i (Some p) k = lost d d.node.armed e (Accepted l.ballot i p.value) _
+  choose_loses d e l i (Some p) k = lost d e (Accepted l.ballot i p.value) _
 
   lead_loses : (d : Call V S) → d.node.armed ≡ Some (After 0 false) → (l : Lead V) (o : Option (Proposal V)) (k : Call V S → Call V S) → Keeps d (lead n sv me d l o k)
-  lead_loses d e l (Some p) k = if_keeps (is_majority n l.accepted_by) d (decide n sv me d l p.instance p.value k) d (lost d d.node.armed e (Known p.instance p.value) _) refl
+  lead_loses d e l (Some p) k = if_keeps (is_majority n l.accepted_by) d (decide n sv me d l p.instance p.value k) d (lost d e (Known p.instance p.value) _) refl
   lead_loses d e l None k =
       if_keeps l.active d d (cond (is_majority n l.counted) (choose n sv me d l (suc (length (known d.node.log))) (best (suc (length (known d.node.log))) l.reported) k) d) refl
       (if_keeps (is_majority n l.counted) d (choose n sv me d l (suc (length (known d.node.log))) (best (suc (length (known d.node.log))) l.reported) k) d (choose_loses d e l (suc (length (known d.node.log))) (best (suc (length (known d.node.log))) l.reported) k) refl)
@@ -60,8 +60,8 @@ settle_loses f n me sv d = settle_keeps n sv me f (armed_with (Some (After 0 fal
 
 module _ {K : Type 0} (records : K → List (List ℕ)) (gives : K → List ℕ → Answer → K → Type 0) (faults : K → ℕ) (service : Declarations) where
   -- the rest of it has stopped short after appends
-  pub stops_later : (whole rest : CallHere → CallHere) (a b c : K) (d e : CallHere) (log : List (Rec Value StateValue)) → LeadsOn records gives faults service whole rest a b d e → StopsShort records gives faults service rest b c e log → StopsShort records gives faults service whole a c d log
-  stops_later whole rest a b c d e log h k = record {
+  pub stops_later : {whole rest : CallHere → CallHere} {a b c : K} {d e : CallHere} {log : List (Rec Value StateValue)} → LeadsOn records gives faults service whole rest a b d e → StopsShort records gives faults service rest b c e log → StopsShort records gives faults service whole a c d log
+  stops_later {whole} {a} {b} {d} {e} {log} h k = record {
     written = h.written ++ k.written;
     some = omega (arith, k.some, length-append h.written k.written);
     between = k.between;
@@ -70,14 +70,14 @@ module _ {K : Type 0} (records : K → List (List ℕ)) (gives : K → List ℕ 
     short = k.short;
     counted = k.counted ∙ h.counted;
     stated = stated_both service h.written k.written h.stated k.stated;
-    many = both h.written k.written (length d.node.log) (length e.node.log) (length log) h.many k.many;
-    is = ap (λ (f : Option Failure). (whole (armed_with f d)).node.log) (sym (later_count h.written k.written false)) ∙ ap (λ (f : CallHere). f.node.log) (h.comes (Some (After (length k.written) false))) ∙ k.is;
+    many = both h.written k.written (length d.node.log) h.many k.many;
+    is = ap (λ (f : Option Failure). (whole (armed_with f d)).node.log) (sym (later_count h.written k.written)) ∙ ap (λ (f : CallHere). f.node.log) (h.comes (Some (After (length k.written) false))) ∙ k.is;
   }
 
   -- memory was short once more records were there
-  pub stops_here : (whole rest : CallHere → CallHere) (a b c : K) (d e : CallHere) (log : List (Rec Value StateValue)) → LeadsOn records gives faults service whole rest a b d e → length (records a) < length (records b) → LosesFirst rest
+  pub stops_here : {whole rest : CallHere → CallHere} {a b c : K} {d e : CallHere} {log : List (Rec Value StateValue)} → LeadsOn records gives faults service whole rest a b d e → length (records a) < length (records b) → LosesFirst rest
       → records c ≡ records b → faults c ≡ faults b → RunsShort gives b c → log ≡ e.node.log → StopsShort records gives faults service whole a c d log
-  stops_here whole rest a b c d e log h longer loses same counted short log_is = record {
+  stops_here {whole} {a} {b} {d} {e} h longer loses same counted short log_is = record {
     written = h.written;
     some = omega (arith, longer, ap length h.grown, length-append (records a) h.written);
     between = b;
@@ -91,14 +91,14 @@ module _ {K : Type 0} (records : K → List (List ℕ)) (gives : K → List ℕ 
   }
     where
       last : (written : List (List ℕ)) → later written (Some (After 0 false)) ≡ Some (After (length written) false)
-      last written = later_count written [] false ∙ ap (λ (l : List (List ℕ)). Some (After (length l) false)) (append-nil written)
+      last written = later_count written [] ∙ ap (λ (l : List (List ℕ)). Some (After (length l) false)) (append-nil written)
 
-module _ {K : Type 0} (records : K → List (List ℕ)) (gives : K → List ℕ → Answer → K → Type 0) (faults : K → ℕ) (service : Declarations) (past : List Value) (whole rest : CallHere → CallHere) (x y z : NodeValue K) (before mid : Draft)
+module _ {K : Type 0} {records : K → List (List ℕ)} {gives : K → List ℕ → Answer → K → Type 0} {faults : K → ℕ} {service : Declarations} {past : List Value} {whole rest : CallHere → CallHere} {x : NodeValue K} (y z : NodeValue K) {before : Draft} (mid : Draft)
     (leads : LeadsOn records gives faults service whole rest x.keeper y.keeper (so_far records service past x before) (so_far records service past y mid)) where
   -- the rest of it has broken off
   pub breaks_later : BreaksOff records gives faults service past rest y z mid → BreaksOff records gives faults service past whole x z before
   breaks_later h = record {
-    stops = stops_later records gives faults service whole rest x.keeper y.keeper z.keeper (so_far records service past x before) (so_far records service past y mid) (log_of service past (records z.keeper)) leads h.stops;
+    stops = stops_later records gives faults service leads h.stops;
     based = h.based;
   }
 
@@ -106,7 +106,7 @@ module _ {K : Type 0} (records : K → List (List ℕ)) (gives : K → List ℕ 
   pub breaks_here : length (records x.keeper) < length (records y.keeper) → z.base ≡ base (log_of service past (records z.keeper)) → LosesFirst rest → records z.keeper ≡ records y.keeper → faults z.keeper ≡ faults y.keeper → RunsShort gives y.keeper z.keeper
       → BreaksOff records gives faults service past whole x z before
   breaks_here longer based loses same counted short = record {
-    stops = stops_here records gives faults service whole rest x.keeper y.keeper z.keeper (so_far records service past x before) (so_far records service past y mid) (log_of service past (records z.keeper)) leads longer loses same counted short (ap (log_of service past) same);
+    stops = stops_here records gives faults service leads longer loses same counted short (ap (log_of service past) same);
     based = based;
   }
 
@@ -116,19 +116,19 @@ module _ {K : Type 0} (records : K → List (List ℕ)) (gives : K → List ℕ 
   breaks_after longer based loses (inr b) = breaks_later b
 
 -- a call that is the same breaks off where this one does
-pub breaks_as : {K : Type 0} (records : K → List (List ℕ)) (gives : K → List ℕ → Answer → K → Type 0) (faults : K → ℕ) (service : Declarations) (past : List Value) (whole same : CallHere → CallHere) (x z : NodeValue K) (before : Draft)
+pub breaks_as : {K : Type 0} {records : K → List (List ℕ)} {gives : K → List ℕ → Answer → K → Type 0} {faults : K → ℕ} {service : Declarations} {past : List Value} {whole same : CallHere → CallHere} {x z : NodeValue K} {before : Draft}
     → ((f : Option Failure) → whole (armed_with f (so_far records service past x before)) ≡ same (armed_with f (so_far records service past x before))) → BreaksOff records gives faults service past same x z before → BreaksOff records gives faults service past whole x z before
-breaks_as records gives faults service past whole same x z before e h =
-    breaks_later records gives faults service past whole same x x z before before (leads_same records gives faults service whole same x.keeper (so_far records service past x before) (so_far records service past x before) refl e) h
+breaks_as {records} {gives} {faults} {service} {past} {whole} {same} {x} {z} {before} e h =
+    breaks_later x z before (leads_same records gives faults service refl e) h
 
 -- a node with the same keeper and base has broken off too
-pub breaks_kept : {K : Type 0} (records : K → List (List ℕ)) (gives : K → List ℕ → Answer → K → Type 0) (faults : K → ℕ) (service : Declarations) (past : List Value) (whole : CallHere → CallHere) (x y z : NodeValue K) (before : Draft)
+pub breaks_kept : {K : Type 0} {records : K → List (List ℕ)} {gives : K → List ℕ → Answer → K → Type 0} {faults : K → ℕ} {service : Declarations} {past : List Value} {whole : CallHere → CallHere} {x y z : NodeValue K} {before : Draft}
     → z.keeper ≡ y.keeper → z.base ≡ y.base → BreaksOff records gives faults service past whole x y before → BreaksOff records gives faults service past whole x z before
-breaks_kept records gives faults service past whole x y z before keeper based h = record {
+breaks_kept {records} {gives} {faults} {service} {past} {whole} {x} {before} keeper based h = record {
   stops = subst (λ (k : _). StopsShort records gives faults service whole x.keeper k (so_far records service past x before) (log_of service past (records k))) (sym keeper) h.stops;
   based = based ∙ h.based ∙ ap (λ (k : _). base (log_of service past (records k))) (sym keeper);
 }
 
 -- nothing has changed
-pub stands_same : {K : Type 0} (records : K → List (List ℕ)) (gives : K → List ℕ → Answer → K → Type 0) (faults : K → ℕ) (x : NodeValue K) → Stands records faults gives x x
-stands_same records gives faults x = record { parts = refl; records = refl; faults = refl; short = inl refl }
+pub stands_same : {K : Type 0} {records : K → List (List ℕ)} {gives : K → List ℕ → Answer → K → Type 0} {faults : K → ℕ} {x : NodeValue K} → Stands records faults gives x x
+stands_same {records} {faults} = record { parts = refl; records = refl; faults = refl; short = inl refl }

@@ -34,13 +34,13 @@ module _ {K : Type 0} (records : K → List (List ℕ)) (gives : K → List ℕ 
     pub count : faults y.keeper < 2 ^ 64 - 1
     pub moved : (y ≡ x) ⊎ (length (records x.keeper) < length (records y.keeper))
 
-  pub settles_as : (x y : NodeValue K) (turns : ℕ) → IsSame x y → settles y turns ≡ settles x turns
-  settles_as x y turns h =
+  pub settles_as : {x y : NodeValue K} (turns : ℕ) → IsSame x y → settles y turns ≡ settles x turns
+  settles_as {x} {y} turns h =
       ap (λ (n : ℕ). settle turns n (service_of service y.seed) y.id) h.nodes ∙ ap (λ (n : ℕ). settle turns x.nodes (service_of service n) y.id) h.seed ∙ ap (λ (n : ℕ). settle turns x.nodes (service_of service x.seed) n) h.id
 
-  pub gone_none : (turns : ℕ) (x : NodeValue K) (before : Draft) → IsKept records service past x → x.up ≡ true → IsFree x.proposer (is_some x.acting) → MayGoOn x turns → RunsOn service (settles x turns) (so_far records service past x before) → faults x.keeper < 2 ^ 64 - 1 → GoneOn turns turns x x before before
-  gone_none turns x before kept up free may runs count = record {
-    comes = (leads_same records gives faults service (settles x turns) (settles x turns) x.keeper (so_far records service past x before) (so_far records service past x before) refl (λ f. refl), kept, up);
+  pub gone_none : {turns : ℕ} {x : NodeValue K} {before : Draft} → IsKept records service past x → x.up ≡ true → IsFree x.proposer (is_some x.acting) → MayGoOn x turns → RunsOn service (settles x turns) (so_far records service past x before) → faults x.keeper < 2 ^ 64 - 1 → GoneOn turns turns x x before before
+  gone_none {turns} {x} {before} kept up free may runs count = record {
+    comes = (leads_same records gives faults service refl (λ f. refl), kept, up);
     same = record { id = refl; nodes = refl; seed = refl; decoded = refl };
     free = free;
     may = may;
@@ -49,20 +49,20 @@ module _ {K : Type 0} (records : K → List (List ℕ)) (gives : K → List ℕ 
     moved = inl refl;
   }
 
-  module _ (turns left : ℕ) (x y : NodeValue K) (before mid : Draft) (h : GoneOn turns left x y before mid) (z : NodeValue K) (after : Draft) (same : IsSame y z) where
+  module _ {turns left : ℕ} {x y : NodeValue K} {before mid : Draft} (h : GoneOn turns left x y before mid) {z : NodeValue K} (after : Draft) (same : IsSame y z) where
     -- the part of a round, as the first node's
-    first_leads : (rest : CallHere → CallHere) → Leads records gives faults service (settles y left) rest y.keeper z.keeper (so_far records service past y mid) (so_far records service past z after) → Leads records gives faults service (settles x turns) rest x.keeper z.keeper (so_far records service past x before) (so_far records service past z after)
-    first_leads rest k =
-        leads_then records gives faults service (settles x turns) (settles x left) rest x.keeper y.keeper z.keeper (so_far records service past x before) (so_far records service past y mid) (so_far records service past z after) h.comes.0
-        (subst (λ (whole : CallHere → CallHere). Leads records gives faults service whole rest y.keeper z.keeper (so_far records service past y mid) (so_far records service past z after)) (settles_as x y left h.same) k)
+    first_leads : {rest : CallHere → CallHere} → Leads records gives faults service (settles y left) rest y.keeper z.keeper (so_far records service past y mid) (so_far records service past z after) → Leads records gives faults service (settles x turns) rest x.keeper z.keeper (so_far records service past x before) (so_far records service past z after)
+    first_leads {rest} k =
+        leads_then records gives faults service h.comes.0
+        (subst (λ (whole : CallHere → CallHere). Leads records gives faults service whole rest y.keeper z.keeper (so_far records service past y mid) (so_far records service past z after)) (settles_as left h.same) k)
 
     pub gone_again : GoesRound records gives faults service past left y z mid after Again → GoneOn turns (left - 2) x z before after
     gone_again k = record {
-      comes = (first_leads (settles x (left - 2)) (subst (λ (rest : CallHere → CallHere). Leads records gives faults service (settles y left) rest y.keeper z.keeper (so_far records service past y mid) (so_far records service past z after)) (settles_as x y (left - 2) h.same) k.0.0), k.0.1, k.0.2);
-      same = same_then x y z h.same same;
+      comes = (first_leads (subst (λ (rest : CallHere → CallHere). Leads records gives faults service (settles y left) rest y.keeper z.keeper (so_far records service past y mid) (so_far records service past z after)) (settles_as (left - 2) h.same) k.0.0), k.0.1, k.0.2);
+      same = same_then h.same same;
       free = k.2;
       may = k.1;
-      runs = subst (λ (rest : CallHere → CallHere). RunsOn service rest (so_far records service past z after)) (sym (settles_as y z (left - 2) same)) (rest_runs records gives faults service past (settles y left) (settles y (left - 2)) y z mid after k.0.0 h.runs);
+      runs = subst (λ (rest : CallHere → CallHere). RunsOn service rest (so_far records service past z after)) (sym (settles_as (left - 2) same)) (rest_runs past y z mid after k.0.0 h.runs);
       count = subst (λ (n : ℕ). n < 2 ^ 64 - 1) (sym k.0.0.counted) h.count;
       moved = inr (longer h.moved k.4);
     }
@@ -72,11 +72,11 @@ module _ {K : Type 0} (records : K → List (List ℕ)) (gives : K → List ℕ 
         longer (inr m) l = omega (arith, m, l)
 
     pub gone_done : (going : Going) → GoesRound records gives faults service past left y z mid after (Done going) → Ends records gives faults service past (settles x turns) x z before after going
-    gone_done On k = ((first_leads (λ d. d) k.0.0, k.0.1, k.0.2), k.1)
+    gone_done On k = ((first_leads k.0.0, k.0.1, k.0.2), k.1)
     gone_done Down k = (
       (
-        leads_fell records gives faults service (settles x turns) (settles x left) x.id x.keeper y.keeper z.keeper (so_far records service past x before) (so_far records service past y mid) (so_far records service past z after) h.comes.0
-            (subst (λ (whole : CallHere → CallHere). Fell records gives faults service whole x.id y.keeper z.keeper (so_far records service past y mid) (so_far records service past z after)) (settles_as x y left h.same)
+        leads_fell records gives faults service h.comes.0
+            (subst (λ (whole : CallHere → CallHere). Fell records gives faults service whole x.id y.keeper z.keeper (so_far records service past y mid) (so_far records service past z after)) (settles_as left h.same)
             (subst (λ (n : ℕ). Fell records gives faults service (settles y left) n y.keeper z.keeper (so_far records service past y mid) (so_far records service past z after)) h.same.id k.0.0)),
         k.0.1,
       ),
@@ -84,21 +84,21 @@ module _ {K : Type 0} (records : K → List (List ℕ)) (gives : K → List ℕ 
     )
 
     pub gone_stuck : IsStuck records gives faults service past (settles y left) y z mid → IsStuck records gives faults service past (settles x turns) x z before
-    gone_stuck k = by h.moved (subst (λ (whole : CallHere → CallHere). IsStuck records gives faults service past whole y z mid) (settles_as x y left h.same) k)
+    gone_stuck k = by h.moved (subst (λ (whole : CallHere → CallHere). IsStuck records gives faults service past whole y z mid) (settles_as left h.same) k)
       where
         by : (y ≡ x) ⊎ (length (records x.keeper) < length (records y.keeper)) → IsStuck records gives faults service past (settles x left) y z mid → IsStuck records gives faults service past (settles x turns) x z before
         by (inl e) (inl s) = inl (subst (λ (n : NodeValue K). Stands records faults gives n z) e s)
-        by (inl e) (inr b) = inr (breaks_later records gives faults service past (settles x turns) (settles x left) x y z before mid h.comes.0 b)
-        by (inr longer) s = inr (breaks_after records gives faults service past (settles x turns) (settles x left) x y z before mid h.comes.0 longer (h.comes.1.up h.comes.2).base (settle_loses left x.nodes x.id (service_of service x.seed)) s)
+        by (inl e) (inr b) = inr (breaks_later y z mid h.comes.0 b)
+        by (inr longer) s = inr (breaks_after y z mid h.comes.0 longer (h.comes.1.up h.comes.2).base (settle_loses left x.nodes x.id (service_of service x.seed)) s)
 
 -- a call that has come so far ends as the rest of it does
-pub ends_then : {K : Type 0} (records : K → List (List ℕ)) (gives : K → List ℕ → Answer → K → Type 0) (faults : K → ℕ) (service : Declarations) (past : List Value) (whole middle : CallHere → CallHere) (x y z : NodeValue K) (before mid after : Draft) (going : Going) → y.id ≡ x.id
+pub ends_then : {K : Type 0} {records : K → List (List ℕ)} {gives : K → List ℕ → Answer → K → Type 0} {faults : K → ℕ} {service : Declarations} {past : List Value} {whole middle : CallHere → CallHere} (x y : NodeValue K) {z : NodeValue K} (before mid after : Draft) (going : Going) → y.id ≡ x.id
     → Leads records gives faults service whole middle x.keeper y.keeper (so_far records service past x before) (so_far records service past y mid) → Ends records gives faults service past middle y z mid after going → Ends records gives faults service past whole x z before after going
-ends_then records gives faults service past whole middle x y z before mid after On same h k =
-    ((leads_then records gives faults service whole middle (λ d. d) x.keeper y.keeper z.keeper (so_far records service past x before) (so_far records service past y mid) (so_far records service past z after) h k.0.0, k.0.1, k.0.2), k.1)
-ends_then records gives faults service past whole middle x y z before mid after Down same h k = (
+ends_then {records} {gives} {faults} {service} {past} {whole} {middle} x y {z} before mid after On same h k =
+    ((leads_then records gives faults service h k.0.0, k.0.1, k.0.2), k.1)
+ends_then {records} {gives} {faults} {service} {past} {whole} {middle} x y {z} before mid after Down same h k = (
   (
-    leads_fell records gives faults service whole middle x.id x.keeper y.keeper z.keeper (so_far records service past x before) (so_far records service past y mid) (so_far records service past z after) h
+    leads_fell records gives faults service h
         (subst (λ (n : ℕ). Fell records gives faults service middle n y.keeper z.keeper (so_far records service past y mid) (so_far records service past z after)) same k.0.0),
     k.0.1,
   ),
@@ -106,5 +106,5 @@ ends_then records gives faults service past whole middle x y z before mid after 
 )
 
 -- a round's end, as it was named
-pub round_as : {K : Type 0} (records : K → List (List ℕ)) (gives : K → List ℕ → Answer → K → Type 0) (faults : K → ℕ) (service : Declarations) (past : List Value) (left : ℕ) (y z : NodeValue K) (mid after : Draft) (r s : Round) → r ≡ s → GoesRound records gives faults service past left y z mid after r → GoesRound records gives faults service past left y z mid after s
-round_as records gives faults service past left y z mid after r s e h = subst (λ (t : Round). GoesRound records gives faults service past left y z mid after t) e h
+pub round_as : {K : Type 0} (records : K → List (List ℕ)) (gives : K → List ℕ → Answer → K → Type 0) (faults : K → ℕ) (service : Declarations) (past : List Value) (left : ℕ) (y z : NodeValue K) (mid after : Draft) {r s : Round} → r ≡ s → GoesRound records gives faults service past left y z mid after r → GoesRound records gives faults service past left y z mid after s
+round_as records gives faults service past left y z mid after e h = subst (λ (t : Round). GoesRound records gives faults service past left y z mid after t) e h

@@ -58,36 +58,36 @@ module _ {V S : Type 0} (n : ℕ) (sv : Service V S) (me from : ℕ) (l : Lead V
   outcome (vote.Ignored w) d = say (told_of w) d
 
 -- what was found is for the instance
-pub found_instance : (i : ℕ) (ps : List Kept) (q : Kept) → proposal_for i ps ≡ Some q → q.instance ≡ i
-found_instance i [] q e = absurd (cc)
-found_instance i (p ∷ ps) q e = by (eqb p.instance i) refl e (found_instance i ps q)
+pub found_instance : {i : ℕ} (ps : List Kept) {q : Kept} → proposal_for i ps ≡ Some q → q.instance ≡ i
+found_instance [] e = absurd (cc)
+found_instance {i} (p ∷ ps) {q} e = by (eqb p.instance i) refl e (found_instance ps {q = q})
   where
     by : (t : Bool) → eqb p.instance i ≡ t → cond t (Some p) (proposal_for i ps) ≡ Some q → (proposal_for i ps ≡ Some q → q.instance ≡ i) → q.instance ≡ i
     by true s f more = ap (λ (r : Kept). r.instance) (sym (same_Some p q f)) ∙ eqb-true p.instance i s
     by false s f more = more f
 
-pub found_all : (P : Kept → Type 0) (i : ℕ) (ps : List Kept) (q : Kept) → All P ps → proposal_for i ps ≡ Some q → P q
-found_all P i [] q h e = absurd (cc)
-found_all P i (p ∷ ps) q h e = by (eqb p.instance i) e (found_all P i ps q (All-tail P p ps h))
+pub found_all : (P : Kept → Type 0) (i : ℕ) (ps : List Kept) {q : Kept} → All P ps → proposal_for i ps ≡ Some q → P q
+found_all P i [] h e = absurd (cc)
+found_all P i (p ∷ ps) {q} h e = by (eqb p.instance i) e (found_all P i ps (All-tail P p ps h))
   where
     by : (t : Bool) → cond t (Some p) (proposal_for i ps) ≡ Some q → (proposal_for i ps ≡ Some q → P q) → P q
     by true f more = subst P (same_Some p q f) (All-head P p ps h)
     by false f more = more f
 
-module _ (nodes id : ℕ) (a : AcceptorValue) (p : ProposerValue) (h : Proposes nodes id a p) (active : Bool) (sv : Service Value StateValue) (from ballot i : ℕ) (one : IsOneOf nodes from) (d : CallHere) where
+module _ {nodes id : ℕ} {a : AcceptorValue} {p : ProposerValue} (h : Proposes nodes id a p) (active : Bool) (sv : Service Value StateValue) {from : ℕ} (ballot i : ℕ) (one : IsOneOf nodes from) (d : CallHere) where
   abbrev l : Lead Value
   l = lead_of a p active
 
   -- the open proposal is for the open instance
-  pub open_at : (o : ℕ) → p.open_instance ≡ Some o → (q : Kept) × (open_of a p.open_instance ≡ Some (proposal_in q)) × (q.instance ≡ o) × (proposal_for o a.accepted ≡ Some q)
-  open_at o e =
+  pub open_at : {o : ℕ} → p.open_instance ≡ Some o → (q : Kept) × (open_of a p.open_instance ≡ Some (proposal_in q)) × (q.instance ≡ o) × (proposal_for o a.accepted ≡ Some q)
+  open_at {o} e =
       let k : HasOpen a p.ballot (Some o) = subst (HasOpen a p.ballot) e h.open_one in
-      (k.0, ap (open_of a) e ∙ ap (option_map proposal_in) k.1, found_instance o a.accepted k.0 k.1, k.1)
+      (k.0, ap (open_of a) e ∙ ap (option_map proposal_in) k.1, found_instance a.accepted k.1, k.1)
 
   -- with one more it is a majority where the proposer's count is
   pub majority_more : is_counted from p.accepted ≡ false → is_majority nodes (p.accepted ++ from ∷ []) ≡ counting.is_majority p.nodes (length p.accepted + 1)
   majority_more new =
-      bridges.majority_is nodes (p.accepted ++ from ∷ []) (counted_push nodes p.accepted from (subst (λ (n : ℕ). AreCounted n p.accepted) h.nodes_are h.once.acceptances) one new)
+      bridges.majority_is (counted_push nodes p.accepted from (subst (λ (n : ℕ). AreCounted n p.accepted) h.nodes_are h.once.acceptances) one new)
       ∙ ap (λ (n : ℕ). counting.is_majority n (length (p.accepted ++ from ∷ []))) (sym h.nodes_are)
       ∙ ap (counting.is_majority p.nodes) (length-append p.accepted (from ∷ []))
 
@@ -96,9 +96,9 @@ module _ (nodes id : ℕ) (a : AcceptorValue) (p : ProposerValue) (h : Proposes 
   answer own o again = voted (if not own then Some (why.Ballot ballot p.ballot) else if not (is_open o i) then Some (why.Instance i (unwrap_or o 0)) else if again then Some (why.Again from) else None) p.nodes (length p.accepted + 1)
 
   -- a vote for the open proposal is counted
-  counts : (q : Kept) → open_of a p.open_instance ≡ Some (proposal_in q) → is_counted from p.accepted ≡ false
+  counts : {q : Kept} → open_of a p.open_instance ≡ Some (proposal_in q) → is_counted from p.accepted ≡ false
       → count_vote nodes sv id (calls.voted l from (proposal_in q)) d ≡ outcome nodes sv id from l (voted None p.nodes (length p.accepted + 1)) d
-  counts q e new =
+  counts e new =
       ap (λ (o : Option (Proposal Value)). count_vote nodes sv id (record { ballot = p.ballot; counted = p.promised; reported = map proposal_in p.reported; proposal = o; accepted_by = p.accepted ++ from ∷ []; active = active }) d) (sym e)
       ∙ ap (λ (t : Bool). cond t (settle (calls.enough (map proposal_in p.reported)) nodes sv id (led (Leading (one_more nodes sv id from l)) d)) (say (effect.Have (length (p.accepted ++ from ∷ []))) (led (Leading (one_more nodes sv id from l)) d))) (majority_more new)
       ∙ ap (λ (k : ℕ). cond (counting.is_majority p.nodes (length p.accepted + 1)) (settle (calls.enough (map proposal_in p.reported)) nodes sv id (led (Leading (one_more nodes sv id from l)) d)) (say (effect.Have k) (led (Leading (one_more nodes sv id from l)) d))) (length-append p.accepted (from ∷ []))
@@ -110,9 +110,9 @@ module _ (nodes id : ℕ) (a : AcceptorValue) (p : ProposerValue) (h : Proposes 
       go false = refl
 
   -- the same of an open instance
-  at_open : (o : ℕ) → p.open_instance ≡ Some o → on_own_vote nodes sv id from i d l (open_of a p.open_instance) ≡ outcome nodes sv id from l (answer true (Some o) (is_counted from p.accepted)) d
-  at_open o e =
-      let q = open_at o e in
+  at_open : {o : ℕ} → p.open_instance ≡ Some o → on_own_vote nodes sv id from i d l (open_of a p.open_instance) ≡ outcome nodes sv id from l (answer true (Some o) (is_counted from p.accepted)) d
+  at_open {o} e =
+      let q = open_at e in
       ap (on_own_vote nodes sv id from i d l) q.1
       ∙ ap (λ (k : ℕ). cond (eqb k i) (cond (is_in from p.accepted) (say (effect.IgnoredAgain from) d) (count_vote nodes sv id (calls.voted l from (proposal_in q.0)) d)) (say (effect.IgnoredInstance i k) d)) q.2
       ∙ ap (λ (t : Bool). cond t (cond (is_in from p.accepted) (say (effect.IgnoredAgain from) d) (count_vote nodes sv id (calls.voted l from (proposal_in q.0)) d)) (say (effect.IgnoredInstance i o) d)) (bridges.same_test o i)
@@ -121,7 +121,7 @@ module _ (nodes id : ℕ) (a : AcceptorValue) (p : ProposerValue) (h : Proposes 
       again : (q : Kept) → open_of a p.open_instance ≡ Some (proposal_in q) → (t : Bool) → is_counted from p.accepted ≡ t → cond t (say (effect.IgnoredAgain from) d) (count_vote nodes sv id (calls.voted l from (proposal_in q)) d)
           ≡ outcome nodes sv id from l (voted (if t then Some (why.Again from) else None) p.nodes (length p.accepted + 1)) d
       again q f true g = refl
-      again q f false g = counts q f g
+      again q f false g = counts f g
 
       go : (t : Bool) (q : Kept) → open_of a p.open_instance ≡ Some (proposal_in q) → cond t (cond (is_in from p.accepted) (say (effect.IgnoredAgain from) d) (count_vote nodes sv id (calls.voted l from (proposal_in q)) d)) (say (effect.IgnoredInstance i o) d)
           ≡ outcome nodes sv id from l (voted (if not t then Some (why.Instance i o) else if is_counted from p.accepted then Some (why.Again from) else None) p.nodes (length p.accepted + 1)) d
@@ -132,7 +132,7 @@ module _ (nodes id : ℕ) (a : AcceptorValue) (p : ProposerValue) (h : Proposes 
 
   at_any : (o : Option ℕ) → p.open_instance ≡ o → on_own_vote nodes sv id from i d l (open_of a p.open_instance) ≡ outcome nodes sv id from l (answer true o (is_counted from p.accepted)) d
   at_any None e = ap (λ (o : Option ℕ). on_own_vote nodes sv id from i d l (open_of a o)) e
-  at_any (Some o) e = at_open o e
+  at_any (Some o) e = at_open e
 
   -- the model does what the proposer's answer says
   voted_is : on_voted nodes sv id from ballot i d (Leading l) ≡ outcome nodes sv id from l (acceptance_vote p ballot i from) d
@@ -150,13 +150,13 @@ no_refusal true false again x y z e = absurd (cc)
 no_refusal true true true x y z e = absurd (cc)
 no_refusal true true false x y z e = (refl, refl, refl)
 
-open_is : (o : Option ℕ) (i : ℕ) → is_open o i ≡ true → o ≡ Some i
-open_is None i e = absurd (cc)
-open_is (Some k) i e = ap (λ (n : ℕ). Some n) (sym (eqb-true i k e))
+open_is : (o : Option ℕ) {i : ℕ} → is_open o i ≡ true → o ≡ Some i
+open_is None e = absurd (cc)
+open_is (Some k) {i} e = ap (λ (n : ℕ). Some n) (sym (eqb-true i k e))
 
-not_yet : (r : Option Why) (nodes n have : ℕ) → voted r nodes n ≡ vote.NotYet have → (r ≡ None) × (counting.is_majority nodes n ≡ false) × (have ≡ n)
-not_yet (Some w) nodes n have e = absurd (cc)
-not_yet None nodes n have e = go (counting.is_majority nodes n) refl e
+not_yet : (r : Option Why) (nodes : ℕ) {n have : ℕ} → voted r nodes n ≡ vote.NotYet have → (r ≡ None) × (counting.is_majority nodes n ≡ false) × (have ≡ n)
+not_yet (Some w) nodes e = absurd (cc)
+not_yet None nodes {n} {have} e = go (counting.is_majority nodes n) refl e
   where
     go : (t : Bool) → counting.is_majority nodes n ≡ t → counting.vote_of (if t then count.Quorum else count.NotYet n) ≡ vote.NotYet have → (let r : Option Why = None in r ≡ None) × (counting.is_majority nodes n ≡ false) × (have ≡ n)
     go true s f = absurd (cc)
@@ -186,37 +186,37 @@ module _ {K : Type 0} (records : K → List (List ℕ)) (gives : K → List ℕ 
   pub one : IsOneOf x.nodes from
   one = record { first = let a = there.0 in omega arith; last = there.1 }
 
-  proposes_of : (p : ProposerValue) → x.proposer ≡ Some p → Proposes x.nodes x.id x.acceptor p
-  proposes_of p e = subst (IsProposer x.nodes x.id x.acceptor) e u.proposer
+  proposes_of : {p : ProposerValue} → x.proposer ≡ Some p → Proposes x.nodes x.id x.acceptor p
+  proposes_of e = subst (IsProposer x.nodes x.id x.acceptor) e u.proposer
 
   -- the model's call, by the proposer's answer
-  pub whole_is : (p : ProposerValue) → x.proposer ≡ Some p → (d : CallHere) → d.node.role ≡ role_of x.acceptor x.proposer (is_some x.acting)
+  pub whole_is : {p : ProposerValue} → x.proposer ≡ Some p → (d : CallHere) → d.node.role ≡ role_of x.acceptor x.proposer (is_some x.acting)
       → whole d ≡ outcome x.nodes (service_of service x.seed) x.id from (lead_of x.acceptor p (is_some x.acting)) (acceptance_vote p ballot i from) d
-  whole_is p e d role =
+  whole_is {p} e d role =
       ap (λ (r : Role Value). on_voted x.nodes (service_of service x.seed) x.id from ballot i d r) (role ∙ ap (λ (o : Option ProposerValue). role_of x.acceptor o (is_some x.acting)) e)
-      ∙ voted_is x.nodes x.id x.acceptor p (proposes_of p e) (is_some x.acting) (service_of service x.seed) from ballot i one d
+      ∙ voted_is (proposes_of e) (is_some x.acting) (service_of service x.seed) ballot i one d
 
   kept_so : IsKept records service past x
   kept_so = record { id = node.id; few = node.few; up = node.up; reached = node.reached; decoded = node.decoded }
 
   -- ---- it isn't counted
 
-  ignores : (w : Why) → acceptance_vote_on x.proposer ballot i from ≡ vote.Ignored w → (d : CallHere) → d.node.role ≡ role_of x.acceptor x.proposer (is_some x.acting) → whole d ≡ say (told_of w) d
-  ignores w v d role = by x.proposer refl v
+  ignores : {w : Why} → acceptance_vote_on x.proposer ballot i from ≡ vote.Ignored w → (d : CallHere) → d.node.role ≡ role_of x.acceptor x.proposer (is_some x.acting) → whole d ≡ say (told_of w) d
+  ignores {w} v d role = by x.proposer refl v
     where
       by : (o : Option ProposerValue) → x.proposer ≡ o → acceptance_vote_on o ballot i from ≡ vote.Ignored w → whole d ≡ say (told_of w) d
       by None e f =
           ap (λ (r : Role Value). on_voted x.nodes (service_of service x.seed) x.id from ballot i d r) (role ∙ ap (λ (o : Option ProposerValue). role_of x.acceptor o (is_some x.acting)) e)
           ∙ ap (λ (t : Effect). say t d) (ap told_from f)
-      by (Some p) e f = whole_is p e d role ∙ ap (λ (z : Vote). outcome x.nodes (service_of service x.seed) x.id from (lead_of x.acceptor p (is_some x.acting)) z d) f
+      by (Some p) e f = whole_is e d role ∙ ap (λ (z : Vote). outcome x.nodes (service_of service x.seed) x.id from (lead_of x.acceptor p (is_some x.acting)) z d) f
 
-  pub vote_ignored : (w : Why) → acceptance_vote_on x.proposer ballot i from ≡ vote.Ignored w → (after : Draft) → after.effects.items ≡ before.effects.items ++ told_of w ∷ [] → after.sends.items ≡ before.sends.items → Ends records gives faults service past whole x x before after On
-  vote_ignored w v after effects sends = (
+  pub vote_ignored : {w : Why} → acceptance_vote_on x.proposer ballot i from ≡ vote.Ignored w → (after : Draft) → after.effects.items ≡ before.effects.items ++ told_of w ∷ [] → after.sends.items ≡ before.sends.items → Ends records gives faults service past whole x x before after On
+  vote_ignored {w} v after effects sends = (
     (
-      leads_same records gives faults service whole (λ d. d) x.keeper (so_far records service past x before) (so_far records service past x after) refl
-          (λ f. ignores w v (armed_with f (so_far records service past x before)) refl
-          ∙ call_is (log_of service past (records x.keeper)) (log_of service past (records x.keeper)) x.up f (role_of x.acceptor x.proposer (is_some x.acting)) (work_of x.acting) (work_of x.acting) x.replayed x.replayed
-          (map (message_in past) before.sends.items) (map (message_in past) after.sends.items) (before.effects.items ++ told_of w ∷ []) after.effects.items refl refl refl (ap (map (message_in past)) (sym sends)) (sym effects)),
+      leads_same records gives faults service refl
+          (λ f. ignores v (armed_with f (so_far records service past x before)) refl
+          ∙ call_is
+           refl refl refl (ap (map (message_in past)) (sym sends)) (sym effects)),
       kept_so,
       up,
     ),
@@ -230,11 +230,11 @@ module _ {K : Type 0} (records : K → List (List ℕ)) (gives : K → List ℕ 
     parts = no_refusal (eqb ballot p.ballot) (is_open p.open_instance i) (is_counted from p.accepted) (why.Ballot ballot p.ballot) (why.Instance i (unwrap_or p.open_instance 0)) (why.Again from) none
 
     pub opens : p.open_instance ≡ Some i
-    opens = open_is p.open_instance i parts.1
+    opens = open_is p.open_instance parts.1
 
     more_counted : AreCounted p.nodes (p.accepted ++ from ∷ [])
     more_counted =
-        let h = proposes_of p e in
+        let h = proposes_of e in
         counted_push p.nodes p.accepted from h.once.acceptances (subst (λ (n : ℕ). IsOneOf n from) (sym h.nodes_are) one) parts.2
 
     module _ (few : counting.is_majority p.nodes (length p.accepted + 1) ≡ false) where
@@ -249,7 +249,7 @@ module _ {K : Type 0} (records : K → List (List ℕ)) (gives : K → List ℕ 
 
       proposes_more : Proposes x.nodes x.id x.acceptor q
       proposes_more =
-          let h = proposes_of p e in
+          let h = proposes_of e in
           record {
             nodes_are = h.nodes_are;
             own = h.own;
@@ -272,7 +272,7 @@ module _ {K : Type 0} (records : K → List (List ℕ)) (gives : K → List ℕ 
           let b = beside_of records service past x u in
           let g = logged_of records service past x u in
           up_of records service past y_at
-          (logged_as service x y_at (log_of service past (records x.keeper)) refl refl refl refl refl refl g)
+          (logged_as refl refl refl refl refl refl g)
           (record {
             based = b.based;
             replayed = b.replayed;
@@ -293,25 +293,25 @@ module _ {K : Type 0} (records : K → List (List ℕ)) (gives : K → List ℕ 
       counted_at : (after : Draft) → after.effects.items ≡ before.effects.items ++ effect.Have (length p.accepted + 1) ∷ [] → after.sends.items ≡ before.sends.items → Ends records gives faults service past whole x y_at before after On
       counted_at after effects sends = (
         (
-          leads_same records gives faults service whole (λ d. d) x.keeper (so_far records service past x before) (so_far records service past y_at after) refl
-              (λ f. whole_is p e (armed_with f (so_far records service past x before)) refl
+          leads_same records gives faults service refl
+              (λ f. whole_is e (armed_with f (so_far records service past x before)) refl
               ∙ ap (λ (z : Vote). outcome x.nodes (service_of service x.seed) x.id from (lead_of x.acceptor p (is_some x.acting)) z (armed_with f (so_far records service past x before))) vote_at
-              ∙ call_is (log_of service past (records x.keeper)) (log_of service past (records x.keeper)) x.up f (Leading (lead_of x.acceptor q (is_some x.acting))) (work_of x.acting) (work_of x.acting) x.replayed x.replayed
-              (map (message_in past) before.sends.items) (map (message_in past) after.sends.items) (before.effects.items ++ effect.Have (length p.accepted + 1) ∷ []) after.effects.items refl refl refl (ap (map (message_in past)) (sym sends)) (sym effects)),
+              ∙ call_is
+               refl refl refl (ap (map (message_in past)) (sym sends)) (sym effects)),
           record { id = node.id; few = node.few; up = λ t. y_up; reached = node.reached; decoded = node.decoded },
           up,
         ),
         y_node,
       )
 
-  pub vote_counted : (have : ℕ) → acceptance_vote_on x.proposer ballot i from ≡ vote.NotYet have → (y : NodeValue K) → y ≡ accepting_from x ballot i from → (after : Draft) → after.effects.items ≡ before.effects.items ++ effect.Have have ∷ [] → after.sends.items ≡ before.sends.items
+  pub vote_counted : {have : ℕ} → acceptance_vote_on x.proposer ballot i from ≡ vote.NotYet have → {y : NodeValue K} → y ≡ accepting_from x ballot i from → (after : Draft) → after.effects.items ≡ before.effects.items ++ effect.Have have ∷ [] → after.sends.items ≡ before.sends.items
       → Ends records gives faults service past whole x y before after On
-  vote_counted have v y y_is after effects sends = by x.proposer refl v
+  vote_counted {have} v {y} y_is after effects sends = by x.proposer refl v
     where
       by : (o : Option ProposerValue) → x.proposer ≡ o → acceptance_vote_on o ballot i from ≡ vote.NotYet have → Ends records gives faults service past whole x y before after On
       by None e f = absurd (cc)
       by (Some p) e f =
-          let n = not_yet (acceptance_refusal p ballot i from) p.nodes (length p.accepted + 1) have f in
+          let n = not_yet (acceptance_refusal p ballot i from) p.nodes f in
           let all : y ≡ record x { proposer = Some (record p { accepted = p.accepted ++ from ∷ [] }) } =
           y_is ∙ ap (λ (o : Option ProposerValue). record x { proposer = option_map (λ (q : ProposerValue). acceptance_counted q ballot i from) o }) e ∙ ap (λ (q : ProposerValue). record x { proposer = Some q }) (q_is p e n.0 n.1) in
           subst (λ (z : NodeValue K). Ends records gives faults service past whole x z before after On) (sym all)
@@ -322,4 +322,4 @@ module _ {K : Type 0} (records : K → List (List ℕ)) (gives : K → List ℕ 
     where
       by : (o : Option ProposerValue) → x.proposer ≡ o → IfSome o (λ (p : ProposerValue). IsOneOf p.nodes from)
       by None e = tt
-      by (Some p) e = subst (λ (n : ℕ). IsOneOf n from) (sym (proposes_of p e).nodes_are) one
+      by (Some p) e = subst (λ (n : ℕ). IsOneOf n from) (sym (proposes_of e).nodes_are) one

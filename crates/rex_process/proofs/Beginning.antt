@@ -139,7 +139,7 @@ module _ {K : Type 0} (records : K → List (List ℕ)) (faults : K → ℕ) (se
 
   -- the model's records say the same
   says : Says service said log
-  says = recovered_says service [] (records keeper) came.good.rs said came.good.spelled refl
+  says = recovered_says service [] came.good.spelled refl
 
   -- they are plain
   plain : IsPlain log

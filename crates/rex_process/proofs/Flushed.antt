@@ -16,7 +16,7 @@ module _ {K : Type 0} (records : K → List (List ℕ)) (faults : K → ℕ) (p 
   -- it stays one with another keeper of those
   with_keeper : (k : K) → records k ≡ records p.node.keeper → faults k ≡ faults p.node.keeper → IsProcess records faults (record p { node = record p.node { keeper = k } })
   with_keeper k same counted = record {
-    node = node_with_keeper records p.service [] (whole [] p.node) k same process.node;
+    node = node_with_keeper same process.node;
     plain = subst (λ (x : Here). IsPlain x.log) (sym here_is) process.plain;
     up = λ u.
         let h = process.up u in

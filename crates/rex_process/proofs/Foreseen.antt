@@ -77,7 +77,7 @@ module _ (service : Declarations) (seed : ℕ) (before : List Value) (nodes id :
             ∙ sym (ap (λ (t : Bool). not t && is_majority nodes (p.accepted ++ from ∷ [])) (bridges.in_counted from p.accepted ∙ y))
         counted false y =
             ap (λ (t : Bool). not t && counting.is_majority p.nodes (length p.accepted + 1)) y
-            ∙ (sym (majority_more nodes id a p h active (service_of service seed) from ballot i one d y)
+            ∙ (sym (majority_more h active (service_of service seed) ballot i one d y)
             ∙ sym (ap (λ (t : Bool). not t && is_majority nodes (p.accepted ++ from ∷ [])) (bridges.in_counted from p.accepted ∙ y)))
 
     -- what is told of an open proposal, by the vote
@@ -97,7 +97,7 @@ module _ (service : Declarations) (seed : ℕ) (before : List Value) (nodes id :
             never true = refl
             never false = refl
         by (Some o) f =
-            let q = open_at nodes id a p h active (service_of service seed) from ballot i one d o f in
+            let q = open_at h active (service_of service seed) ballot i one d f in
             subst (λ (k : Option (Proposal Value)). replies_with service nodes before l from ballot i k ≡ replies_if service before (active_value (lead_name active k) (proposed_value k))) (sym q.1)
             (by_vote (proposal_in q.0) true (sym (chosen_is o f q.0 q.2) ∙ e) ∙ end active (proposal_in q.0))
           where
@@ -111,11 +111,11 @@ module _ (service : Declarations) (seed : ℕ) (before : List Value) (nodes id :
         by : (o : Option ℕ) → p.open_instance ≡ o → told (Some p) ≡ []
         by None f = ap (λ (k : Option ℕ). replies_with service nodes before l from ballot i (open_of a k)) f
         by (Some o) f =
-            let q = open_at nodes id a p h active (service_of service seed) from ballot i one d o f in
+            let q = open_at h active (service_of service seed) ballot i one d f in
             ap (λ (k : Option (Proposal Value)). replies_with service nodes before l from ballot i k) q.1
             ∙ (by_vote (proposal_in q.0) false (sym (chosen_is o f q.0 q.2) ∙ e) ∙ end active)
           where
-            end : (t : Bool) → (if t && false then replies_of service before (proposal_in (open_at nodes id a p h active (service_of service seed) from ballot i one d o f).0).value else []) ≡ []
+            end : (t : Bool) → (if t && false then replies_of service before (proposal_in (open_at h active (service_of service seed) ballot i one d f).0).value else []) ≡ []
             end true = refl
             end false = refl
 

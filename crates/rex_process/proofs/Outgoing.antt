@@ -111,7 +111,7 @@ open_short a (Some i) all p e = by (proposal_for i a.accepted) refl e
   where
     by : (o : Option Kept) → proposal_for i a.accepted ≡ o → option_map proposal_in o ≡ Some p → length p.value ≤ greatest_value
     by None f g = absurd (cc)
-    by (Some q) f g = subst (λ (r : Proposal Value). length r.value ≤ greatest_value) (same_Some (proposal_in q) p g) (found_all (λ (k : Kept). IsValue k.value) i a.accepted q all f).few
+    by (Some q) f g = subst (λ (r : Proposal Value). length r.value ≤ greatest_value) (same_Some (proposal_in q) p g) (found_all (λ (k : Kept). IsValue k.value) i a.accepted all f).few
 
 -- so is each that the node was reported
 role_short : (nodes id : ℕ) (a : AcceptorValue) (o : Option ProposerValue) (active : Bool) → AreKeptShort a.accepted → IsProposer nodes id a o → RoleShort (role_of a o active)

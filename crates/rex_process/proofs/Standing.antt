@@ -32,7 +32,7 @@ alone_or_not (suc zero) id there = inl refl
 alone_or_not (suc (suc n)) id there = inr (own ∙ few)
   where
     own : is_majority (suc (suc n)) (id ∷ []) ≡ counting.is_majority (suc (suc n)) 1
-    own = majority_is (suc (suc n)) (id ∷ []) (counted_push (suc (suc n)) [] id (counted_none (suc (suc n))) (record { first = there.0; last = there.1 }) refl)
+    own = majority_is (counted_push (suc (suc n)) [] id (counted_none (suc (suc n))) (record { first = there.0; last = there.1 }) refl)
 
     few : nat_lt (suc (suc n)) (2 * 1) ≡ false
     few = grind (arith, nat_tests)

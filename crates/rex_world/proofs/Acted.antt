@@ -17,10 +17,10 @@ use Rattle.rex_world.specs.Calls.{HasCome, served}
 use Rattle.rex_world.proofs.Failing.{follows, is_done, stays_broken, stays_grown, stays_keeping, stays_within}
 use Rattle.rex_world.proofs.Unseen.{Goes}
 
-pub none_grown : (records : List (List ℕ)) → Begins records records
-none_grown records = ([], append-nil records)
+pub none_grown : {records : List (List ℕ)} → Begins records records
+none_grown {records} = ([], append-nil records)
 
-module _ (service : Declarations) (past : List Value) (seed nodes number : ℕ) (old : Member) (member : IsMember service past seed nodes number old) where
+module _ {service : Declarations} {past : List Value} {seed nodes number : ℕ} {old : Member} (member : IsMember service past seed nodes number old) where
   -- the node's numbers are these
   pub named : (P : ℕ → ℕ → ℕ → Type 0) → P old.nodes old.seed old.id → P nodes seed number
   named P h = subst (λ (m : ℕ). P nodes seed m) member.id (subst (λ (s : ℕ). P nodes s old.id) member.seed_is (subst (λ (n : ℕ). P n old.seed old.id) member.nodes_are h))
@@ -33,7 +33,7 @@ module _ (service : Declarations) (past : List Value) (seed nodes number : ℕ) 
   by_own = record { id = refl; nodes_are = refl; seed_is = refl; node = member.node; keeping = member.keeping; whole = member.whole }
 
   pub still : StaysMember service past seed nodes number old old
-  still = record { member = member; within = le_refl (faults_of old.keeper); grown = none_grown old.keeper.records }
+  still = record { member = member; within = le_refl (faults_of old.keeper); grown = none_grown }
 
   module _ (new : Member) where
     pub by_number : StaysMember service past old.seed old.nodes old.id old new → StaysMember service past seed nodes number old new
@@ -61,9 +61,9 @@ module _ (service : Declarations) (past : List Value) (seed nodes number : ℕ) 
       -- so it stays after a call
       pub does_stays : ((f : Option Failure) → Goes f call) → StaysNode records_of service past old new → Does records_of follows (λ k. k.faults) service past call old new step → EndsDown old.id old.keeper.faults new.keeper.faults new.up step → old.up ≡ true → StaysMember service past seed nodes number old new
       does_stays goes stays does ends was = record {
-        member = stays_so stays (stays_keeping service past call goes old new step member.keeping does) (unbroken does ends was);
-        within = stays_within service past call goes old new step does;
-        grown = stays_grown service past call goes old new step does;
+        member = stays_so stays (stays_keeping service past goes old new step member.keeping does) (unbroken does ends was);
+        within = stays_within service past goes old new step does;
+        grown = stays_grown service past goes old new step does;
       }
 
       pub serves_stays : ((f : Option Failure) → Goes f call) → StaysNode records_of service past old new → Serves records_of follows (λ k. k.faults) service past call old new step → StaysMember service past seed nodes number old new
@@ -89,7 +89,7 @@ module _ (service : Declarations) (past : List Value) (old new : Member) (call :
     where
       by : (up : Bool) → old.up ≡ up → ServesIf up records_of follows (λ k. k.faults) service past call old new step → HasCome past (served old.id call x) (here_at service past new) step
       by true e s =
-          let d = is_done service past call goes old new step e s.does in
+          let d = is_done service past goes old new step e s.does in
           subst (λ (c : CallHere). HasCome past c (here_at service past new) step) (sym (up_is e)) (record { node = d.node; sends = d.sends; effects = d.effects })
       by false e s =
           subst (λ (c : CallHere). HasCome past c (here_at service past new) step) (sym (down_is e))

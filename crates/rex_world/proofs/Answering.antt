@@ -27,10 +27,10 @@ number_there [] i d e l = absurd (omega (arith, l))
 number_there (x ∷ xs) zero d e l = refl
 number_there (x ∷ xs) (suc i) d e l = number_there xs i d e (omega (arith, l))
 
-module _ {S : Type 0} (service : Declarations) (w : World S) (h : IsRunning service w) where
+module _ {S : Type 0} {service : Declarations} {w : World S} (h : IsRunning service w) where
   -- numbers of clients don't matter for what is kept, as long as each has one
-  pub seen_running : (seen : Vec ℕ) → length seen.items ≡ length w.seen.items → IsRunning service (record w { seen = seen })
-  seen_running seen long = record {
+  pub seen_running : {seen : Vec ℕ} → length seen.items ≡ length w.seen.items → IsRunning service (record w { seen = seen })
+  seen_running long = record {
     service_is = h.service_is;
     checked = h.checked;
     whole = h.whole;
@@ -53,10 +53,10 @@ module _ {S : Type 0} (service : Declarations) (w : World S) (h : IsRunning serv
   }
 
   -- a read comes to its row of the model
-  pub read_came : (m client variable : ℕ) → client ≤ 256 → (x : Member) → node_at (heres service w.agreed w.nodes.items) m ≡ here_at service w.agreed x → (now next : ℕ) → now ≡ slice_index_or w.seen.items client now → (answer : Read) → answer ≡ read_at service (here_at service w.agreed x) variable now → next ≡ seen_after now answer
-      → (seen : Vec ℕ) → seen.items ≡ slice_set w.seen.items client next → (told told2 : Told) (e : Effect) → e ≡ read_effect m client variable answer → told2.effects.items ≡ told.effects.items ++ e ∷ [] → told2.sent.items ≡ told.sent.items
+  pub read_came : (m : ℕ) {client : ℕ} (variable : ℕ) → client ≤ 256 → (x : Member) → node_at (heres service w.agreed w.nodes.items) m ≡ here_at service w.agreed x → {now next : ℕ} → now ≡ slice_index_or w.seen.items client now → {answer : Read} → answer ≡ read_at service (here_at service w.agreed x) variable now → next ≡ seen_after now answer
+      → {seen : Vec ℕ} → seen.items ≡ slice_set w.seen.items client next → {told told2 : Told} {e : Effect} → e ≡ read_effect m client variable answer → told2.effects.items ≡ told.effects.items ++ e ∷ [] → told2.sent.items ≡ told.sent.items
       → ComesTo service w (record w { seen = seen }) told told2 (step_in service w (ReadVariable m client variable))
-  read_came m client variable few x x_is now next now_is answer answer_is next_is seen saw told told2 e e_is effects sent =
+  read_came m {client} variable few x x_is {now} {next} now_is {answer} answer_is next_is {seen} saw {told} e_is effects sent =
       let was : now ≡ get_or w.seen.items client 0 = now_is ∙ number_there w.seen.items client now 0 (let many = h.clients in omega (arith, few, many)) in
       let is : answer ≡ read_at service (node_at (heres service w.agreed w.nodes.items) m) variable (get_or w.seen.items client 0) =
       answer_is ∙ ap (λ (y : Here). read_at service y variable now) (sym x_is) ∙ ap (read_at service (node_at (heres service w.agreed w.nodes.items) m) variable) was in
@@ -67,7 +67,7 @@ module _ {S : Type 0} (service : Declarations) (w : World S) (h : IsRunning serv
           effects = effects ∙ ap (λ (f : Effect). told.effects.items ++ f ∷ []) (e_is ∙ ap (read_effect m client variable) is);
           sent = sent ∙ sym (append-nil told.sent.items) ∙ ap (λ (ms : List (Message Value)). told.sent.items ++ sent_from (suc (length (messages_of w.agreed w.net))) ms) (sym (drop-length (messages_of w.agreed w.net)));
         };
-        running = seen_running seen (ap length saw ∙ length-set w.seen.items client next);
+        running = seen_running (ap length saw ∙ length-set w.seen.items client next);
         same = record { nodes = refl; requests = refl; seed = refl };
         done = refl;
         flushed = refl;

@@ -44,11 +44,11 @@ here_armed service past false x = refl
 faults_armed : (f : Fate) (x : Member) → faults_of (armed_to f x.keeper) ≤ faults_of x.keeper + 1
 faults_armed f x = omega arith
 
-keeping_armed : (service : Declarations) (past : List Value) (f : Fate) (k : KeeperValue) → IsKeeping service past k → faults_of k + 1 < 2 ^ 64 - 1 → IsKeeping service past (armed_to f k)
-keeping_armed service past f k h l = record { read = h.read; stated = h.stated; room = omega arith }
+keeping_armed : {service : Declarations} {past : List Value} {f : Fate} {k : KeeperValue} → IsKeeping service past k → faults_of k + 1 < 2 ^ 64 - 1 → IsKeeping service past (armed_to f k)
+keeping_armed h l = record { read = h.read; stated = h.stated; room = omega arith }
 
-node_armed : (service : Declarations) (past : List Value) (f : Fate) (x : NodeValue KeeperValue) → IsKeptNode records_of service past x → IsKeptNode records_of service past (record x { keeper = armed_to f x.keeper })
-node_armed service past f x h = record {
+node_armed : {service : Declarations} {past : List Value} {f : Fate} (x : NodeValue KeeperValue) → IsKeptNode records_of service past x → IsKeptNode records_of service past (record x { keeper = armed_to f x.keeper })
+node_armed x h = record {
   id = h.id;
   few = h.few;
   up = λ e. let u = h.up e in record {
@@ -75,23 +75,23 @@ node_armed service past f x h = record {
   rests = h.rests;
 }
 
-member_armed : (service : Declarations) (past : List Value) (seed nodes number : ℕ) (f : Fate) (x : Member) → IsMember service past seed nodes number x → faults_of x.keeper + 1 < 2 ^ 64 - 1 → IsMember service past seed nodes number (armed_member f x)
-member_armed service past seed nodes number f x h l = record {
+member_armed : {service : Declarations} {past : List Value} {seed nodes number : ℕ} {f : Fate} {x : Member} → IsMember service past seed nodes number x → faults_of x.keeper + 1 < 2 ^ 64 - 1 → IsMember service past seed nodes number (armed_member f x)
+member_armed {service} {past} {f} {x} h l = record {
   id = h.id;
   nodes_are = h.nodes_are;
   seed_is = h.seed_is;
-  node = node_armed service past f x h.node;
-  keeping = keeping_armed service past f x.keeper h.keeping l;
+  node = node_armed x h.node;
+  keeping = keeping_armed h.keeping l;
   whole = h.whole;
 }
 
 -- ---- the row
 
 module _ (service : Declarations) (requests : List Request) (seed n : ℕ) (w : ModelWorld) (m : ℕ) (kept : Bool) where
-  arming_row : (nodes : List Here) → nodes ≡ put w.nodes m (record (node_at w.nodes m) { armed = Some (After 0 kept) })
+  arming_row : {nodes : List Here} → nodes ≡ put w.nodes m (record (node_at w.nodes m) { armed = Some (After 0 kept) })
       → (let v : ModelWorld = record { done = w.done + 1; nodes = nodes; messages = w.messages; handed = w.handed; seen = w.seen } in v) ≡ (row service requests seed n w (KeepFail m kept)).world
-  arming_row nodes e =
-      same_world (w.done + 1) (w.done + 1) nodes (put w.nodes m (record (node_at w.nodes m) { armed = Some (After 0 kept) })) w.messages (w.messages ++ []) w.handed (w.handed ++ []) w.seen w.seen refl e (sym (append-nil w.messages)) (sym (append-nil w.handed)) refl
+  arming_row {nodes} e =
+      same_world refl e (sym (append-nil w.messages)) (sym (append-nil w.handed)) refl
 
   -- what is agreed on stays
   pub arming_agreed : agreed (row service requests seed n w (KeepFail m kept)).world ≡ agreed w
@@ -108,22 +108,22 @@ module _ {S : Type 0} (service : Declarations) (w : World S) (h : IsRunning serv
 
   heres_after : heres service w.agreed nodes.items ≡ put (heres service w.agreed w.nodes.items) m (record (node_at (heres service w.agreed w.nodes.items) m) { armed = Some (After 0 kept) })
   heres_after =
-      now_put w.nodes.items nodes.items m there x (armed_member (fate_if kept) x) x_is nodes_so service w.agreed
-      ∙ ap (put (heres service w.agreed w.nodes.items) m) (here_armed service w.agreed kept x ∙ ap (λ (z : Here). let a : Here = record z { armed = Some (After 0 kept) } in a) (sym (at_old w.nodes.items nodes.items m there x (armed_member (fate_if kept) x) x_is nodes_so service w.agreed)))
+      now_put w.nodes.items there (armed_member (fate_if kept) x) x_is nodes_so service w.agreed
+      ∙ ap (put (heres service w.agreed w.nodes.items) m) (here_armed service w.agreed kept x ∙ ap (λ (z : Here). let a : Here = record z { armed = Some (After 0 kept) } in a) (sym (at_old w.nodes.items there (armed_member (fate_if kept) x) x_is nodes_so service w.agreed)))
 
   pub arming_world : world_of service after ≡ (row service w.requests w.seed (nodes_of w) (world_of service w) (KeepFail m kept)).world
-  arming_world = arming_row service w.requests w.seed (nodes_of w) (world_of service w) m kept (heres service w.agreed nodes.items) heres_after
+  arming_world = arming_row service w.requests w.seed (nodes_of w) (world_of service w) m kept heres_after
 
   pub many : length nodes.items ≡ nodes_of w
-  many = many_are w.nodes.items nodes.items m there x (armed_member (fate_if kept) x) x_is nodes_so
+  many = many_are w.nodes.items there (armed_member (fate_if kept) x) x_is nodes_so
 
   pub arming_running : IsRunning service after
   arming_running =
-      let k = old_within w.nodes.items nodes.items m there x (armed_member (fate_if kept) x) x_is nodes_so w.done h.within in
+      let k = old_within w.nodes.items there (armed_member (fate_if kept) x) x_is nodes_so h.within in
       let l = faults_armed (fate_if kept) x in
-      let was : IsMember service w.agreed w.seed (nodes_of w) m x = old_member w.nodes.items nodes.items m there x (armed_member (fate_if kept) x) x_is nodes_so service w.agreed w.seed (nodes_of w) h.members in
+      let was : IsMember service w.agreed w.seed (nodes_of w) m x = old_member w.nodes.items there (armed_member (fate_if kept) x) x_is nodes_so service w.agreed w.seed (nodes_of w) h.members in
       let all : AreMembers service w.agreed w.seed (nodes_of w) 1 nodes.items =
-      new_members w.nodes.items nodes.items m there x (armed_member (fate_if kept) x) x_is nodes_so service w.agreed w.seed (nodes_of w) h.members (member_armed service w.agreed w.seed (nodes_of w) m (fate_if kept) x was (omega arith)) in
+      new_members w.nodes.items there (armed_member (fate_if kept) x) x_is nodes_so service w.agreed w.seed (nodes_of w) h.members (member_armed was (omega arith)) in
       record {
         service_is = h.service_is;
         checked = h.checked;
@@ -133,7 +133,7 @@ module _ {S : Type 0} (service : Declarations) (w : World S) (h : IsRunning serv
         kept = subst (λ (n : ℕ). IsKept service w.seed n (world_of service after)) (sym many)
             (subst (IsKept service w.seed (nodes_of w)) (sym arming_world) (row_kept service h.service_is h.checked w.requests h.requests w.seed (nodes_of w) h.few (world_of service w) (KeepFail m kept) there h.kept));
         members = subst (λ (n : ℕ). AreMembers service w.agreed w.seed n 1 nodes.items) (sym many) all;
-        within = new_within w.nodes.items nodes.items m there x (armed_member (fate_if kept) x) x_is nodes_so (w.done + 1) (within_more w.done (w.done + 1) w.nodes.items h.within (omega arith)) (omega arith);
+        within = new_within w.nodes.items there (armed_member (fate_if kept) x) x_is nodes_so (within_more w.nodes.items h.within (omega arith)) (omega arith);
         spelled = h.spelled;
         told = h.told;
         requests = h.requests;
@@ -143,8 +143,8 @@ module _ {S : Type 0} (service : Declarations) (w : World S) (h : IsRunning serv
       }
 
 -- one more line is done
-pub counted_running : {S : Type 0} → (service : Declarations) (w : World S) → IsRunning service w → IsRunning service (record w { done = w.done + 1 })
-counted_running service w h = record {
+pub counted_running : {S : Type 0} → {service : Declarations} {w : World S} → IsRunning service w → IsRunning service (record w { done = w.done + 1 })
+counted_running {w} h = record {
   service_is = h.service_is;
   checked = h.checked;
   whole = h.whole;
@@ -157,7 +157,7 @@ counted_running service w h = record {
     handed = h.kept.handed;
   };
   members = h.members;
-  within = within_more w.done (w.done + 1) w.nodes.items h.within (omega arith);
+  within = within_more w.nodes.items h.within (omega arith);
   spelled = h.spelled;
   told = h.told;
   requests = h.requests;

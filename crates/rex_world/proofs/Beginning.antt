@@ -32,44 +32,44 @@ pub record AreNew (service : Declarations) (seed nodes number : ℕ) (xs : List 
   pub within : AreWithin 0 xs
   pub many : length xs ≡ number
 
-members_more : (service : Declarations) (seed nodes k : ℕ) (xs : List Member) (x : Member) → AreMembers service [] seed nodes k xs → IsMember service [] seed nodes (k + length xs) x → AreMembers service [] seed nodes k (xs ++ x ∷ [])
-members_more service seed nodes k [] x all one = (subst (λ (m : ℕ). IsMember service [] seed nodes m x) (add-zero k) one, tt)
-members_more service seed nodes k (y ∷ ys) x all one =
+members_more : {service : Declarations} {seed nodes : ℕ} (k : ℕ) (xs : List Member) {x : Member} → AreMembers service [] seed nodes k xs → IsMember service [] seed nodes (k + length xs) x → AreMembers service [] seed nodes k (xs ++ x ∷ [])
+members_more {service} {seed} {nodes} k [] {x} all one = (subst (λ (m : ℕ). IsMember service [] seed nodes m x) (add-zero k) one, tt)
+members_more {service} {seed} {nodes} k (y ∷ ys) {x} all one =
     let e : k + suc (length ys) ≡ suc k + length ys = omega arith in
-    (all.0, members_more service seed nodes (suc k) ys x all.1 (subst (λ (m : ℕ). IsMember service [] seed nodes m x) e one))
+    (all.0, members_more (suc k) ys all.1 (subst (λ (m : ℕ). IsMember service [] seed nodes m x) e one))
 
 within_next : (xs : List Member) (x : Member) → AreWithin 0 xs → faults_of x.keeper ≡ 0 → AreWithin 0 (xs ++ x ∷ [])
 within_next [] x all one = (omega (arith, one), tt)
 within_next (y ∷ ys) x all one = (all.0, within_next ys x all.1 one)
 
-pub new_next : (service : Declarations) (seed nodes number : ℕ) (xs : List Member) (x : Member) → AreNew service seed nodes number xs → here_at service [] x ≡ new_node → IsMember service [] seed nodes (number + 1) x
+pub new_next : {service : Declarations} {seed nodes number : ℕ} {xs : List Member} {x : Member} → AreNew service seed nodes number xs → here_at service [] x ≡ new_node → IsMember service [] seed nodes (number + 1) x
     → faults_of x.keeper ≡ 0 → AreNew service seed nodes (number + 1) (xs ++ x ∷ [])
-new_next service seed nodes number xs x h e one none =
+new_next {service} {seed} {nodes} {number} {xs} {x} h e one none =
     let n : number + 1 ≡ 1 + length xs = omega (arith, h.many) in
     record {
       here = heres_both service [] xs (x ∷ []) ∙ ap (λ (ys : List Here). ys ++ here_at service [] x ∷ []) h.here ∙ ap (λ (y : Here). replicate number new_node ++ y ∷ []) e ∙ sym (replicate_next number new_node);
-      are = members_more service seed nodes 1 xs x h.are (subst (λ (m : ℕ). IsMember service [] seed nodes m x) n one);
+      are = members_more 1 xs h.are (subst (λ (m : ℕ). IsMember service [] seed nodes m x) n one);
       within = within_next xs x h.within none;
       many = length-append xs (x ∷ []) ∙ ap (λ (k : ℕ). k + 1) h.many;
     }
 
 -- no node yet
-pub none_new : (service : Declarations) (seed nodes : ℕ) (xs : List Member) → xs ≡ [] → AreNew service seed nodes 0 xs
-none_new service seed nodes xs e = subst (AreNew service seed nodes 0) (sym e) (record { here = refl; are = tt; within = tt; many = refl })
+pub none_new : {service : Declarations} {seed nodes : ℕ} {xs : List Member} → xs ≡ [] → AreNew service seed nodes 0 xs
+none_new {service} {seed} {nodes} e = subst (AreNew service seed nodes 0) (sym e) (record { here = refl; are = tt; within = tt; many = refl })
 
-both : (a b : Bool) → (a && b) ≡ true → (a ≡ true) × (b ≡ true)
-both true b e = (refl, e)
-both false b e = absurd cc
+both : (a : Bool) {b : Bool} → (a && b) ≡ true → (a ≡ true) × (b ≡ true)
+both true e = (refl, e)
+both false e = absurd cc
 
-pub few_nodes : (n : ℕ) → is_node_count n ≡ true → n ≤ most_nodes
-few_nodes n h = leb-true n most_nodes (both (n % 2 == 1) (nat_le n most_nodes) h).1
+pub few_nodes : {n : ℕ} → is_node_count n ≡ true → n ≤ most_nodes
+few_nodes {n} h = leb-true n most_nodes (both (n % 2 == 1) h).1
 
 abbrev model_of : ℕ → List Here → List (Message Value) → List Bool → List ℕ → ModelWorld
 model_of done nodes messages handed seen = record { done = done; nodes = nodes; messages = messages; handed = handed; seen = seen }
 
 -- the world of the model before the first line
-pub begins : {S : Type 0} → (service : Declarations) (seed n : ℕ) (w : World S) → AreNew service seed n n w.nodes.items → w.agreed ≡ [] → w.net ≡ [] → w.handed.items ≡ [] → w.seen.items ≡ nothing_seen → w.done ≡ 0 → world_of service w ≡ beginning n
-begins service seed n w h none net handed seen done =
+pub begins : {S : Type 0} → {service : Declarations} {seed n : ℕ} (w : World S) → AreNew service seed n n w.nodes.items → w.agreed ≡ [] → w.net ≡ [] → w.handed.items ≡ [] → w.seen.items ≡ nothing_seen → w.done ≡ 0 → world_of service w ≡ beginning n
+begins {service} {n} w h none net handed seen done =
     ap (λ (d : ℕ). model_of d (heres service w.agreed w.nodes.items) (messages_of w.agreed w.net) w.handed.items w.seen.items) done
     ∙ ap (λ (vs : List Value). model_of 0 (heres service vs w.nodes.items) (messages_of vs w.net) w.handed.items w.seen.items) none
     ∙ ap (λ (xs : List Here). model_of 0 xs (messages_of [] w.net) w.handed.items w.seen.items) h.here
@@ -82,17 +82,17 @@ none_agreed : (n : ℕ) → longest (replicate n new_node) ≡ []
 none_agreed zero = refl
 none_agreed (suc n) = ap (longer_of []) (none_agreed n)
 
-pub new_running : {S : Type 0} → (service : Declarations) (n : ℕ) (w : World S) → n ≤ most_nodes → IsService service → IsChecked service → All (RequestFits service) w.requests → AreNew service w.seed n n w.nodes.items
+pub new_running : {S : Type 0} → {service : Declarations} {n : ℕ} {w : World S} → n ≤ most_nodes → IsService service → IsChecked service → All (RequestFits service) w.requests → AreNew service w.seed n n w.nodes.items
     → w.agreed ≡ [] → w.net ≡ [] → w.handed.items ≡ [] → w.seen.items ≡ nothing_seen → w.done ≡ 0 → w.flushed ≡ 0 → w.broken ≡ false → IsRunning service w
-new_running service n w few good checked fit h none net handed seen done flushed whole =
+new_running {service} {n} {w} few good checked fit h none net handed seen done flushed whole =
     record {
       service_is = good;
       checked = checked;
       whole = whole;
       few = omega (arith, h.many);
-      agreed = none ∙ sym (none_agreed n) ∙ ap agreed (sym (begins service w.seed n w h none net handed seen done));
+      agreed = none ∙ sym (none_agreed n) ∙ ap agreed (sym (begins w h none net handed seen done));
       kept = subst (λ (k : ℕ). IsKept service w.seed k (world_of service w)) (sym h.many)
-          (subst (λ (x : ModelWorld). IsKept service w.seed n x) (sym (begins service w.seed n w h none net handed seen done)) (beginning_kept service good checked w.requests fit w.seed n few));
+          (subst (λ (x : ModelWorld). IsKept service w.seed n x) (sym (begins w h none net handed seen done)) (beginning_kept service good checked w.requests fit w.seed n few));
       members = subst (λ (k : ℕ). AreMembers service w.agreed w.seed k 1 w.nodes.items) (sym h.many) (subst (λ (vs : List Value). AreMembers service vs w.seed n 1 w.nodes.items) (sym none) h.are);
       within = subst (λ (k : ℕ). AreWithin k w.nodes.items) (sym done) h.within;
       spelled = subst (λ (ms : List (List ℕ)). All IsSpelled ms) (sym net) (All-nil IsSpelled);

@@ -32,38 +32,38 @@ use Rattle.rex_world.specs.World.{TellsIn, TellsRightly, message_of, messages_of
 -- ---- fronts of lists
 
 module _ {A : Type 0} where
-  head_of : (x y : A) (xs ys : List A) → x ∷ xs ≡ y ∷ ys → x ≡ y
-  head_of x y xs ys e = cc
+  head_of : {x y : A} {xs ys : List A} → x ∷ xs ≡ y ∷ ys → x ≡ y
+  head_of e = cc
 
-  tail_of : (x y : A) (xs ys : List A) → x ∷ xs ≡ y ∷ ys → xs ≡ ys
-  tail_of x y xs ys e = cc
+  tail_of : {x y : A} {xs ys : List A} → x ∷ xs ≡ y ∷ ys → xs ≡ ys
+  tail_of e = cc
 
-  cons_same : (x y : A) (xs ys : List A) → x ≡ y → xs ≡ ys → x ∷ xs ≡ y ∷ ys
-  cons_same x y xs ys e f = cc
+  cons_same : {x y : A} {xs ys : List A} → x ≡ y → xs ≡ ys → x ∷ xs ≡ y ∷ ys
+  cons_same e f = cc
 
-  nil_not : (x : A) (xs : List A) → x ∷ xs ≡ [] → ⊥
-  nil_not x xs e = cc
+  nil_not : {x : A} {xs : List A} → x ∷ xs ≡ [] → ⊥
+  nil_not e = cc
 
-  pub begins_on : (xs ys zs : List A) → Begins xs ys → Begins ys zs → Begins xs zs
-  begins_on xs ys zs a b = (a.0 ++ b.0, sym (append_assoc xs a.0 b.0) ∙ ap (λ (ws : List A). ws ++ b.0) a.1 ∙ b.1)
+  pub begins_on : (xs : List A) {ys zs : List A} → Begins xs ys → Begins ys zs → Begins xs zs
+  begins_on xs a b = (a.0 ++ b.0, sym (append_assoc xs a.0 b.0) ∙ ap (λ (ws : List A). ws ++ b.0) a.1 ∙ b.1)
 
   -- of two fronts of a list the one that isn't the longer one is the same as the other, or shorter
   pub same_fronts : (xs ys zs : List A) → Begins xs zs → Begins ys zs → length xs ≡ length ys → xs ≡ ys
   same_fronts [] [] zs a b e = refl
   same_fronts [] (y ∷ ys) zs a b e = absurd (omega (arith, e))
   same_fronts (x ∷ xs) [] zs a b e = absurd (omega (arith, e))
-  same_fronts (x ∷ xs) (y ∷ ys) [] a b e = absurd (nil_not x (xs ++ a.0) a.1)
+  same_fronts (x ∷ xs) (y ∷ ys) [] a b e = absurd (nil_not a.1)
   same_fronts (x ∷ xs) (y ∷ ys) (z ∷ zs) a b e =
-      cons_same x y xs ys (head_of x z (xs ++ a.0) zs a.1 ∙ sym (head_of y z (ys ++ b.0) zs b.1))
-      (same_fronts xs ys zs (a.0, tail_of x z (xs ++ a.0) zs a.1) (b.0, tail_of y z (ys ++ b.0) zs b.1) (omega (arith, e)))
+      cons_same (head_of a.1 ∙ sym (head_of b.1))
+      (same_fronts xs ys zs (a.0, tail_of a.1) (b.0, tail_of b.1) (omega (arith, e)))
 
   -- a front that isn't shorter is the whole
   pub whole_front : (xs zs : List A) → Begins xs zs → length zs ≤ length xs → xs ≡ zs
   whole_front [] [] a l = refl
   whole_front [] (z ∷ zs) a l = absurd (omega (arith, l))
-  whole_front (x ∷ xs) [] a l = absurd (nil_not x (xs ++ a.0) a.1)
+  whole_front (x ∷ xs) [] a l = absurd (nil_not a.1)
   whole_front (x ∷ xs) (z ∷ zs) a l =
-      cons_same x z xs zs (head_of x z (xs ++ a.0) zs a.1) (whole_front xs zs (a.0, tail_of x z (xs ++ a.0) zs a.1) (omega (arith, l)))
+      cons_same (head_of a.1) (whole_front xs zs (a.0, tail_of a.1) (omega (arith, l)))
 
 -- ---- values that a list has
 
@@ -75,12 +75,12 @@ nothing_spelled service e = absurd (let no : false ≡ true = e in cc)
 -- where the first values of the past begin values that all spell deltas, the past has as many
 pub past_has : (service : Declarations) (k : ℕ) (past values : List Value) → list_all (spells service) values ≡ true → Begins (first k past) values → k ≤ length past
 past_has service zero past values fits h = omega arith
-past_has service (suc k) [] [] fits h = absurd (nil_not [] (first k [] ++ h.0) h.1)
+past_has service (suc k) [] [] fits h = absurd (nil_not h.1)
 past_has service (suc k) [] (v ∷ values) fits h =
-    absurd (nothing_spelled service (ap (spells service) (head_of [] v (first k [] ++ h.0) values h.1) ∙ (and_parts (spells service v) (list_all (spells service) values) fits).0))
-past_has service (suc k) (p ∷ past) [] fits h = absurd (nil_not p (first k past ++ h.0) h.1)
+    absurd (nothing_spelled service (ap (spells service) (head_of h.1) ∙ (and_parts (spells service v) (list_all (spells service) values) fits).0))
+past_has service (suc k) (p ∷ past) [] fits h = absurd (nil_not h.1)
 past_has service (suc k) (p ∷ past) (v ∷ values) fits h =
-    let l = past_has service k past values (and_parts (spells service v) (list_all (spells service) values) fits).1 (h.0, tail_of p v (first k past ++ h.0) values h.1) in omega (arith, l)
+    let l = past_has service k past values (and_parts (spells service v) (list_all (spells service) values) fits).1 (h.0, tail_of h.1) in omega (arith, l)
 
 -- ---- records
 
@@ -128,8 +128,8 @@ module _ (service : Declarations) (past : List Value) where
     pub log_grown : (lists : List (List ℕ)) → TakesFronts (log_of service past lists) → log_of service values lists ≡ log_of service past lists
     log_grown lists h = subst (λ (vs : List Value). log_of service vs lists ≡ log_of service past lists) front.1 (longer service past front.0 lists (in_past lists h))
 
-    pub first_grown : (k : ℕ) → k ≤ length past → first k values ≡ first k past
-    first_grown k l = subst (λ (vs : List Value). first k vs ≡ first k past) front.1 (first_longer k past front.0 l)
+    pub first_grown : {k : ℕ} → k ≤ length past → first k values ≡ first k past
+    first_grown {k} l = subst (λ (vs : List Value). first k vs ≡ first k past) front.1 (first_longer k past front.0 l)
 
     -- ---- messages
 
@@ -145,7 +145,7 @@ module _ (service : Declarations) (past : List Value) where
       state = h.state;
       spelled = h.spelled;
       version = h.version;
-      leads = subst (λ (vs : List Value). run service (start_of service) (trace_of vs) ≡ Some h.state) (sym (first_grown k h.there)) h.leads;
+      leads = subst (λ (vs : List Value). run service (start_of service) (trace_of vs) ≡ Some h.state) (sym (first_grown h.there)) h.leads;
       there = let l = h.there in omega (arith, l, longer_past);
       short = h.short;
     }

@@ -38,17 +38,17 @@ use Rattle.rex_world.proofs.Placed.{at_old, many_here}
 -- ---- the node
 
 -- which append will fail doesn't matter to events that are taken
-armed_each : (service : Declarations) (es : List Event) (h : Here) (a : Option Failure)
+armed_each : (service : Declarations) (es : List Event) (h : Here) {a : Option Failure}
     → (take_each service es (begin (let m : Here = record h { armed = a } in m))).node ≡ (let m : Here = record (take_each service es (begin h)).node { armed = a } in m)
-armed_each service [] h a = refl
-armed_each service (e ∷ es) h a = armed_each service es (take_event service e (begin h)).node a
+armed_each service [] h = refl
+armed_each service (e ∷ es) h {a} = armed_each service es (take_event service e (begin h)).node
 
 module _ (service : Declarations) (past : List Value) (x y : NodeValue KeeperValue) (es : List Event) (keeper : y.keeper ≡ x.keeper) where
   leads : LeadsTo (take_each service es) (here_of records_of service past x) (here_of records_of service past y) → LeadsTo (take_each service es) (here_at service past x) (here_at service past y)
   leads h =
       ap (λ (n : Here). let m : Here = record n { armed = armed_of y.keeper.armed } in m) h
       ∙ ap (λ (k : KeeperValue). let m : Here = record (take_each service es (begin (here_of records_of service past x))).node { armed = armed_of k.armed } in m) keeper
-      ∙ sym (armed_each service es (here_of records_of service past x) (armed_of x.keeper.armed))
+      ∙ sym (armed_each service es (here_of records_of service past x))
 
   pub block_handed : (outcome : Result (Unit {0}) Refusal) → Refuses (refusal_active (here_of records_of service past x)) outcome
       → OnOk outcome (LeadsTo (take_each service es) (here_of records_of service past x) (here_of records_of service past y)) → OnErr outcome (y ≡ x) → IsHandedBlock service es (here_at service past x) (here_at service past y) outcome
@@ -87,21 +87,21 @@ module _ (service : Declarations) (requests : List Request) (seed n m : ℕ) whe
           ∙ ap (λ (b : Bool). cond b (take_event service e (begin (node_at w.nodes m))).node (node_at w.nodes m)) (eq-eqb m m refl)
 
 -- a kept world of which a node is handed events is kept
-block_kept : (service : Declarations) (requests : List Request) (seed n m : ℕ) (es : List Event) (w : ModelWorld) → n ≤ most_nodes → IsService service → IsChecked service → IsNode n m → All BeginsInRange es
+block_kept : {service : Declarations} (requests : List Request) {seed n m : ℕ} (es : List Event) {w : ModelWorld} → n ≤ most_nodes → IsService service → IsChecked service → IsNode n m → All BeginsInRange es
     → IsKept service seed n w → IsKept service seed n (after_doings service requests seed n w (takes_at m es))
-block_kept service requests seed n m [] w few good checked there begins k = k
-block_kept service requests seed n m (e ∷ es) w few good checked there begins k =
-    block_kept service requests seed n m es (take service w m e) few good checked there (All-tail BeginsInRange e es begins) (take_kept service good checked [] (All-nil (RequestFits service)) seed n few w k m there e (All-head BeginsInRange e es begins))
+block_kept requests [] few good checked there begins k = k
+block_kept {service} requests {seed} {n} {m} (e ∷ es) {w} few good checked there begins k =
+    block_kept requests es few good checked there (All-tail BeginsInRange e es begins) (take_kept service good checked [] (All-nil (RequestFits service)) seed n few w k m there e (All-head BeginsInRange e es begins))
 
 takes_agreed : (service : Declarations) (requests : List Request) (seed n m : ℕ) (es : List Event) (w : ModelWorld) → agreed (after_doings service requests seed n w (takes_at m es)) ≡ agreed w
 takes_agreed service requests seed n m [] w = refl
 takes_agreed service requests seed n m (e ∷ es) w = takes_agreed service requests seed n m es (take service w m e) ∙ take_agreed service w m e
 
-ok_due : (due : Option Refusal) (t : Unit {0}) → Refuses due (Ok t) → due ≡ None
-ok_due None t h = refl
-ok_due (Some r) t h = absurd (cc)
+ok_due : (due : Option Refusal) {t : Unit {0}} → Refuses due (Ok t) → due ≡ None
+ok_due None h = refl
+ok_due (Some r) h = absurd (cc)
 
-module _ {S : Type 0} (service : Declarations) (w : World S) (h : IsRunning service w) (m : ℕ) (there : IsNode (nodes_of w) m) (nodes : Vec Member) (old new : Member) (old_is : old ≡ slice_index_or w.nodes.items (m - 1) old) (nodes_are : nodes.items ≡ slice_set w.nodes.items (m - 1) new)
+module _ {S : Type 0} {service : Declarations} {w : World S} (h : IsRunning service w) {m : ℕ} (there : IsNode (nodes_of w) m) (nodes : Vec Member) {old new : Member} (old_is : old ≡ slice_index_or w.nodes.items (m - 1) old) (nodes_are : nodes.items ≡ slice_set w.nodes.items (m - 1) new)
     (stays : StaysMember service w.agreed w.seed (nodes_of w) m old new) (es : List Event) where
   abbrev later : Bool → World S
   later broken = record w { nodes = nodes; broken = broken }
@@ -112,29 +112,29 @@ module _ {S : Type 0} (service : Declarations) (w : World S) (h : IsRunning serv
   abbrev Handed : Result (Unit {0}) Refusal → Type 0
   Handed outcome = IsHandedBlock service es (here_at service w.agreed old) (here_at service w.agreed new) outcome
 
-  handed_was : (outcome : Result (Unit {0}) Refusal) → Handed outcome → IsHandedBlock service es (node_at before.nodes m) (here_at service w.agreed new) outcome
-  handed_was outcome a = subst (λ (x : Here). IsHandedBlock service es x (here_at service w.agreed new) outcome) (sym (at_old w.nodes.items nodes.items m there old new old_is nodes_are service w.agreed)) a
+  handed_was : {outcome : Result (Unit {0}) Refusal} → Handed outcome → IsHandedBlock service es (node_at before.nodes m) (here_at service w.agreed new) outcome
+  handed_was {outcome} a = subst (λ (x : Here). IsHandedBlock service es x (here_at service w.agreed new) outcome) (sym (at_old w.nodes.items there new old_is nodes_are service w.agreed)) a
 
-  pub block_refused : (outcome : Result (Unit {0}) Refusal) → Handed outcome → Refuses (refusal_active (node_at before.nodes m)) outcome
-  block_refused outcome a = (handed_was outcome a).refused
+  pub block_refused : {outcome : Result (Unit {0}) Refusal} → Handed outcome → Refuses (refusal_active (node_at before.nodes m)) outcome
+  block_refused {outcome} a = (handed_was a).refused
 
   pub block_world : (broken : Bool) (outcome : Result (Unit {0}) Refusal) → Handed outcome → OnOk outcome (world_of service (later broken) ≡ after_doings service w.requests w.seed (nodes_of w) before (takes_at m es))
   block_world broken (Err r) a = tt
   block_world broken (Ok t) a =
-      let c = handed_was (Ok t) a in
-      let n = none_refused (node_at before.nodes m) (ok_due (refusal_active (node_at before.nodes m)) t c.refused) in
-      given_put service w h m there nodes old new old_is nodes_are stays broken (take_each service es (begin (node_at before.nodes m))).node c.takes
+      let c = handed_was a in
+      let n = none_refused (node_at before.nodes m) (ok_due (refusal_active (node_at before.nodes m)) c.refused) in
+      given_put h there nodes old_is nodes_are stays broken c.takes
       ∙ takes_are service w.requests w.seed (nodes_of w) m es before (subst (λ (k : ℕ). IsNode k m) (sym (many_here service w.agreed w.nodes.items)) there) n.0 n.1
 
   pub block_unchanged : (broken : Bool) (outcome : Result (Unit {0}) Refusal) → Handed outcome → OnErr outcome (world_of service (later broken) ≡ before)
   block_unchanged broken (Ok t) a = tt
-  block_unchanged broken (Err r) a = given_still service w h m there nodes old new old_is nodes_are stays broken a.same
+  block_unchanged broken (Err r) a = given_still h there nodes old_is nodes_are stays broken a.same
 
   pub block_running : All BeginsInRange es → (outcome : Result (Unit {0}) Refusal) → Handed outcome → IsRunning service (later w.broken)
   block_running begins (Ok t) a =
-      given_running service w h m there nodes old new old_is nodes_are stays
-      (subst (IsKept service w.seed (nodes_of w)) (sym (block_world w.broken (Ok t) a)) (block_kept service w.requests w.seed (nodes_of w) m es before h.few h.service_is h.checked there begins h.kept))
+      given_running h there nodes old_is nodes_are stays
+      (subst (IsKept service w.seed (nodes_of w)) (sym (block_world w.broken (Ok t) a)) (block_kept w.requests es h.few h.service_is h.checked there begins h.kept))
       (h.agreed ∙ sym (takes_agreed service w.requests w.seed (nodes_of w) m es before) ∙ ap agreed (sym (block_world w.broken (Ok t) a)))
   block_running begins (Err r) a =
-      given_running service w h m there nodes old new old_is nodes_are stays (subst (IsKept service w.seed (nodes_of w)) (sym (block_unchanged w.broken (Err r) a)) h.kept)
+      given_running h there nodes old_is nodes_are stays (subst (IsKept service w.seed (nodes_of w)) (sym (block_unchanged w.broken (Err r) a)) h.kept)
       (h.agreed ∙ ap agreed (sym (block_unchanged w.broken (Err r) a)))

@@ -55,14 +55,14 @@ module _ (past : List Value) where
       ∙ ap (λ (xs : List (Message Value)). message_in past m ∷ xs) (read_again ms (All-tail HasSpelling m ms h))
 
   -- and a state that it tells is right
-  pub one_told : (service : Declarations) (m : Said) → HasSpelling m → IsTold service past m.content → TellsRightly service past (spelling_of m)
-  one_told service m spelled told = record { tells = subst (TellsIn service past) (sym (message_read m spelled)) told }
+  pub one_told : {service : Declarations} {m : Said} → HasSpelling m → IsTold service past m.content → TellsRightly service past (spelling_of m)
+  one_told {service} {m} spelled told = record { tells = subst (TellsIn service past) (sym (message_read m spelled)) told }
 
   all_told : (service : Declarations) (ms : List Said) → All HasSpelling ms → AreTold service past ms → All (TellsRightly service past) (map spelling_of ms)
   all_told service [] spelled told = All-nil (TellsRightly service past)
   all_told service (m ∷ ms) spelled told =
       All-cons (TellsRightly service past) (spelling_of m) (map spelling_of ms)
-      (one_told service m (All-head HasSpelling m ms spelled) (All-head (λ (x : Said). IsTold service past x.content) m ms told))
+      (one_told (All-head HasSpelling m ms spelled) (All-head (λ (x : Said). IsTold service past x.content) m ms told))
       (all_told service ms (All-tail HasSpelling m ms spelled) (All-tail (λ (x : Said). IsTold service past x.content) m ms told))
 
 all_spelled : (ms : List Said) → All HasSpelling ms → All IsSpelled (map spelling_of ms)
@@ -72,9 +72,9 @@ all_spelled (m ∷ ms) h =
 
 -- ---- worlds
 
-pub same_world : (d e : ℕ) (xs ys : List Here) (ms ns : List (Message Value)) (hs gs : List Bool) (ss ts : List ℕ) → d ≡ e → xs ≡ ys → ms ≡ ns → hs ≡ gs → ss ≡ ts
+pub same_world : {d e : ℕ} {xs ys : List Here} {ms ns : List (Message Value)} {hs gs : List Bool} {ss ts : List ℕ} → d ≡ e → xs ≡ ys → ms ≡ ns → hs ≡ gs → ss ≡ ts
     → let a : ModelWorld = record { done = d; nodes = xs; messages = ms; handed = hs; seen = ss } in let b : ModelWorld = record { done = e; nodes = ys; messages = ns; handed = gs; seen = ts } in a ≡ b
-same_world d e xs ys ms ns hs gs ss ts p q r s t = cc
+same_world p q r s t = cc
 
 pub put_same : (xs : List Here) (m : ℕ) → put xs m (node_at xs m) ≡ xs
 put_same [] m = refl
@@ -85,10 +85,10 @@ put_same (x ∷ xs) m = go (eqb m 1) (put_same xs (m - 1))
     go false h = ap (λ (ys : List Here). x ∷ ys) h
 
 -- saying something that releases no reply changes nothing
-said_only : (w : ModelWorld) (m : ℕ) (e : Effect) → released_to e ≡ None → after w m (say e (begin (node_at w.nodes m))) ≡ only w e
-said_only w m e none =
+said_only : {w : ModelWorld} (m : ℕ) {e : Effect} → released_to e ≡ None → after w m (say e (begin (node_at w.nodes m))) ≡ only w e
+said_only {w} m {e} none =
     ap (λ (v : ModelWorld). let r : Row = record { world = v; effects = e ∷ [] } in r)
-    (same_world w.done w.done (put w.nodes m (node_at w.nodes m)) w.nodes (w.messages ++ []) w.messages (w.handed ++ []) w.handed (seen_by_release (stamp_at (node_at w.nodes m)) (released_to e) w.seen) w.seen refl (put_same w.nodes m) (append-nil w.messages) (append-nil w.handed)
+    (same_world refl (put_same w.nodes m) (append-nil w.messages) (append-nil w.handed)
     (ap (λ (o : Option ℕ). seen_by_release (stamp_at (node_at w.nodes m)) o w.seen) none))
 
 -- what a call of a node comes to in the model
@@ -97,14 +97,14 @@ served_row w m call = by (node_at w.nodes m).up
   where
     by : (t : Bool) → after w m (if t then call (begin (node_at w.nodes m)) else say (IsDown m) (begin (node_at w.nodes m))) ≡ if_up t w m (call (begin (node_at w.nodes m)))
     by true = refl
-    by false = said_only w m (IsDown m) refl
+    by false = said_only m refl
 
 -- and its start
 pub started_row : (sv : Service Value StateValue) (w : ModelWorld) (m : ℕ) → after w m (started sv m (node_at w.nodes m)) ≡ start_if sv (node_at w.nodes m).up w m
 started_row sv w m = by (node_at w.nodes m).up
   where
     by : (t : Bool) → after w m (if t then say (IsUp m) (begin (node_at w.nodes m)) else start sv m (begin (node_at w.nodes m))) ≡ start_if sv t w m
-    by true = said_only w m (IsUp m) refl
+    by true = said_only m refl
     by false = refl
 
 -- ---- before what a node has come to know was agreed
@@ -142,7 +142,7 @@ pub record TellsStep {S : Type 0} (w w2 : World S) (nodes : Vec Member) (told to
 
 -- ---- a step that was told
 
-module _ {S : Type 0} (service : Declarations) (w w2 : World S) (h : IsRunning service w) (nodes : Vec Member) (told told2 : Told) (step : Step) (tells : TellsStep w w2 nodes told told2 step) (m : ℕ) (d : CallHere) (come : HasCome w.agreed d (node_at (heres service w.agreed nodes.items) m) step)
+module _ {S : Type 0} {service : Declarations} {w w2 : World S} (h : IsRunning service w) {nodes : Vec Member} {told told2 : Told} {step : Step} (tells : TellsStep w w2 nodes told told2 step) (m : ℕ) {d : CallHere} (come : HasCome w.agreed d (node_at (heres service w.agreed nodes.items) m) step)
     (shown : w2.seen.items ≡ seen_by_releases (stamp_at (node_at (heres service w.agreed nodes.items) m)) step.effects w.seen.items) (others : heres service w.agreed nodes.items ≡ put (heres service w.agreed w.nodes.items) m (node_at (heres service w.agreed nodes.items) m)) where
   -- a world that sent these messages
   abbrev sent_world : World S
@@ -166,7 +166,7 @@ module _ {S : Type 0} (service : Declarations) (w w2 : World S) (h : IsRunning s
   world_after : world_of service w2 ≡ (after (world_of service w) m d).world
   world_after =
       ap (world_of service) tells.rest
-      ∙ same_world w.done w.done (heres service w.agreed nodes.items) (put (heres service w.agreed w.nodes.items) m d.node) (messages_of w.agreed w2.net) (messages_of w.agreed w.net ++ d.sends) w2.handed.items (w.handed.items ++ replicate (length d.sends) false) w2.seen.items (seen_by_releases (stamp_at d.node) d.effects w.seen.items)
+      ∙ same_world
       refl nodes_are
       (messages_after ∙ ap (λ (ms : List (Message Value)). messages_of w.agreed w.net ++ ms) come.sends)
       (tells.sends.handed ∙ ap (λ (k : ℕ). w.handed.items ++ replicate k false) (sym (length-map step.sends (message_in w.agreed)) ∙ ap length come.sends))

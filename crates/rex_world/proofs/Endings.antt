@@ -28,8 +28,8 @@ use Rattle.std.proofs.lemmas.List.{append-nil}
 use Rattle.rex_world.specs.Report.{count_of, end_of, ends_text, node_text, shown_state, up_end_of}
 
 -- the state that events run to
-run_to : (service : Declarations) (es : List Event) (s : StateValue) → run service (start_of service) es ≡ Some s → state_after service es ≡ s
-run_to service es s h = ap (λ (o : Option StateValue). unwrap_or o (start_of service)) h
+run_to : (service : Declarations) (es : List Event) {s : StateValue} → run service (start_of service) es ≡ Some s → state_after service es ≡ s
+run_to service es h = ap (λ (o : Option StateValue). unwrap_or o (start_of service)) h
 
 -- an end line that was told, in other terms
 pub told_as : {E : Type 0} {end other : End} {service declared : Declarations} {values shown : List ℤ} {counts others : List ℕ} (r : Result (Unit {0}) E) (before after : List ℕ) → other ≡ end → declared ≡ service → shown ≡ values → others ≡ counts
@@ -44,14 +44,14 @@ told_as {E} {end} {other} {service} {declared} {values} {shown} {counts} {others
     h
 
 -- the state that is shown, where it is active and where it isn't
-shown_at : (service : Declarations) (values : List Value) (replayed : ℕ) (a : _) (proposer : Option _) (acting : Option ActingValue) (s : StateValue)
+shown_at : (service : Declarations) (values : List Value) (replayed : ℕ) (a : _) (proposer : Option _) (acting : Option ActingValue) {s : StateValue}
     → (acting ≡ None → run service (start_of service) (trace_of (take replayed values)) ≡ Some s) → IsActing service values a proposer acting
     → (if is_active (role_of a proposer (is_some acting)) then state_after service (trace_of values ++ (work_of acting).live) else state_after service (trace_of (take replayed values))) ≡ shown_with acting s
-shown_at service values replayed a None None s ahead acts = run_to service (trace_of (take replayed values)) s (ahead refl)
-shown_at service values replayed a (Some p) None s ahead acts = run_to service (trace_of (take replayed values)) s (ahead refl)
-shown_at service values replayed a None (Some e) s ahead acts = absurd acts
-shown_at service values replayed a (Some p) (Some e) s ahead acts =
-    run_to service (trace_of values ++ e.recorder.live) e.recorder.state (run-then service (start_of service) e.recorder.start (trace_of values) e.recorder.live acts.executes.known ∙ acts.executes.recorder.runs)
+shown_at service values replayed a None None {s} ahead acts = run_to service (trace_of (take replayed values)) (ahead refl)
+shown_at service values replayed a (Some p) None {s} ahead acts = run_to service (trace_of (take replayed values)) (ahead refl)
+shown_at service values replayed a None (Some e) ahead acts = absurd acts
+shown_at service values replayed a (Some p) (Some e) ahead acts =
+    run_to service (trace_of values ++ e.recorder.live) (run-then service (start_of service) e.recorder.start (trace_of values) e.recorder.live acts.executes.known ∙ acts.executes.recorder.runs)
 
 few_live : (service : Declarations) (values : List Value) (a : _) (proposer : Option _) (acting : Option ActingValue) → IsActing service values a proposer acting → length (work_of acting).live ≤ 4096
 few_live service values a p None acts = omega arith
@@ -62,25 +62,25 @@ few_live service values a (Some p) (Some e) acts = acts.executes.recorder.few
 abbrev end_at : NodeValue KeeperValue → ℕ → ℕ → UpEnd
 end_at x promised many = record { node = x.id; role = role_name (role_of x.acceptor x.proposer (is_some x.acting)); promised = promised; known = many; count = count_of x }
 
-module _ (service : Declarations) (past : List Value) (x : NodeValue KeeperValue) (node : IsNode records_of service past x) where
+module _ {service : Declarations} {past : List Value} (x : NodeValue KeeperValue) (node : IsNode records_of service past x) where
   -- the state that its parts show is that of the model's node
   pub shown_is : x.up ≡ true → shown_state service (here_of records_of service past x) ≡ shown_of x
   shown_is e =
       let up = node.up e in
       ap (λ (vs : List Value). if is_active (role_of x.acceptor x.proposer (is_some x.acting)) then state_after service (trace_of vs ++ (work_of x.acting).live) else state_after service (trace_of (take x.replayed vs))) (sym up.known)
-      ∙ shown_at service (knows past x) x.replayed x.acceptor x.proposer x.acting (state_of x) up.ahead up.acting
+      ∙ shown_at service (knows past x) x.replayed x.acceptor x.proposer x.acting up.ahead up.acting
 
   pub end_is : x.up ≡ true → end_of x.id (here_of records_of service past x) ≡ Up (up_end_of x)
   end_is e =
       let up = node.up e in
       ap (λ (u : Bool). if u then Up (end_at x (promise (log_of service past x.keeper.records)) (length (known (log_of service past x.keeper.records)))) else Down x.id) e
       ∙ ap (λ (p : ℕ). Up (end_at x p (length (known (log_of service past x.keeper.records))))) (sym up.promised)
-      ∙ ap (λ (n : ℕ). Up (end_at x x.acceptor.promised n)) (sym (count_known service past x node e))
+      ∙ ap (λ (n : ℕ). Up (end_at x x.acceptor.promised n)) (sym (count_known x node e))
 
   pub is_few : x.up ≡ true → (length (work_of x.acting).live ≤ 4096) × (known_count x ≤ 65535)
   is_few e =
       let up = node.up e in
-      (few_live service (knows past x) x.acceptor x.proposer x.acting up.acting, subst (λ (n : ℕ). n ≤ 65535) (sym (count_known service past x node e)) up.numbers.log.few)
+      (few_live service (knows past x) x.acceptor x.proposer x.acting up.acting, subst (λ (n : ℕ). n ≤ 65535) (sym (count_known x node e)) up.numbers.log.few)
 
 -- ---- one line after the other
 
@@ -99,10 +99,10 @@ ends_more service number (x ∷ xs) y =
     ∙ sym (append_assoc (node_text service number x) (ends_text service (suc number) xs) (node_text service (number + suc (length xs)) y))
 
 -- the lines so far, and one more; which append of a node fails isn't told
-pub ends_next : (service : Declarations) (past : List Value) (xs : List Member) (i : ℕ) (x d : Member) (initial before after : List ℕ) → i < length xs → x ≡ slice_index_or xs i d → x.id ≡ i + 1
+pub ends_next : (service : Declarations) (past : List Value) (xs : List Member) {i : ℕ} {x : Member} (d : Member) (initial : List ℕ) {before after : List ℕ} → i < length xs → x ≡ slice_index_or xs i d → x.id ≡ i + 1
     → before ≡ initial ++ ends_text service 1 (heres service past (take i xs)) → after ≡ before ++ node_text service x.id (here_of records_of service past x)
     → after ≡ initial ++ ends_text service 1 (heres service past (take (i + 1) xs))
-ends_next service past xs i x d initial before after l is e b h =
+ends_next service past xs {i} {x} d initial l is e b h =
     let t : take (i + 1) xs ≡ take i xs ++ x ∷ [] = ap (λ (k : ℕ). take k xs) (add-one i) ∙ take-suc xs i d l ∙ ap (λ (y : Member). take i xs ++ y ∷ []) (sym is) in
     let n : 1 + length (heres service past (take i xs)) ≡ x.id = omega (arith, many_here service past (take i xs), length-take i xs, l, e) in
     let m : ends_text service 1 (heres service past (take (i + 1) xs)) ≡ ends_text service 1 (heres service past (take i xs)) ++ node_text service x.id (here_at service past x) =
@@ -115,7 +115,7 @@ ends_next service past xs i x d initial before after l is e b h =
     ∙ ap (λ (t : List ℕ). initial ++ t) (sym m)
 
 -- a node at a place has the next number, and is kept
-pub member_at : (service : Declarations) (past : List Value) (seed nodes : ℕ) (xs : List Member) (i : ℕ) (x d : Member) → AreMembers service past seed nodes 1 xs → i < length xs → x ≡ slice_index_or xs i d → IsMember service past seed nodes (i + 1) x
-member_at service past seed nodes xs i x d all l is =
+pub member_at : {service : Declarations} {past : List Value} {seed nodes : ℕ} (xs : List Member) {i : ℕ} {x : Member} (d : Member) → AreMembers service past seed nodes 1 xs → i < length xs → x ≡ slice_index_or xs i d → IsMember service past seed nodes (i + 1) x
+member_at {service} {past} {seed} {nodes} xs {i} d all l is =
     let n : (i + 1) - 1 ≡ i = omega arith in
-    subst (λ (y : Member). IsMember service past seed nodes (i + 1) y) (ap (λ (k : ℕ). slice_index_or xs k d) n ∙ sym is) (member_is xs (i + 1) (omega arith, omega (arith, l)) service past d seed nodes all)
+    subst (λ (y : Member). IsMember service past seed nodes (i + 1) y) (ap (λ (k : ℕ). slice_index_or xs k d) n ∙ sym is) (member_is xs (omega arith, omega (arith, l)) service past d all)

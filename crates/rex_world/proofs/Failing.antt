@@ -37,19 +37,19 @@ fault_of fault = Err fault
 
 -- ---- a keeper that isn't armed
 
-unarmed_append : (armed : Option Fate) (old new : KeeperValue) (bytes : List ℕ) → armed ≡ None → new ≡ appended_as armed bytes old → new ≡ with_record bytes old
-unarmed_append None old new bytes e h = h
-unarmed_append (Some fate) old new bytes e h = absurd (cc)
+unarmed_append : (armed : Option Fate) (old : KeeperValue) {new : KeeperValue} (bytes : List ℕ) → armed ≡ None → new ≡ appended_as armed bytes old → new ≡ with_record bytes old
+unarmed_append None old bytes e h = h
+unarmed_append (Some fate) old bytes e h = absurd (cc)
 
-appended : (old new : KeeperValue) (bytes : List ℕ) → old.armed ≡ None → follows old bytes done new → new.armed ≡ None
-appended old new bytes unarmed h = ap (λ (k : KeeperValue). k.armed) (unarmed_append old.armed old new bytes unarmed h.1) ∙ unarmed
+appended : (old : KeeperValue) {new : KeeperValue} (bytes : List ℕ) → old.armed ≡ None → follows old bytes done new → new.armed ≡ None
+appended old {new} bytes unarmed h = ap (λ (k : KeeperValue). k.armed) (unarmed_append old.armed old bytes unarmed h.1) ∙ unarmed
 
 stays : (old new : KeeperValue) (written : List (List ℕ)) → old.armed ≡ None → AppendsInTurn follows old written done new → new.armed ≡ None
 stays old new [] unarmed h = ap (λ (k : KeeperValue). k.armed) h.1 ∙ unarmed
 stays old new (bytes ∷ later) unarmed h = by h.0 h.1 h.2 (λ k ok chain. stays k new later ok chain) h.3
   where
     by : (answer : Answer) (k : KeeperValue) → follows old bytes answer k → ((j : KeeperValue) → j.armed ≡ None → AppendsInTurn follows j later done new → new.armed ≡ None) → MatchResult answer (λ _. AppendsInTurn follows k later done new) (λ e. (done ≡ Err e) × (new ≡ k)) → new.armed ≡ None
-    by (Ok x) k g next chain = next k (appended old k bytes unarmed g) chain
+    by (Ok x) k g next chain = next k (appended old bytes unarmed g) chain
     by (Err e) k g next end = absurd (let no : done ≡ fault_of e = end.0 in cc)
 
 armed_not : (armed : Option Fate) → armed ≡ None → IsSome armed → ⊥
@@ -58,17 +58,17 @@ armed_not (Some fate) e h = absurd (cc)
 
 -- ---- a keeper that is armed
 
-some_not : (armed : Option Fate) (fate : Fate) → armed ≡ Some fate → IsNone armed → ⊥
-some_not None fate e h = absurd (cc)
-some_not (Some other) fate e h = let untrue : true ≡ false = h in cc
+some_not : (armed : Option Fate) {fate : Fate} → armed ≡ Some fate → IsNone armed → ⊥
+some_not None e h = absurd (cc)
+some_not (Some other) e h = let untrue : true ≡ false = h in cc
 
 -- none of its appends goes well
-pub none_written : (fate : Fate) (old new : KeeperValue) (written : List (List ℕ)) → old.armed ≡ Some fate → AppendsInTurn follows old written done new → (written ≡ []) × (new ≡ old)
-none_written fate old new [] armed h = (refl, h.1)
-none_written fate old new (bytes ∷ later) armed h = by h.0 h.1 h.2 h.3
+pub none_written : {fate : Fate} {old new : KeeperValue} (written : List (List ℕ)) → old.armed ≡ Some fate → AppendsInTurn follows old written done new → (written ≡ []) × (new ≡ old)
+none_written [] armed h = (refl, h.1)
+none_written {fate} {old} {new} (bytes ∷ later) armed h = by h.0 h.1 h.2 h.3
   where
     by : (answer : Answer) (k : KeeperValue) → follows old bytes answer k → MatchResult answer (λ _. AppendsInTurn follows k later done new) (λ e. (done ≡ Err e) × (new ≡ k)) → (bytes ∷ later ≡ []) × (new ≡ old)
-    by (Ok x) k g chain = absurd (some_not old.armed fate armed g.0)
+    by (Ok x) k g chain = absurd (some_not old.armed armed g.0)
     by (Err e) k g end = absurd (let no : done ≡ fault_of e = end.0 in cc)
 
 -- what its failure leaves: it may have to be reopened
@@ -76,15 +76,15 @@ abbrev failed_to : Fate → List ℕ → KeeperValue → Bool → KeeperValue
 failed_to fate bytes old broken = record (appended_as (Some fate) bytes old) { broken = broken }
 
 -- its failure is the one that it was armed to
-kept_as : (fate : Fate) (kept : Bool) (old new : KeeperValue) (bytes : List ℕ) → new ≡ failed_to fate bytes old new.broken → new.records ≡ failed_records kept old.records bytes → let f : Option Failure = Some (After 0 kept) in f ≡ armed_of (Some fate)
-kept_as Kept true old new bytes is grown = refl
-kept_as Lost false old new bytes is grown = refl
-kept_as Kept false old new bytes is grown = absurd (let n = length-append old.records (bytes ∷ []) in let e = ap (λ (k : KeeperValue). length k.records) is in let g = ap length grown in omega arith)
-kept_as Lost true old new bytes is grown = absurd (let n = length-append old.records (bytes ∷ []) in let e = ap (λ (k : KeeperValue). length k.records) is in let g = ap length grown in omega arith)
+kept_as : (fate : Fate) (kept : Bool) (old : KeeperValue) {new : KeeperValue} (bytes : List ℕ) → new ≡ failed_to fate bytes old new.broken → new.records ≡ failed_records kept old.records bytes → let f : Option Failure = Some (After 0 kept) in f ≡ armed_of (Some fate)
+kept_as Kept true old bytes is grown = refl
+kept_as Lost false old bytes is grown = refl
+kept_as Kept false old bytes is grown = absurd (let n = length-append old.records (bytes ∷ []) in let e = ap (λ (k : KeeperValue). length k.records) is in let g = ap length grown in omega arith)
+kept_as Lost true old bytes is grown = absurd (let n = length-append old.records (bytes ∷ []) in let e = ap (λ (k : KeeperValue). length k.records) is in let g = ap length grown in omega arith)
 
-unarmed_then : (fate : Fate) (old new : KeeperValue) (bytes : List ℕ) → new ≡ failed_to fate bytes old new.broken → (new.armed ≡ None) × (faults_of new ≡ old.faults + 1)
-unarmed_then Kept old new bytes is = (ap (λ (k : KeeperValue). k.armed) is, ap faults_of is ∙ let e : old.faults + 1 + 0 ≡ old.faults + 1 = omega arith in e)
-unarmed_then Lost old new bytes is = (ap (λ (k : KeeperValue). k.armed) is, ap faults_of is ∙ let e : old.faults + 1 + 0 ≡ old.faults + 1 = omega arith in e)
+unarmed_then : (fate : Fate) (old : KeeperValue) {new : KeeperValue} (bytes : List ℕ) → new ≡ failed_to fate bytes old new.broken → (new.armed ≡ None) × (faults_of new ≡ old.faults + 1)
+unarmed_then Kept old bytes is = (ap (λ (k : KeeperValue). k.armed) is, ap faults_of is ∙ let e : old.faults + 1 + 0 ≡ old.faults + 1 = omega arith in e)
+unarmed_then Lost old bytes is = (ap (λ (k : KeeperValue). k.armed) is, ap faults_of is ∙ let e : old.faults + 1 + 0 ≡ old.faults + 1 = omega arith in e)
 
 -- appends that go well leave it to be reopened, or not, as before
 same_broken : (armed : Option Fate) (bytes : List ℕ) (old : KeeperValue) → (appended_as armed bytes old).broken ≡ old.broken
@@ -102,7 +102,7 @@ stays_broken old new (bytes ∷ later) h = by h.0 h.1 h.2 (λ k chain. stays_bro
 
 -- ---- a node's step is the model's call
 
-module _ (service : Declarations) (past : List Value) (call : CallHere → CallHere) (goes : (f : Option Failure) → Goes f call) (old new : NodeValue KeeperValue) (step : Step) where
+module _ (service : Declarations) (past : List Value) {call : CallHere → CallHere} (goes : (f : Option Failure) → Goes f call) (old new : NodeValue KeeperValue) (step : Step) where
   abbrev before : Here
   before = here_of records_of service past old
 
@@ -113,8 +113,8 @@ module _ (service : Declarations) (past : List Value) (call : CallHere → CallH
   Same = call (begin (here_at service past old)) ≡ armed_as (armed_of new.keeper.armed) came
 
   -- this failure is that of the node's keeper
-  at_failure : (f : Option Failure) → f ≡ armed_of old.keeper.armed → call (armed_as f (begin before)) ≡ call (begin (here_at service past old))
-  at_failure f e = ap (λ (g : Option Failure). call (armed_as g (begin before))) e
+  at_failure : {f : Option Failure} → f ≡ armed_of old.keeper.armed → call (armed_as f (begin before)) ≡ call (begin (here_at service past old))
+  at_failure e = ap (λ (g : Option Failure). call (armed_as g (begin before))) e
 
   -- and the keeper isn't armed then
   disarmed_then : new.keeper.armed ≡ None → came ≡ armed_as (armed_of new.keeper.armed) came
@@ -125,14 +125,14 @@ module _ (service : Declarations) (past : List Value) (call : CallHere → CallH
       let unarmed : new.keeper.armed ≡ None = stays old.keeper new.keeper h.written e h.appends in
       let a = ap failing unarmed in
       let b = h.counted in (
-        sym (at_failure None (sym (ap armed_of e))) ∙ h.is ∙ disarmed_then unarmed,
+        sym (at_failure (sym (ap armed_of e))) ∙ h.is ∙ disarmed_then unarmed,
         omega arith,
       )
   well (Some fate) e h =
-      let none = none_written fate old.keeper new.keeper h.written e h.appends in
+      let none = none_written h.written e h.appends in
       let many : length (call (begin before)).node.log ≡ length before.log = omega (arith, ap (λ (d : CallHere). length d.node.log) h.is, h.many, ap length none.0) in
       let a = ap faults_of none.1 in (
-        unseen (armed_of old.keeper.armed) call before (goes (armed_of old.keeper.armed)) refl many
+        unseen (armed_of old.keeper.armed) (goes (armed_of old.keeper.armed)) refl many
             ∙ ap (armed_as (armed_of old.keeper.armed)) h.is
             ∙ ap (λ (k : KeeperValue). armed_as (armed_of k.armed) came) (sym none.1),
         omega arith,
@@ -141,17 +141,17 @@ module _ (service : Declarations) (past : List Value) (call : CallHere → CallH
   fails : (armed : Option Fate) → old.keeper.armed ≡ armed → FailsAfter records_of follows (λ k. k.faults) service call old.keeper new.keeper (begin before) came → Same × (faults_of new.keeper ≤ faults_of old.keeper)
   fails None e h = absurd (armed_not h.between.armed (stays old.keeper h.between h.written e h.appends) h.fails.0)
   fails (Some fate) e h =
-      let none = none_written fate old.keeper h.between h.written e h.appends in
+      let none = none_written h.written e h.appends in
       let is : new.keeper ≡ failed_to fate h.bytes old.keeper new.keeper.broken =
       subst (λ (k : KeeperValue). new.keeper ≡ record (appended_as k.armed h.bytes k) { broken = new.keeper.broken }) none.1 h.fails.1 ∙ ap (λ (a : Option Fate). let k : KeeperValue = record (appended_as a h.bytes old.keeper) { broken = new.keeper.broken } in k) e in
       let grown : new.keeper.records ≡ failed_records h.kept old.keeper.records h.bytes =
       h.grown ∙ ap (λ (ws : List (List ℕ)). failed_records h.kept (old.keeper.records ++ ws) h.bytes) none.0 ∙ ap (λ (rs : List (List ℕ)). failed_records h.kept rs h.bytes) (append-nil old.keeper.records) in
       let failure : let f : Option Failure = Some (After (length h.written) h.kept) in f ≡ armed_of old.keeper.armed =
-      ap (λ (ws : List (List ℕ)). let f : Option Failure = Some (After (length ws) h.kept) in f) none.0 ∙ kept_as fate h.kept old.keeper new.keeper h.bytes is grown ∙ sym (ap armed_of e) in
-      let then = unarmed_then fate old.keeper new.keeper h.bytes is in
+      ap (λ (ws : List (List ℕ)). let f : Option Failure = Some (After (length ws) h.kept) in f) none.0 ∙ kept_as fate h.kept old.keeper h.bytes is grown ∙ sym (ap armed_of e) in
+      let then = unarmed_then fate old.keeper h.bytes is in
       let a = then.1 in
       let b = ap failing e in (
-        sym (at_failure (Some (After (length h.written) h.kept)) failure) ∙ h.is ∙ disarmed_then then.0,
+        sym (at_failure failure) ∙ h.is ∙ disarmed_then then.0,
         omega arith,
       )
 

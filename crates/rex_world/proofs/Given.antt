@@ -77,8 +77,8 @@ module _ (service : Declarations) (w : ModelWorld) (m : ℕ) (e : Event) where
   pub take_is : (node_at w.nodes m).up ≡ true → is_active (node_at w.nodes m).role ≡ true
       → (let v : ModelWorld = record w { nodes = put w.nodes m (taken (taken_in service (node_at w.nodes m) e) (begin (node_at w.nodes m))).node } in v) ≡ take service w m e
   take_is up active =
-      same_world w.done w.done (put w.nodes m (taken (taken_in service (node_at w.nodes m) e) (begin (node_at w.nodes m))).node) (put w.nodes m (taken (taken_in service (node_at w.nodes m) e) (begin (node_at w.nodes m))).node)
-      w.messages (w.messages ++ []) w.handed (w.handed ++ []) w.seen w.seen refl refl (sym (append-nil w.messages)) (sym (append-nil w.handed)) refl
+      same_world
+       refl refl (sym (append-nil w.messages)) (sym (append-nil w.handed)) refl
       ∙ sym (ap (λ (t : Bool). (after w m (active_only t (begin (node_at w.nodes m)) (take_event service e (begin (node_at w.nodes m))))).world) active)
       ∙ sym (ap (λ (t : Bool). (if_up t w m (active_only (is_active (node_at w.nodes m).role) (begin (node_at w.nodes m)) (take_event service e (begin (node_at w.nodes m))))).world) up)
 
@@ -97,7 +97,7 @@ take_agreed service w m e = by_up (node_at w.nodes m).up
     by_up true = same_longest w.nodes m _ (same_log (is_active (node_at w.nodes m).role))
     by_up false = refl
 
-module _ {S : Type 0} (service : Declarations) (w : World S) (h : IsRunning service w) (m : ℕ) (there : IsNode (nodes_of w) m) (nodes : Vec Member) (old new : Member) (old_is : old ≡ slice_index_or w.nodes.items (m - 1) old) (nodes_are : nodes.items ≡ slice_set w.nodes.items (m - 1) new)
+module _ {S : Type 0} {service : Declarations} {w : World S} (h : IsRunning service w) {m : ℕ} (there : IsNode (nodes_of w) m) (nodes : Vec Member) {old new : Member} (old_is : old ≡ slice_index_or w.nodes.items (m - 1) old) (nodes_are : nodes.items ≡ slice_set w.nodes.items (m - 1) new)
     (stays : StaysMember service w.agreed w.seed (nodes_of w) m old new) where
   abbrev pub later : Bool → World S
   later broken = record w { nodes = nodes; broken = broken }
@@ -106,29 +106,29 @@ module _ {S : Type 0} (service : Declarations) (w : World S) (h : IsRunning serv
   before = world_of service w
 
   was : node_at before.nodes m ≡ here_at service w.agreed old
-  was = at_old w.nodes.items nodes.items m there old new old_is nodes_are service w.agreed
+  was = at_old w.nodes.items there new old_is nodes_are service w.agreed
 
   many : length nodes.items ≡ nodes_of w
-  many = many_are w.nodes.items nodes.items m there old new old_is nodes_are
+  many = many_are w.nodes.items there new old_is nodes_are
 
-  pub given_same : (broken : Bool) → IsSame w (later broken)
-  given_same broken = record { nodes = many; requests = refl; seed = refl }
+  pub given_same : {broken : Bool} → IsSame w (later broken)
+  given_same = record { nodes = many; requests = refl; seed = refl }
 
   -- only this node is another one
-  pub given_put : (broken : Bool) (y : Here) → here_at service w.agreed new ≡ y → (let v : ModelWorld = record before { nodes = put before.nodes m y } in world_of service (later broken) ≡ v)
-  given_put broken y e =
-      ap (λ (xs : List Here). let v : ModelWorld = record before { nodes = xs } in v) (now_put w.nodes.items nodes.items m there old new old_is nodes_are service w.agreed ∙ ap (put before.nodes m) e)
+  pub given_put : (broken : Bool) {y : Here} → here_at service w.agreed new ≡ y → (let v : ModelWorld = record before { nodes = put before.nodes m y } in world_of service (later broken) ≡ v)
+  given_put broken e =
+      ap (λ (xs : List Here). let v : ModelWorld = record before { nodes = xs } in v) (now_put w.nodes.items there new old_is nodes_are service w.agreed ∙ ap (put before.nodes m) e)
 
   -- it is as it was
   pub given_still : (broken : Bool) → here_at service w.agreed new ≡ here_at service w.agreed old → world_of service (later broken) ≡ before
   given_still broken e =
-      given_put broken (node_at before.nodes m) (e ∙ sym was)
+      given_put broken (e ∙ sym was)
       ∙ ap (λ (xs : List Here). let v : ModelWorld = record before { nodes = xs } in v) (put_same before.nodes m)
 
   -- where the model's world is kept, and what is agreed on stays, the world runs
   pub given_running : IsKept service w.seed (nodes_of w) (world_of service (later w.broken)) → w.agreed ≡ agreed (world_of service (later w.broken)) → IsRunning service (later w.broken)
   given_running kept agreed_is =
-      let all = all_stay w.nodes.items nodes.items m there old new old_is nodes_are service w.agreed w.seed (nodes_of w) w.done stays (record { members = h.members; within = h.within }) in
+      let all = all_stay w.nodes.items there new old_is nodes_are service w.agreed w.seed (nodes_of w) stays (record { members = h.members; within = h.within }) in
       record {
         service_is = h.service_is;
         checked = h.checked;
@@ -150,21 +150,21 @@ module _ {S : Type 0} (service : Declarations) (w : World S) (h : IsRunning serv
     abbrev Handed : Result Turn Refusal → Type 0
     Handed outcome = IsHanded service e (here_at service w.agreed old) (here_at service w.agreed new) outcome
 
-    handed_was : (outcome : Result Turn Refusal) → Handed outcome → IsHanded service e (node_at before.nodes m) (here_at service w.agreed new) outcome
-    handed_was outcome a = subst (λ (x : Here). IsHanded service e x (here_at service w.agreed new) outcome) (sym was) a
+    handed_was : {outcome : Result Turn Refusal} → Handed outcome → IsHanded service e (node_at before.nodes m) (here_at service w.agreed new) outcome
+    handed_was {outcome} a = subst (λ (x : Here). IsHanded service e x (here_at service w.agreed new) outcome) (sym was) a
 
-    pub given_refused : (outcome : Result Turn Refusal) → Handed outcome → Refuses (refusal_active (node_at before.nodes m)) outcome
-    given_refused outcome a = (handed_was outcome a).refused
+    pub given_refused : {outcome : Result Turn Refusal} → Handed outcome → Refuses (refusal_active (node_at before.nodes m)) outcome
+    given_refused {outcome} a = (handed_was a).refused
 
-    pub given_told : (outcome : Result Turn Refusal) → Handed outcome → IfOk outcome (λ (t : Turn). t ≡ taken_in service (node_at before.nodes m) e)
-    given_told outcome a = (handed_was outcome a).told
+    pub given_told : {outcome : Result Turn Refusal} → Handed outcome → IfOk outcome (λ (t : Turn). t ≡ taken_in service (node_at before.nodes m) e)
+    given_told {outcome} a = (handed_was a).told
 
     pub given_world : (broken : Bool) (outcome : Result Turn Refusal) → Handed outcome → OnOk outcome (world_of service (later broken) ≡ take service before m e)
     given_world broken (Err r) a = tt
     given_world broken (Ok t) a =
-        let b = handed_was (Ok t) a in
+        let b = handed_was a in
         let n = none_refused (node_at before.nodes m) (ok_none (refusal_active (node_at before.nodes m)) t b.refused) in
-        given_put broken (taken (taken_in service (node_at before.nodes m) e) (begin (node_at before.nodes m))).node (b.takes ∙ ap (λ (u : Turn). (taken u (begin (node_at before.nodes m))).node) b.told)
+        given_put broken (b.takes ∙ ap (λ (u : Turn). (taken u (begin (node_at before.nodes m))).node) b.told)
         ∙ take_is service before m e n.0 n.1
 
     pub given_unchanged : (broken : Bool) (outcome : Result Turn Refusal) → Handed outcome → OnErr outcome (world_of service (later broken) ≡ before)

@@ -78,7 +78,7 @@ module _ (service : Declarations) (seed : ℕ) (past : List Value) where
   all_front (bytes ∷ lists) log h =
       let others = all_front lists (with_one log bytes) h in
       let one = one_front log (record_in (standing_in log) bytes) others.0 in
-      (one.0, begins_on (known log) (known (with_one log bytes)) (known (log_behind service past (with_one log bytes) lists)) one.1 others.1)
+      (one.0, begins_on (known log) one.1 others.1)
 
   -- ---- values that are learned
 
@@ -90,17 +90,17 @@ module _ (service : Declarations) (seed : ℕ) (past : List Value) where
       pub known_few : length (known log) ≤ length values
 
     -- one known value more
-    keeps_known : (log : Log) (i : ℕ) (v : Value) (values : List Value) → i ≡ length (known log) + 1 → Begins (known log ++ v ∷ []) all → KeepsUp log values → (b : Bool) → (i == length values + 1) ≡ b
+    keeps_known : {log : Log} {i : ℕ} {v : Value} {values : List Value} → i ≡ length (known log) + 1 → Begins (known log ++ v ∷ []) all → KeepsUp log values → (b : Bool) → (i == length values + 1) ≡ b
         → KeepsUp (rec_of service past (rec.Known i v) ∷ log) (if b then values ++ v ∷ [] else values)
-    keeps_known log i v values due begins c true e =
+    keeps_known {log} {i} {v} {values} due begins c true e =
         let n : i ≡ length values + 1 = eqb-true i (length values + 1) e in
-        let same : known log ≡ values = same_fronts (known log) values all (begins_on (known log) (known log ++ v ∷ []) all (v ∷ [], refl) begins) c.begins (omega (arith, n, due)) in
+        let same : known log ≡ values = same_fronts (known log) values all (begins_on (known log) (v ∷ [], refl) begins) c.begins (omega (arith, n, due)) in
         record {
           begins = subst (λ (vs : List Value). Begins (vs ++ v ∷ []) all) same begins;
           long = let l = c.long in omega (arith, l, length-append values (v ∷ []));
           known_few = let l = c.known_few in omega (arith, l, length-append (known log) (v ∷ []), length-append values (v ∷ []));
         }
-    keeps_known log i v values due begins c false e =
+    keeps_known {log} {i} {v} {values} due begins c false e =
         record {
           begins = c.begins;
           long = c.long;
@@ -114,23 +114,23 @@ module _ (service : Declarations) (seed : ℕ) (past : List Value) where
             by (inl m) = omega (arith, m, length-append (known log) (v ∷ []))
             by (inr m) = absurd (n (omega (arith, m, l, due)))
 
-    keeps_one : (log : Log) (bytes : List ℕ) (r : KeptRec) (values : List Value) → record_in (standing_in log) bytes ≡ Ok r → Begins (known (rec_of service past r ∷ log)) all → KeepsUp log values
+    keeps_one : {log : Log} (bytes : List ℕ) (r : KeptRec) {values : List Value} → record_in (standing_in log) bytes ≡ Ok r → Begins (known (rec_of service past r ∷ log)) all → KeepsUp log values
         → KeepsUp (rec_of service past r ∷ log) (learned_of values r)
-    keeps_one log bytes (rec.Promised b) values e begins c = record { begins = c.begins; long = c.long; known_few = c.known_few }
-    keeps_one log bytes (rec.Accepted b i v) values e begins c = record { begins = c.begins; long = c.long; known_few = c.known_few }
-    keeps_one log bytes (rec.Known i v) values e begins c = keeps_known log i v values (known_due (standing_in log) bytes i v e) begins c (i == length values + 1) refl
-    keeps_one log bytes (rec.Checkpoint k snapshot) values e begins c = record { begins = c.begins; long = c.long; known_few = c.known_few }
-    keeps_one log bytes (rec.Dropped k) values e begins c = record { begins = c.begins; long = c.long; known_few = c.known_few }
-    keeps_one log bytes (rec.Transferred k snapshot) values e begins c = record {
+    keeps_one bytes (rec.Promised b) e begins c = record { begins = c.begins; long = c.long; known_few = c.known_few }
+    keeps_one bytes (rec.Accepted b i v) e begins c = record { begins = c.begins; long = c.long; known_few = c.known_few }
+    keeps_one {log} bytes (rec.Known i v) {values} e begins c = keeps_known (known_due (standing_in log) bytes e) begins c (i == length values + 1) refl
+    keeps_one bytes (rec.Checkpoint k snapshot) e begins c = record { begins = c.begins; long = c.long; known_few = c.known_few }
+    keeps_one bytes (rec.Dropped k) e begins c = record { begins = c.begins; long = c.long; known_few = c.known_few }
+    keeps_one bytes (rec.Transferred k snapshot) e begins c = record {
       begins = c.begins;
       long = c.long;
       known_few = let l = past_has service k past all fits begins in let m = c.long in omega (arith, l, m, first_length k past);
     }
 
-    pub keeps_all : (lists : List (List ℕ)) (log : Log) (values : List Value) → length (log_behind service past log lists) ≡ length lists + length log → AreRecords sv (log_behind service past log lists)
+    pub keeps_all : (lists : List (List ℕ)) {log : Log} {values : List Value} → length (log_behind service past log lists) ≡ length lists + length log → AreRecords sv (log_behind service past log lists)
         → Begins (known (log_behind service past log lists)) all → KeepsUp log values → KeepsUp (log_behind service past log lists) (learned values lists)
-    keeps_all [] log values many good begins c = c
-    keeps_all (bytes ∷ lists) log values many good begins c = by (record_in (standing_in log) bytes) refl (λ few one. keeps_all lists (with_one log bytes) (learned_in values bytes) few good begins one)
+    keeps_all [] many good begins c = c
+    keeps_all (bytes ∷ lists) {log} {values} many good begins c = by (record_in (standing_in log) bytes) refl (λ few one. keeps_all lists few good begins one)
       where
         by : (r : Result KeptRec ℕ) → record_in (standing_in log) bytes ≡ r → (length (log_behind service past (with_one log bytes) lists) ≡ length lists + length (with_one log bytes) → KeepsUp (with_one log bytes) (learned_in values bytes) → KeepsUp (log_behind service past (with_one log bytes) lists) (learned (learned_in values bytes) lists)) → KeepsUp (log_behind service past (with_one log bytes) lists) (learned (learned_in values bytes) lists)
         by (Err at) e later =
@@ -144,9 +144,9 @@ module _ (service : Declarations) (seed : ℕ) (past : List Value) where
             let f = few_behind lists (with_one log bytes) in
             let front = all_front lists (with_one log bytes) good in
             let one : KeepsUp (rec_of service past r ∷ log) (learned_of values r) =
-            keeps_one log bytes r values e (subst (λ (g : Log). Begins (known g) all) now (begins_on (known (with_one log bytes)) (known (log_behind service past (with_one log bytes) lists)) all front.1 begins)) c in
+            keeps_one bytes r e (subst (λ (g : Log). Begins (known g) all) now (begins_on (known (with_one log bytes)) front.1 begins)) c in
             later (omega (arith, many, l, f))
-            (subst (λ (g : Log). KeepsUp g (learned_in values bytes)) (sym now) (subst (KeepsUp (rec_of service past r ∷ log)) (sym (learned_as (standing_in log) bytes r values e)) one))
+            (subst (λ (g : Log). KeepsUp g (learned_in values bytes)) (sym now) (subst (KeepsUp (rec_of service past r ∷ log)) (sym (learned_as (standing_in log) bytes values e)) one))
 
 -- ---- nodes beside more values
 
@@ -156,8 +156,8 @@ module _ (service : Declarations) (past values : List Value) (fits : list_all (s
     pub knows_front : Begins (known x.log) values
     pub takes : TakesFronts service past values fits front x.log
 
-  keeping_grown : (k : KeeperValue) → TakesFronts service past values fits front (log_of service past k.records) → IsKeeping service past k → IsKeeping service values k
-  keeping_grown k t h = record { read = ap length (log_grown service past values fits front k.records t) ∙ h.read; stated = h.stated; room = h.room }
+  keeping_grown : {k : KeeperValue} → TakesFronts service past values fits front (log_of service past k.records) → IsKeeping service past k → IsKeeping service values k
+  keeping_grown {k} t h = record { read = ap length (log_grown service past values fits front k.records t) ∙ h.read; stated = h.stated; room = h.room }
 
   node_grown : (x : NodeValue KeeperValue) → Agrees (here_at service past x) → IsKeptNode records_of service past x → IsKeptNode records_of service values x
   node_grown x a h = record {
@@ -166,9 +166,9 @@ module _ (service : Declarations) (past values : List Value) (fits : list_all (s
     up = λ up.
         let u = h.up up in
         let begins : Begins (first x.offset past) values =
-        begins_on (first x.offset past) (knows past x) values (x.known, refl) (subst (λ (vs : List Value). Begins vs values) (sym u.known) a.knows_front) in
+        begins_on (first x.offset past) (x.known, refl) (subst (λ (vs : List Value). Begins vs values) (sym u.known) a.knows_front) in
         let low = past_has service x.offset past values fits begins in
-        let same_knows : knows values x ≡ knows past x = ap (λ (vs : List Value). vs ++ x.known) (first_grown service past values fits front x.offset low) in
+        let same_knows : knows values x ≡ knows past x = ap (λ (vs : List Value). vs ++ x.known) (first_grown service past values fits front low) in
         let same_here : here_of records_of service values x ≡ here_of records_of service past x =
         ap (λ (log : List (Rec Value StateValue)). let y : Here = record (here_of records_of service past x) { log = log } in y) (log_grown service past values fits front x.keeper.records a.takes) in
         subst (λ (vs : List Value). let y : NodeValue KeeperValue = record x { known = vs } in IsUp service y (here_of records_of service values x)) (sym same_knows)
@@ -182,13 +182,13 @@ module _ (service : Declarations) (past values : List Value) (fits : list_all (s
   pub here_grown : (x : Member) → Agrees (here_at service past x) → here_at service values x ≡ here_at service past x
   here_grown x a = ap (λ (log : List (Rec Value StateValue)). let y : Here = record (here_at service past x) { log = log } in y) (log_grown service past values fits front x.keeper.records a.takes)
 
-  member_grown : (seed nodes number : ℕ) (x : Member) → Agrees (here_at service past x) → IsMember service past seed nodes number x → IsMember service values seed nodes number x
-  member_grown seed nodes number x a h = record {
+  member_grown : {seed nodes number : ℕ} {x : Member} → Agrees (here_at service past x) → IsMember service past seed nodes number x → IsMember service values seed nodes number x
+  member_grown {x} a h = record {
     id = h.id;
     nodes_are = h.nodes_are;
     seed_is = h.seed_is;
     node = node_grown x a h.node;
-    keeping = keeping_grown x.keeper a.takes h.keeping;
+    keeping = keeping_grown a.takes h.keeping;
     whole = h.whole;
   }
 
@@ -208,7 +208,7 @@ module _ (service : Declarations) (past values : List Value) (fits : list_all (s
   pub members_grown : (seed nodes number : ℕ) (xs : List Member) → EachAgrees xs → AreMembers service past seed nodes number xs → AreMembers service values seed nodes number xs
   members_grown seed nodes number [] each h = tt
   members_grown seed nodes number (x ∷ xs) each h =
-      (member_grown seed nodes number x (each 1 (omega arith, omega arith)) h.0, members_grown seed nodes (suc number) xs (others_agree x xs each) h.1)
+      (member_grown (each 1 (omega arith, omega arith)) h.0, members_grown seed nodes (suc number) xs (others_agree x xs each) h.1)
 
 -- ---- the world
 
@@ -227,8 +227,8 @@ module _ {S : Type 0} (service : Declarations) (w x : World S) (h : IsRunning se
     abbrev all : List Value
     all = agreed (world_of service unsettled)
 
-    in_both : (q : ℕ) → IsNode (length nodes) q → IsNode (nodes_of x) q
-    in_both q l = subst (λ (n : ℕ). IsNode n q) (many_here service w.agreed x.nodes.items) l
+    in_both : {q : ℕ} → IsNode (length nodes) q → IsNode (nodes_of x) q
+    in_both {q} l = subst (λ (n : ℕ). IsNode n q) (many_here service w.agreed x.nodes.items) l
 
     here : IsNode (nodes_of x) m
     here = subst (λ (n : ℕ). IsNode n m) (sym many) there
@@ -240,7 +240,7 @@ module _ {S : Type 0} (service : Declarations) (w x : World S) (h : IsRunning se
     fits =
         holds_of_longest (λ (vs : List Value). list_all (spells service) vs ≡ true) nodes refl
         (λ q l. (and_parts (list_all (spells service) (known (node_at nodes q).log)) (runs service (trace_of (known (node_at nodes q).log)))
-        ((next_fits service x.seed (nodes_of x) (world_of service unsettled) works.kept.world).known q (in_both q l))).0)
+        ((next_fits service x.seed (nodes_of x) (world_of service unsettled) works.kept.world).known q (in_both l))).0)
 
     -- the node's records
     abbrev old_records : List (List ℕ)
@@ -253,7 +253,7 @@ module _ {S : Type 0} (service : Declarations) (w x : World S) (h : IsRunning se
     new_log = log_behind service w.agreed old_log grown.0
 
     old_is : (node_at before m).log ≡ old_log
-    old_is = log_is w.nodes.items m there service w.agreed
+    old_is = log_is w.nodes.items there service w.agreed
 
     behind : log_of service w.agreed (records_at x.nodes.items m) ≡ new_log
     behind =
@@ -261,16 +261,16 @@ module _ {S : Type 0} (service : Declarations) (w x : World S) (h : IsRunning se
         ∙ fold-append (λ (log : List (Rec Value StateValue)) (bytes : List ℕ). log_with service w.agreed log (record_in (standing_in log) bytes)) [] old_records grown.0
 
     new_is : (node_at nodes m).log ≡ new_log
-    new_is = log_is x.nodes.items m here service w.agreed ∙ behind
+    new_is = log_is x.nodes.items here service w.agreed ∙ behind
 
     sorted : AreRecords (service_of service x.seed) new_log
     sorted = subst (AreRecords (service_of service x.seed)) new_is (works.kept.world.cluster.safe.sorted m here)
 
     old_read : AreRead service w.agreed old_records
-    old_read = read_is w.nodes.items m there service w.agreed w.seed (nodes_of w) h.members
+    old_read = read_is w.nodes.items there service w.agreed w.seed (nodes_of w) h.members
 
     new_read : AreRead service w.agreed (records_at x.nodes.items m)
-    new_read = read_is x.nodes.items m here service w.agreed x.seed (nodes_of x) works.members
+    new_read = read_is x.nodes.items here service w.agreed x.seed (nodes_of x) works.members
 
     -- another node is as it was
     at_node : (q : ℕ) → node_at nodes q ≡ cond (eqb q m) (node_at nodes m) (node_at before q)
@@ -289,14 +289,14 @@ module _ {S : Type 0} (service : Declarations) (w x : World S) (h : IsRunning se
             let same : q ≡ m = eqb-true q m e in
             subst (λ (k : ℕ). Begins (known (node_at before k).log) all) (sym same)
             (subst (λ (log : List (Rec Value StateValue)). Begins (known log) all) (sym old_is)
-            (begins_on (known old_log) (known new_log) all (all_front service x.seed w.agreed grown.0 old_log sorted).1
+            (begins_on (known old_log) (all_front service x.seed w.agreed grown.0 old_log sorted).1
             (subst (λ (log : List (Rec Value StateValue)). Begins (known log) all) new_is (begins m here))))
         by q l false e =
             subst (λ (y : Here). Begins (known y.log) all) (at_node q ∙ ap (λ (b : Bool). cond b (node_at nodes m) (node_at before q)) e) (begins q l)
 
     kept_up : KeepsUp service x.seed w.agreed all fits new_log (learned w.agreed grown.0)
     kept_up =
-        keeps_all service x.seed w.agreed all fits grown.0 old_log w.agreed
+        keeps_all service x.seed w.agreed all fits grown.0
         (let e = ap length behind in let f = ap length grown.1 in let g = length-append old_records grown.0 in omega (arith, e, f, g, old_read, new_read))
         sorted (subst (λ (log : List (Rec Value StateValue)). Begins (known log) all) new_is (begins m here))
         (record {
@@ -335,7 +335,7 @@ module _ {S : Type 0} (service : Declarations) (w x : World S) (h : IsRunning se
       -- the model's world is the same
       pub settled_world : world_of service x ≡ world_of service unsettled
       settled_world =
-          same_world x.done x.done (heres service x.agreed x.nodes.items) nodes (messages_of x.agreed x.net) (messages_of w.agreed x.net) x.handed.items x.handed.items x.seen.items x.seen.items refl
+          same_world refl
           (ap (λ (vs : List Value). heres service vs x.nodes.items) is_all ∙ heres_grown service w.agreed all fits front x.nodes.items agree)
           (ap (λ (vs : List Value). messages_of vs x.net) is_all ∙ (messages_grown service w.agreed all fits front x.net works.told).1)
           refl refl

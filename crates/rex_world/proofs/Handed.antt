@@ -42,10 +42,10 @@ use Rattle.rex_world.proofs.Stepping.{front_known, runs_after}
 -- ---- messages by their numbers
 
 module _ (past : List Value) where
-  said_at : (bytes : List (List ℕ)) (k : ℕ) (b : List ℕ) → slice_get bytes k ≡ Some b → slice_get (messages_of past bytes) k ≡ Some (message_of past b)
-  said_at [] k b e = absurd (cc)
-  said_at (x ∷ xs) zero b e = let s : x ≡ b = cc in ap (λ (y : List ℕ). let o : Option (Message Value) = Some (message_of past y) in o) s
-  said_at (x ∷ xs) (suc k) b e = said_at xs k b e
+  said_at : (bytes : List (List ℕ)) (k : ℕ) {b : List ℕ} → slice_get bytes k ≡ Some b → slice_get (messages_of past bytes) k ≡ Some (message_of past b)
+  said_at [] k e = absurd (cc)
+  said_at (x ∷ xs) zero {b} e = let s : x ≡ b = cc in ap (λ (y : List ℕ). let o : Option (Message Value) = Some (message_of past y) in o) s
+  said_at (x ∷ xs) (suc k) {b} e = said_at xs k e
 
   none_at : (bytes : List (List ℕ)) (k : ℕ) → slice_get bytes k ≡ None → slice_get (messages_of past bytes) k ≡ None
   none_at [] k e = refl
@@ -53,10 +53,10 @@ module _ (past : List Value) where
   none_at (x ∷ xs) (suc k) e = none_at xs k e
 
   -- the message that was sent under a number is the model's
-  pub sent_at : (bytes : List (List ℕ)) (number : ℕ) (m : Said) → IsSent bytes number m → message_at (messages_of past bytes) number ≡ Some (message_in past m)
-  sent_at bytes zero m h = let e = h.is in absurd (cc)
-  sent_at bytes (suc k) m h =
-      said_at bytes k (spelling_of m) h.is
+  pub sent_at : {bytes : List (List ℕ)} (number : ℕ) {m : Said} → IsSent bytes number m → message_at (messages_of past bytes) number ≡ Some (message_in past m)
+  sent_at zero h = let e = h.is in absurd (cc)
+  sent_at {bytes} (suc k) {m} h =
+      said_at bytes k h.is
       ∙ ap (λ (x : Message Value). let o : Option (Message Value) = Some x in o) (ap (read_message past) (message_read m h.spelling))
 
   pub missed_at : (bytes : List (List ℕ)) (number : ℕ) → net.message_at bytes number ≡ None → message_at (messages_of past bytes) number ≡ None
@@ -64,16 +64,16 @@ module _ (past : List Value) where
   missed_at bytes (suc k) e = none_at bytes k e
 
 -- a state that it tells is right
-pub sent_told : (service : Declarations) (past : List Value) (bytes : List (List ℕ)) (number : ℕ) (m : Said) → All (TellsRightly service past) bytes → IsSent bytes number m → IsTold service past m.content
-sent_told service past bytes zero m h sent = let e = sent.is in absurd (cc)
-sent_told service past bytes (suc k) m h sent =
+pub sent_told : {service : Declarations} {past : List Value} {bytes : List (List ℕ)} (number : ℕ) {m : Said} → All (TellsRightly service past) bytes → IsSent bytes number m → IsTold service past m.content
+sent_told zero h sent = let e = sent.is in absurd (cc)
+sent_told {service} {past} {bytes} (suc k) {m} h sent =
     let at : TellsRightly service past (spelling_of m) =
     subst (TellsRightly service past) (get_or_from_slice_get bytes k (spelling_of m) [] sent.is) (All-get_or (TellsRightly service past) bytes k [] (slice_get_within bytes k (spelling_of m) sent.is) h) in
     subst (TellsIn service past) (message_read m sent.spelling) at.tells
 
-pub sent_within : (bytes : List (List ℕ)) (number : ℕ) (m : Said) → IsSent bytes number m → (0 < number) × (number ≤ length bytes)
-sent_within bytes zero m h = let e = h.is in absurd (cc)
-sent_within bytes (suc k) m h = let l = slice_get_within bytes k (spelling_of m) h.is in (omega arith, omega (arith, l))
+pub sent_within : {bytes : List (List ℕ)} (number : ℕ) {m : Said} → IsSent bytes number m → (0 < number) × (number ≤ length bytes)
+sent_within zero h = let e = h.is in absurd (cc)
+sent_within {bytes} (suc k) {m} h = let l = slice_get_within bytes k (spelling_of m) h.is in (omega arith, omega (arith, l))
 
 -- ---- a message that was marked
 
@@ -86,7 +86,7 @@ all_still (b ∷ hs) (suc f) (suc i) h =
     let rest = all_still hs f i p.1 in
     ap (λ (t : Bool). t && list_all (λ (c : Bool). c) (take f (slice_set hs i true))) p.0 ∙ rest
 
-module _ {S : Type 0} (service : Declarations) (w w1 : World S) (number : ℕ) (marked : IsMarked number w w1) where
+module _ {S : Type 0} (service : Declarations) {w w1 : World S} {number : ℕ} (marked : IsMarked number w w1) where
   -- flags don't matter for what is kept
   pub marked_running : IsRunning service w → IsRunning service w1
   marked_running h =
@@ -117,7 +117,7 @@ module _ {S : Type 0} (service : Declarations) (w w1 : World S) (number : ℕ) (
 
 module _ {S : Type 0} (service : Declarations) (w : World S) (h : IsRunning service w) (number : ℕ) (m : Said) (sent : IsSent w.net number m) where
   is_there : IsIn (message_in w.agreed m) (messages_of w.agreed w.net)
-  is_there = go number (sent_at w.agreed w.net number m sent)
+  is_there = go number (sent_at w.agreed number sent)
     where
       go : (k : ℕ) → message_at (messages_of w.agreed w.net) k ≡ Some (message_in w.agreed m) → IsIn (message_in w.agreed m) (messages_of w.agreed w.net)
       go zero e = absurd (cc)
@@ -130,14 +130,14 @@ module _ {S : Type 0} (service : Declarations) (w : World S) (h : IsRunning serv
   hand_node = fits.to
 
   pub hand_told : IsTold service w.agreed m.content
-  hand_told = sent_told service w.agreed w.net number m h.told sent
+  hand_told = sent_told number h.told sent
 
   pub hand_front : Begins (known (node_at (heres service w.agreed w.nodes.items) m.to).log) w.agreed
-  hand_front = front_known service w h m.to fits.to
+  hand_front = front_known h fits.to
 
   pub hand_runs : RunsOn service (receive (nodes_of w) (service_of service w.seed) m.to m.from (content_in w.agreed m.content)) (begin (disarmed (node_at (heres service w.agreed w.nodes.items) m.to)))
   hand_runs =
-      runs_after service w h m.to fits.to (receive (nodes_of w) (service_of service w.seed) m.to m.from (content_in w.agreed m.content))
+      runs_after h fits.to
       (λ d good. receive_good (nodes_of w) (service_of service w.seed) (logs (world_of service w)) (roles (world_of service w)) (messages_of w.agreed w.net) m.to fits.to m.from (content_in w.agreed m.content) d good (good.old (message_in w.agreed m) is_there))
 
   -- the row of the node's call, without the message's own effect
@@ -147,7 +147,7 @@ module _ {S : Type 0} (service : Declarations) (w : World S) (h : IsRunning serv
   delivered : Effect
   delivered = Delivered number (kind_of (content_in w.agreed m.content)) m.from m.to
 
-  module _ (w1 : World S) (marked : IsMarked number w w1) where
+  module _ {w1 : World S} (marked : IsMarked number w w1) where
     marked_row : hand_row w1 ≡ at_node (with_handed (world_of service w) number) m.to (receive (nodes_of w) (service_of service w.seed) m.to m.from (content_in w.agreed m.content))
     marked_row =
         ap hand_row marked.rest
@@ -156,13 +156,13 @@ module _ {S : Type 0} (service : Declarations) (w : World S) (h : IsRunning serv
     line_row : step_in service w (line.Deliver number) ≡ first_told delivered (hand_row w1)
     unfolding delivered
     line_row =
-        ap (deliver_found service w.seed (nodes_of w) (world_of service w) number) (sent_at w.agreed w.net number m sent)
+        ap (deliver_found service w.seed (nodes_of w) (world_of service w) number) (sent_at w.agreed number sent)
         ∙ ap (first_told (Delivered number (kind_of (content_in w.agreed m.content)) m.from m.to)) (sym marked_row)
 
-    pub hand_came : (w2 : World S) (told told1 told2 : Told) → told1.effects.items ≡ told.effects.items ++ Delivered number (kind_of (content_in w.agreed m.content)) m.from m.to ∷ [] → told1.sent.items ≡ told.sent.items
+    pub hand_came : {w2 : World S} {told : Told} (told1 : Told) {told2 : Told} → told1.effects.items ≡ told.effects.items ++ Delivered number (kind_of (content_in w.agreed m.content)) m.from m.to ∷ [] → told1.sent.items ≡ told.sent.items
         → ComesTo service w1 w2 told1 told2 (hand_row w1) → Comes service w w2 told told2 (line.Deliver number)
     unfolding delivered
-    hand_came w2 told told1 told2 effects sent-same c =
+    hand_came {w2} {told} told1 {told2} effects sent-same c =
         subst (ComesTo service w w2 told told2) (sym line_row)
         (record {
           did = record {
@@ -182,9 +182,9 @@ module _ {S : Type 0} (service : Declarations) (w : World S) (h : IsRunning serv
         })
 
 -- where there is no message of the number
-pub missed : {S : Type 0} → (service : Declarations) (w : World S) (told told2 : Told) (number : ℕ) → IsRunning service w → net.message_at w.net number ≡ None → told2.effects.items ≡ told.effects.items ++ NoMessage number ∷ []
+pub missed : {S : Type 0} → {service : Declarations} {w : World S} {told told2 : Told} (number : ℕ) → IsRunning service w → net.message_at w.net number ≡ None → told2.effects.items ≡ told.effects.items ++ NoMessage number ∷ []
     → told2.sent.items ≡ told.sent.items → Comes service w w told told2 (line.Deliver number)
-missed service w told told2 number h none effects sent =
+missed {service} {w} {told} {told2} number h none effects sent =
     let row : step_in service w (line.Deliver number) ≡ only (world_of service w) (NoMessage number) = ap (deliver_found service w.seed (nodes_of w) (world_of service w) number) (missed_at w.agreed w.net number none) in
     subst (ComesTo service w w told told2) (sym row)
     (record {
@@ -200,9 +200,9 @@ missed service w told told2 number h none effects sent =
     })
 
 -- the message stays under its number
-pub sent_on : {S : Type 0} → (number : ℕ) (w w1 : World S) (m : Said) → IsMarked number w w1 → IsSent w.net number m → IsSent w1.net number m
-sent_on number w w1 m marked sent = subst (λ (v : World _). IsSent v.net number m) (sym marked.rest) sent
+pub sent_on : {S : Type 0} → {number : ℕ} {w w1 : World S} {m : Said} → IsMarked number w w1 → IsSent w.net number m → IsSent w1.net number m
+sent_on {number} {m} marked sent = subst (λ (v : World _). IsSent v.net number m) (sym marked.rest) sent
 
 -- it is known of each message whether it was handed over
-pub sent_handed : {S : Type 0} → (service : Declarations) (w : World S) → IsRunning service w → (number : ℕ) → number ≤ length w.net → number ≤ length w.handed.items
-sent_handed service w h number l = omega (arith, h.kept.handed, messages_many w.agreed w.net, l)
+pub sent_handed : {S : Type 0} → {service : Declarations} {w : World S} → IsRunning service w → {number : ℕ} → number ≤ length w.net → number ≤ length w.handed.items
+sent_handed {w} h l = omega (arith, h.kept.handed, messages_many w.agreed w.net, l)

@@ -45,13 +45,13 @@ pub record Grows (before after : List (Message Value)) : Type 0 where
   pub more : List (Message Value)
   pub is : after ≡ before ++ more
 
-sent_parts : (a b c : List (Message Value)) → Grows a b → Grows b c → sent_since a c ≡ sent_since a b ++ sent_since b c
-sent_parts a b c g h =
+sent_parts : {a b c : List (Message Value)} → Grows a b → Grows b c → sent_since a c ≡ sent_since a b ++ sent_since b c
+sent_parts {a} {b} g h =
     subst (λ (z : List (Message Value)). sent_since a z ≡ sent_since a b ++ sent_since b z) (sym h.is)
     (subst (λ (y : List (Message Value)). sent_since a (y ++ h.more) ≡ sent_since a y ++ sent_since y (y ++ h.more)) (sym g.is) (sent_two a g.more h.more))
 
-grows_both : (a b c : List (Message Value)) → Grows a b → Grows b c → Grows a c
-grows_both a b c g h = record { more = g.more ++ h.more; is = h.is ∙ ap (λ (xs : List (Message Value)). xs ++ h.more) g.is ∙ append_assoc a g.more h.more }
+grows_both : {a b c : List (Message Value)} → Grows a b → Grows b c → Grows a c
+grows_both {a} g h = record { more = g.more ++ h.more; is = h.is ∙ ap (λ (xs : List (Message Value)). xs ++ h.more) g.is ∙ append_assoc a g.more h.more }
 
 -- ---- which messages wait
 
@@ -97,7 +97,7 @@ pub record IsFront (place : ℕ) (before after : List Bool) : Type 0 where
   pub more : List Bool
   pub is : after ≡ replicate place true ++ (drop place before ++ more)
 
-module _ (place : ℕ) (before after : List Bool) (inside : place < length before) (f : IsFront place before after) where
+module _ {place : ℕ} {before after : List Bool} (inside : place < length before) (f : IsFront place before after) where
   front_at : after ≡ replicate place true ++ (get_or before place true ∷ (drop (suc place) before ++ f.more))
   front_at = f.is ∙ ap (λ (xs : List Bool). replicate place true ++ (xs ++ f.more)) (drop-cons before place true inside)
 
@@ -118,8 +118,8 @@ module _ (place : ℕ) (before after : List Bool) (inside : place < length befor
   front_true e = record { more = f.more; is = front_at ∙ ap (λ (b : Bool). replicate place true ++ (b ∷ (drop (suc place) before ++ f.more))) e ∙ next_front f.more }
 
   -- it is handed over, and others are sent
-  front_set : (later more : List Bool) → later ≡ slice_set after place true ++ more → IsFront (place + 1) before later
-  front_set later more e = record {
+  front_set : {later : List Bool} (more : List Bool) → later ≡ slice_set after place true ++ more → IsFront (place + 1) before later
+  front_set more e = record {
     more = f.more ++ more;
     is = e ∙ ap (λ (xs : List Bool). slice_set xs place true ++ more) front_at
         ∙ ap (λ (xs : List Bool). xs ++ more)
@@ -143,8 +143,8 @@ up_leaves true w m d = record { more = replicate (length d.sends) false; handed-
 up_leaves false w m d = record { more = []; handed-is = sym (append-nil w.handed); grows = record { more = []; is = sym (append-nil w.messages) } }
 
 module _ (service : Declarations) (requests : List Request) (seed n : ℕ) where
-  deliver_leaves : (w : ModelWorld) (place : ℕ) → place < length w.messages → Leaves (slice_set w.handed place true) w.messages (step service requests seed n w (Deliver (suc place))).world
-  deliver_leaves w place l =
+  deliver_leaves : (w : ModelWorld) {place : ℕ} → place < length w.messages → Leaves (slice_set w.handed place true) w.messages (step service requests seed n w (Deliver (suc place))).world
+  deliver_leaves w {place} l =
       let x : Message Value = get_or w.messages place (record { from = 0; to = 0; content = Ask 0 }) in
       let e : suc place - 1 ≡ place = omega arith in
       subst (λ (k : ℕ). Leaves (slice_set w.handed k true) w.messages (step service requests seed n w (Deliver (suc place))).world) e
@@ -166,12 +166,12 @@ module _ (service : Declarations) (requests : List Request) (seed n : ℕ) where
       ap (λ (es : List Effect). (step service requests seed n w x).effects ++ es) (steps_effects v xs ys)
       ∙ sym (append_assoc (step service requests seed n w x).effects (steps service requests seed n v xs).effects (steps service requests seed n (steps service requests seed n v xs).world ys).effects)
 
-  told_sent : (w v : ModelWorld) (a b : Told) (r : Row) → Did w v a b r → b.sent.items ≡ a.sent.items ++ sent_since w.messages v.messages
-  told_sent w v a b r d = d.sent ∙ ap (λ (z : ModelWorld). a.sent.items ++ sent_since w.messages z.messages) (sym d.world)
+  told_sent : {w v : ModelWorld} {a b : Told} {r : Row} → Did w v a b r → b.sent.items ≡ a.sent.items ++ sent_since w.messages v.messages
+  told_sent {w} {a} d = d.sent ∙ ap (λ (z : ModelWorld). a.sent.items ++ sent_since w.messages z.messages) (sym d.world)
 
-  did_both : (w v u : ModelWorld) (a b c : Told) (xs ys : List ScheduleLine) → DidSteps service requests seed n w v a b xs → DidSteps service requests seed n v u b c ys
+  did_both : {w v u : ModelWorld} {a b c : Told} (xs ys : List ScheduleLine) → DidSteps service requests seed n w v a b xs → DidSteps service requests seed n v u b c ys
       → Grows w.messages v.messages → Grows v.messages u.messages → DidSteps service requests seed n w u a c (xs ++ ys)
-  did_both w v u a b c xs ys d e g h =
+  did_both {w} {v} {u} {a} {b} {c} xs ys d e g h =
       let world : u ≡ (steps service requests seed n w (xs ++ ys)).world =
       e.world ∙ ap (λ (z : ModelWorld). (steps service requests seed n z ys).world) d.world ∙ sym (steps_world w xs ys) in
       record {
@@ -180,10 +180,10 @@ module _ (service : Declarations) (requests : List Request) (seed n : ℕ) where
             ∙ ap (λ (z : ModelWorld). (a.effects.items ++ (steps service requests seed n w xs).effects) ++ (steps service requests seed n z ys).effects) d.world
             ∙ append_assoc a.effects.items (steps service requests seed n w xs).effects (steps service requests seed n (steps service requests seed n w xs).world ys).effects
             ∙ ap (λ (es : List Effect). a.effects.items ++ es) (sym (steps_effects w xs ys));
-        sent = told_sent v u b c (steps service requests seed n v ys) e
-            ∙ ap (λ (es : List Effect). es ++ sent_since v.messages u.messages) (told_sent w v a b (steps service requests seed n w xs) d)
+        sent = told_sent e
+            ∙ ap (λ (es : List Effect). es ++ sent_since v.messages u.messages) (told_sent d)
             ∙ append_assoc a.sent.items (sent_since w.messages v.messages) (sent_since v.messages u.messages)
-            ∙ ap (λ (es : List Effect). a.sent.items ++ es) (sym (sent_parts w.messages v.messages u.messages g h))
+            ∙ ap (λ (es : List Effect). a.sent.items ++ es) (sym (sent_parts g h))
             ∙ ap (λ (z : ModelWorld). a.sent.items ++ sent_since w.messages z.messages) world;
       }
 
@@ -197,8 +197,8 @@ module _ (service : Declarations) (requests : List Request) (seed n : ℕ) where
     pub waits-is : waits ≡ is_some_there (waiting_from 1 (take place w.handed))
 
   -- none waits where each was handed over
-  pub handed_first : (w : ModelWorld) (a : Told) (place : ℕ) → place ≤ length w.handed → list_all (λ (b : Bool). b) (take place w.handed) ≡ true → HasHanded w w a a place false
-  handed_first w a place l h =
+  pub handed_first : {w : ModelWorld} {a : Told} {place : ℕ} → place ≤ length w.handed → list_all (λ (b : Bool). b) (take place w.handed) ≡ true → HasHanded w w a a place false
+  handed_first {w} {a} {place} l h =
       let none : waiting_from 1 (take place w.handed) ≡ [] = none_wait 1 (take place w.handed) h in
       let front : take place w.handed ≡ replicate place true = all_are (take place w.handed) h ∙ ap (λ (k : ℕ). replicate k true) (length-take-le place w.handed l) in
       record {
@@ -220,25 +220,25 @@ module _ (service : Declarations) (requests : List Request) (seed n : ℕ) where
     pub grows : Grows v.messages u.messages
     pub front : IsFront (place + 1) w.handed u.handed
 
-  stepped : (w v u : ModelWorld) (place : ℕ) (b : Bool) → place < length w.handed → length v.handed ≡ length v.messages → IsFront place w.handed v.handed → get_or w.handed place true ≡ b
+  stepped : {w v u : ModelWorld} {place : ℕ} (b : Bool) → place < length w.handed → length v.handed ≡ length v.messages → IsFront place w.handed v.handed → get_or w.handed place true ≡ b
       → u ≡ (steps service requests seed n v (step_at place b)).world → HasStepped w v u place
-  stepped w v u place true l even f e is =
+  stepped {w} {v} {place} true l even f e is =
       subst (λ (z : ModelWorld). HasStepped w v z place) (sym is)
-      (record { grows = record { more = []; is = sym (append-nil v.messages) }; front = front_true place w.handed v.handed l f e })
-  stepped w v u place false l even f e is =
+      (record { grows = record { more = []; is = sym (append-nil v.messages) }; front = front_true l f e })
+  stepped {w} {v} {place} false l even f e is =
       let inside : place < length v.messages =
       omega (arith, even, ap length f.is, length-append (replicate place true) (drop place w.handed ++ f.more), length-replicate place true, length-append (drop place w.handed) f.more, length-drop place w.handed, l) in
-      let d = deliver_leaves v place inside in
+      let d = deliver_leaves v inside in
       subst (λ (z : ModelWorld). HasStepped w v z place) (sym (is ∙ ap (λ (k : ℕ). (step service requests seed n v (Deliver k)).world) (add-one place)))
-      (record { grows = d.grows; front = front_set place w.handed v.handed l f (step service requests seed n v (Deliver (suc place))).world.handed d.more d.handed-is })
+      (record { grows = d.grows; front = front_set l f d.more d.handed-is })
 
-  pub handed_next : (w v u : ModelWorld) (a b c : Told) (place : ℕ) (waited waits : Bool) → place < length w.handed → length v.handed ≡ length v.messages
+  pub handed_next : {w v u : ModelWorld} {a b c : Told} {place : ℕ} {waited waits : Bool} → place < length w.handed → length v.handed ≡ length v.messages
       → HasHanded w v a b place waited → HandsOver service requests seed n v u b c place waited waits → HasHanded w u a c (place + 1) waits
-  handed_next w v u a b c place waited waits l even h over =
+  handed_next {w} {v} {u} {a} {b} {c} {place} {waited} l even h over =
       let at : Bool = get_or w.handed place true in
-      let same : get_or v.handed place true ≡ at = same_at place w.handed v.handed l h.front in
+      let same : get_or v.handed place true ≡ at = same_at l h.front in
       let did : DidSteps service requests seed n v u b c (step_at place at) = subst (λ (z : Bool). DidSteps service requests seed n v u b c (step_at place z)) same over.did in
-      let s : HasStepped w v u place = stepped w v u place at l even h.front refl did.world in
+      let s : HasStepped w v u place = stepped at l even h.front refl did.world in
       let k : 1 + length (take place w.handed) ≡ place + 1 = omega (arith, length-take-le place w.handed, l) in
       let next : waiting_from 1 (take (place + 1) w.handed) ≡ waiting_from 1 (take place w.handed) ++ (if at then [] else (1 + length (take place w.handed)) ∷ []) =
       ap (λ (j : ℕ). waiting_from 1 (take j w.handed)) (add-one place) ∙ ap (λ (xs : List Bool). waiting_from 1 xs) (take-suc w.handed place true l) ∙ waiting_more 1 (take place w.handed) at in
@@ -247,15 +247,15 @@ module _ (service : Declarations) (requests : List Request) (seed n : ℕ) where
             (ap (λ (xs : List ScheduleLine). map Deliver (waiting_from 1 (take place w.handed)) ++ xs) (sym (steps_more place at (1 + length (take place w.handed)) k))
             ∙ sym (map-append Deliver (waiting_from 1 (take place w.handed)) (if at then [] else (1 + length (take place w.handed)) ∷ []))
             ∙ ap (λ (ns : List ℕ). map Deliver ns) (sym next))
-            (did_both w v u a b c (map Deliver (waiting_from 1 (take place w.handed))) (step_at place at) h.did did h.grows s.grows);
-        grows = grows_both w.messages v.messages u.messages h.grows s.grows;
+            (did_both (map Deliver (waiting_from 1 (take place w.handed))) (step_at place at) h.did did h.grows s.grows);
+        grows = grows_both h.grows s.grows;
         front = s.front;
         waits-is = over.waits-is ∙ ap (λ (z : Bool). if z then waited else true) same ∙ ap (λ (z : Bool). if at then z else true) h.waits-is
             ∙ sym (some_more (waiting_from 1 (take place w.handed)) at (1 + length (take place w.handed))) ∙ ap is_some_there (sym next);
       }
 
-  pub flushed_all : (w v : ModelWorld) (a b : Told) (place : ℕ) (waits : Bool) → HasHanded w v a b place waits → (place ≤ length v.handed) × (list_all (λ (b : Bool). b) (take place v.handed) ≡ true)
-  flushed_all w v a b place waits h =
+  pub flushed_all : {w v : ModelWorld} {a b : Told} {place : ℕ} {waits : Bool} → HasHanded w v a b place waits → (place ≤ length v.handed) × (list_all (λ (b : Bool). b) (take place v.handed) ≡ true)
+  flushed_all {w} {v} {b} {place} h =
       let long : length v.handed ≡ place + length (drop place w.handed ++ h.front.more) =
       ap length h.front.is ∙ length-append (replicate place true) (drop place w.handed ++ h.front.more) ∙ ap (λ (k : ℕ). k + length (drop place w.handed ++ h.front.more)) (length-replicate place true) in
       let front : take place v.handed ≡ replicate place true =
@@ -265,12 +265,12 @@ module _ (service : Declarations) (requests : List Request) (seed n : ℕ) where
 
 -- ---- the same requests, seed and nodes
 
-pub over_as : {S : Type 0} → (service : Declarations) (before after : World S) (v u : ModelWorld) (b c : Told) (place : ℕ) (waited waits : Bool) → IsSame before after
+pub over_as : {S : Type 0} → {service : Declarations} {before after : World S} {v u : ModelWorld} {b c : Told} {place : ℕ} {waited waits : Bool} → IsSame before after
     → HandsOver service after.requests after.seed (nodes_of after) v u b c place waited waits → HandsOver service before.requests before.seed (nodes_of before) v u b c place waited waits
-over_as service before after v u b c place waited waits same h =
+over_as {service} {before} {after} {v} {u} {b} {c} {place} {waited} {waits} same h =
     subst (λ (k : ℕ). HandsOver service before.requests before.seed k v u b c place waited waits) same.nodes
     (subst (λ (s : ℕ). HandsOver service before.requests s (nodes_of after) v u b c place waited waits) same.seed
     (subst (λ (rs : List Request). HandsOver service rs after.seed (nodes_of after) v u b c place waited waits) same.requests h))
 
-pub same_both : {S : Type 0} → (a b c : World S) → IsSame a b → IsSame b c → IsSame a c
-same_both a b c s t = record { nodes = t.nodes ∙ s.nodes; requests = t.requests ∙ s.requests; seed = t.seed ∙ s.seed }
+pub same_both : {S : Type 0} → {a b c : World S} → IsSame a b → IsSame b c → IsSame a c
+same_both s t = record { nodes = t.nodes ∙ s.nodes; requests = t.requests ∙ s.requests; seed = t.seed ∙ s.seed }

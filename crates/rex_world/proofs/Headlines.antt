@@ -64,9 +64,9 @@ in_take (suc k) (w ∷ values) v (inl e) = inl e
 in_take (suc k) (w ∷ values) v (inr i) = inr (in_take k values v i)
 
 -- what holds of every run of a checked service
-pub headline : (service : Declarations) (requests : List Request) (seed n : ℕ) (lines : List ScheduleLine) → n ≤ most_nodes → IsService service → IsChecked service
+pub headline : {service : Declarations} {requests : List Request} {seed n : ℕ} {lines : List ScheduleLine} → n ≤ most_nodes → IsService service → IsChecked service
     → All (RequestFits service) requests → Headline service requests seed n lines
-headline service requests seed n lines few good checked fit = record {
+headline {service} {requests} {seed} {n} {lines} few good checked fit = record {
   prefix = λ earlier later rest is a b la lb. is_one_list service requests seed n earlier later few a b la lb;
   runs = λ front rest is k. fit_run service (take k (agreed (world_after service requests seed n front)))
       (agreed_fits n (service_of service seed) _ (reached_ok service requests seed n few front) refl k);
@@ -100,9 +100,9 @@ all_in_front P [] rest h = All-nil P
 all_in_front P (x ∷ front) rest h = All-cons P x front (All-head P x (front ++ rest) h) (all_in_front P front rest (All-tail P x (front ++ rest) h))
 
 -- each cut of a run is faithful, where its lines name what is there and its numbers are of 64 bits
-pub stays_faithful : (service : Declarations) (requests : List Request) (seed n : ℕ) (lines : List ScheduleLine) → n ≤ most_nodes → IsService service → IsChecked service → ServiceIsTyped service
+pub stays_faithful : {service : Declarations} {requests : List Request} {seed n : ℕ} {lines : List ScheduleLine} → n ≤ most_nodes → IsService service → IsChecked service → ServiceIsTyped service
     → All (RequestFits service) requests → All RequestIsTyped requests → All (LineFits n (length requests) service.lanes) lines → length lines ≤ 2 ^ 63 → StaysFaithful service requests seed n lines
-stays_faithful service requests seed n lines few good checked numbers fit typed there short = record {
+stays_faithful {service} {requests} {seed} {n} few good checked numbers fit typed there short = record {
   cuts = λ front rest is.
       let here : All (LineFits n (length requests) service.lanes) front = all_in_front (LineFits n (length requests) service.lanes) front rest (subst (All (LineFits n (length requests) service.lanes)) is there) in
       let fewer : length front ≤ 2 ^ 63 = omega (arith, short, ap length is, length-append front rest) in

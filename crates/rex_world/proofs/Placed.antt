@@ -11,15 +11,15 @@ use Rattle.rex_cluster.specs.Values.{Value}
 use Rattle.rex_cluster.specs.World.{node_at, put}
 use Rattle.rex_world.specs.Members.{Member, AreKept, AreMembers, AreWithin, IsMember, StaysMember, all_records, faults_of, here_at, heres, records_at, records_of}
 
-past_one : (i : ℕ) → suc (suc i) ≢ 1
-past_one i e = absurd (omega arith)
+past_one : {i : ℕ} → suc (suc i) ≢ 1
+past_one e = absurd (omega arith)
 
 -- a node that isn't the first one is among the others
 pub later_at : (x : Here) (xs : List Here) (i : ℕ) → node_at (x ∷ xs) (suc (suc i)) ≡ node_at xs (suc i)
-later_at x xs i = let e : suc (suc i) - 1 ≡ suc i = omega arith in rw (ne_eqb (suc (suc i)) 1 (past_one i), e) refl
+later_at x xs i = let e : suc (suc i) - 1 ≡ suc i = omega arith in rw (ne_eqb (suc (suc i)) 1 (past_one), e) refl
 
-later_put : (x : Here) (xs : List Here) (i : ℕ) (y : Here) → put (x ∷ xs) (suc (suc i)) y ≡ x ∷ put xs (suc i) y
-later_put x xs i y = let e : suc (suc i) - 1 ≡ suc i = omega arith in rw (ne_eqb (suc (suc i)) 1 (past_one i), e) refl
+later_put : {x : Here} (xs : List Here) (i : ℕ) (y : Here) → put (x ∷ xs) (suc (suc i)) y ≡ x ∷ put xs (suc i) y
+later_put xs i y = let e : suc (suc i) - 1 ≡ suc i = omega arith in rw (ne_eqb (suc (suc i)) 1 (past_one), e) refl
 
 -- a node's records are its keeper's
 records_index : (xs : List Member) (i : ℕ) (d : Member) → i < length xs → get_or (all_records xs) i [] ≡ records_of (get_or xs i d).keeper
@@ -45,7 +45,7 @@ module _ (service : Declarations) (past : List Value) where
   put_index : (xs : List Member) (i : ℕ) (y : Member) → i < length xs → heres service past (slice_set xs i y) ≡ put (heres service past xs) (suc i) (here_at service past y)
   put_index [] i y l = absurd (omega arith)
   put_index (x ∷ xs) zero y l = refl
-  put_index (x ∷ xs) (suc i) y l = ap (λ (hs : List Here). here_at service past x ∷ hs) (put_index xs i y (omega arith)) ∙ sym (later_put (here_at service past x) (heres service past xs) i (here_at service past y))
+  put_index (x ∷ xs) (suc i) y l = ap (λ (hs : List Here). here_at service past x ∷ hs) (put_index xs i y (omega arith)) ∙ sym (later_put (heres service past xs) i (here_at service past y))
 
   new_index : (xs : List Member) (i : ℕ) (y : Member) → i < length xs → node_at (heres service past (slice_set xs i y)) (suc i) ≡ here_at service past y
   new_index [] i y l = absurd (omega arith)
@@ -71,32 +71,32 @@ module _ (service : Declarations) (past : List Value) where
         let e : suc k + i ≡ k + suc i = omega arith in
         subst (λ (m : ℕ). IsMember service past seed nodes m (get_or xs i d)) e (member_from (suc k) xs i d all.1 (omega arith))
 
-    members_from : (k : ℕ) (xs : List Member) (i : ℕ) (y : Member) → AreMembers service past seed nodes k xs → IsMember service past seed nodes (k + i) y → AreMembers service past seed nodes k (slice_set xs i y)
-    members_from k [] i y all one = tt
-    members_from k (x ∷ xs) zero y all one = let e : k + 0 ≡ k = omega arith in (subst (λ (m : ℕ). IsMember service past seed nodes m y) e one, all.1)
-    members_from k (x ∷ xs) (suc i) y all one =
+    members_from : (k : ℕ) (xs : List Member) (i : ℕ) {y : Member} → AreMembers service past seed nodes k xs → IsMember service past seed nodes (k + i) y → AreMembers service past seed nodes k (slice_set xs i y)
+    members_from k [] i all one = tt
+    members_from k (x ∷ xs) zero {y} all one = let e : k + 0 ≡ k = omega arith in (subst (λ (m : ℕ). IsMember service past seed nodes m y) e one, all.1)
+    members_from k (x ∷ xs) (suc i) {y} all one =
         let e : k + suc i ≡ suc k + i = omega arith in
-        (all.0, members_from (suc k) xs i y all.1 (subst (λ (m : ℕ). IsMember service past seed nodes m y) e one))
+        (all.0, members_from (suc k) xs i all.1 (subst (λ (m : ℕ). IsMember service past seed nodes m y) e one))
 
 -- ---- how often keepers fail
 
-within_from : (most : ℕ) (xs : List Member) (i : ℕ) (y : Member) → AreWithin most xs → faults_of y.keeper ≤ most → AreWithin most (slice_set xs i y)
-within_from most [] i y all one = tt
-within_from most (x ∷ xs) zero y all one = (one, all.1)
-within_from most (x ∷ xs) (suc i) y all one = (all.0, within_from most xs i y all.1 one)
+within_from : {most : ℕ} (xs : List Member) (i : ℕ) (y : Member) → AreWithin most xs → faults_of y.keeper ≤ most → AreWithin most (slice_set xs i y)
+within_from [] i y all one = tt
+within_from (x ∷ xs) zero y all one = (one, all.1)
+within_from {most} (x ∷ xs) (suc i) y all one = (all.0, within_from xs i y all.1 one)
 
-within_at : (most : ℕ) (xs : List Member) (i : ℕ) (d : Member) → AreWithin most xs → i < length xs → faults_of (get_or xs i d).keeper ≤ most
-within_at most [] i d all l = absurd (omega arith)
-within_at most (x ∷ xs) zero d all l = all.0
-within_at most (x ∷ xs) (suc i) d all l = within_at most xs i d all.1 (omega arith)
+within_at : {most : ℕ} (xs : List Member) (i : ℕ) (d : Member) → AreWithin most xs → i < length xs → faults_of (get_or xs i d).keeper ≤ most
+within_at [] i d all l = absurd (omega arith)
+within_at (x ∷ xs) zero d all l = all.0
+within_at {most} (x ∷ xs) (suc i) d all l = within_at xs i d all.1 (omega arith)
 
-pub within_more : (most more : ℕ) (xs : List Member) → AreWithin most xs → most ≤ more → AreWithin more xs
-within_more most more [] all l = tt
-within_more most more (x ∷ xs) all l = (let h = all.0 in omega arith, within_more most more xs all.1 l)
+pub within_more : {most more : ℕ} (xs : List Member) → AreWithin most xs → most ≤ more → AreWithin more xs
+within_more [] all l = tt
+within_more {most} {more} (x ∷ xs) all l = (let h = all.0 in omega arith, within_more xs all.1 l)
 
 -- ---- the node of a number
 
-module _ (xs : List Member) (number : ℕ) (there : IsNode (length xs) number) where
+module _ (xs : List Member) {number : ℕ} (there : IsNode (length xs) number) where
   is_next : number ≡ suc (number - 1)
   is_next = omega (arith, there.0)
 
@@ -110,18 +110,18 @@ module _ (xs : List Member) (number : ℕ) (there : IsNode (length xs) number) w
     pub records_was : records_at xs number ≡ records_of (slice_index_or xs (number - 1) d).keeper
     records_was = records_index xs (number - 1) d inside
 
-    pub within_is : (most : ℕ) → AreWithin most xs → faults_of (slice_index_or xs (number - 1) d).keeper ≤ most
-    within_is most all = within_at most xs (number - 1) d all inside
+    pub within_is : {most : ℕ} → AreWithin most xs → faults_of (slice_index_or xs (number - 1) d).keeper ≤ most
+    within_is {most} all = within_at xs (number - 1) d all inside
 
-  pub set_within : (most : ℕ) (y : Member) → AreWithin most xs → faults_of y.keeper ≤ most → AreWithin most (slice_set xs (number - 1) y)
-  set_within most y all one = within_from most xs (number - 1) y all one
+  pub set_within : {most : ℕ} (y : Member) → AreWithin most xs → faults_of y.keeper ≤ most → AreWithin most (slice_set xs (number - 1) y)
+  set_within {most} y all one = within_from xs (number - 1) y all one
 
   module _ (service : Declarations) (past : List Value) where
     pub here_is : (d : Member) → node_at (heres service past xs) number ≡ here_at service past (slice_index_or xs (number - 1) d)
     here_is d = subst (λ (m : ℕ). node_at (heres service past xs) m ≡ here_at service past (slice_index_or xs (number - 1) d)) (sym is_next) (here_index service past xs (number - 1) d inside)
 
-    pub member_is : (d : Member) (seed nodes : ℕ) → AreMembers service past seed nodes 1 xs → IsMember service past seed nodes number (slice_index_or xs (number - 1) d)
-    member_is d seed nodes all =
+    pub member_is : (d : Member) {seed nodes : ℕ} → AreMembers service past seed nodes 1 xs → IsMember service past seed nodes number (slice_index_or xs (number - 1) d)
+    member_is d {seed} {nodes} all =
         let e : 1 + (number - 1) ≡ number = omega (arith, there.0) in
         subst (λ (m : ℕ). IsMember service past seed nodes m (slice_index_or xs (number - 1) d)) e (member_from service past seed nodes 1 xs (number - 1) d all inside)
 
@@ -137,65 +137,65 @@ module _ (xs : List Member) (number : ℕ) (there : IsNode (length xs) number) w
     pub put_is : (y : Member) → heres service past (slice_set xs (number - 1) y) ≡ put (heres service past xs) number (here_at service past y)
     put_is y = subst (λ (m : ℕ). heres service past (slice_set xs (number - 1) y) ≡ put (heres service past xs) m (here_at service past y)) (sym is_next) (put_index service past xs (number - 1) y inside)
 
-    pub set_members : (seed nodes : ℕ) (y : Member) → AreMembers service past seed nodes 1 xs → IsMember service past seed nodes number y → AreMembers service past seed nodes 1 (slice_set xs (number - 1) y)
-    set_members seed nodes y all one =
+    pub set_members : {seed nodes : ℕ} {y : Member} → AreMembers service past seed nodes 1 xs → IsMember service past seed nodes number y → AreMembers service past seed nodes 1 (slice_set xs (number - 1) y)
+    set_members {seed} {nodes} {y} all one =
         let e : number ≡ 1 + (number - 1) = omega (arith, there.0) in
-        members_from service past seed nodes 1 xs (number - 1) y all (subst (λ (m : ℕ). IsMember service past seed nodes m y) e one)
+        members_from service past seed nodes 1 xs (number - 1) all (subst (λ (m : ℕ). IsMember service past seed nodes m y) e one)
 
     -- so it is of a node that is at its place
-    module _ (x : Member) (x_is : x ≡ slice_index_or xs (number - 1) x) where
+    module _ {x : Member} (x_is : x ≡ slice_index_or xs (number - 1) x) where
       pub here_so : node_at (heres service past xs) number ≡ here_at service past x
       here_so = here_is x ∙ ap (here_at service past) (sym x_is)
 
       pub member_so : (seed nodes : ℕ) → AreMembers service past seed nodes 1 xs → IsMember service past x.seed x.nodes x.id x
       member_so seed nodes all =
-          let m : IsMember service past seed nodes number x = subst (IsMember service past seed nodes number) (sym x_is) (member_is x seed nodes all) in
+          let m : IsMember service past seed nodes number x = subst (IsMember service past seed nodes number) (sym x_is) (member_is x all) in
           record { id = refl; nodes_are = refl; seed_is = refl; node = m.node; keeping = m.keeping; whole = m.whole }
 
 -- ---- where the node of a number is another one
 
-module _ (xs ys : List Member) (number : ℕ) (there : IsNode (length xs) number) (old new : Member) (old_is : old ≡ slice_index_or xs (number - 1) old) (ys_are : ys ≡ slice_set xs (number - 1) new) where
+module _ (xs : List Member) {ys : List Member} {number : ℕ} (there : IsNode (length xs) number) {old : Member} (new : Member) (old_is : old ≡ slice_index_or xs (number - 1) old) (ys_are : ys ≡ slice_set xs (number - 1) new) where
   pub many_are : length ys ≡ length xs
   many_are = ap length ys_are ∙ length-set xs (number - 1) new
 
   pub records_were : records_at xs number ≡ records_of old.keeper
-  records_were = records_was xs number there old ∙ ap (λ (z : Member). records_of z.keeper) (sym old_is)
+  records_were = records_was xs there old ∙ ap (λ (z : Member). records_of z.keeper) (sym old_is)
 
   pub records_grown : Begins (records_of old.keeper) (records_of new.keeper) → Begins (records_at xs number) (records_at ys number)
   records_grown grown =
       subst (λ (zs : List Member). Begins (records_at xs number) (records_at zs number)) (sym ys_are)
       (subst (λ (rs : List (List ℕ)). Begins rs (records_at (slice_set xs (number - 1) new) number)) (sym records_were)
-      (subst (Begins (records_of old.keeper)) (sym (records_now xs number there new)) grown))
+      (subst (Begins (records_of old.keeper)) (sym (records_now xs there new)) grown))
 
-  pub old_within : (most : ℕ) → AreWithin most xs → faults_of old.keeper ≤ most
-  old_within most all = subst (λ (z : Member). faults_of z.keeper ≤ most) (sym old_is) (within_is xs number there old most all)
+  pub old_within : {most : ℕ} → AreWithin most xs → faults_of old.keeper ≤ most
+  old_within {most} all = subst (λ (z : Member). faults_of z.keeper ≤ most) (sym old_is) (within_is xs there old all)
 
-  pub new_within : (most : ℕ) → AreWithin most xs → faults_of new.keeper ≤ most → AreWithin most ys
-  new_within most all one = subst (AreWithin most) (sym ys_are) (set_within xs number there most new all one)
+  pub new_within : {most : ℕ} → AreWithin most xs → faults_of new.keeper ≤ most → AreWithin most ys
+  new_within {most} all one = subst (AreWithin most) (sym ys_are) (set_within xs there new all one)
 
   module _ (service : Declarations) (past : List Value) where
     pub at_old : node_at (heres service past xs) number ≡ here_at service past old
-    at_old = here_is xs number there service past old ∙ ap (here_at service past) (sym old_is)
+    at_old = here_is xs there service past old ∙ ap (here_at service past) (sym old_is)
 
     pub at_new : node_at (heres service past ys) number ≡ here_at service past new
-    at_new = ap (λ (zs : List Member). node_at (heres service past zs) number) ys_are ∙ new_is xs number there service past new
+    at_new = ap (λ (zs : List Member). node_at (heres service past zs) number) ys_are ∙ new_is xs there service past new
 
     pub now_put : heres service past ys ≡ put (heres service past xs) number (here_at service past new)
-    now_put = ap (heres service past) ys_are ∙ put_is xs number there service past new
+    now_put = ap (heres service past) ys_are ∙ put_is xs there service past new
 
     pub others_are : heres service past ys ≡ put (heres service past xs) number (node_at (heres service past ys) number)
     others_are = now_put ∙ ap (put (heres service past xs) number) (sym at_new)
 
     module _ (seed nodes : ℕ) where
       pub old_member : AreMembers service past seed nodes 1 xs → IsMember service past seed nodes number old
-      old_member all = subst (IsMember service past seed nodes number) (sym old_is) (member_is xs number there service past old seed nodes all)
+      old_member all = subst (IsMember service past seed nodes number) (sym old_is) (member_is xs there service past old all)
 
       pub new_members : AreMembers service past seed nodes 1 xs → IsMember service past seed nodes number new → AreMembers service past seed nodes 1 ys
-      new_members all one = subst (AreMembers service past seed nodes 1) (sym ys_are) (set_members xs number there service past seed nodes new all one)
+      new_members all one = subst (AreMembers service past seed nodes 1) (sym ys_are) (set_members xs there service past all one)
 
       -- where the node stays, all do
-      pub all_stay : (most : ℕ) → StaysMember service past seed nodes number old new → AreKept service past seed nodes most xs → AreKept service past seed nodes most ys
-      all_stay most stays all = record {
+      pub all_stay : {most : ℕ} → StaysMember service past seed nodes number old new → AreKept service past seed nodes most xs → AreKept service past seed nodes most ys
+      all_stay {most} stays all = record {
         members = new_members all.members stays.member;
-        within = let l = old_within most all.within in new_within most all.within (omega (arith, l, stays.within));
+        within = let l = old_within all.within in new_within all.within (omega (arith, l, stays.within));
       }

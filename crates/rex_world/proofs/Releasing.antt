@@ -19,9 +19,9 @@ abbrev pub told_of : {S : Type 0} → Declarations → World S → ScheduleLine 
 told_of service w line = (row service w.requests w.seed (nodes_of w) (world_of service w) line).effects
 
 -- the releases of the next line come first, and then those of the other lines
-releases_next : {S : Type 0} → (service : Declarations) (s : Scenario) (w : World S) (line : ScheduleLine) (rest left : List ScheduleLine) → IsOf s w → left ≡ line ∷ rest
+releases_next : {S : Type 0} → (service : Declarations) {s : Scenario} {w : World S} {line : ScheduleLine} {rest left : List ScheduleLine} → IsOf s w → left ≡ line ∷ rest
     → releases_from service s (world_of service w) left ≡ filter is_release (told_of service w line) ++ releases_from service s (next_of service w line) rest
-releases_next service s w line rest left of l =
+releases_next service {s} {w} {line} {rest} {left} of l =
     subst (λ (n : ℕ). filter is_release (effects_of service s.requests s.seed n (world_of service w) left) ≡ first ++ filter is_release (effects_of service s.requests s.seed n (next_of service w line) rest)) of.nodes
     (subst (λ (seed : ℕ). filter is_release (effects_of service s.requests seed (nodes_of w) (world_of service w) left) ≡ first ++ filter is_release (effects_of service s.requests seed (nodes_of w) (next_of service w line) rest)) of.seed
     (subst (λ (requests : List Request). filter is_release (effects_of service requests w.seed (nodes_of w) (world_of service w) left) ≡ first ++ filter is_release (effects_of service requests w.seed (nodes_of w) (next_of service w line) rest)) of.requests
@@ -32,17 +32,17 @@ releases_next service s w line rest left of l =
     first = filter is_release (told_of service w line)
 
 -- with the releases of one line more
-pub releases_more : {S : Type 0} → (service : Declarations) (s : Scenario) (w after : World S) (line : ScheduleLine) (rest left : List ScheduleLine) (had now told whole : List Effect) → IsOf s w → left ≡ line ∷ rest
+pub releases_more : {S : Type 0} → (service : Declarations) {s : Scenario} {w : World S} (after : World S) {line : ScheduleLine} {rest left : List ScheduleLine} (had : List Effect) {now told whole : List Effect} → IsOf s w → left ≡ line ∷ rest
     → world_of service after ≡ next_of service w line → told ≡ told_of service w line → now ≡ had ++ filter is_release told
     → had ++ releases_from service s (world_of service w) left ≡ whole → now ++ releases_from service s (world_of service after) rest ≡ whole
-releases_more service s w after line rest left had now told whole of l world told_is now_is before =
+releases_more service {s} {w} after {line} {rest} {left} had of l world told_is now_is before =
     ap (λ (es : List Effect). es ++ releases_from service s (world_of service after) rest) (now_is ∙ ap (λ (es : List Effect). had ++ filter is_release es) told_is)
     ∙ ap (λ (x : ModelWorld). (had ++ filter is_release (told_of service w line)) ++ releases_from service s x rest) world
     ∙ append_assoc had (filter is_release (told_of service w line)) (releases_from service s (next_of service w line) rest)
-    ∙ ap (λ (es : List Effect). had ++ es) (sym (releases_next service s w line rest left of l))
+    ∙ ap (λ (es : List Effect). had ++ es) (sym (releases_next service of l))
     ∙ before
 
 -- none are left at the end
-pub releases_all : {S : Type 0} → (service : Declarations) (s : Scenario) (w : World S) (left : List ScheduleLine) (had whole : List Effect) → left ≡ [] → had ++ releases_from service s (world_of service w) left ≡ whole → had ≡ whole
-releases_all service s w left had whole none before =
+pub releases_all : {S : Type 0} → (service : Declarations) (s : Scenario) (w : World S) {left : List ScheduleLine} {had whole : List Effect} → left ≡ [] → had ++ releases_from service s (world_of service w) left ≡ whole → had ≡ whole
+releases_all service s w {had} none before =
     sym (append-nil had) ∙ ap (λ (ls : List ScheduleLine). had ++ releases_from service s (world_of service w) ls) (sym none) ∙ before

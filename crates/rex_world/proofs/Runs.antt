@@ -11,8 +11,8 @@ use Rattle.rex_world.specs.Report.{effects_text, report_from}
 use Rattle.rex_world.specs.World.{nodes_of, world_of}
 
 -- the items from a place on
-pub drop_next : {X : Type 0} (xs same : List X) (i : ℕ) (d : X) → same ≡ xs → i < length same → d ≡ get_or same i d → drop i xs ≡ d ∷ drop (i + 1) xs
-drop_next {X} xs same i d e lt is =
+pub drop_next : {X : Type 0} {xs same : List X} {i : ℕ} {d : X} → same ≡ xs → i < length same → d ≡ get_or same i d → drop i xs ≡ d ∷ drop (i + 1) xs
+drop_next {X} {same} {i} {d} e lt is =
     subst (λ (ys : List X). drop i ys ≡ d ∷ drop (i + 1) ys) e
     (drop-cons same i d lt ∙ ap (λ (x : X). x ∷ drop (suc i) same) (sym is) ∙ ap (λ (n : ℕ). d ∷ drop n same) (one_on i))
   where
@@ -20,8 +20,8 @@ drop_next {X} xs same i d e lt is =
     one_on n = omega arith
 
 -- none are left at the end
-pub drop_end : {X : Type 0} (xs same : List X) (i : ℕ) → same ≡ xs → length same ≤ i → drop i xs ≡ []
-drop_end {X} xs same i e le = subst (λ (ys : List X). drop i ys ≡ []) e (past same i le)
+pub drop_end : {X : Type 0} {xs same : List X} {i : ℕ} → same ≡ xs → length same ≤ i → drop i xs ≡ []
+drop_end {X} {same} {i} e le = subst (λ (ys : List X). drop i ys ≡ []) e (past same i le)
   where
     past : (ys : List X) (j : ℕ) → length ys ≤ j → drop j ys ≡ []
     past [] zero h = refl
@@ -34,10 +34,10 @@ abbrev pub next_of : {S : Type 0} → Declarations → World S → ScheduleLine 
 next_of service w line = (row service w.requests w.seed (nodes_of w) (world_of service w) line).world
 
 -- the report goes on with the lines of the next schedule line
-pub report_next : {S : Type 0} → (service : Declarations) (s : Scenario) (w : World S) (line : ScheduleLine) (rest left : List ScheduleLine) → IsOf s w → left ≡ line ∷ rest
+pub report_next : {S : Type 0} → (service : Declarations) {s : Scenario} {w : World S} {line : ScheduleLine} {rest left : List ScheduleLine} → IsOf s w → left ≡ line ∷ rest
     → report_from service s.requests s.seed s.nodes (world_of service w) left
     ≡ effects_text service (w.done + 1) (row service w.requests w.seed (nodes_of w) (world_of service w) line).effects ++ report_from service s.requests s.seed s.nodes (next_of service w line) rest
-report_next service s w line rest left of l =
+report_next service {s} {w} {line} {rest} {left} of l =
     subst (λ (n : ℕ). report_from service s.requests s.seed n (world_of service w) left ≡ text ++ report_from service s.requests s.seed n (next_of service w line) rest) of.nodes
     (subst (λ (seed : ℕ). report_from service s.requests seed (nodes_of w) (world_of service w) left ≡ text ++ report_from service s.requests seed (nodes_of w) (next_of service w line) rest) of.seed
     (subst (λ (requests : List Request). report_from service requests w.seed (nodes_of w) (world_of service w) left ≡ text ++ report_from service requests w.seed (nodes_of w) (next_of service w line) rest) of.requests
@@ -47,8 +47,8 @@ report_next service s w line rest left of l =
     text = effects_text service (w.done + 1) (row service w.requests w.seed (nodes_of w) (world_of service w) line).effects
 
 -- the same requests, seed and nodes after a line
-pub still_of : {S : Type 0} → (s : Scenario) (w after : World S) → IsOf s w → IsSame w after → IsOf s after
-still_of s w after of same = record { nodes = same.nodes ∙ of.nodes; requests = same.requests ∙ of.requests; seed = same.seed ∙ of.seed }
+pub still_of : {S : Type 0} → {s : Scenario} {w after : World S} → IsOf s w → IsSame w after → IsOf s after
+still_of of same = record { nodes = same.nodes ∙ of.nodes; requests = same.requests ∙ of.requests; seed = same.seed ∙ of.seed }
 
 -- one more line is done
 pub done_next : {S : Type 0} → (service : Declarations) (w after : World S) (line : ScheduleLine) → world_of service after ≡ next_of service w line → after.done ≡ w.done + 1

@@ -44,9 +44,9 @@ sent_both number (x ∷ xs) ys =
     let e : suc number + length xs ≡ number + suc (length xs) = omega arith in
     ap (λ (es : List Effect). Sent number (kind_of x.content) x.from x.to ∷ es) (sent_both (suc number) xs ys ∙ ap (λ (k : ℕ). sent_from (suc number) xs ++ sent_from k ys) e)
 
-pub sends_more : (xs ys : List Said) (net net1 net2 : List (List ℕ)) (handed handed1 handed2 : List Bool) (sent sent1 sent2 : List Effect)
+pub sends_more : {xs ys : List Said} {net net1 net2 : List (List ℕ)} {handed handed1 handed2 : List Bool} {sent sent1 sent2 : List Effect}
     → Sends xs net net1 handed handed1 sent sent1 → Sends ys net1 net2 handed1 handed2 sent1 sent2 → Sends (xs ++ ys) net net2 handed handed2 sent sent2
-sends_more xs ys net net1 net2 handed handed1 handed2 sent sent1 sent2 a b = record {
+sends_more {xs} {ys} {net} {net1} {handed} {sent} a b = record {
   spelled = All-append HasSpelling xs ys a.spelled b.spelled;
   net = b.net ∙ ap (λ (ns : List (List ℕ)). ns ++ map spelling_of ys) a.net ∙ append_assoc net (map spelling_of xs) (map spelling_of ys) ∙ ap (λ (ns : List (List ℕ)). net ++ ns) (sym (map-append spelling_of xs ys));
   handed = b.handed ∙ ap (λ (hs : List Bool). hs ++ replicate (length ys) false) a.handed ∙ append_assoc handed (replicate (length xs) false) (replicate (length ys) false)
@@ -60,8 +60,8 @@ sends_more xs ys net net1 net2 handed handed1 handed2 sent sent1 sent2 a b = rec
     next = omega (arith, ap length a.net, length-append net (map spelling_of xs), length-map xs spelling_of, length-map xs (message_in []))
 
 -- the messages so far, and one more
-pub sends_next : (xs : List Said) (i : ℕ) (x d : Said) (net net1 net2 : List (List ℕ)) (handed handed1 handed2 : List Bool) (sent sent1 sent2 : List Effect) → i < length xs → x ≡ slice_index_or xs i d
+pub sends_next : (xs : List Said) {i : ℕ} {x : Said} (d : Said) {net net1 net2 : List (List ℕ)} {handed handed1 handed2 : List Bool} {sent sent1 sent2 : List Effect} → i < length xs → x ≡ slice_index_or xs i d
     → Sends (take i xs) net net1 handed handed1 sent sent1 → Sends (x ∷ []) net1 net2 handed1 handed2 sent1 sent2 → Sends (take (i + 1) xs) net net2 handed handed2 sent sent2
-sends_next xs i x d net net1 net2 handed handed1 handed2 sent sent1 sent2 l e a b =
+sends_next xs {i} {x} d {net} {net1} {net2} {handed} {handed1} {handed2} {sent} {sent1} {sent2} l e a b =
     let t : take (i + 1) xs ≡ take i xs ++ x ∷ [] = ap (λ (k : ℕ). take k xs) (add-one i) ∙ take-suc xs i d l ∙ ap (λ (y : Said). take i xs ++ y ∷ []) (sym e) in
-    subst (λ (ys : List Said). Sends ys net net2 handed handed2 sent sent2) (sym t) (sends_more (take i xs) (x ∷ []) net net1 net2 handed handed1 handed2 sent sent1 sent2 a b)
+    subst (λ (ys : List Said). Sends ys net net2 handed handed2 sent sent2) (sym t) (sends_more a b)

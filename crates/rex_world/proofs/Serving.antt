@@ -52,8 +52,8 @@ use Rattle.rex_world.proofs.Unseen.{Goes, active_either, ask_either, checkpoint_
 use Rattle.rex_world.proofs.Working.{can_be_cut, room}
 
 -- a step that sends nothing tells no state
-pub none_told : (service : Declarations) (past : List Value) (sends : List Said) → sends ≡ [] → AreTold service past sends
-none_told service past sends e = subst (AreTold service past) (sym e) (All-nil (λ (m : Said). IsTold service past m.content))
+pub none_told : (service : Declarations) (past : List Value) {sends : List Said} → sends ≡ [] → AreTold service past sends
+none_told service past e = subst (AreTold service past) (sym e) (All-nil (λ (m : Said). IsTold service past m.content))
 
 -- ---- a message that is handed over, without its flag
 
@@ -108,8 +108,8 @@ module _ {S : Type 0} (service : Declarations) (w : World S) (h : IsRunning serv
 
     -- ---- what it may be asked
 
-    may_receive : (message : Said) (number : ℕ) → IsSent w.net number message → message.to ≡ m → MayReceive service w.agreed w.seed (nodes_of w) m (disarmed x) message
-    may_receive message number sent to =
+    may_receive : {message : Said} {number : ℕ} → IsSent w.net number message → message.to ≡ m → MayReceive service w.agreed w.seed (nodes_of w) m (disarmed x) message
+    may_receive {message} {number} sent to =
         subst (λ (k : ℕ). MayReceive service w.agreed w.seed (nodes_of w) k (disarmed (node_at model.nodes k)) message) to
         (record {
           fits = fits service w h number message sent;
@@ -121,15 +121,15 @@ module _ {S : Type 0} (service : Declarations) (w : World S) (h : IsRunning serv
         })
 
     pub can_serve : (call : Call) → CanCall service w m call → MayServe service w.agreed w.seed (nodes_of w) m (disarmed x) call
-    can_serve Elect may = elect_runs service w h m there
-    can_serve (Receive message) may = may_receive message.now may.0.0 may.0.1 may.1
+    can_serve Elect may = elect_runs h there
+    can_serve (Receive message) may = may_receive may.0.1 may.1
     can_serve (Submit request) may = may
     can_serve (Lane lane clock) may = record { there = may.0; count = room service w h m there lane }
     can_serve (Cut limits) may = record { many = may; spelling = can_be_cut service w h m there (option_copied limits) may }
     can_serve Replay may = tt
     can_serve (Ask other) may = tt
     can_serve (Checkpoint version) may = may
-    can_serve DropKnown may = front_known service w h m there
+    can_serve DropKnown may = front_known h there
 
     -- ---- what the model's call does
 
@@ -139,71 +139,71 @@ module _ {S : Type 0} (service : Declarations) (w : World S) (h : IsRunning serv
       pub kept : Kept (at_node model m call).world
       pub releases : (y : Here) → y.up ≡ true → AreReleased (call (begin y)).node (call (begin y)).effects
 
-    receive_kept : (message : Said) (number : ℕ) → IsSent w.net number message → message.to ≡ m → Kept (at_node model m (receive (nodes_of w) sv m message.from (content_in w.agreed message.content))).world
-    receive_kept message number sent to =
+    receive_kept : {message : Said} {number : ℕ} → IsSent w.net number message → message.to ≡ m → Kept (at_node model m (receive (nodes_of w) sv m message.from (content_in w.agreed message.content))).world
+    receive_kept {message} {number} sent to =
         subst (λ (k : ℕ). Kept (at_node model k (receive (nodes_of w) sv k message.from (content_in w.agreed message.content))).world) to
         (unmarked service w.seed (nodes_of w) model number message.to (receive (nodes_of w) sv message.to message.from (content_in w.agreed message.content) (begin (node_at model.nodes message.to))) (node_at model.nodes message.to).up
-        (subst (λ (o : Option (Message Value)). Kept (deliver_found service w.seed (nodes_of w) model number o).world) (sent_at w.agreed w.net number message sent)
-        (kept_next service w h (line.Deliver number) (sent_within w.net number message sent).0)))
+        (subst (λ (o : Option (Message Value)). Kept (deliver_found service w.seed (nodes_of w) model number o).world) (sent_at w.agreed number sent)
+        (kept_next h (line.Deliver number) (sent_within number sent).0)))
 
-    submit_kept : (request : Request) → RequestFits service request → Kept (at_node model m (if_active (submit_request service (Some request)))).world
-    submit_kept request fit =
+    submit_kept : {request : Request} → RequestFits service request → Kept (at_node model m (if_active (submit_request service (Some request)))).world
+    submit_kept {request} fit =
         step_kept service h.service_is h.checked (request ∷ []) (All-cons (RequestFits service) request [] fit (All-nil (RequestFits service))) w.seed (nodes_of w) h.few model (line.Submit m 0) (there, omega arith) h.kept
 
-    lane_kept : (lane : ℕ) (clock : ℤ) → lane < service.lanes → clock ≡ pos w.done → Kept (at_node model m (if_active (λ d. turned service lane (turn_at service d.node lane clock) d))).world
-    lane_kept lane clock l e =
-        subst (λ (c : ℤ). Kept (at_node model m (if_active (λ d. turned service lane (turn_at service d.node lane c) d))).world) (sym e) (kept_next service w h (line.Lane m lane) (there, l))
+    lane_kept : {lane : ℕ} {clock : ℤ} → lane < service.lanes → clock ≡ pos w.done → Kept (at_node model m (if_active (λ d. turned service lane (turn_at service d.node lane clock) d))).world
+    lane_kept {lane} l e =
+        subst (λ (c : ℤ). Kept (at_node model m (if_active (λ d. turned service lane (turn_at service d.node lane c) d))).world) (sym e) (kept_next h (line.Lane m lane) (there, l))
 
     cut_kept : (limits : Option (List ℕ)) → AreLimits service limits → Kept (at_node model m (cut service w.seed (nodes_of w) m (counts_for service x limits))).world
-    cut_kept None l = kept_next service w h (line.Cut m) there
-    cut_kept (Some limits) l = kept_next service w h (line.CutBelow m limits) (there, l)
+    cut_kept None l = kept_next h (line.Cut m) there
+    cut_kept (Some limits) l = kept_next h (line.CutBelow m limits) (there, l)
 
     pub lawful : (call : Call) → CanCall service w m call → IsLawful (call_at service w m call)
     lawful Elect may = record {
       goes = λ f. elect_either f (nodes_of w) sv m;
-      kept = kept_next service w h (line.Elect m) there;
-      releases = elect_releases service h.service_is h.checked w.seed (nodes_of w) m;
+      kept = kept_next h (line.Elect m) there;
+      releases = elect_releases h.service_is h.checked w.seed (nodes_of w) m;
     }
     lawful (Receive message) may = record {
       goes = λ f. receive_either f (nodes_of w) sv m message.now.from (content_in w.agreed message.now.content);
-      kept = receive_kept message.now may.0.0 may.0.1 may.1;
-      releases = receive_releases service h.service_is h.checked w.seed (nodes_of w) m message.now.from (content_in w.agreed message.now.content);
+      kept = receive_kept may.0.1 may.1;
+      releases = receive_releases h.service_is h.checked w.seed (nodes_of w) m message.now.from (content_in w.agreed message.now.content);
     }
     lawful (Submit request) may = record {
-      goes = λ f. active_either f (submit_request service (Some request.now)) (λ d. refl) (λ d. refl);
-      kept = submit_kept request.now may;
-      releases = submit_releases service h.service_is h.checked w.seed (nodes_of w) m (request.now ∷ []) (All-cons (RequestFits service) request.now [] may (All-nil (RequestFits service))) 0;
+      goes = λ f. active_either (submit_request service (Some request.now)) (λ d. refl) (λ d. refl);
+      kept = submit_kept may;
+      releases = submit_releases h.service_is h.checked w.seed (nodes_of w) m (request.now ∷ []) (All-cons (RequestFits service) request.now [] may (All-nil (RequestFits service))) 0;
     }
     lawful (Lane lane clock) may = record {
-      goes = λ f. active_either f (λ d. turned service lane (turn_at service d.node lane clock) d) (λ d. refl) (λ d. refl);
-      kept = lane_kept lane clock may.0 may.1;
+      goes = λ f. active_either (λ d. turned service lane (turn_at service d.node lane clock) d) (λ d. refl) (λ d. refl);
+      kept = lane_kept may.0 may.1;
       releases = subst (λ (c : ℤ). (y : Here) → y.up ≡ true → AreReleased (if_active (λ d. turned service lane (turn_at service d.node lane c) d) (begin y)).node (if_active (λ d. turned service lane (turn_at service d.node lane c) d) (begin y)).effects) (sym may.1)
-          (lane_releases service h.service_is h.checked w.seed (nodes_of w) m w.done lane);
+          (lane_releases h.service_is h.checked w.seed (nodes_of w) m w.done lane);
     }
     lawful (Cut limits) may = record {
       goes = λ f. cut_either f service w.seed (nodes_of w) m (counts_for service x (option_copied limits));
       kept = cut_kept (option_copied limits) may;
-      releases = cut_releases service h.service_is h.checked w.seed (nodes_of w) m (counts_for service x (option_copied limits));
+      releases = cut_releases h.service_is h.checked w.seed (nodes_of w) m (counts_for service x (option_copied limits));
     }
     lawful Replay may = record {
       goes = λ f. replay_either f m;
-      kept = kept_next service w h (line.Replay m) there;
-      releases = replay_releases service h.service_is h.checked w.seed (nodes_of w) m;
+      kept = kept_next h (line.Replay m) there;
+      releases = replay_releases h.service_is h.checked w.seed (nodes_of w) m;
     }
     lawful (Ask other) may = record {
       goes = λ f. ask_either f m other;
-      kept = kept_next service w h (line.Ask m other) (there, may);
-      releases = ask_releases service h.service_is h.checked w.seed (nodes_of w) m other;
+      kept = kept_next h (line.Ask m other) (there, may);
+      releases = ask_releases h.service_is h.checked w.seed (nodes_of w) m other;
     }
     lawful (Checkpoint version) may = record {
       goes = λ f. checkpoint_either f version sv m;
-      kept = kept_next service w h (line.Checkpoint m version) there;
-      releases = checkpoint_releases service h.service_is h.checked w.seed (nodes_of w) m version;
+      kept = kept_next h (line.Checkpoint m version) there;
+      releases = checkpoint_releases h.service_is h.checked w.seed (nodes_of w) m version;
     }
     lawful DropKnown may = record {
       goes = λ f. drop_either f m;
-      kept = kept_next service w h (line.DropKnown m) there;
-      releases = drop_releases service h.service_is h.checked w.seed (nodes_of w) m;
+      kept = kept_next h (line.DropKnown m) there;
+      releases = drop_releases h.service_is h.checked w.seed (nodes_of w) m;
     }
 
     -- ---- a node that came to something
@@ -211,18 +211,18 @@ module _ {S : Type 0} (service : Declarations) (w : World S) (h : IsRunning serv
     module _ (old new : Member) (old_is : old ≡ slice_index_or w.nodes.items (m - 1) old) (nodes : Vec Member) (nodes_are : nodes.items ≡ slice_set w.nodes.items (m - 1) new) (d : CallHere) (step : Step) (come : HasCome w.agreed d (here_at service w.agreed new) step)
         (stays : StaysMember service w.agreed w.seed (nodes_of w) m old new) (told_right : AreTold service w.agreed step.sends) (kept : Kept (after model m d).world) (released : AreReleased d.node d.effects) where
       many : length nodes.items ≡ nodes_of w
-      many = many_are w.nodes.items nodes.items m there old new old_is nodes_are
+      many = many_are w.nodes.items there new old_is nodes_are
 
       came_at : HasCome w.agreed d (node_at (heres service w.agreed nodes.items) m) step
-      came_at = subst (λ (y : Here). HasCome w.agreed d y step) (sym (at_new w.nodes.items nodes.items m there old new old_is nodes_are service w.agreed)) come
+      came_at = subst (λ (y : Here). HasCome w.agreed d y step) (sym (at_new w.nodes.items there new old_is nodes_are service w.agreed)) come
 
       all_kept : AreKept service w.agreed w.seed (nodes_of w) w.done nodes.items
-      all_kept = all_stay w.nodes.items nodes.items m there old new old_is nodes_are service w.agreed w.seed (nodes_of w) w.done stays (record { members = h.members; within = h.within })
+      all_kept = all_stay w.nodes.items there new old_is nodes_are service w.agreed w.seed (nodes_of w) stays (record { members = h.members; within = h.within })
 
       -- the messages of the step have their numbers in their ranges
       sends_fit : All IsMessage step.sends
       sends_fit =
-          all_fit service (nodes_of w) h.few (after model m d).world kept.numbers (kept_right service w.seed (nodes_of w) (after model m d).world h.service_is h.checked kept).short w.agreed step.sends told_right
+          all_fit h.few kept.numbers (kept_right service w.seed (nodes_of w) (after model m d).world h.service_is h.checked kept).short w.agreed step.sends told_right
           (λ y i. is_behind model.messages d.sends y (subst (IsIn y) come.sends i))
 
       -- so it can be told
@@ -236,11 +236,11 @@ module _ {S : Type 0} (service : Declarations) (w : World S) (h : IsRunning serv
       }
 
       -- and once that is done the world has come to the model's row
-      pub came : (count : ℕ) → count ≡ length (records_at w.nodes.items m) → (w2 : World S) (told told2 : Told) → IsSettled service m count (record w { nodes = nodes }) w2 told told2 step → ComesTo service w w2 told told2 (after model m d)
-      came count count_is w2 told told2 t =
-          settled service w w2 h m there count count_is nodes told told2 step t (after model m d)
-          (comes_after service w (record w2 { agreed = w.agreed }) h nodes told told2 step (tells_step service w w2 h m there count count_is nodes told told2 step t) m d came_at t.seen (others_are w.nodes.items nodes.items m there old new old_is nodes_are service w.agreed) many all_kept told_right kept)
-          (others_are w.nodes.items nodes.items m there old new old_is nodes_are service w.agreed) many (records_grown w.nodes.items nodes.items m there old new old_is nodes_are stays.grown)
+      pub came : {count : ℕ} → count ≡ length (records_at w.nodes.items m) → {w2 : World S} {told told2 : Told} → IsSettled service m count (record w { nodes = nodes }) w2 told told2 step → ComesTo service w w2 told told2 (after model m d)
+      came {count} count_is {w2} {told} {told2} t =
+          settled h there count_is t
+          (comes_after h (tells_step h there count_is t) m came_at t.seen (others_are w.nodes.items there new old_is nodes_are service w.agreed) many all_kept told_right kept)
+          (others_are w.nodes.items there new old_is nodes_are service w.agreed) many (records_grown w.nodes.items there new old_is nodes_are stays.grown)
 
     -- ---- the node of the number
 
@@ -262,23 +262,23 @@ module _ {S : Type 0} (service : Declarations) (w : World S) (h : IsRunning serv
       where
         by : (t : Bool) → x.up ≡ t → AreReleased (if t then say (effect.IsUp m) (begin x) else start sv m (begin x)).node (if t then say (effect.IsUp m) (begin x) else start sv m (begin x)).effects
         by true e = said_releases x (effect.IsUp m) (λ c s v. elim [ inl y ↦ absurd (cc) | inr y ↦ y ])
-        by false e = start_releases service h.service_is h.checked w.seed (nodes_of w) m x (start sv m (begin x)).node
+        by false e = start_releases {service = service} h.service_is h.checked w.seed (nodes_of w) m x (start sv m (begin x)).node
 
-    module _ (old : Member) (old_is : old ≡ slice_index_or w.nodes.items (m - 1) old) where
+    module _ {old : Member} (old_is : old ≡ slice_index_or w.nodes.items (m - 1) old) where
       pub here_old : x ≡ here_at service w.agreed old
-      here_old = here_is w.nodes.items m there service w.agreed old ∙ ap (here_at service w.agreed) (sym old_is)
+      here_old = here_is w.nodes.items there service w.agreed old ∙ ap (here_at service w.agreed) (sym old_is)
 
       pub member_old : IsMember service w.agreed w.seed (nodes_of w) m old
-      member_old = subst (IsMember service w.agreed w.seed (nodes_of w) m) (sym old_is) (member_is w.nodes.items m there service w.agreed old w.seed (nodes_of w) h.members)
+      member_old = subst (IsMember service w.agreed w.seed (nodes_of w) m) (sym old_is) (member_is w.nodes.items there service w.agreed old h.members)
 
       pub own_old : IsMember service w.agreed old.seed old.nodes old.id old
-      own_old = by_own service w.agreed w.seed (nodes_of w) m old member_old
+      own_old = by_own member_old
 
       pub room_old : old.keeper.faults < 2 ^ 64 - 1
       room_old = let r = member_old.keeping.room in omega (arith, r)
 
-      pub records_old : (count : ℕ) → count ≡ length (records_of old.keeper) → count ≡ length (records_at w.nodes.items m)
-      records_old count e = e ∙ ap length (ap (λ (y : Member). records_of y.keeper) old_is ∙ sym (records_was w.nodes.items m there old))
+      pub records_old : {count : ℕ} → count ≡ length (records_of old.keeper) → count ≡ length (records_at w.nodes.items m)
+      records_old e = e ∙ ap length (ap (λ (y : Member). records_of y.keeper) old_is ∙ sym (records_was w.nodes.items there old))
 
       -- ---- a call
 
@@ -297,13 +297,13 @@ module _ {S : Type 0} (service : Declarations) (w : World S) (h : IsRunning serv
 
         pub may_serve : MayServe service w.agreed old.seed old.nodes old.id (here_of records_of service w.agreed old) call
         may_serve =
-            unnamed service w.agreed w.seed (nodes_of w) m old member_old (λ n s k. MayServe service w.agreed s n k (here_of records_of service w.agreed old) call)
+            unnamed member_old (λ n s k. MayServe service w.agreed s n k (here_of records_of service w.agreed old) call)
             (subst (λ (y : Here). MayServe service w.agreed w.seed (nodes_of w) m (disarmed y) call) here_old (can_serve call may))
 
         goes_so : (f : Option Failure) → Goes f (call_for service w.agreed old.seed old.nodes old.id (here_of records_of service w.agreed old) call)
         goes_so = subst (λ (k : CallHere → CallHere). (f : Option Failure) → Goes f k) (sym same_call) (lawful call may).goes
 
-        module _ (new : Member) (step : Step) (serves : Serves records_of follows (λ k. k.faults) service w.agreed (call_for service w.agreed old.seed old.nodes old.id (here_of records_of service w.agreed old) call) old new step) where
+        module _ {new : Member} {step : Step} (serves : Serves records_of follows (λ k. k.faults) service w.agreed (call_for service w.agreed old.seed old.nodes old.id (here_of records_of service w.agreed old) call) old new step) where
           pub call_come : HasCome w.agreed (served m (call_at service w m call) x) (here_at service w.agreed new) step
           call_come =
               subst (λ (y : Here). HasCome w.agreed (served m (call_at service w m call) y) (here_at service w.agreed new) step) (sym here_old)
@@ -312,7 +312,7 @@ module _ {S : Type 0} (service : Declarations) (w : World S) (h : IsRunning serv
               (has_come service w.agreed old new (call_for service w.agreed old.seed old.nodes old.id (here_of records_of service w.agreed old) call) step goes_so serves)))
 
           pub call_stays : StaysNode records_of service w.agreed old new → StaysMember service w.agreed w.seed (nodes_of w) m old new
-          call_stays stays = serves_stays service w.agreed w.seed (nodes_of w) m old member_old new (call_for service w.agreed old.seed old.nodes old.id (here_of records_of service w.agreed old) call) step goes_so stays serves
+          call_stays stays = serves_stays member_old new (call_for service w.agreed old.seed old.nodes old.id (here_of records_of service w.agreed old) call) step goes_so stays serves
 
         pub call_kept : Kept (after model m (served m (call_at service w m call) x)).world
         call_kept = subst (λ (r : Row). Kept r.world) (sym (served_row model m (call_at service w m call))) (lawful call may).kept
@@ -334,20 +334,20 @@ module _ {S : Type 0} (service : Declarations) (w : World S) (h : IsRunning serv
             (subst (λ (k : ℕ). HasCome w.agreed (started sv k (here_at service w.agreed old)) (here_at service w.agreed new) step) member_old.id
             (subst (λ (s : ℕ). HasCome w.agreed (started (service_of service s) old.id (here_at service w.agreed old)) (here_at service w.agreed new) step) member_old.seed_is come))
 
-      pub still_own : (new : Member) → StaysMember service w.agreed old.seed old.nodes old.id old new → StaysMember service w.agreed w.seed (nodes_of w) m old new
-      still_own new stays = by_number service w.agreed w.seed (nodes_of w) m old member_old new stays
+      pub still_own : {new : Member} → StaysMember service w.agreed old.seed old.nodes old.id old new → StaysMember service w.agreed w.seed (nodes_of w) m old new
+      still_own {new} stays = by_number member_old new stays
 
       pub starts_old : Starts service w.agreed (here_at service w.agreed old)
-      starts_old = subst (Starts service w.agreed) here_old (starts_from service w h m there)
+      starts_old = subst (Starts service w.agreed) here_old (starts_from h there)
 
     pub stop_kept : Kept (after model m (served m (stop m) x)).world
-    stop_kept = subst (λ (r : Row). Kept r.world) (sym (served_row model m (stop m))) (kept_next service w h (line.Stop m) there)
+    stop_kept = subst (λ (r : Row). Kept r.world) (sym (served_row model m (stop m))) (kept_next h (line.Stop m) there)
 
     pub stop_released : AreReleased (served m (stop m) x).node (served m (stop m) x).effects
-    stop_released = served_released (stop m) (stop_releases service h.service_is h.checked w.seed (nodes_of w) m)
+    stop_released = served_released (stop m) (stop_releases h.service_is h.checked w.seed (nodes_of w) m)
 
     pub start_kept : Kept (after model m (started sv m x)).world
-    start_kept = subst (λ (r : Row). Kept r.world) (sym (started_row sv model m)) (kept_next service w h (line.Start m) there)
+    start_kept = subst (λ (r : Row). Kept r.world) (sym (started_row sv model m)) (kept_next h (line.Start m) there)
 
     pub start_released : AreReleased (started sv m x).node (started sv m x).effects
     start_released = started_released

@@ -16,7 +16,7 @@ use Rattle.rex_world.specs.Calls.{ComesTo, IsSettled}
 use Rattle.rex_world.proofs.Coming.{CameTo, TellsStep}
 use Rattle.rex_world.proofs.Growing.{settled_running, settled_world}
 
-module _ {S : Type 0} (service : Declarations) (w x : World S) (h : IsRunning service w) (m : ℕ) (there : IsNode (nodes_of w) m) (count : ℕ) (count_is : count ≡ length (records_at w.nodes.items m)) (nodes : Vec Member) (told told2 : Told) (step : Step)
+module _ {S : Type 0} {service : Declarations} {w x : World S} (h : IsRunning service w) {m : ℕ} (there : IsNode (nodes_of w) m) {count : ℕ} (count_is : count ≡ length (records_at w.nodes.items m)) {nodes : Vec Member} {told told2 : Told} {step : Step}
     (t : IsSettled service m count (record w { nodes = nodes }) x told told2 step) where
   nodes_are : x.nodes.items ≡ nodes.items
   nodes_are = ap (λ (v : World S). v.nodes.items) t.rest
@@ -25,9 +25,9 @@ module _ {S : Type 0} (service : Declarations) (w x : World S) (h : IsRunning se
   pub tells_step : TellsStep w (record x { agreed = w.agreed }) nodes told told2 step
   tells_step = record { sends = t.sends; effects = t.effects; rest = ap (λ (v : World S). let y : World S = record v { agreed = w.agreed } in y) t.rest }
 
-  pub settled : (r : Row) → CameTo service w (record x { agreed = w.agreed }) told told2 r → heres service w.agreed nodes.items ≡ put (heres service w.agreed w.nodes.items) m (node_at (heres service w.agreed nodes.items) m)
+  pub settled : {r : Row} → CameTo service w (record x { agreed = w.agreed }) told told2 r → heres service w.agreed nodes.items ≡ put (heres service w.agreed w.nodes.items) m (node_at (heres service w.agreed nodes.items) m)
       → length nodes.items ≡ nodes_of w → Begins (records_at w.nodes.items m) (records_at nodes.items m) → ComesTo service w x told told2 r
-  settled r c others many grown =
+  settled c others many grown =
       let on : heres service w.agreed x.nodes.items ≡ put (heres service w.agreed w.nodes.items) m (node_at (heres service w.agreed x.nodes.items) m) =
       subst (λ (xs : List Member). heres service w.agreed xs ≡ put (heres service w.agreed w.nodes.items) m (node_at (heres service w.agreed xs) m)) (sym nodes_are) others in
       let as_many : nodes_of x ≡ nodes_of w = ap length nodes_are ∙ many in

@@ -38,8 +38,8 @@ releases_long stamp (e ∷ es) seen = releases_long stamp es (seen_by_release st
 -- ---- effects one after the other
 
 -- one among them was released as all were
-pub one_released : (x : Here) (es : List Effect) (i : ℕ) (e d : Effect) → i < length es → e ≡ slice_index_or es i d → AreReleased x es → AreReleased x (e ∷ [])
-one_released x es i e d l is h = record { leads = λ c s v. elim [ inl y ↦ h.leads c s v (subst (λ (f : Effect). IsAmong f es) (sym is ∙ y) (at es i l)) | inr y ↦ absurd y ] }
+pub one_released : {x : Here} {es : List Effect} {i : ℕ} {e : Effect} (d : Effect) → i < length es → e ≡ slice_index_or es i d → AreReleased x es → AreReleased x (e ∷ [])
+one_released {es} {i} d l is h = record { leads = λ c s v. elim [ inl y ↦ h.leads c s v (subst (λ (f : Effect). IsAmong f es) (sym is ∙ y) (at es i l)) | inr y ↦ absurd y ] }
   where
     at : (xs : List Effect) (k : ℕ) → k < length xs → IsAmong (slice_index_or xs k d) xs
     at [] k m = absurd (omega (arith, m))
@@ -62,57 +62,57 @@ append_up None me r d e up = λ active. up
 append_up (Some (After (suc before) kept)) me r d e up = λ active. up
 append_up (Some (After zero kept)) me r d e up = λ active. absurd (false≢true active)
 
-module _ (service : Declarations) (good : IsService service) (checked : IsChecked service) (seed n me : ℕ) where
+module _ {service : Declarations} (good : IsService service) (checked : IsChecked service) (seed n me : ℕ) where
   abbrev sv : Service Value StateValue
   sv = service_of service seed
 
   -- what a call says that it released was released by an active node
-  by_active : (d : CallHere) → SaysHere service good checked seed n me d → UpIfActive d → AreReleased d.node d.effects
-  by_active d says up = record { leads = λ c s x h. let active = (says.each c s x h).0 in (up active, active) }
+  by_active : {d : CallHere} → SaysHere service good checked seed n me d → UpIfActive d → AreReleased d.node d.effects
+  by_active says up = record { leads = λ c s x h. let active = (says.each c s x h).0 in (up active, active) }
 
   -- each call of a node that is up releases replies where the node is up and active after it, and nowhere else
   abbrev pub Releases : (CallHere → CallHere) → Type 0
   Releases call = (x : Here) → x.up ≡ true → AreReleased (call (begin x)).node (call (begin x)).effects
 
   pub elect_releases : Releases (elect n (service_of service seed) me)
-  elect_releases x up = by_active _ (elect_says n sv me (StandsIn service good checked) (replies_stand service good checked) (begin x) quiet_none) (elect_up n sv me (begin x) up).at
+  elect_releases x up = by_active (elect_says n sv me (StandsIn service good checked) (replies_stand service good checked) (begin x) quiet_none) (elect_up n sv me (begin x) up).at
 
   pub receive_releases : (from : ℕ) (content : Content Value) → Releases (receive n (service_of service seed) me from content)
-  receive_releases from content x up = by_active _ (receive_says n sv me (StandsIn service good checked) (replies_stand service good checked) from content (begin x) quiet_none) (receive_up n sv me from content (begin x) up).at
+  receive_releases from content x up = by_active (receive_says n sv me (StandsIn service good checked) (replies_stand service good checked) from content (begin x) quiet_none) (receive_up n sv me from content (begin x) up).at
 
   pub submit_releases : (requests : List Request) → All (RequestFits service) requests → (number : ℕ) → Releases (λ d. active_only (is_active d.node.role) d (submit_request service (slice_get requests number) d))
   submit_releases requests fit number x up =
-      by_active _ (submit_says service good checked seed n me requests fit number (begin x) quiet_none)
+      by_active (submit_says service good checked seed n me requests fit number (begin x) quiet_none)
       (active_up service seed n me (is_active x.role) (begin x) (submit_request service (slice_get requests number) (begin x)) up (submit_up service seed n me (slice_get requests number) (begin x) up)).at
 
   pub lane_releases : (done lane : ℕ) → Releases (λ d. active_only (is_active d.node.role) d (lane_turn service done lane d))
-  lane_releases done lane x up = by_active _ (turn_says service good checked seed n me done lane (begin x) quiet_none) (by (is_active x.role))
+  lane_releases done lane x up = by_active (turn_says service good checked seed n me done lane (begin x) quiet_none) (by (is_active x.role))
     where
       by : (t : Bool) → UpIfActive (active_only t (begin x) (lane_turn service done lane (begin x)))
       by true = λ active. up
       by false = λ active. up
 
   pub cut_releases : (counts : List ℕ) → Releases (cut service seed n me counts)
-  cut_releases counts x up = by_active _ (cut_tells service good checked seed n me counts (begin x) quiet_none) (cut_up service seed n me counts (begin x) up).at
+  cut_releases counts x up = by_active (cut_tells service good checked seed n me counts (begin x) quiet_none) (cut_up service seed n me counts (begin x) up).at
 
   pub replay_releases : Releases (replay me)
-  replay_releases x up = by_active _ (replay_says n sv me (StandsIn service good checked) (replies_stand service good checked) (begin x) quiet_none) (if_up (is_active x.role || x.replayed == length (known x.log)) _ _ (λ active. up) (λ active. up))
+  replay_releases x up = by_active (replay_says n sv me (StandsIn service good checked) (replies_stand service good checked) (begin x) quiet_none) (if_up (is_active x.role || x.replayed == length (known x.log)) _ _ (λ active. up) (λ active. up))
 
   pub checkpoint_releases : (version : Version) → Releases (checkpoint version (service_of service seed) me)
   checkpoint_releases version x up =
-      by_active _ (checkpoint_says n sv me (StandsIn service good checked) (replies_stand service good checked) version (begin x) quiet_none)
+      by_active (checkpoint_says n sv me (StandsIn service good checked) (replies_stand service good checked) version (begin x) quiet_none)
       (if_up (x.replayed == base x.log) _ _ (λ active. up) (if_up (nat_lt 0 (length x.work.live)) _ _ (λ active. up) (append_up x.armed me _ (begin x) (effect.Checkpointed me x.replayed) up)))
 
   pub drop_releases : Releases (drop_known me)
   drop_releases x up =
-      by_active _ (drop_says n sv me (StandsIn service good checked) (replies_stand service good checked) (begin x) quiet_none)
+      by_active (drop_says n sv me (StandsIn service good checked) (replies_stand service good checked) (begin x) quiet_none)
       (if_up (base x.log == offset x.log) _ _ (λ active. up) (append_up x.armed me _ (begin x) (effect.Dropped me (base x.log)) up))
 
   pub ask_releases : (other : ℕ) → Releases (ask me other)
-  ask_releases other x up = by_active _ (quietly service good checked seed n me (ask me other (begin x)) quiet_none) (λ active. up)
+  ask_releases other x up = by_active (quietly service good checked seed n me (ask me other (begin x)) quiet_none) (λ active. up)
 
   pub stop_releases : Releases (stop me)
-  stop_releases x up = by_active _ (stop_says n sv me (StandsIn service good checked) (replies_stand service good checked) (begin x) quiet_none) (λ active. absurd (false≢true active))
+  stop_releases x up = by_active (stop_says n sv me (StandsIn service good checked) (replies_stand service good checked) (begin x) quiet_none) (λ active. absurd (false≢true active))
 
   -- a node that is started releases none
   pub start_releases : (x y : Here) → AreReleased y (start (service_of service seed) me (begin x)).effects

@@ -28,7 +28,7 @@ use Rattle.rex_world.proofs.Failing.{follows, is_done}
 use Rattle.rex_world.proofs.Knowing.{count_known}
 use Rattle.rex_world.proofs.Unseen.{migrate_either}
 
-module _ (service : Declarations) (past : List Value) (old : Member) (member : IsMember service past old.seed old.nodes old.id old) (up : old.up ≡ true) where
+module _ {service : Declarations} {past : List Value} {old : Member} (member : IsMember service past old.seed old.nodes old.id old) (up : old.up ≡ true) where
   abbrev h : Here
   h = here_at service past old
 
@@ -40,12 +40,12 @@ module _ (service : Declarations) (past : List Value) (old : Member) (member : I
   told_is =
       let u = member.node.up up in
       ap (λ (n : ℕ). effect.Started old.id n (count_of old) old.replayed) u.promised
-      ∙ ap (λ (n : ℕ). effect.Started old.id (promise h.log) n old.replayed) (count_known service past old member.node up)
+      ∙ ap (λ (n : ℕ). effect.Started old.id (promise h.log) n old.replayed) (count_known old member.node up)
 
-  pub told_started : (result : Result Step Refusal) (id promised many replayed : ℕ) → id ≡ old.id → promised ≡ old.acceptor.promised → many ≡ count_of old → replayed ≡ old.replayed
+  pub told_started : (result : Result Step Refusal) {id promised many replayed : ℕ} → id ≡ old.id → promised ≡ old.acceptor.promised → many ≡ count_of old → replayed ≡ old.replayed
       → IfOk result (λ (step : Step). step.effects ≡ effect.Started id promised many replayed ∷ []) → IfOk result (λ (step : Step). step.effects ≡ told_up ∷ [])
-  told_started (Err refusal) id promised many replayed a b d e told = tt
-  told_started (Ok step) id promised many replayed a b d e told =
+  told_started (Err refusal) a b d e told = tt
+  told_started (Ok step) {promised} {many} {replayed} a b d e told =
       told
       ∙ ap (λ (n : ℕ). effect.Started n promised many replayed ∷ []) a
       ∙ ap (λ (n : ℕ). effect.Started old.id n many replayed ∷ []) b
@@ -55,10 +55,10 @@ module _ (service : Declarations) (past : List Value) (old : Member) (member : I
 
   -- or it is migrated
   module _ (new : Member) (migrated : Step) (does : Does records_of follows (λ k. k.faults) service past (migrate (service_of service old.seed) old.id) old new migrated) where
-    comes_migrated : (first step : Step) → first.effects ≡ told_up ∷ [] → step.effects ≡ first.effects ++ migrated.effects → step.sends ≡ migrated.sends → CameBack (service_of service old.seed) old.id h (here_at service past new) step
-    comes_migrated first step first_is effects sends =
+    comes_migrated : (first : Step) {step : Step} → first.effects ≡ told_up ∷ [] → step.effects ≡ first.effects ++ migrated.effects → step.sends ≡ migrated.sends → CameBack (service_of service old.seed) old.id h (here_at service past new) step
+    comes_migrated first first_is effects sends =
         let sv = service_of service old.seed in
-        let done : IsDone past (migrate sv old.id) h (here_at service past new) migrated = is_done service past (migrate sv old.id) (λ f. migrate_either f sv old.id) old new migrated up does in
+        let done : IsDone past (migrate sv old.id) h (here_at service past new) migrated = is_done service past (λ f. migrate_either f sv old.id) old new migrated up does in
         let none : (migrate sv old.id (begin h)).sends ≡ [] = migrated_sends (has_old_base h.log) old.id (begin h) (base h.log) (Checkpoint Two (base h.log) (sv.state (take (base h.log) (known h.log)))) refl in
         record {
           node = done.node;
@@ -69,21 +69,21 @@ module _ (service : Declarations) (past : List Value) (old : Member) (member : I
         }
 
     pub migrate_stays : StaysNode records_of service past old new → EndsDown old.id old.keeper.faults new.keeper.faults new.up migrated → StaysMember service past old.seed old.nodes old.id old new
-    migrate_stays stays ends = does_stays service past old.seed old.nodes old.id old member new (migrate (service_of service old.seed) old.id) migrated (λ f. migrate_either f (service_of service old.seed) old.id) stays does ends up
+    migrate_stays stays ends = does_stays member new (migrate (service_of service old.seed) old.id) migrated (λ f. migrate_either f (service_of service old.seed) old.id) stays does ends up
 
     -- what both steps did
     pub joined_back : (first : Step) (result : Result Step Refusal) → first.effects ≡ told_up ∷ [] → IfOk result (λ (step : Step). step.effects ≡ first.effects ++ migrated.effects) → IfOk result (λ (step : Step). step.sends ≡ migrated.sends)
         → IfOk result (CameBack (service_of service old.seed) old.id h (here_at service past new))
-    joined_back first (Ok step) first_is effects sends = comes_migrated first step first_is effects sends
+    joined_back first (Ok step) first_is effects sends = comes_migrated first first_is effects sends
     joined_back first (Err refusal) first_is effects sends = tt
 
 -- a node is a member still that came up again with its keeper, which was reopened before
-pub is_member : (service : Declarations) (past : List Value) (old down new : Member) → IsMember service past old.seed old.nodes old.id old → Starts service past (here_at service past old)
+pub is_member : {service : Declarations} {past : List Value} {old down new : Member} → IsMember service past old.seed old.nodes old.id old → Starts service past (here_at service past old)
     → down ≡ record old { keeper = record old.keeper { broken = false } } → new.keeper ≡ down.keeper
     → (HasReached service down.offset (knows past down) down.reached → values_fit service (known (log_of service past (records_of down.keeper))) ≡ true
     → HasRightBase service (log_of service past (records_of down.keeper)) → HasForgotten past (log_of service past (records_of down.keeper)) → IsNode records_of service past new)
     → IsMember service past new.seed new.nodes new.id new
-is_member service past old down new member starts is same kept =
+is_member {service} {past} {old} {new} member starts is same kept =
     let keeper_is : new.keeper ≡ record old.keeper { broken = false } = same ∙ ap (λ (x : Member). x.keeper) is in
     record {
       id = refl;

@@ -37,7 +37,7 @@ pub on_ok : {A B : Type 0} (r : Result (Unit {0}) AllocError) → (A → B) → 
 on_ok (Ok x) f h = f h
 on_ok (Err e) f h = tt
 
-module _ {S : Type 0} (service : Declarations) (w : World S) (h : IsRunning service w) where
+module _ {S : Type 0} {service : Declarations} {w : World S} (h : IsRunning service w) where
   abbrev model : ModelWorld
   model = world_of service w
 
@@ -49,10 +49,10 @@ module _ {S : Type 0} (service : Declarations) (w : World S) (h : IsRunning serv
   kept_next line fits = step_kept service h.service_is h.checked w.requests h.requests w.seed (nodes_of w) h.few model line fits h.kept
 
   -- what a node knows after a call that keeps the model runs from the start
-  calls_run : (m : ℕ) → IsNode (nodes_of w) m → (call : CallHere → CallHere)
+  calls_run : {m : ℕ} → IsNode (nodes_of w) m → {call : CallHere → CallHere}
       → ((d : CallHere) → KeepsAll (nodes_of w) sv (logs model) (roles model) model.messages m d → KeepsAll (nodes_of w) sv (logs model) (roles model) model.messages m (call d))
       → RunsOn service call (begin (node_at model.nodes m))
-  calls_run m there call keeps = subst (λ (x : Here). values_fit service (known x.log) ≡ true) new ((next_fits service w.seed (nodes_of w) next ok).known m there)
+  calls_run {m} there {call} keeps = subst (λ (x : Here). values_fit service (known x.log) ≡ true) new ((next_fits service w.seed (nodes_of w) next ok).known m there)
     where
       d : CallHere
       d = call (begin (node_at model.nodes m))
@@ -70,10 +70,10 @@ module _ {S : Type 0} (service : Declarations) (w : World S) (h : IsRunning serv
       new = node_put model.nodes m d.node m inside ∙ ap (λ (t : Bool). cond t d.node (node_at model.nodes m)) (eq-eqb m m refl)
 
   -- so it does where the node's keeper isn't armed
-  pub runs_after : (m : ℕ) → IsNode (nodes_of w) m → (call : CallHere → CallHere)
+  pub runs_after : {m : ℕ} → IsNode (nodes_of w) m → {call : CallHere → CallHere}
       → ((d : CallHere) → KeepsAll (nodes_of w) sv (logs model) (roles model) model.messages m d → KeepsAll (nodes_of w) sv (logs model) (roles model) model.messages m (call d))
       → RunsOn service call (begin (disarmed (node_at model.nodes m)))
-  runs_after m there call keeps = calls_run m there (λ d. call (record d { node = disarmed d.node })) (λ d good. keeps (record d { node = disarmed d.node }) (still_good d good))
+  runs_after {m} there {call} keeps = calls_run there (λ d good. keeps (record d { node = disarmed d.node }) (still_good d good))
     where
       still_good : (d : CallHere) → KeepsAll (nodes_of w) sv (logs model) (roles model) model.messages m d → KeepsAll (nodes_of w) sv (logs model) (roles model) model.messages m (record d { node = disarmed d.node })
       still_good d good = record {
@@ -87,23 +87,23 @@ module _ {S : Type 0} (service : Declarations) (w : World S) (h : IsRunning serv
       }
 
   -- what a node knows begins what is agreed on
-  pub front_known : (m : ℕ) → IsNode (nodes_of w) m → Begins (known (node_at model.nodes m).log) w.agreed
-  front_known m there = subst (Begins (known (node_at model.nodes m).log)) (sym h.agreed) (known_begins (nodes_of w) sv model h.kept.world m there)
+  pub front_known : {m : ℕ} → IsNode (nodes_of w) m → Begins (known (node_at model.nodes m).log) w.agreed
+  front_known {m} there = subst (Begins (known (node_at model.nodes m).log)) (sym h.agreed) (known_begins (nodes_of w) sv model h.kept.world m there)
 
   -- so it is of what it doesn't hold
   forgotten : (m : ℕ) → IsNode (nodes_of w) m → HasForgotten w.agreed (node_at model.nodes m).log
   forgotten m there =
       let k : ℕ = offset (node_at model.nodes m).log in
       let values : List Value = known (node_at model.nodes m).log in
-      let f = front_known m there in
+      let f = front_known there in
       let l : k ≤ length values = offset_known sv (node_at model.nodes m).log (h.kept.world.cluster.safe.sorted m there) in
       ap (first k) (sym f.1) ∙ first_longer k values f.0 l ∙ first_take k values l
 
   -- ---- what each kind of call needs
 
-  module _ (m : ℕ) (there : IsNode (nodes_of w) m) where
+  module _ {m : ℕ} (there : IsNode (nodes_of w) m) where
     pub elect_runs : RunsOn service (calls.elect (nodes_of w) sv m) (begin (disarmed (node_at model.nodes m)))
-    elect_runs = runs_after m there (calls.elect (nodes_of w) sv m) (elect_good (nodes_of w) sv (logs model) (roles model) model.messages m there h.few)
+    elect_runs = runs_after there (elect_good (nodes_of w) sv (logs model) (roles model) model.messages m there h.few)
 
     pub starts_from : Starts service w.agreed (node_at model.nodes m)
     starts_from = record { fit = fit service w h m there; base = λ s e. base_is_right service w.seed (nodes_of w) model h.kept.world m s there e; forgotten = forgotten m there }

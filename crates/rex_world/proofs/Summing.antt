@@ -21,19 +21,19 @@ use Rattle.rex_world.proofs.Headlines.{fit_run}
 use Rattle.rex_world.proofs.Agreeing.{holds_of_longest}
 
 -- the agreed values of a running world fit
-agreed_fit : {S : Type 0} → KeptValuesFit → (service : Declarations) (w : World S) → IsRunning service w → values_fit service (agreed (world_of service w)) ≡ true
-agreed_fit law service w h =
+agreed_fit : {S : Type 0} → KeptValuesFit → {service : Declarations} {w : World S} → IsRunning service w → values_fit service (agreed (world_of service w)) ≡ true
+agreed_fit law {service} {w} h =
     holds_of_longest (λ values. values_fit service values ≡ true) (world_of service w).nodes refl
     (λ m there. (law service w.seed (nodes_of w) (world_of service w) h.service_is h.checked h.kept).next.known m (subst (λ (n : ℕ). IsNode n m) h.kept.world.many there))
 
-some_is : {A : Type 0} (o : Option A) (x : A) → o ≡ Some x → IsSome o
-some_is o x h = rw h refl
+some_is : {A : Type 0} {o : Option A} {x : A} → o ≡ Some x → IsSome o
+some_is h = rw h refl
 
 -- values that are the agreed ones run from the start
-pub agreed_runs : {S : Type 0} → KeptValuesFit → (service : Declarations) (w : World S) (values : List Value) (start : StateValue) → IsRunning service w → values ≡ agreed (world_of service w) → start ≡ start_of service → IsSome (run service start (trace_of values))
-agreed_runs law service w values start h is at =
-    let r = fit_run service (agreed (world_of service w)) (agreed_fit law service w h) in
-    some_is (run service start (trace_of values)) r.0
+pub agreed_runs : {S : Type 0} → KeptValuesFit → {service : Declarations} {w : World S} {values : List Value} {start : StateValue} → IsRunning service w → values ≡ agreed (world_of service w) → start ≡ start_of service → IsSome (run service start (trace_of values))
+agreed_runs law {service} {w} {values} {start} h is at =
+    let r = fit_run service (agreed (world_of service w)) (agreed_fit law h) in
+    some_is
     (ap (λ (s : StateValue). run service s (trace_of values)) at ∙ ap (λ (vs : List Value). run service (start_of service) (trace_of vs)) is ∙ r.1)
 
 -- as many messages as the network has bytes of
@@ -42,12 +42,12 @@ as_many past [] = refl
 as_many past (bytes ∷ rest) = ap suc (as_many past rest)
 
 -- the numbers of a run are those of its last world
-pub summary_is : {S : Type 0} → (service : Declarations) (s : Scenario) (first last : World S) (values : List Value) (releases : List Effect) (start state : StateValue) (lines messages known_ones released : ℕ) (variables : List ℤ)
+pub summary_is : {S : Type 0} → (service : Declarations) (s : Scenario) (first last : World S) {values : List Value} {releases : List Effect} {start state : StateValue} {lines messages known_ones released : ℕ} {variables : List ℤ}
     → world_of service first ≡ beginning s.nodes → world_of service last ≡ after_lines service s.requests s.seed s.nodes (world_of service first) s.schedule
     → releases ≡ releases_from service s (world_of service first) s.schedule → values ≡ agreed (world_of service last) → start ≡ start_of service → run service start (trace_of values) ≡ Some state
     → lines ≡ length s.schedule → messages ≡ length last.net → known_ones ≡ length values → released ≡ length releases → variables ≡ state.variables
     → ◌≡◌ {A = Summary} (record { lines = lines; messages = messages; known = known_ones; released = released; variables = variables }) (summary_of service s)
-summary_is service s first last values releases start state lines messages known_ones released variables first_is last_is releases_are values_are start_is ran lines_is messages_is known_is released_is variables_are =
+summary_is service s first last {values} {state} {lines} {messages} {known_ones} {released} {variables} first_is last_is releases_are values_are start_is ran lines_is messages_is known_is released_is variables_are =
     same lines_is
     (messages_is ∙ sym (as_many last.agreed last.net) ∙ ap (λ (w : ModelWorld). length w.messages) ended)
     (known_is ∙ ap length agreed_is)

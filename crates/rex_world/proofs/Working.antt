@@ -42,8 +42,8 @@ parts_work service values a p None h = inr refl
 parts_work service values a None (Some x) h = absurd h
 parts_work service values a (Some p) (Some x) h = inl (_, refl, refl)
 
-member_works : (service : Declarations) (past : List Value) (seed nodes number : ℕ) (x : Member) → IsMember service past seed nodes number x → (here_at service past x).up ≡ true → Works (here_at service past x).role (here_at service past x).work
-member_works service past seed nodes number x h up = parts_work service (knows past x) x.acceptor x.proposer x.acting ((h.node.up up).acting)
+member_works : {service : Declarations} {past : List Value} {seed nodes number : ℕ} {x : Member} → IsMember service past seed nodes number x → (here_at service past x).up ≡ true → Works (here_at service past x).role (here_at service past x).work
+member_works {service} {past} {x} h up = parts_work service (knows past x) x.acceptor x.proposer x.acting ((h.node.up up).acting)
 
 -- one of some nodes
 spare : (xs : List Member) → 0 < length xs → Member
@@ -57,9 +57,9 @@ module _ {S : Type 0} (service : Declarations) (w : World S) (h : IsRunning serv
   works : here.up ≡ true → Works here.role here.work
   works up =
       let d = spare w.nodes.items (omega (arith, there.0, there.1)) in
-      let e : here ≡ here_at service w.agreed (slice_index_or w.nodes.items (m - 1) d) = here_is w.nodes.items m there service w.agreed d in
+      let e : here ≡ here_at service w.agreed (slice_index_or w.nodes.items (m - 1) d) = here_is w.nodes.items there service w.agreed d in
       subst (λ (x : Here). Works x.role x.work) (sym e)
-      (member_works service w.agreed w.seed (nodes_of w) m (slice_index_or w.nodes.items (m - 1) d) (member_is w.nodes.items m there service w.agreed d w.seed (nodes_of w) h.members) (subst (λ (x : Here). x.up ≡ true) e up))
+      (member_works (member_is w.nodes.items there service w.agreed d h.members) (subst (λ (x : Here). x.up ≡ true) e up))
 
   pub fit : values_fit service (known here.log) ≡ true
   fit = (next_fits service w.seed (nodes_of w) (world_of service w) h.kept.world).known m there
@@ -87,11 +87,11 @@ module _ {S : Type 0} (service : Declarations) (w : World S) (h : IsRunning serv
   room lane up = room_by lane (works up)
 
   -- a cut can be made
-  cut_with : (counts : List ℕ) → AreCounts service here counts → Works here.role here.work → CanBeCut here counts
-  cut_with counts are (inl a) =
+  cut_with : {counts : List ℕ} → AreCounts service here counts → Works here.role here.work → CanBeCut here counts
+  cut_with {counts} are (inl a) =
       let c = kept_cut service h.service_is h.checked w.seed (nodes_of w) (world_of service w) h.kept m a.0 a.1 a.2 counts are in
       λ some. record { delta = c.delta some; short = c.short some }
-  cut_with counts are (inr none) = λ some. absurd (nothing some)
+  cut_with {counts} are (inr none) = λ some. absurd (nothing some)
     where
       empty : below (greatest_cut counts here.work.live) here.work.live ≡ []
       empty = ap (below (greatest_cut counts here.work.live)) none
@@ -104,4 +104,4 @@ module _ {S : Type 0} (service : Declarations) (w : World S) (h : IsRunning serv
   counts_are (Some limits) l = inr (limits, l, refl)
 
   pub can_be_cut : (limits : Option (List ℕ)) → AreLimits service limits → here.up ≡ true → CanBeCut here (counts_for service here limits)
-  can_be_cut limits l up = cut_with (counts_for service here limits) (counts_are limits l) (works up)
+  can_be_cut limits l up = cut_with (counts_are limits l) (works up)

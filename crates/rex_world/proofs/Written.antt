@@ -14,26 +14,26 @@ take_whole [] ys = take_none ys
 take_whole (x ∷ xs) ys = ap (λ (zs : List ℕ). x ∷ zs) (take_whole xs ys)
 
 -- nothing was written
-pub front_none : (a bytes : List ℕ) → GrowsByFront a a bytes
-front_none a bytes = (0, sym (ap (λ (xs : List ℕ). a ++ xs) (take_none bytes) ∙ append-nil a))
+pub front_none : {a : List ℕ} (bytes : List ℕ) → GrowsByFront a a bytes
+front_none {a} bytes = (0, sym (ap (λ (xs : List ℕ). a ++ xs) (take_none bytes) ∙ append-nil a))
 
 -- what was written begins the whole
-front_of : (a b front rest whole : List ℕ) → b ≡ a ++ front → front ++ rest ≡ whole → GrowsByFront a b whole
-front_of a b front rest whole h e = (length front, h ∙ ap (λ (xs : List ℕ). a ++ xs) (sym (ap (take (length front)) (sym e) ∙ take_whole front rest)))
+front_of : (a : List ℕ) {b : List ℕ} (front rest : List ℕ) {whole : List ℕ} → b ≡ a ++ front → front ++ rest ≡ whole → GrowsByFront a b whole
+front_of a front rest h e = (length front, h ∙ ap (λ (xs : List ℕ). a ++ xs) (sym (ap (take (length front)) (sym e) ∙ take_whole front rest)))
 
-module _ (a b c waiting text rest left whole : List ℕ) (h : IsWritten a b waiting rest whole) (is : rest ≡ text ++ left) where
+module _ {a b : List ℕ} (c : List ℕ) {waiting : List ℕ} (text : List ℕ) {rest : List ℕ} (left : List ℕ) {whole : List ℕ} (h : IsWritten a b waiting rest whole) (is : rest ≡ text ++ left) where
   -- a front of what comes next was written
   pub front_next : GrowsByFront b c (waiting ++ text) → GrowsByFront a c whole
   front_next f =
-      front_of a c (h.written ++ take f.0 (waiting ++ text)) (drop f.0 (waiting ++ text) ++ left) whole (grows_more a b c h.written (take f.0 (waiting ++ text)) h.taken f.1)
+      front_of a (h.written ++ take f.0 (waiting ++ text)) (drop f.0 (waiting ++ text) ++ left) (grows_more a b c h.written (take f.0 (waiting ++ text)) h.taken f.1)
       (append_assoc h.written (take f.0 (waiting ++ text)) (drop f.0 (waiting ++ text) ++ left)
       ∙ ap (λ (xs : List ℕ). h.written ++ xs)
       (sym (append_assoc (take f.0 (waiting ++ text)) (drop f.0 (waiting ++ text)) left) ∙ ap (λ (xs : List ℕ). xs ++ left) (take-append-drop f.0 (waiting ++ text)) ∙ append_assoc waiting text left ∙ ap (λ (xs : List ℕ). waiting ++ xs) (sym is))
       ∙ h.parts)
 
   -- what comes next was written, or waits
-  pub written_next : (now : List ℕ) → IsWritten b c now [] (waiting ++ text) → IsWritten a c now left whole
-  written_next now k = record {
+  pub written_next : {now : List ℕ} → IsWritten b c now [] (waiting ++ text) → IsWritten a c now left whole
+  written_next {now} k = record {
     written = h.written ++ k.written;
     taken = grows_more a b c h.written k.written h.taken k.taken;
     parts =
@@ -44,8 +44,8 @@ module _ (a b c waiting text rest left whole : List ℕ) (h : IsWritten a b wait
   }
 
 -- what waits and the rest are written last
-pub written_last : (a b c waiting text rest whole : List ℕ) → IsWritten a b waiting rest whole → rest ≡ text → c ≡ b ++ (waiting ++ text) → c ≡ a ++ whole
-written_last a b c waiting text rest whole h is k =
+pub written_last : {a b c waiting text rest whole : List ℕ} → IsWritten a b waiting rest whole → rest ≡ text → c ≡ b ++ (waiting ++ text) → c ≡ a ++ whole
+written_last {a} {b} {c} {waiting} {text} h is k =
     grows_more a b c h.written (waiting ++ text) h.taken k ∙ ap (λ (xs : List ℕ). a ++ xs) (ap (λ (xs : List ℕ). h.written ++ (waiting ++ xs)) (sym is) ∙ h.parts)
 
 pub on_err : {A E P : Type 0} (r : Result A E) → P → OnErr r P

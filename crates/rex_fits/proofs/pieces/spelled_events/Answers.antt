@@ -9,4 +9,4 @@ returns-then-branch-clause-spelled c =
     (sym c.in_ok-is_piece-in-Ok.ensures ∙ c.if-branch.true))
 
 pub returns-then-branch-clause-counted : goal.returns-then-branch-clause-counted
-returns-then-branch-clause-counted c = spelled_counted c.in-Ok.delta c.in-Ok.ensures.found.0
+returns-then-branch-clause-counted c = spelled_counted c.in-Ok.ensures.found.0

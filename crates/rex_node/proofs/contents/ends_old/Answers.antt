@@ -4,5 +4,5 @@ use Rattle.rex_node.proofs.contents.ends_old.Goals as goal
 
 pub loop-index-preserved : goal.loop-index-preserved
 loop-index-preserved g c =
-    ends_more (g.K.Keeper.records c.args.keeper.now) c.loop-index.index c.loop-index.old c.old_with-old.result c.get.result.now c.loop-index.invariant
+    ends_more c.loop-index.invariant
     (omega (arith, c.loop-index-test.true, c.len-index-end.ensures)) c.get.ensures c.old_with-old.ensures

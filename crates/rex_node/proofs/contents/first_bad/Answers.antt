@@ -3,9 +3,9 @@ use Rattle.rex_node.proofs.Held.{looked_none, looked_more}
 use Rattle.rex_node.proofs.contents.first_bad.Goals as goal
 
 pub loop-back-init : goal.loop-back-init
-loop-back-init g c = looked_none c.args.offset (g.K.Keeper.records c.args.keeper.now) c.args.last
+loop-back-init g c = looked_none
 
 pub loop-back-preserved : goal.loop-back-preserved
 loop-back-preserved g c =
-    looked_more c.args.offset (g.K.Keeper.records c.args.keeper.now) c.args.last c.loop-back.back (c.len-count.result - 1 - c.loop-back.back) c.loop-back.found c.place_or-found.result c.loop-back.later c.comes-later.result c.get-bytes.result.now c.bad_in.result c.loop-back.invariant
+    looked_more c.loop-back.invariant
     (omega (arith, c.loop-back-test.true, c.len-count.ensures)) (ap (λ (n : ℕ). n - 1 - c.loop-back.back) c.len-count.ensures) c.get-bytes.ensures c.bad_in.ensures c.place_or-found.ensures c.comes-later.ensures

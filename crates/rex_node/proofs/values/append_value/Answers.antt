@@ -7,7 +7,7 @@ use Rattle.rex_node.proofs.values.append_value.Goals as goal
 
 pub returns-in-Ok : goal.returns-in-Ok
 returns-in-Ok c = record {
-  events = appended c.args.events.now.items c.append_events.new.events.items (delta_in c.args.value.now) c.in-Ok.ensures.exact;
+  events = appended c.args.events.now.items (delta_in c.args.value.now) c.in-Ok.ensures.exact;
   counted = value_counted c.args.value.now (λ i. omega (arith, c.type_inv.value i));
 }
 
@@ -18,7 +18,7 @@ pub returns-in-Err-Bad : goal.returns-in-Err-Bad
 returns-in-Err-Bad c = record {
   events =
       c.in-Err-Bad.ensures.err
-      ∙ none_appended c.args.events.now.items c.in-Err-Bad.field-0-0 (delta_in c.args.value.now)
+      ∙ none_appended c.in-Err-Bad.field-0-0 (delta_in c.args.value.now)
       (subst (λ e. Fails e (behind_of c.args.events.now.items (delta_in c.args.value.now))) c.in-Err-Bad.field-0-is c.in-Err-Bad.ensures.exact);
   counted = value_counted c.args.value.now (λ i. omega (arith, c.type_inv.value i));
 }

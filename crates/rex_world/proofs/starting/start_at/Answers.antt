@@ -3,4 +3,4 @@ use Rattle.rex_world.proofs.starting.start_at.Goals as goal
 
 pub come_back-requires-clause-member : goal.come_back-requires-clause-member
 come_back-requires-clause-member g c =
-    is_member c.args.svc.now g.P.Past.past c.args.node.now c.reopen.new.self c.start.new.self c.requires.member c.requires.runs c.in_ok-reopen.ensures.reopened c.in-Ok.ensures.up.keeper_is c.in-Ok.ensures.kept
+    is_member c.requires.member c.requires.runs c.in_ok-reopen.ensures.reopened c.in-Ok.ensures.up.keeper_is c.in-Ok.ensures.kept

@@ -11,7 +11,7 @@ pub loop-keeper-init : goal.loop-keeper-init
 loop-keeper-init g c =
     let e = c.into_iter-keeper-iterator.ensures.into_iter_gives.0 in
     record {
-      new = none_new c.args.svc.now c.args.seed c.args.nodes c.new-made.result.items c.new-made.ensures.items;
+      new = none_new c.new-made.ensures.items;
       left = omega (arith, ap length e, c.requires.many);
       counted = c.into_iter-keeper-iterator.ensures.into_iter_gives.1 ∙ c.args.keepers.ok.0 ∙ sym (ap length e);
       fresh = subst (All (IsFresh (value_by g.S.Keeper.records g.S.Keeper.faults g.S.Store.armed g.S.Store.broken g.S.Store.as_armed))) (sym e) c.requires.fresh;
@@ -28,7 +28,7 @@ loop-keeper-preserved g c =
     let longer = ap length steps in
     record {
       new = subst (λ (ss : List Member). AreNew c.args.svc.now c.args.seed c.args.nodes (at.number + 1) ss) (sym c.in_ok-push.ensures.items)
-          (new_next c.args.svc.now c.args.seed c.args.nodes at.number at.made.items c.in_ok-node.node at.invariant.new c.in_ok-node.ensures.here c.in_ok-node.ensures.member c.in_ok-node.ensures.within);
+          (new_next at.invariant.new c.in_ok-node.ensures.here c.in_ok-node.ensures.member c.in_ok-node.ensures.within);
       left = omega (arith, longer, at.invariant.left);
       counted = omega (arith, longer, at.invariant.counted, c.in-Some.ensures.steps.1);
       fresh = All-rest (IsFresh (value_by g.S.Keeper.records g.S.Keeper.faults g.S.Store.armed g.S.Store.broken g.S.Store.as_armed)) c.in-Some.keeper (into_iter_items c.next.new.self) (into_iter_items at.keeper-iterator) steps at.invariant.fresh;

@@ -7,160 +7,159 @@ use Rattle.rex_node.proofs.node.Node.adopt.Goals as goal
 
 pub propose-requires-clause-leads : goal.propose-requires-clause-leads
 propose-requires-clause-leads g c =
-    chosen_leads g.K.Keeper.records g.K.Keeper.append_gives g.K.Keeper.faults c.args.svc.now g.P.Past.past c.declarations-service.ensures.sound c.declarations-service.ensures.checked (whole g.P.Past.past c.args.self.now) c.requires.kept c.requires.up c.args.instance c.args.value.now c.requires.next
-    (chooses_of c.args.self.now.proposer c.args.self.now.acting c.args.instance c.args.value.now c.requires.goes c.requires.reported) c.args.turns c.requires.turns
+    chosen_leads g.K.Keeper.append_gives g.K.Keeper.faults c.declarations-service.ensures.sound c.declarations-service.ensures.checked c.requires.kept c.requires.up c.requires.next
+    (chooses_of c.args.self.now.proposer c.requires.goes c.requires.reported) c.args.turns c.requires.turns
 
 pub propose-requires-clause-there : goal.propose-requires-clause-there
 propose-requires-clause-there g c =
-    chosen_there g.K.Keeper.records g.K.Keeper.append_gives g.K.Keeper.faults c.args.svc.now g.P.Past.past c.declarations-service.ensures.sound c.declarations-service.ensures.checked (whole g.P.Past.past c.args.self.now) c.requires.kept c.requires.up c.args.instance c.args.value.now c.requires.next
-    (chooses_of c.args.self.now.proposer c.args.self.now.acting c.args.instance c.args.value.now c.requires.goes c.requires.reported) c.args.turns c.requires.turns
+    chosen_there g.K.Keeper.append_gives g.K.Keeper.faults c.declarations-service.ensures.sound c.declarations-service.ensures.checked c.requires.kept c.requires.up c.requires.next
+    (chooses_of c.args.self.now.proposer c.requires.goes c.requires.reported) c.args.turns c.requires.turns
 
 pub propose-requires-clause-value : goal.propose-requires-clause-value
 propose-requires-clause-value g c =
-    chosen_short g.K.Keeper.records g.K.Keeper.append_gives g.K.Keeper.faults c.args.svc.now g.P.Past.past c.declarations-service.ensures.sound c.declarations-service.ensures.checked (whole g.P.Past.past c.args.self.now) c.requires.kept c.requires.up c.args.instance c.args.value.now c.requires.next
-    (chooses_of c.args.self.now.proposer c.args.self.now.acting c.args.instance c.args.value.now c.requires.goes c.requires.reported) c.args.turns c.requires.turns
+    chosen_short g.K.Keeper.append_gives g.K.Keeper.faults c.declarations-service.ensures.sound c.declarations-service.ensures.checked c.requires.kept c.requires.up c.requires.next
+    (chooses_of c.args.self.now.proposer c.requires.goes c.requires.reported) c.args.turns c.requires.turns
 
 pub propose-requires-clause-cut : goal.propose-requires-clause-cut
 propose-requires-clause-cut g c =
-    chosen_cut g.K.Keeper.records g.K.Keeper.append_gives g.K.Keeper.faults c.args.svc.now g.P.Past.past c.declarations-service.ensures.sound c.declarations-service.ensures.checked (whole g.P.Past.past c.args.self.now) c.requires.kept c.requires.up c.args.instance c.args.value.now c.requires.next
-    (chooses_of c.args.self.now.proposer c.args.self.now.acting c.args.instance c.args.value.now c.requires.goes c.requires.reported) c.args.turns c.requires.turns
+    chosen_cut g.K.Keeper.append_gives g.K.Keeper.faults c.declarations-service.ensures.sound c.declarations-service.ensures.checked c.requires.kept c.requires.up c.requires.next
+    (chooses_of c.args.self.now.proposer c.requires.goes c.requires.reported) c.args.turns c.requires.turns
 
 pub returns-in-Down-clause-goes : goal.returns-in-Down-clause-goes
 returns-in-Down-clause-goes g c =
-    adopt_down g.K.Keeper.records g.K.Keeper.append_gives g.K.Keeper.faults c.args.svc.now g.P.Past.past c.declarations-service.ensures.sound c.declarations-service.ensures.checked (whole g.P.Past.past c.args.self.now) c.requires.kept c.requires.up c.args.instance c.args.value.now c.requires.next
-    (chooses_of c.args.self.now.proposer c.args.self.now.acting c.args.instance c.args.value.now c.requires.goes c.requires.reported) c.args.turns c.requires.turns
-    (whole g.P.Past.past c.propose.new.self) c.args.draft.now c.propose.new.draft c.in_ok-propose.ensures.same
-    (opens_as g.K.Keeper.records g.K.Keeper.append_gives g.K.Keeper.faults c.args.svc.now g.P.Past.past (whole g.P.Past.past c.args.self.now) (whole g.P.Past.past c.propose.new.self) c.args.draft.now c.propose.new.draft c.args.instance c.args.value.now _ _ c.in_ok-propose.field-0 Down (told_is c.self.inside.id c.args.self.now.id c.args.instance c.event_count-events.result c.args.value.now (ap (λ (n : NodeValue _). n.id) c.self.view_is) c.event_count-events.ensures) c.in-Down.is c.in_ok-propose.ensures.opens)
+    adopt_down g.K.Keeper.append_gives g.K.Keeper.faults c.declarations-service.ensures.sound c.declarations-service.ensures.checked c.requires.kept c.requires.up c.requires.next
+    (chooses_of c.args.self.now.proposer c.requires.goes c.requires.reported) c.args.turns c.requires.turns
+    c.args.draft.now c.propose.new.draft c.in_ok-propose.ensures.same
+    (opens_as g.K.Keeper.records g.K.Keeper.append_gives g.K.Keeper.faults c.args.svc.now g.P.Past.past (whole g.P.Past.past c.args.self.now) (whole g.P.Past.past c.propose.new.self) c.args.draft.now c.propose.new.draft c.args.instance c.args.value.now (told_is c.args.value.now (ap (λ (n : NodeValue _). n.id) c.self.view_is) c.event_count-events.ensures) c.in-Down.is c.in_ok-propose.ensures.opens)
 
 pub returns-then-self-gt1-clause-goes : goal.returns-then-self-gt1-clause-goes
 returns-then-self-gt1-clause-goes g c =
-    adopt_rests g.K.Keeper.records g.K.Keeper.append_gives g.K.Keeper.faults c.args.svc.now g.P.Past.past c.declarations-service.ensures.sound c.declarations-service.ensures.checked (whole g.P.Past.past c.args.self.now) c.requires.kept c.requires.up c.args.instance c.args.value.now c.requires.next
-    (chooses_of c.args.self.now.proposer c.args.self.now.acting c.args.instance c.args.value.now c.requires.goes c.requires.reported) c.args.turns c.requires.turns
-    (whole g.P.Past.past c.propose.new.self) c.args.draft.now c.propose.new.draft
-    (opens_as g.K.Keeper.records g.K.Keeper.append_gives g.K.Keeper.faults c.args.svc.now g.P.Past.past (whole g.P.Past.past c.args.self.now) (whole g.P.Past.past c.propose.new.self) c.args.draft.now c.propose.new.draft c.args.instance c.args.value.now _ _ c.in_ok-propose.field-0 On (told_is c.self.inside.id c.args.self.now.id c.args.instance c.event_count-events.result c.args.value.now (ap (λ (n : NodeValue _). n.id) c.self.view_is) c.event_count-events.ensures) c.in-On.is c.in_ok-propose.ensures.opens)
-    (parts_as (whole g.P.Past.past c.args.self.now) (whole g.P.Past.past c.propose.new.self) c.args.instance c.args.value.now c.in_ok-propose.field-0 c.in-On.is c.in_ok-propose.ensures.parts)
-    (longer_as g.K.Keeper.records (whole g.P.Past.past c.args.self.now) (whole g.P.Past.past c.propose.new.self) c.in_ok-propose.field-0 c.in-On.is c.in_ok-propose.ensures.longer)
-    (nodes_many c.self-in-On.inside.nodes c.args.self.now.nodes (ap (λ (n : NodeValue _). n.nodes) c.self-in-On.view_is ∙ c.in_ok-propose.ensures.same.nodes) c.if-self-gt1.true)
+    adopt_rests g.K.Keeper.append_gives g.K.Keeper.faults c.declarations-service.ensures.sound c.declarations-service.ensures.checked c.requires.kept c.requires.up c.requires.next
+    (chooses_of c.args.self.now.proposer c.requires.goes c.requires.reported) c.args.turns c.requires.turns
+    c.args.draft.now c.propose.new.draft
+    (opens_as g.K.Keeper.records g.K.Keeper.append_gives g.K.Keeper.faults c.args.svc.now g.P.Past.past (whole g.P.Past.past c.args.self.now) (whole g.P.Past.past c.propose.new.self) c.args.draft.now c.propose.new.draft c.args.instance c.args.value.now (told_is c.args.value.now (ap (λ (n : NodeValue _). n.id) c.self.view_is) c.event_count-events.ensures) c.in-On.is c.in_ok-propose.ensures.opens)
+    (parts_as (whole g.P.Past.past c.args.self.now) c.args.instance c.args.value.now c.in-On.is c.in_ok-propose.ensures.parts)
+    (longer_as g.K.Keeper.records (whole g.P.Past.past c.args.self.now) (whole g.P.Past.past c.propose.new.self) c.in-On.is c.in_ok-propose.ensures.longer)
+    (nodes_many (ap (λ (n : NodeValue _). n.nodes) c.self-in-On.view_is ∙ c.in_ok-propose.ensures.same.nodes) c.if-self-gt1.true)
 
 pub learn-requires-clause-kept : goal.learn-requires-clause-kept
 learn-requires-clause-kept g c =
-    alone_kept g.K.Keeper.records g.K.Keeper.append_gives g.K.Keeper.faults c.args.svc.now g.P.Past.past c.declarations-service.ensures.sound c.declarations-service.ensures.checked (whole g.P.Past.past c.args.self.now) c.requires.kept c.requires.up c.args.instance c.args.value.now c.requires.next
-    (chooses_of c.args.self.now.proposer c.args.self.now.acting c.args.instance c.args.value.now c.requires.goes c.requires.reported) c.args.turns c.requires.turns
-    (whole g.P.Past.past c.propose.new.self) c.args.draft.now c.propose.new.draft
-    (opens_as g.K.Keeper.records g.K.Keeper.append_gives g.K.Keeper.faults c.args.svc.now g.P.Past.past (whole g.P.Past.past c.args.self.now) (whole g.P.Past.past c.propose.new.self) c.args.draft.now c.propose.new.draft c.args.instance c.args.value.now _ _ c.in_ok-propose.field-0 On (told_is c.self.inside.id c.args.self.now.id c.args.instance c.event_count-events.result c.args.value.now (ap (λ (n : NodeValue _). n.id) c.self.view_is) c.event_count-events.ensures) c.in-On.is c.in_ok-propose.ensures.opens)
-    (parts_as (whole g.P.Past.past c.args.self.now) (whole g.P.Past.past c.propose.new.self) c.args.instance c.args.value.now c.in_ok-propose.field-0 c.in-On.is c.in_ok-propose.ensures.parts)
-    (longer_as g.K.Keeper.records (whole g.P.Past.past c.args.self.now) (whole g.P.Past.past c.propose.new.self) c.in_ok-propose.field-0 c.in-On.is c.in_ok-propose.ensures.longer)
-    (nodes_few c.self-in-On.inside.nodes c.args.self.now.nodes (ap (λ (n : NodeValue _). n.nodes) c.self-in-On.view_is ∙ c.in_ok-propose.ensures.same.nodes) c.if-self-gt1.false)
+    alone_kept g.K.Keeper.append_gives g.K.Keeper.faults c.declarations-service.ensures.sound c.declarations-service.ensures.checked c.requires.kept c.requires.up c.requires.next
+    (chooses_of c.args.self.now.proposer c.requires.goes c.requires.reported) c.args.turns c.requires.turns
+    c.args.draft.now c.propose.new.draft
+    (opens_as g.K.Keeper.records g.K.Keeper.append_gives g.K.Keeper.faults c.args.svc.now g.P.Past.past (whole g.P.Past.past c.args.self.now) (whole g.P.Past.past c.propose.new.self) c.args.draft.now c.propose.new.draft c.args.instance c.args.value.now (told_is c.args.value.now (ap (λ (n : NodeValue _). n.id) c.self.view_is) c.event_count-events.ensures) c.in-On.is c.in_ok-propose.ensures.opens)
+    (parts_as (whole g.P.Past.past c.args.self.now) c.args.instance c.args.value.now c.in-On.is c.in_ok-propose.ensures.parts)
+    (longer_as g.K.Keeper.records (whole g.P.Past.past c.args.self.now) (whole g.P.Past.past c.propose.new.self) c.in-On.is c.in_ok-propose.ensures.longer)
+    (nodes_few (ap (λ (n : NodeValue _). n.nodes) c.self-in-On.view_is ∙ c.in_ok-propose.ensures.same.nodes) c.if-self-gt1.false)
 
 pub learn-requires-clause-up : goal.learn-requires-clause-up
 learn-requires-clause-up g c =
-    alone_up g.K.Keeper.records g.K.Keeper.append_gives g.K.Keeper.faults c.args.svc.now g.P.Past.past c.declarations-service.ensures.sound c.declarations-service.ensures.checked (whole g.P.Past.past c.args.self.now) c.requires.kept c.requires.up c.args.instance c.args.value.now c.requires.next
-    (chooses_of c.args.self.now.proposer c.args.self.now.acting c.args.instance c.args.value.now c.requires.goes c.requires.reported) c.args.turns c.requires.turns
-    (whole g.P.Past.past c.propose.new.self) c.args.draft.now c.propose.new.draft
-    (opens_as g.K.Keeper.records g.K.Keeper.append_gives g.K.Keeper.faults c.args.svc.now g.P.Past.past (whole g.P.Past.past c.args.self.now) (whole g.P.Past.past c.propose.new.self) c.args.draft.now c.propose.new.draft c.args.instance c.args.value.now _ _ c.in_ok-propose.field-0 On (told_is c.self.inside.id c.args.self.now.id c.args.instance c.event_count-events.result c.args.value.now (ap (λ (n : NodeValue _). n.id) c.self.view_is) c.event_count-events.ensures) c.in-On.is c.in_ok-propose.ensures.opens)
-    (parts_as (whole g.P.Past.past c.args.self.now) (whole g.P.Past.past c.propose.new.self) c.args.instance c.args.value.now c.in_ok-propose.field-0 c.in-On.is c.in_ok-propose.ensures.parts)
-    (longer_as g.K.Keeper.records (whole g.P.Past.past c.args.self.now) (whole g.P.Past.past c.propose.new.self) c.in_ok-propose.field-0 c.in-On.is c.in_ok-propose.ensures.longer)
-    (nodes_few c.self-in-On.inside.nodes c.args.self.now.nodes (ap (λ (n : NodeValue _). n.nodes) c.self-in-On.view_is ∙ c.in_ok-propose.ensures.same.nodes) c.if-self-gt1.false)
+    alone_up g.K.Keeper.append_gives g.K.Keeper.faults c.declarations-service.ensures.sound c.declarations-service.ensures.checked c.requires.kept c.requires.up c.requires.next
+    (chooses_of c.args.self.now.proposer c.requires.goes c.requires.reported) c.args.turns c.requires.turns
+    c.args.draft.now c.propose.new.draft
+    (opens_as g.K.Keeper.records g.K.Keeper.append_gives g.K.Keeper.faults c.args.svc.now g.P.Past.past (whole g.P.Past.past c.args.self.now) (whole g.P.Past.past c.propose.new.self) c.args.draft.now c.propose.new.draft c.args.instance c.args.value.now (told_is c.args.value.now (ap (λ (n : NodeValue _). n.id) c.self.view_is) c.event_count-events.ensures) c.in-On.is c.in_ok-propose.ensures.opens)
+    (parts_as (whole g.P.Past.past c.args.self.now) c.args.instance c.args.value.now c.in-On.is c.in_ok-propose.ensures.parts)
+    (longer_as g.K.Keeper.records (whole g.P.Past.past c.args.self.now) (whole g.P.Past.past c.propose.new.self) c.in-On.is c.in_ok-propose.ensures.longer)
+    (nodes_few (ap (λ (n : NodeValue _). n.nodes) c.self-in-On.view_is ∙ c.in_ok-propose.ensures.same.nodes) c.if-self-gt1.false)
 
 pub learn-requires-clause-leads : goal.learn-requires-clause-leads
 learn-requires-clause-leads g c =
-    alone_leads g.K.Keeper.records g.K.Keeper.append_gives g.K.Keeper.faults c.args.svc.now g.P.Past.past c.declarations-service.ensures.sound c.declarations-service.ensures.checked (whole g.P.Past.past c.args.self.now) c.requires.kept c.requires.up c.args.instance c.args.value.now c.requires.next
-    (chooses_of c.args.self.now.proposer c.args.self.now.acting c.args.instance c.args.value.now c.requires.goes c.requires.reported) c.args.turns c.requires.turns
-    (whole g.P.Past.past c.propose.new.self) c.args.draft.now c.propose.new.draft
-    (opens_as g.K.Keeper.records g.K.Keeper.append_gives g.K.Keeper.faults c.args.svc.now g.P.Past.past (whole g.P.Past.past c.args.self.now) (whole g.P.Past.past c.propose.new.self) c.args.draft.now c.propose.new.draft c.args.instance c.args.value.now _ _ c.in_ok-propose.field-0 On (told_is c.self.inside.id c.args.self.now.id c.args.instance c.event_count-events.result c.args.value.now (ap (λ (n : NodeValue _). n.id) c.self.view_is) c.event_count-events.ensures) c.in-On.is c.in_ok-propose.ensures.opens)
-    (parts_as (whole g.P.Past.past c.args.self.now) (whole g.P.Past.past c.propose.new.self) c.args.instance c.args.value.now c.in_ok-propose.field-0 c.in-On.is c.in_ok-propose.ensures.parts)
-    (longer_as g.K.Keeper.records (whole g.P.Past.past c.args.self.now) (whole g.P.Past.past c.propose.new.self) c.in_ok-propose.field-0 c.in-On.is c.in_ok-propose.ensures.longer)
-    (nodes_few c.self-in-On.inside.nodes c.args.self.now.nodes (ap (λ (n : NodeValue _). n.nodes) c.self-in-On.view_is ∙ c.in_ok-propose.ensures.same.nodes) c.if-self-gt1.false)
+    alone_leads g.K.Keeper.append_gives g.K.Keeper.faults c.declarations-service.ensures.sound c.declarations-service.ensures.checked c.requires.kept c.requires.up c.requires.next
+    (chooses_of c.args.self.now.proposer c.requires.goes c.requires.reported) c.args.turns c.requires.turns
+    c.args.draft.now c.propose.new.draft
+    (opens_as g.K.Keeper.records g.K.Keeper.append_gives g.K.Keeper.faults c.args.svc.now g.P.Past.past (whole g.P.Past.past c.args.self.now) (whole g.P.Past.past c.propose.new.self) c.args.draft.now c.propose.new.draft c.args.instance c.args.value.now (told_is c.args.value.now (ap (λ (n : NodeValue _). n.id) c.self.view_is) c.event_count-events.ensures) c.in-On.is c.in_ok-propose.ensures.opens)
+    (parts_as (whole g.P.Past.past c.args.self.now) c.args.instance c.args.value.now c.in-On.is c.in_ok-propose.ensures.parts)
+    (longer_as g.K.Keeper.records (whole g.P.Past.past c.args.self.now) (whole g.P.Past.past c.propose.new.self) c.in-On.is c.in_ok-propose.ensures.longer)
+    (nodes_few (ap (λ (n : NodeValue _). n.nodes) c.self-in-On.view_is ∙ c.in_ok-propose.ensures.same.nodes) c.if-self-gt1.false)
 
 pub learn-requires-clause-next : goal.learn-requires-clause-next
 learn-requires-clause-next g c =
-    alone_next g.K.Keeper.records g.K.Keeper.append_gives g.K.Keeper.faults c.args.svc.now g.P.Past.past c.declarations-service.ensures.sound c.declarations-service.ensures.checked (whole g.P.Past.past c.args.self.now) c.requires.kept c.requires.up c.args.instance c.args.value.now c.requires.next
-    (chooses_of c.args.self.now.proposer c.args.self.now.acting c.args.instance c.args.value.now c.requires.goes c.requires.reported) c.args.turns c.requires.turns
-    (whole g.P.Past.past c.propose.new.self) c.args.draft.now c.propose.new.draft
-    (opens_as g.K.Keeper.records g.K.Keeper.append_gives g.K.Keeper.faults c.args.svc.now g.P.Past.past (whole g.P.Past.past c.args.self.now) (whole g.P.Past.past c.propose.new.self) c.args.draft.now c.propose.new.draft c.args.instance c.args.value.now _ _ c.in_ok-propose.field-0 On (told_is c.self.inside.id c.args.self.now.id c.args.instance c.event_count-events.result c.args.value.now (ap (λ (n : NodeValue _). n.id) c.self.view_is) c.event_count-events.ensures) c.in-On.is c.in_ok-propose.ensures.opens)
-    (parts_as (whole g.P.Past.past c.args.self.now) (whole g.P.Past.past c.propose.new.self) c.args.instance c.args.value.now c.in_ok-propose.field-0 c.in-On.is c.in_ok-propose.ensures.parts)
-    (longer_as g.K.Keeper.records (whole g.P.Past.past c.args.self.now) (whole g.P.Past.past c.propose.new.self) c.in_ok-propose.field-0 c.in-On.is c.in_ok-propose.ensures.longer)
-    (nodes_few c.self-in-On.inside.nodes c.args.self.now.nodes (ap (λ (n : NodeValue _). n.nodes) c.self-in-On.view_is ∙ c.in_ok-propose.ensures.same.nodes) c.if-self-gt1.false)
+    alone_next g.K.Keeper.append_gives g.K.Keeper.faults c.declarations-service.ensures.sound c.declarations-service.ensures.checked c.requires.kept c.requires.up c.requires.next
+    (chooses_of c.args.self.now.proposer c.requires.goes c.requires.reported) c.args.turns c.requires.turns
+    c.args.draft.now c.propose.new.draft
+    (opens_as g.K.Keeper.records g.K.Keeper.append_gives g.K.Keeper.faults c.args.svc.now g.P.Past.past (whole g.P.Past.past c.args.self.now) (whole g.P.Past.past c.propose.new.self) c.args.draft.now c.propose.new.draft c.args.instance c.args.value.now (told_is c.args.value.now (ap (λ (n : NodeValue _). n.id) c.self.view_is) c.event_count-events.ensures) c.in-On.is c.in_ok-propose.ensures.opens)
+    (parts_as (whole g.P.Past.past c.args.self.now) c.args.instance c.args.value.now c.in-On.is c.in_ok-propose.ensures.parts)
+    (longer_as g.K.Keeper.records (whole g.P.Past.past c.args.self.now) (whole g.P.Past.past c.propose.new.self) c.in-On.is c.in_ok-propose.ensures.longer)
+    (nodes_few (ap (λ (n : NodeValue _). n.nodes) c.self-in-On.view_is ∙ c.in_ok-propose.ensures.same.nodes) c.if-self-gt1.false)
 
 pub learn-requires-clause-cut : goal.learn-requires-clause-cut
 learn-requires-clause-cut g c =
-    alone_cut g.K.Keeper.records g.K.Keeper.append_gives g.K.Keeper.faults c.args.svc.now g.P.Past.past c.declarations-service.ensures.sound c.declarations-service.ensures.checked (whole g.P.Past.past c.args.self.now) c.requires.kept c.requires.up c.args.instance c.args.value.now c.requires.next
-    (chooses_of c.args.self.now.proposer c.args.self.now.acting c.args.instance c.args.value.now c.requires.goes c.requires.reported) c.args.turns c.requires.turns
-    (whole g.P.Past.past c.propose.new.self) c.args.draft.now c.propose.new.draft
-    (opens_as g.K.Keeper.records g.K.Keeper.append_gives g.K.Keeper.faults c.args.svc.now g.P.Past.past (whole g.P.Past.past c.args.self.now) (whole g.P.Past.past c.propose.new.self) c.args.draft.now c.propose.new.draft c.args.instance c.args.value.now _ _ c.in_ok-propose.field-0 On (told_is c.self.inside.id c.args.self.now.id c.args.instance c.event_count-events.result c.args.value.now (ap (λ (n : NodeValue _). n.id) c.self.view_is) c.event_count-events.ensures) c.in-On.is c.in_ok-propose.ensures.opens)
-    (parts_as (whole g.P.Past.past c.args.self.now) (whole g.P.Past.past c.propose.new.self) c.args.instance c.args.value.now c.in_ok-propose.field-0 c.in-On.is c.in_ok-propose.ensures.parts)
-    (longer_as g.K.Keeper.records (whole g.P.Past.past c.args.self.now) (whole g.P.Past.past c.propose.new.self) c.in_ok-propose.field-0 c.in-On.is c.in_ok-propose.ensures.longer)
-    (nodes_few c.self-in-On.inside.nodes c.args.self.now.nodes (ap (λ (n : NodeValue _). n.nodes) c.self-in-On.view_is ∙ c.in_ok-propose.ensures.same.nodes) c.if-self-gt1.false)
+    alone_cut g.K.Keeper.append_gives g.K.Keeper.faults c.declarations-service.ensures.sound c.declarations-service.ensures.checked c.requires.kept c.requires.up c.requires.next
+    (chooses_of c.args.self.now.proposer c.requires.goes c.requires.reported) c.args.turns c.requires.turns
+    c.args.draft.now c.propose.new.draft
+    (opens_as g.K.Keeper.records g.K.Keeper.append_gives g.K.Keeper.faults c.args.svc.now g.P.Past.past (whole g.P.Past.past c.args.self.now) (whole g.P.Past.past c.propose.new.self) c.args.draft.now c.propose.new.draft c.args.instance c.args.value.now (told_is c.args.value.now (ap (λ (n : NodeValue _). n.id) c.self.view_is) c.event_count-events.ensures) c.in-On.is c.in_ok-propose.ensures.opens)
+    (parts_as (whole g.P.Past.past c.args.self.now) c.args.instance c.args.value.now c.in-On.is c.in_ok-propose.ensures.parts)
+    (longer_as g.K.Keeper.records (whole g.P.Past.past c.args.self.now) (whole g.P.Past.past c.propose.new.self) c.in-On.is c.in_ok-propose.ensures.longer)
+    (nodes_few (ap (λ (n : NodeValue _). n.nodes) c.self-in-On.view_is ∙ c.in_ok-propose.ensures.same.nodes) c.if-self-gt1.false)
 
 pub learn-requires-clause-fits : goal.learn-requires-clause-fits
 learn-requires-clause-fits g c =
-    alone_fits g.K.Keeper.records g.K.Keeper.append_gives g.K.Keeper.faults c.args.svc.now g.P.Past.past c.declarations-service.ensures.sound c.declarations-service.ensures.checked (whole g.P.Past.past c.args.self.now) c.requires.kept c.requires.up c.args.instance c.args.value.now c.requires.next
-    (chooses_of c.args.self.now.proposer c.args.self.now.acting c.args.instance c.args.value.now c.requires.goes c.requires.reported) c.args.turns c.requires.turns
-    (whole g.P.Past.past c.propose.new.self) c.args.draft.now c.propose.new.draft
-    (opens_as g.K.Keeper.records g.K.Keeper.append_gives g.K.Keeper.faults c.args.svc.now g.P.Past.past (whole g.P.Past.past c.args.self.now) (whole g.P.Past.past c.propose.new.self) c.args.draft.now c.propose.new.draft c.args.instance c.args.value.now _ _ c.in_ok-propose.field-0 On (told_is c.self.inside.id c.args.self.now.id c.args.instance c.event_count-events.result c.args.value.now (ap (λ (n : NodeValue _). n.id) c.self.view_is) c.event_count-events.ensures) c.in-On.is c.in_ok-propose.ensures.opens)
-    (parts_as (whole g.P.Past.past c.args.self.now) (whole g.P.Past.past c.propose.new.self) c.args.instance c.args.value.now c.in_ok-propose.field-0 c.in-On.is c.in_ok-propose.ensures.parts)
-    (longer_as g.K.Keeper.records (whole g.P.Past.past c.args.self.now) (whole g.P.Past.past c.propose.new.self) c.in_ok-propose.field-0 c.in-On.is c.in_ok-propose.ensures.longer)
-    (nodes_few c.self-in-On.inside.nodes c.args.self.now.nodes (ap (λ (n : NodeValue _). n.nodes) c.self-in-On.view_is ∙ c.in_ok-propose.ensures.same.nodes) c.if-self-gt1.false) c.requires.runs
+    alone_fits g.K.Keeper.append_gives g.K.Keeper.faults c.declarations-service.ensures.sound c.declarations-service.ensures.checked c.requires.kept c.requires.up c.requires.next
+    (chooses_of c.args.self.now.proposer c.requires.goes c.requires.reported) c.args.turns c.requires.turns
+    c.args.draft.now c.propose.new.draft
+    (opens_as g.K.Keeper.records g.K.Keeper.append_gives g.K.Keeper.faults c.args.svc.now g.P.Past.past (whole g.P.Past.past c.args.self.now) (whole g.P.Past.past c.propose.new.self) c.args.draft.now c.propose.new.draft c.args.instance c.args.value.now (told_is c.args.value.now (ap (λ (n : NodeValue _). n.id) c.self.view_is) c.event_count-events.ensures) c.in-On.is c.in_ok-propose.ensures.opens)
+    (parts_as (whole g.P.Past.past c.args.self.now) c.args.instance c.args.value.now c.in-On.is c.in_ok-propose.ensures.parts)
+    (longer_as g.K.Keeper.records (whole g.P.Past.past c.args.self.now) (whole g.P.Past.past c.propose.new.self) c.in-On.is c.in_ok-propose.ensures.longer)
+    (nodes_few (ap (λ (n : NodeValue _). n.nodes) c.self-in-On.view_is ∙ c.in_ok-propose.ensures.same.nodes) c.if-self-gt1.false) c.requires.runs
 
 pub learn-requires-clause-count : goal.learn-requires-clause-count
 learn-requires-clause-count g c =
-    alone_count g.K.Keeper.records g.K.Keeper.append_gives g.K.Keeper.faults c.args.svc.now g.P.Past.past c.declarations-service.ensures.sound c.declarations-service.ensures.checked (whole g.P.Past.past c.args.self.now) c.requires.kept c.requires.up c.args.instance c.args.value.now c.requires.next
-    (chooses_of c.args.self.now.proposer c.args.self.now.acting c.args.instance c.args.value.now c.requires.goes c.requires.reported) c.args.turns c.requires.turns
-    (whole g.P.Past.past c.propose.new.self) c.args.draft.now c.propose.new.draft
-    (opens_as g.K.Keeper.records g.K.Keeper.append_gives g.K.Keeper.faults c.args.svc.now g.P.Past.past (whole g.P.Past.past c.args.self.now) (whole g.P.Past.past c.propose.new.self) c.args.draft.now c.propose.new.draft c.args.instance c.args.value.now _ _ c.in_ok-propose.field-0 On (told_is c.self.inside.id c.args.self.now.id c.args.instance c.event_count-events.result c.args.value.now (ap (λ (n : NodeValue _). n.id) c.self.view_is) c.event_count-events.ensures) c.in-On.is c.in_ok-propose.ensures.opens)
-    (parts_as (whole g.P.Past.past c.args.self.now) (whole g.P.Past.past c.propose.new.self) c.args.instance c.args.value.now c.in_ok-propose.field-0 c.in-On.is c.in_ok-propose.ensures.parts)
-    (longer_as g.K.Keeper.records (whole g.P.Past.past c.args.self.now) (whole g.P.Past.past c.propose.new.self) c.in_ok-propose.field-0 c.in-On.is c.in_ok-propose.ensures.longer)
-    (nodes_few c.self-in-On.inside.nodes c.args.self.now.nodes (ap (λ (n : NodeValue _). n.nodes) c.self-in-On.view_is ∙ c.in_ok-propose.ensures.same.nodes) c.if-self-gt1.false) c.requires.count
+    alone_count g.K.Keeper.append_gives g.K.Keeper.faults c.declarations-service.ensures.sound c.declarations-service.ensures.checked c.requires.kept c.requires.up c.requires.next
+    (chooses_of c.args.self.now.proposer c.requires.goes c.requires.reported) c.args.turns c.requires.turns
+    c.args.draft.now c.propose.new.draft
+    (opens_as g.K.Keeper.records g.K.Keeper.append_gives g.K.Keeper.faults c.args.svc.now g.P.Past.past (whole g.P.Past.past c.args.self.now) (whole g.P.Past.past c.propose.new.self) c.args.draft.now c.propose.new.draft c.args.instance c.args.value.now (told_is c.args.value.now (ap (λ (n : NodeValue _). n.id) c.self.view_is) c.event_count-events.ensures) c.in-On.is c.in_ok-propose.ensures.opens)
+    (parts_as (whole g.P.Past.past c.args.self.now) c.args.instance c.args.value.now c.in-On.is c.in_ok-propose.ensures.parts)
+    (longer_as g.K.Keeper.records (whole g.P.Past.past c.args.self.now) (whole g.P.Past.past c.propose.new.self) c.in-On.is c.in_ok-propose.ensures.longer)
+    (nodes_few (ap (λ (n : NodeValue _). n.nodes) c.self-in-On.view_is ∙ c.in_ok-propose.ensures.same.nodes) c.if-self-gt1.false) c.requires.count
 
 pub learn-requires-clause-there : goal.learn-requires-clause-there
 learn-requires-clause-there g c =
-    chosen_there g.K.Keeper.records g.K.Keeper.append_gives g.K.Keeper.faults c.args.svc.now g.P.Past.past c.declarations-service.ensures.sound c.declarations-service.ensures.checked (whole g.P.Past.past c.args.self.now) c.requires.kept c.requires.up c.args.instance c.args.value.now c.requires.next
-    (chooses_of c.args.self.now.proposer c.args.self.now.acting c.args.instance c.args.value.now c.requires.goes c.requires.reported) c.args.turns c.requires.turns
+    chosen_there g.K.Keeper.append_gives g.K.Keeper.faults c.declarations-service.ensures.sound c.declarations-service.ensures.checked c.requires.kept c.requires.up c.requires.next
+    (chooses_of c.args.self.now.proposer c.requires.goes c.requires.reported) c.args.turns c.requires.turns
 
 pub learn-requires-clause-value : goal.learn-requires-clause-value
 learn-requires-clause-value g c =
-    chosen_short g.K.Keeper.records g.K.Keeper.append_gives g.K.Keeper.faults c.args.svc.now g.P.Past.past c.declarations-service.ensures.sound c.declarations-service.ensures.checked (whole g.P.Past.past c.args.self.now) c.requires.kept c.requires.up c.args.instance c.args.value.now c.requires.next
-    (chooses_of c.args.self.now.proposer c.args.self.now.acting c.args.instance c.args.value.now c.requires.goes c.requires.reported) c.args.turns c.requires.turns
+    chosen_short g.K.Keeper.append_gives g.K.Keeper.faults c.declarations-service.ensures.sound c.declarations-service.ensures.checked c.requires.kept c.requires.up c.requires.next
+    (chooses_of c.args.self.now.proposer c.requires.goes c.requires.reported) c.args.turns c.requires.turns
 
 pub returns-in_err-propose-clause-stuck : goal.returns-in_err-propose-clause-stuck
 returns-in_err-propose-clause-stuck g c =
     on_err c.from_residual.result
-    (adopt_stuck g.K.Keeper.records g.K.Keeper.append_gives g.K.Keeper.faults c.args.svc.now g.P.Past.past c.declarations-service.ensures.sound c.declarations-service.ensures.checked (whole g.P.Past.past c.args.self.now) c.requires.kept c.requires.up c.args.instance c.args.value.now c.requires.next
-    (chooses_of c.args.self.now.proposer c.args.self.now.acting c.args.instance c.args.value.now c.requires.goes c.requires.reported) c.args.turns c.requires.turns
-    (whole g.P.Past.past c.propose.new.self) c.args.draft.now
-    (opens_short_as g.K.Keeper.records g.K.Keeper.append_gives g.K.Keeper.faults c.args.svc.now g.P.Past.past (whole g.P.Past.past c.args.self.now) (whole g.P.Past.past c.propose.new.self) c.args.draft.now c.args.instance c.args.value.now _ _ (told_is c.self.inside.id c.args.self.now.id c.args.instance c.event_count-events.result c.args.value.now (ap (λ (n : NodeValue _). n.id) c.self.view_is) c.event_count-events.ensures) c.in_err-propose.ensures.stuck))
+    (adopt_stuck g.K.Keeper.append_gives g.K.Keeper.faults c.declarations-service.ensures.sound c.declarations-service.ensures.checked c.requires.kept c.requires.up c.requires.next
+    (chooses_of c.args.self.now.proposer c.requires.goes c.requires.reported) c.args.turns c.requires.turns
+    (opens_short_as c.args.svc.now g.P.Past.past c.args.draft.now c.args.instance c.args.value.now (told_is c.args.value.now (ap (λ (n : NodeValue _). n.id) c.self.view_is) c.event_count-events.ensures) c.in_err-propose.ensures.stuck))
 
 pub returns-in_err-learn-in-On-clause-stuck : goal.returns-in_err-learn-in-On-clause-stuck
 returns-in_err-learn-in-On-clause-stuck g c =
     on_err c.from_residual-in_err-learn-in-On.result
-    (alone_stuck g.K.Keeper.records g.K.Keeper.append_gives g.K.Keeper.faults c.args.svc.now g.P.Past.past c.declarations-service.ensures.sound c.declarations-service.ensures.checked (whole g.P.Past.past c.args.self.now) c.requires.kept c.requires.up c.args.instance c.args.value.now c.requires.next
-    (chooses_of c.args.self.now.proposer c.args.self.now.acting c.args.instance c.args.value.now c.requires.goes c.requires.reported) c.args.turns c.requires.turns
-    (whole g.P.Past.past c.propose.new.self) c.args.draft.now c.propose.new.draft
-    (opens_as g.K.Keeper.records g.K.Keeper.append_gives g.K.Keeper.faults c.args.svc.now g.P.Past.past (whole g.P.Past.past c.args.self.now) (whole g.P.Past.past c.propose.new.self) c.args.draft.now c.propose.new.draft c.args.instance c.args.value.now _ _ c.in_ok-propose.field-0 On (told_is c.self.inside.id c.args.self.now.id c.args.instance c.event_count-events.result c.args.value.now (ap (λ (n : NodeValue _). n.id) c.self.view_is) c.event_count-events.ensures) c.in-On.is c.in_ok-propose.ensures.opens)
-    (parts_as (whole g.P.Past.past c.args.self.now) (whole g.P.Past.past c.propose.new.self) c.args.instance c.args.value.now c.in_ok-propose.field-0 c.in-On.is c.in_ok-propose.ensures.parts)
-    (longer_as g.K.Keeper.records (whole g.P.Past.past c.args.self.now) (whole g.P.Past.past c.propose.new.self) c.in_ok-propose.field-0 c.in-On.is c.in_ok-propose.ensures.longer)
-    (nodes_few c.self-in-On.inside.nodes c.args.self.now.nodes (ap (λ (n : NodeValue _). n.nodes) c.self-in-On.view_is ∙ c.in_ok-propose.ensures.same.nodes) c.if-self-gt1.false) (whole g.P.Past.past c.learn.new.self) c.in_err-learn-in-On.ensures.stuck)
+    (alone_stuck g.K.Keeper.append_gives g.K.Keeper.faults c.declarations-service.ensures.sound c.declarations-service.ensures.checked c.requires.kept c.requires.up c.requires.next
+    (chooses_of c.args.self.now.proposer c.requires.goes c.requires.reported) c.args.turns c.requires.turns
+    c.args.draft.now c.propose.new.draft
+    (opens_as g.K.Keeper.records g.K.Keeper.append_gives g.K.Keeper.faults c.args.svc.now g.P.Past.past (whole g.P.Past.past c.args.self.now) (whole g.P.Past.past c.propose.new.self) c.args.draft.now c.propose.new.draft c.args.instance c.args.value.now (told_is c.args.value.now (ap (λ (n : NodeValue _). n.id) c.self.view_is) c.event_count-events.ensures) c.in-On.is c.in_ok-propose.ensures.opens)
+    (parts_as (whole g.P.Past.past c.args.self.now) c.args.instance c.args.value.now c.in-On.is c.in_ok-propose.ensures.parts)
+    (longer_as g.K.Keeper.records (whole g.P.Past.past c.args.self.now) (whole g.P.Past.past c.propose.new.self) c.in-On.is c.in_ok-propose.ensures.longer)
+    (nodes_few (ap (λ (n : NodeValue _). n.nodes) c.self-in-On.view_is ∙ c.in_ok-propose.ensures.same.nodes) c.if-self-gt1.false) c.in_err-learn-in-On.ensures.stuck)
 
 pub returns-in-Down-2-clause-goes : goal.returns-in-Down-2-clause-goes
 returns-in-Down-2-clause-goes g c =
-    alone_down g.K.Keeper.records g.K.Keeper.append_gives g.K.Keeper.faults c.args.svc.now g.P.Past.past c.declarations-service.ensures.sound c.declarations-service.ensures.checked (whole g.P.Past.past c.args.self.now) c.requires.kept c.requires.up c.args.instance c.args.value.now c.requires.next
-    (chooses_of c.args.self.now.proposer c.args.self.now.acting c.args.instance c.args.value.now c.requires.goes c.requires.reported) c.args.turns c.requires.turns
-    (whole g.P.Past.past c.propose.new.self) c.args.draft.now c.propose.new.draft
-    (opens_as g.K.Keeper.records g.K.Keeper.append_gives g.K.Keeper.faults c.args.svc.now g.P.Past.past (whole g.P.Past.past c.args.self.now) (whole g.P.Past.past c.propose.new.self) c.args.draft.now c.propose.new.draft c.args.instance c.args.value.now _ _ c.in_ok-propose.field-0 On (told_is c.self.inside.id c.args.self.now.id c.args.instance c.event_count-events.result c.args.value.now (ap (λ (n : NodeValue _). n.id) c.self.view_is) c.event_count-events.ensures) c.in-On.is c.in_ok-propose.ensures.opens)
-    (parts_as (whole g.P.Past.past c.args.self.now) (whole g.P.Past.past c.propose.new.self) c.args.instance c.args.value.now c.in_ok-propose.field-0 c.in-On.is c.in_ok-propose.ensures.parts)
-    (longer_as g.K.Keeper.records (whole g.P.Past.past c.args.self.now) (whole g.P.Past.past c.propose.new.self) c.in_ok-propose.field-0 c.in-On.is c.in_ok-propose.ensures.longer)
-    (nodes_few c.self-in-On.inside.nodes c.args.self.now.nodes (ap (λ (n : NodeValue _). n.nodes) c.self-in-On.view_is ∙ c.in_ok-propose.ensures.same.nodes) c.if-self-gt1.false) (whole g.P.Past.past c.learn.new.self) c.learn.new.draft (same_then (whole g.P.Past.past c.args.self.now) (whole g.P.Past.past c.propose.new.self) (whole g.P.Past.past c.learn.new.self) c.in_ok-propose.ensures.same c.in_ok-learn-in-On.ensures.same)
-    (learns_as g.K.Keeper.records g.K.Keeper.append_gives g.K.Keeper.faults c.args.svc.now g.P.Past.past (whole g.P.Past.past c.propose.new.self) (whole g.P.Past.past c.learn.new.self) c.propose.new.draft c.learn.new.draft c.args.instance c.args.value.now c.in_ok-learn-in-On.field-0 Down c.in-Down-2.is c.in_ok-learn-in-On.ensures.learns)
+    alone_down g.K.Keeper.append_gives g.K.Keeper.faults c.declarations-service.ensures.sound c.declarations-service.ensures.checked c.requires.kept c.requires.up c.requires.next
+    (chooses_of c.args.self.now.proposer c.requires.goes c.requires.reported) c.args.turns c.requires.turns
+    c.args.draft.now c.propose.new.draft
+    (opens_as g.K.Keeper.records g.K.Keeper.append_gives g.K.Keeper.faults c.args.svc.now g.P.Past.past (whole g.P.Past.past c.args.self.now) (whole g.P.Past.past c.propose.new.self) c.args.draft.now c.propose.new.draft c.args.instance c.args.value.now (told_is c.args.value.now (ap (λ (n : NodeValue _). n.id) c.self.view_is) c.event_count-events.ensures) c.in-On.is c.in_ok-propose.ensures.opens)
+    (parts_as (whole g.P.Past.past c.args.self.now) c.args.instance c.args.value.now c.in-On.is c.in_ok-propose.ensures.parts)
+    (longer_as g.K.Keeper.records (whole g.P.Past.past c.args.self.now) (whole g.P.Past.past c.propose.new.self) c.in-On.is c.in_ok-propose.ensures.longer)
+    (nodes_few (ap (λ (n : NodeValue _). n.nodes) c.self-in-On.view_is ∙ c.in_ok-propose.ensures.same.nodes) c.if-self-gt1.false) c.learn.new.draft (same_then c.in_ok-propose.ensures.same c.in_ok-learn-in-On.ensures.same)
+    (learns_as g.K.Keeper.records g.K.Keeper.append_gives g.K.Keeper.faults c.args.svc.now g.P.Past.past (whole g.P.Past.past c.propose.new.self) (whole g.P.Past.past c.learn.new.self) c.propose.new.draft c.learn.new.draft c.args.instance c.args.value.now c.in-Down-2.is c.in_ok-learn-in-On.ensures.learns)
 
 pub returns-in-On-2-clause-goes : goal.returns-in-On-2-clause-goes
 returns-in-On-2-clause-goes g c =
-    alone_again g.K.Keeper.records g.K.Keeper.append_gives g.K.Keeper.faults c.args.svc.now g.P.Past.past c.declarations-service.ensures.sound c.declarations-service.ensures.checked (whole g.P.Past.past c.args.self.now) c.requires.kept c.requires.up c.args.instance c.args.value.now c.requires.next
-    (chooses_of c.args.self.now.proposer c.args.self.now.acting c.args.instance c.args.value.now c.requires.goes c.requires.reported) c.args.turns c.requires.turns
-    (whole g.P.Past.past c.propose.new.self) c.args.draft.now c.propose.new.draft
-    (opens_as g.K.Keeper.records g.K.Keeper.append_gives g.K.Keeper.faults c.args.svc.now g.P.Past.past (whole g.P.Past.past c.args.self.now) (whole g.P.Past.past c.propose.new.self) c.args.draft.now c.propose.new.draft c.args.instance c.args.value.now _ _ c.in_ok-propose.field-0 On (told_is c.self.inside.id c.args.self.now.id c.args.instance c.event_count-events.result c.args.value.now (ap (λ (n : NodeValue _). n.id) c.self.view_is) c.event_count-events.ensures) c.in-On.is c.in_ok-propose.ensures.opens)
-    (parts_as (whole g.P.Past.past c.args.self.now) (whole g.P.Past.past c.propose.new.self) c.args.instance c.args.value.now c.in_ok-propose.field-0 c.in-On.is c.in_ok-propose.ensures.parts)
-    (longer_as g.K.Keeper.records (whole g.P.Past.past c.args.self.now) (whole g.P.Past.past c.propose.new.self) c.in_ok-propose.field-0 c.in-On.is c.in_ok-propose.ensures.longer)
-    (nodes_few c.self-in-On.inside.nodes c.args.self.now.nodes (ap (λ (n : NodeValue _). n.nodes) c.self-in-On.view_is ∙ c.in_ok-propose.ensures.same.nodes) c.if-self-gt1.false) (whole g.P.Past.past c.learn.new.self) c.learn.new.draft
-    (learns_as g.K.Keeper.records g.K.Keeper.append_gives g.K.Keeper.faults c.args.svc.now g.P.Past.past (whole g.P.Past.past c.propose.new.self) (whole g.P.Past.past c.learn.new.self) c.propose.new.draft c.learn.new.draft c.args.instance c.args.value.now c.in_ok-learn-in-On.field-0 On c.in-On-2.is c.in_ok-learn-in-On.ensures.learns)
-    (known_as c.args.svc.now (whole g.P.Past.past c.propose.new.self) (whole g.P.Past.past c.learn.new.self) c.args.instance c.args.value.now c.in_ok-learn-in-On.field-0 c.in-On-2.is c.in_ok-learn-in-On.ensures.parts)
-    (longer_as g.K.Keeper.records (whole g.P.Past.past c.propose.new.self) (whole g.P.Past.past c.learn.new.self) c.in_ok-learn-in-On.field-0 c.in-On-2.is c.in_ok-learn-in-On.ensures.longer)
+    alone_again g.K.Keeper.append_gives g.K.Keeper.faults c.declarations-service.ensures.sound c.declarations-service.ensures.checked c.requires.kept c.requires.up c.requires.next
+    (chooses_of c.args.self.now.proposer c.requires.goes c.requires.reported) c.args.turns c.requires.turns
+    c.args.draft.now c.propose.new.draft
+    (opens_as g.K.Keeper.records g.K.Keeper.append_gives g.K.Keeper.faults c.args.svc.now g.P.Past.past (whole g.P.Past.past c.args.self.now) (whole g.P.Past.past c.propose.new.self) c.args.draft.now c.propose.new.draft c.args.instance c.args.value.now (told_is c.args.value.now (ap (λ (n : NodeValue _). n.id) c.self.view_is) c.event_count-events.ensures) c.in-On.is c.in_ok-propose.ensures.opens)
+    (parts_as (whole g.P.Past.past c.args.self.now) c.args.instance c.args.value.now c.in-On.is c.in_ok-propose.ensures.parts)
+    (longer_as g.K.Keeper.records (whole g.P.Past.past c.args.self.now) (whole g.P.Past.past c.propose.new.self) c.in-On.is c.in_ok-propose.ensures.longer)
+    (nodes_few (ap (λ (n : NodeValue _). n.nodes) c.self-in-On.view_is ∙ c.in_ok-propose.ensures.same.nodes) c.if-self-gt1.false) c.learn.new.draft
+    (learns_as g.K.Keeper.records g.K.Keeper.append_gives g.K.Keeper.faults c.args.svc.now g.P.Past.past (whole g.P.Past.past c.propose.new.self) (whole g.P.Past.past c.learn.new.self) c.propose.new.draft c.learn.new.draft c.args.instance c.args.value.now c.in-On-2.is c.in_ok-learn-in-On.ensures.learns)
+    (known_as c.args.svc.now (whole g.P.Past.past c.propose.new.self) c.args.instance c.args.value.now c.in-On-2.is c.in_ok-learn-in-On.ensures.parts)
+    (longer_as g.K.Keeper.records (whole g.P.Past.past c.propose.new.self) (whole g.P.Past.past c.learn.new.self) c.in-On-2.is c.in_ok-learn-in-On.ensures.longer)

@@ -9,12 +9,12 @@ use Rattle.rex_node.proofs.node.Node.checkpoint_in.Goals as goal
 
 pub record_of-requires-clause-sound : goal.record_of-requires-clause-sound
 record_of-requires-clause-sound g c =
-    replayed_sound_now g.K.Keeper.records c.args.svc.now g.P.Past.past (whole g.P.Past.past c.args.self.now) c.requires.node (sym c.checkpoint_refusal.ensures ∙ c.in_default.is) c.in_ok-state.state
+    replayed_sound_now c.requires.node (sym c.checkpoint_refusal.ensures ∙ c.in_default.is)
     (c.in_ok-state.ensures ∙ c.state.ensures.replayed) c.declarations-service.ensures.sound c.declarations-service.ensures.checked
 
 pub record_of-requires-clause-limited : goal.record_of-requires-clause-limited
 record_of-requires-clause-limited g c =
-    replayed_limited g.K.Keeper.records c.args.svc.now g.P.Past.past (whole g.P.Past.past c.args.self.now) c.requires.node (sym c.checkpoint_refusal.ensures ∙ c.in_default.is) c.in_ok-state.state
+    replayed_limited c.requires.node (sym c.checkpoint_refusal.ensures ∙ c.in_default.is)
     (c.in_ok-state.ensures ∙ c.state.ensures.replayed) c.declarations-service.ensures.sound c.declarations-service.ensures.checked
 
 pub save-requires-clause-spelling : goal.save-requires-clause-spelling
@@ -38,5 +38,5 @@ returns-in-Err-Failed-clause-told g c =
 
 pub returns-clause-left : goal.returns-clause-left
 returns-clause-left g c =
-    stands_own g.K.Keeper.records g.K.Keeper.append_gives g.K.Keeper.faults g.P.Past.past c.args.self.now c.save.new.self
+    stands_own g.P.Past.past
     (subst (SavesOr g.K.Keeper.records g.K.Keeper.faults g.K.Keeper.append_gives c.args.version (whole g.P.Past.past c.args.self.now) (whole g.P.Past.past c.save.new.self) c.in_ok-state.state (record_bytes c.in_ok-rec.rec)) (c.in-Err-OutOfMemory.is ∙ ap Err c.in-Err-OutOfMemory.field-0-is) c.save.ensures)

@@ -8,131 +8,131 @@ use Rattle.rex_node.specs.Parts.{whole}
 
 pub learn-requires-clause-kept : goal.learn-requires-clause-kept
 learn-requires-clause-kept g c =
-    choose_kept g.K.Keeper.records g.K.Keeper.append_gives g.K.Keeper.faults c.args.svc.now g.P.Past.past c.declarations-service.ensures.sound c.declarations-service.ensures.checked (whole g.P.Past.past c.args.self.now) c.requires.node c.requires.up c.args.from c.args.ballot c.args.instance c.requires.from c.args.draft.now c.as_slice.result.now
-    (chosen_of (whole g.P.Past.past c.args.self.now) c.args.from c.args.ballot c.args.instance c.as_slice.result.now c.requires.vote (sym c.in_ok-value.ensures ∙ c.in-Some.is ∙ ap (λ v. Some v) (sym c.as_slice.ensures)))
+    choose_kept g.K.Keeper.append_gives g.K.Keeper.faults c.declarations-service.ensures.sound c.declarations-service.ensures.checked c.requires.node c.requires.up c.requires.from c.args.draft.now
+    (chosen_of c.requires.vote (sym c.in_ok-value.ensures ∙ c.in-Some.is ∙ ap (λ v. Some v) (sym c.as_slice.ensures)))
 
 pub learn-requires-clause-leads : goal.learn-requires-clause-leads
 learn-requires-clause-leads g c =
-    choose_leads g.K.Keeper.records g.K.Keeper.append_gives g.K.Keeper.faults c.args.svc.now g.P.Past.past c.declarations-service.ensures.sound c.declarations-service.ensures.checked (whole g.P.Past.past c.args.self.now) c.requires.node c.requires.up c.args.from c.args.ballot c.args.instance c.requires.from c.args.draft.now c.as_slice.result.now
-    (chosen_of (whole g.P.Past.past c.args.self.now) c.args.from c.args.ballot c.args.instance c.as_slice.result.now c.requires.vote (sym c.in_ok-value.ensures ∙ c.in-Some.is ∙ ap (λ v. Some v) (sym c.as_slice.ensures)))
+    choose_leads g.K.Keeper.append_gives g.K.Keeper.faults c.declarations-service.ensures.sound c.declarations-service.ensures.checked c.requires.node c.requires.up c.requires.from c.args.draft.now
+    (chosen_of c.requires.vote (sym c.in_ok-value.ensures ∙ c.in-Some.is ∙ ap (λ v. Some v) (sym c.as_slice.ensures)))
 
 pub learn-requires-clause-next : goal.learn-requires-clause-next
 learn-requires-clause-next g c =
-    choose_next g.K.Keeper.records g.K.Keeper.append_gives g.K.Keeper.faults c.args.svc.now g.P.Past.past c.declarations-service.ensures.sound c.declarations-service.ensures.checked (whole g.P.Past.past c.args.self.now) c.requires.node c.requires.up c.args.from c.args.ballot c.args.instance c.requires.from c.args.draft.now c.as_slice.result.now
-    (chosen_of (whole g.P.Past.past c.args.self.now) c.args.from c.args.ballot c.args.instance c.as_slice.result.now c.requires.vote (sym c.in_ok-value.ensures ∙ c.in-Some.is ∙ ap (λ v. Some v) (sym c.as_slice.ensures)))
+    choose_next g.K.Keeper.append_gives g.K.Keeper.faults c.declarations-service.ensures.sound c.declarations-service.ensures.checked c.requires.node c.requires.up c.requires.from c.args.draft.now
+    (chosen_of c.requires.vote (sym c.in_ok-value.ensures ∙ c.in-Some.is ∙ ap (λ v. Some v) (sym c.as_slice.ensures)))
 
 pub learn-requires-clause-there : goal.learn-requires-clause-there
 learn-requires-clause-there g c =
-    choose_there g.K.Keeper.records g.K.Keeper.append_gives g.K.Keeper.faults c.args.svc.now g.P.Past.past c.declarations-service.ensures.sound c.declarations-service.ensures.checked (whole g.P.Past.past c.args.self.now) c.requires.node c.requires.up c.args.from c.args.ballot c.args.instance c.requires.from c.args.draft.now c.as_slice.result.now
-    (chosen_of (whole g.P.Past.past c.args.self.now) c.args.from c.args.ballot c.args.instance c.as_slice.result.now c.requires.vote (sym c.in_ok-value.ensures ∙ c.in-Some.is ∙ ap (λ v. Some v) (sym c.as_slice.ensures)))
+    choose_there g.K.Keeper.append_gives g.K.Keeper.faults c.declarations-service.ensures.sound c.declarations-service.ensures.checked c.requires.node c.requires.up c.requires.from c.args.draft.now
+    (chosen_of c.requires.vote (sym c.in_ok-value.ensures ∙ c.in-Some.is ∙ ap (λ v. Some v) (sym c.as_slice.ensures)))
 
 pub learn-requires-clause-value : goal.learn-requires-clause-value
 learn-requires-clause-value g c =
-    choose_short g.K.Keeper.records g.K.Keeper.append_gives g.K.Keeper.faults c.args.svc.now g.P.Past.past c.declarations-service.ensures.sound c.declarations-service.ensures.checked (whole g.P.Past.past c.args.self.now) c.requires.node c.requires.up c.args.from c.args.ballot c.args.instance c.requires.from c.args.draft.now c.as_slice.result.now
-    (chosen_of (whole g.P.Past.past c.args.self.now) c.args.from c.args.ballot c.args.instance c.as_slice.result.now c.requires.vote (sym c.in_ok-value.ensures ∙ c.in-Some.is ∙ ap (λ v. Some v) (sym c.as_slice.ensures)))
+    choose_short g.K.Keeper.append_gives g.K.Keeper.faults c.declarations-service.ensures.sound c.declarations-service.ensures.checked c.requires.node c.requires.up c.requires.from c.args.draft.now
+    (chosen_of c.requires.vote (sym c.in_ok-value.ensures ∙ c.in-Some.is ∙ ap (λ v. Some v) (sym c.as_slice.ensures)))
 
 pub learn-requires-clause-fits : goal.learn-requires-clause-fits
 learn-requires-clause-fits g c =
-    choose_fits g.K.Keeper.records g.K.Keeper.append_gives g.K.Keeper.faults c.args.svc.now g.P.Past.past c.declarations-service.ensures.sound c.declarations-service.ensures.checked (whole g.P.Past.past c.args.self.now) c.requires.node c.requires.up c.args.from c.args.ballot c.args.instance c.requires.from c.args.draft.now c.as_slice.result.now
-    (chosen_of (whole g.P.Past.past c.args.self.now) c.args.from c.args.ballot c.args.instance c.as_slice.result.now c.requires.vote (sym c.in_ok-value.ensures ∙ c.in-Some.is ∙ ap (λ v. Some v) (sym c.as_slice.ensures))) c.requires.runs
+    choose_fits g.K.Keeper.append_gives g.K.Keeper.faults c.declarations-service.ensures.sound c.declarations-service.ensures.checked c.requires.node c.requires.up c.requires.from c.args.draft.now
+    (chosen_of c.requires.vote (sym c.in_ok-value.ensures ∙ c.in-Some.is ∙ ap (λ v. Some v) (sym c.as_slice.ensures))) c.requires.runs
 
 pub learn-requires-clause-cut : goal.learn-requires-clause-cut
 learn-requires-clause-cut g c =
-    choose_cut g.K.Keeper.records g.K.Keeper.append_gives g.K.Keeper.faults c.args.svc.now g.P.Past.past c.declarations-service.ensures.sound c.declarations-service.ensures.checked (whole g.P.Past.past c.args.self.now) c.requires.node c.requires.up c.args.from c.args.ballot c.args.instance c.requires.from c.args.draft.now c.as_slice.result.now
-    (chosen_of (whole g.P.Past.past c.args.self.now) c.args.from c.args.ballot c.args.instance c.as_slice.result.now c.requires.vote (sym c.in_ok-value.ensures ∙ c.in-Some.is ∙ ap (λ v. Some v) (sym c.as_slice.ensures)))
+    choose_cut g.K.Keeper.append_gives g.K.Keeper.faults c.declarations-service.ensures.sound c.declarations-service.ensures.checked c.requires.node c.requires.up c.requires.from c.args.draft.now
+    (chosen_of c.requires.vote (sym c.in_ok-value.ensures ∙ c.in-Some.is ∙ ap (λ v. Some v) (sym c.as_slice.ensures)))
 
 pub returns-in-Down-clause-ends : goal.returns-in-Down-clause-ends
 returns-in-Down-clause-ends g c =
-    choose_down g.K.Keeper.records g.K.Keeper.append_gives g.K.Keeper.faults c.args.svc.now g.P.Past.past c.declarations-service.ensures.sound c.declarations-service.ensures.checked (whole g.P.Past.past c.args.self.now) c.requires.node c.requires.up c.args.from c.args.ballot c.args.instance c.requires.from c.args.draft.now c.as_slice.result.now
-    (chosen_of (whole g.P.Past.past c.args.self.now) c.args.from c.args.ballot c.args.instance c.as_slice.result.now c.requires.vote (sym c.in_ok-value.ensures ∙ c.in-Some.is ∙ ap (λ v. Some v) (sym c.as_slice.ensures)))
-    (whole g.P.Past.past c.learn.new.self) c.learn.new.draft c.in_ok-learn.ensures.same
-    (learns_as g.K.Keeper.records g.K.Keeper.append_gives g.K.Keeper.faults c.args.svc.now g.P.Past.past (whole g.P.Past.past c.args.self.now) (whole g.P.Past.past c.learn.new.self) c.args.draft.now c.learn.new.draft c.args.instance c.as_slice.result.now c.in_ok-learn.field-0 Down c.in-Down.is c.in_ok-learn.ensures.learns)
+    choose_down g.K.Keeper.append_gives g.K.Keeper.faults c.declarations-service.ensures.sound c.declarations-service.ensures.checked c.requires.node c.requires.up c.requires.from c.args.draft.now
+    (chosen_of c.requires.vote (sym c.in_ok-value.ensures ∙ c.in-Some.is ∙ ap (λ v. Some v) (sym c.as_slice.ensures)))
+    c.learn.new.draft c.in_ok-learn.ensures.same
+    (learns_as g.K.Keeper.records g.K.Keeper.append_gives g.K.Keeper.faults c.args.svc.now g.P.Past.past (whole g.P.Past.past c.args.self.now) (whole g.P.Past.past c.learn.new.self) c.args.draft.now c.learn.new.draft c.args.instance c.as_slice.result.now c.in-Down.is c.in_ok-learn.ensures.learns)
 
 pub go_on-requires-clause-kept : goal.go_on-requires-clause-kept
 go_on-requires-clause-kept g c =
-    chosen_kept g.K.Keeper.records g.K.Keeper.append_gives g.K.Keeper.faults c.args.svc.now g.P.Past.past c.declarations-service.ensures.sound c.declarations-service.ensures.checked (whole g.P.Past.past c.args.self.now) c.requires.node c.requires.up c.args.from c.args.ballot c.args.instance c.requires.from c.args.draft.now c.as_slice.result.now
-    (chosen_of (whole g.P.Past.past c.args.self.now) c.args.from c.args.ballot c.args.instance c.as_slice.result.now c.requires.vote (sym c.in_ok-value.ensures ∙ c.in-Some.is ∙ ap (λ v. Some v) (sym c.as_slice.ensures)))
-    (whole g.P.Past.past c.learn.new.self) c.learn.new.draft c.in_ok-learn.ensures.same
-    (learns_as g.K.Keeper.records g.K.Keeper.append_gives g.K.Keeper.faults c.args.svc.now g.P.Past.past (whole g.P.Past.past c.args.self.now) (whole g.P.Past.past c.learn.new.self) c.args.draft.now c.learn.new.draft c.args.instance c.as_slice.result.now c.in_ok-learn.field-0 On c.in-On.is c.in_ok-learn.ensures.learns)
-    (known_as c.args.svc.now (whole g.P.Past.past c.args.self.now) (whole g.P.Past.past c.learn.new.self) c.args.instance c.as_slice.result.now c.in_ok-learn.field-0 c.in-On.is c.in_ok-learn.ensures.parts)
-    (longer_as g.K.Keeper.records (whole g.P.Past.past c.args.self.now) (whole g.P.Past.past c.learn.new.self) c.in_ok-learn.field-0 c.in-On.is c.in_ok-learn.ensures.longer)
-    c.turns-turns.result c.turns-turns.ensures
+    chosen_kept g.K.Keeper.append_gives g.K.Keeper.faults c.declarations-service.ensures.sound c.declarations-service.ensures.checked c.requires.node c.requires.up c.requires.from c.args.draft.now
+    (chosen_of c.requires.vote (sym c.in_ok-value.ensures ∙ c.in-Some.is ∙ ap (λ v. Some v) (sym c.as_slice.ensures)))
+    c.learn.new.draft c.in_ok-learn.ensures.same
+    (learns_as g.K.Keeper.records g.K.Keeper.append_gives g.K.Keeper.faults c.args.svc.now g.P.Past.past (whole g.P.Past.past c.args.self.now) (whole g.P.Past.past c.learn.new.self) c.args.draft.now c.learn.new.draft c.args.instance c.as_slice.result.now c.in-On.is c.in_ok-learn.ensures.learns)
+    (known_as c.args.svc.now (whole g.P.Past.past c.args.self.now) c.args.instance c.as_slice.result.now c.in-On.is c.in_ok-learn.ensures.parts)
+    (longer_as g.K.Keeper.records (whole g.P.Past.past c.args.self.now) (whole g.P.Past.past c.learn.new.self) c.in-On.is c.in_ok-learn.ensures.longer)
+    c.turns-turns.ensures
 
 pub go_on-requires-clause-up : goal.go_on-requires-clause-up
 go_on-requires-clause-up g c =
-    chosen_up g.K.Keeper.records g.K.Keeper.append_gives g.K.Keeper.faults c.args.svc.now g.P.Past.past c.declarations-service.ensures.sound c.declarations-service.ensures.checked (whole g.P.Past.past c.args.self.now) c.requires.node c.requires.up c.args.from c.args.ballot c.args.instance c.requires.from c.args.draft.now c.as_slice.result.now
-    (chosen_of (whole g.P.Past.past c.args.self.now) c.args.from c.args.ballot c.args.instance c.as_slice.result.now c.requires.vote (sym c.in_ok-value.ensures ∙ c.in-Some.is ∙ ap (λ v. Some v) (sym c.as_slice.ensures)))
-    (whole g.P.Past.past c.learn.new.self) c.learn.new.draft c.in_ok-learn.ensures.same
-    (learns_as g.K.Keeper.records g.K.Keeper.append_gives g.K.Keeper.faults c.args.svc.now g.P.Past.past (whole g.P.Past.past c.args.self.now) (whole g.P.Past.past c.learn.new.self) c.args.draft.now c.learn.new.draft c.args.instance c.as_slice.result.now c.in_ok-learn.field-0 On c.in-On.is c.in_ok-learn.ensures.learns)
-    (known_as c.args.svc.now (whole g.P.Past.past c.args.self.now) (whole g.P.Past.past c.learn.new.self) c.args.instance c.as_slice.result.now c.in_ok-learn.field-0 c.in-On.is c.in_ok-learn.ensures.parts)
-    (longer_as g.K.Keeper.records (whole g.P.Past.past c.args.self.now) (whole g.P.Past.past c.learn.new.self) c.in_ok-learn.field-0 c.in-On.is c.in_ok-learn.ensures.longer)
-    c.turns-turns.result c.turns-turns.ensures
+    chosen_up g.K.Keeper.append_gives g.K.Keeper.faults c.declarations-service.ensures.sound c.declarations-service.ensures.checked c.requires.node c.requires.up c.requires.from c.args.draft.now
+    (chosen_of c.requires.vote (sym c.in_ok-value.ensures ∙ c.in-Some.is ∙ ap (λ v. Some v) (sym c.as_slice.ensures)))
+    c.learn.new.draft c.in_ok-learn.ensures.same
+    (learns_as g.K.Keeper.records g.K.Keeper.append_gives g.K.Keeper.faults c.args.svc.now g.P.Past.past (whole g.P.Past.past c.args.self.now) (whole g.P.Past.past c.learn.new.self) c.args.draft.now c.learn.new.draft c.args.instance c.as_slice.result.now c.in-On.is c.in_ok-learn.ensures.learns)
+    (known_as c.args.svc.now (whole g.P.Past.past c.args.self.now) c.args.instance c.as_slice.result.now c.in-On.is c.in_ok-learn.ensures.parts)
+    (longer_as g.K.Keeper.records (whole g.P.Past.past c.args.self.now) (whole g.P.Past.past c.learn.new.self) c.in-On.is c.in_ok-learn.ensures.longer)
+    c.turns-turns.ensures
 
 pub go_on-requires-clause-free : goal.go_on-requires-clause-free
 go_on-requires-clause-free g c =
-    chosen_free g.K.Keeper.records g.K.Keeper.append_gives g.K.Keeper.faults c.args.svc.now g.P.Past.past c.declarations-service.ensures.sound c.declarations-service.ensures.checked (whole g.P.Past.past c.args.self.now) c.requires.node c.requires.up c.args.from c.args.ballot c.args.instance c.requires.from c.args.draft.now c.as_slice.result.now
-    (chosen_of (whole g.P.Past.past c.args.self.now) c.args.from c.args.ballot c.args.instance c.as_slice.result.now c.requires.vote (sym c.in_ok-value.ensures ∙ c.in-Some.is ∙ ap (λ v. Some v) (sym c.as_slice.ensures)))
-    (whole g.P.Past.past c.learn.new.self) c.learn.new.draft c.in_ok-learn.ensures.same
-    (learns_as g.K.Keeper.records g.K.Keeper.append_gives g.K.Keeper.faults c.args.svc.now g.P.Past.past (whole g.P.Past.past c.args.self.now) (whole g.P.Past.past c.learn.new.self) c.args.draft.now c.learn.new.draft c.args.instance c.as_slice.result.now c.in_ok-learn.field-0 On c.in-On.is c.in_ok-learn.ensures.learns)
-    (known_as c.args.svc.now (whole g.P.Past.past c.args.self.now) (whole g.P.Past.past c.learn.new.self) c.args.instance c.as_slice.result.now c.in_ok-learn.field-0 c.in-On.is c.in_ok-learn.ensures.parts)
-    (longer_as g.K.Keeper.records (whole g.P.Past.past c.args.self.now) (whole g.P.Past.past c.learn.new.self) c.in_ok-learn.field-0 c.in-On.is c.in_ok-learn.ensures.longer)
-    c.turns-turns.result c.turns-turns.ensures
+    chosen_free g.K.Keeper.append_gives g.K.Keeper.faults c.declarations-service.ensures.sound c.declarations-service.ensures.checked c.requires.node c.requires.up c.requires.from c.args.draft.now
+    (chosen_of c.requires.vote (sym c.in_ok-value.ensures ∙ c.in-Some.is ∙ ap (λ v. Some v) (sym c.as_slice.ensures)))
+    c.learn.new.draft c.in_ok-learn.ensures.same
+    (learns_as g.K.Keeper.records g.K.Keeper.append_gives g.K.Keeper.faults c.args.svc.now g.P.Past.past (whole g.P.Past.past c.args.self.now) (whole g.P.Past.past c.learn.new.self) c.args.draft.now c.learn.new.draft c.args.instance c.as_slice.result.now c.in-On.is c.in_ok-learn.ensures.learns)
+    (known_as c.args.svc.now (whole g.P.Past.past c.args.self.now) c.args.instance c.as_slice.result.now c.in-On.is c.in_ok-learn.ensures.parts)
+    (longer_as g.K.Keeper.records (whole g.P.Past.past c.args.self.now) (whole g.P.Past.past c.learn.new.self) c.in-On.is c.in_ok-learn.ensures.longer)
+    c.turns-turns.ensures
 
 pub go_on-requires-clause-turns : goal.go_on-requires-clause-turns
 go_on-requires-clause-turns g c =
-    chosen_may g.K.Keeper.records g.K.Keeper.append_gives g.K.Keeper.faults c.args.svc.now g.P.Past.past c.declarations-service.ensures.sound c.declarations-service.ensures.checked (whole g.P.Past.past c.args.self.now) c.requires.node c.requires.up c.args.from c.args.ballot c.args.instance c.requires.from c.args.draft.now c.as_slice.result.now
-    (chosen_of (whole g.P.Past.past c.args.self.now) c.args.from c.args.ballot c.args.instance c.as_slice.result.now c.requires.vote (sym c.in_ok-value.ensures ∙ c.in-Some.is ∙ ap (λ v. Some v) (sym c.as_slice.ensures)))
-    (whole g.P.Past.past c.learn.new.self) c.learn.new.draft c.in_ok-learn.ensures.same
-    (learns_as g.K.Keeper.records g.K.Keeper.append_gives g.K.Keeper.faults c.args.svc.now g.P.Past.past (whole g.P.Past.past c.args.self.now) (whole g.P.Past.past c.learn.new.self) c.args.draft.now c.learn.new.draft c.args.instance c.as_slice.result.now c.in_ok-learn.field-0 On c.in-On.is c.in_ok-learn.ensures.learns)
-    (known_as c.args.svc.now (whole g.P.Past.past c.args.self.now) (whole g.P.Past.past c.learn.new.self) c.args.instance c.as_slice.result.now c.in_ok-learn.field-0 c.in-On.is c.in_ok-learn.ensures.parts)
-    (longer_as g.K.Keeper.records (whole g.P.Past.past c.args.self.now) (whole g.P.Past.past c.learn.new.self) c.in_ok-learn.field-0 c.in-On.is c.in_ok-learn.ensures.longer)
-    c.turns-turns.result c.turns-turns.ensures
+    chosen_may g.K.Keeper.append_gives g.K.Keeper.faults c.declarations-service.ensures.sound c.declarations-service.ensures.checked c.requires.node c.requires.up c.requires.from c.args.draft.now
+    (chosen_of c.requires.vote (sym c.in_ok-value.ensures ∙ c.in-Some.is ∙ ap (λ v. Some v) (sym c.as_slice.ensures)))
+    c.learn.new.draft c.in_ok-learn.ensures.same
+    (learns_as g.K.Keeper.records g.K.Keeper.append_gives g.K.Keeper.faults c.args.svc.now g.P.Past.past (whole g.P.Past.past c.args.self.now) (whole g.P.Past.past c.learn.new.self) c.args.draft.now c.learn.new.draft c.args.instance c.as_slice.result.now c.in-On.is c.in_ok-learn.ensures.learns)
+    (known_as c.args.svc.now (whole g.P.Past.past c.args.self.now) c.args.instance c.as_slice.result.now c.in-On.is c.in_ok-learn.ensures.parts)
+    (longer_as g.K.Keeper.records (whole g.P.Past.past c.args.self.now) (whole g.P.Past.past c.learn.new.self) c.in-On.is c.in_ok-learn.ensures.longer)
+    c.turns-turns.ensures
 
 pub go_on-requires-clause-runs : goal.go_on-requires-clause-runs
 go_on-requires-clause-runs g c =
-    chosen_runs g.K.Keeper.records g.K.Keeper.append_gives g.K.Keeper.faults c.args.svc.now g.P.Past.past c.declarations-service.ensures.sound c.declarations-service.ensures.checked (whole g.P.Past.past c.args.self.now) c.requires.node c.requires.up c.args.from c.args.ballot c.args.instance c.requires.from c.args.draft.now c.as_slice.result.now
-    (chosen_of (whole g.P.Past.past c.args.self.now) c.args.from c.args.ballot c.args.instance c.as_slice.result.now c.requires.vote (sym c.in_ok-value.ensures ∙ c.in-Some.is ∙ ap (λ v. Some v) (sym c.as_slice.ensures)))
-    (whole g.P.Past.past c.learn.new.self) c.learn.new.draft c.in_ok-learn.ensures.same
-    (learns_as g.K.Keeper.records g.K.Keeper.append_gives g.K.Keeper.faults c.args.svc.now g.P.Past.past (whole g.P.Past.past c.args.self.now) (whole g.P.Past.past c.learn.new.self) c.args.draft.now c.learn.new.draft c.args.instance c.as_slice.result.now c.in_ok-learn.field-0 On c.in-On.is c.in_ok-learn.ensures.learns)
-    (known_as c.args.svc.now (whole g.P.Past.past c.args.self.now) (whole g.P.Past.past c.learn.new.self) c.args.instance c.as_slice.result.now c.in_ok-learn.field-0 c.in-On.is c.in_ok-learn.ensures.parts)
-    (longer_as g.K.Keeper.records (whole g.P.Past.past c.args.self.now) (whole g.P.Past.past c.learn.new.self) c.in_ok-learn.field-0 c.in-On.is c.in_ok-learn.ensures.longer)
-    c.turns-turns.result c.turns-turns.ensures c.requires.runs
+    chosen_runs g.K.Keeper.append_gives g.K.Keeper.faults c.declarations-service.ensures.sound c.declarations-service.ensures.checked c.requires.node c.requires.up c.requires.from c.args.draft.now
+    (chosen_of c.requires.vote (sym c.in_ok-value.ensures ∙ c.in-Some.is ∙ ap (λ v. Some v) (sym c.as_slice.ensures)))
+    c.learn.new.draft c.in_ok-learn.ensures.same
+    (learns_as g.K.Keeper.records g.K.Keeper.append_gives g.K.Keeper.faults c.args.svc.now g.P.Past.past (whole g.P.Past.past c.args.self.now) (whole g.P.Past.past c.learn.new.self) c.args.draft.now c.learn.new.draft c.args.instance c.as_slice.result.now c.in-On.is c.in_ok-learn.ensures.learns)
+    (known_as c.args.svc.now (whole g.P.Past.past c.args.self.now) c.args.instance c.as_slice.result.now c.in-On.is c.in_ok-learn.ensures.parts)
+    (longer_as g.K.Keeper.records (whole g.P.Past.past c.args.self.now) (whole g.P.Past.past c.learn.new.self) c.in-On.is c.in_ok-learn.ensures.longer)
+    c.turns-turns.ensures c.requires.runs
 
 pub go_on-requires-clause-count : goal.go_on-requires-clause-count
 go_on-requires-clause-count g c =
-    chosen_count g.K.Keeper.records g.K.Keeper.append_gives g.K.Keeper.faults c.args.svc.now g.P.Past.past c.declarations-service.ensures.sound c.declarations-service.ensures.checked (whole g.P.Past.past c.args.self.now) c.requires.node c.requires.up c.args.from c.args.ballot c.args.instance c.requires.from c.args.draft.now c.as_slice.result.now
-    (chosen_of (whole g.P.Past.past c.args.self.now) c.args.from c.args.ballot c.args.instance c.as_slice.result.now c.requires.vote (sym c.in_ok-value.ensures ∙ c.in-Some.is ∙ ap (λ v. Some v) (sym c.as_slice.ensures)))
-    (whole g.P.Past.past c.learn.new.self) c.learn.new.draft c.in_ok-learn.ensures.same
-    (learns_as g.K.Keeper.records g.K.Keeper.append_gives g.K.Keeper.faults c.args.svc.now g.P.Past.past (whole g.P.Past.past c.args.self.now) (whole g.P.Past.past c.learn.new.self) c.args.draft.now c.learn.new.draft c.args.instance c.as_slice.result.now c.in_ok-learn.field-0 On c.in-On.is c.in_ok-learn.ensures.learns)
-    (known_as c.args.svc.now (whole g.P.Past.past c.args.self.now) (whole g.P.Past.past c.learn.new.self) c.args.instance c.as_slice.result.now c.in_ok-learn.field-0 c.in-On.is c.in_ok-learn.ensures.parts)
-    (longer_as g.K.Keeper.records (whole g.P.Past.past c.args.self.now) (whole g.P.Past.past c.learn.new.self) c.in_ok-learn.field-0 c.in-On.is c.in_ok-learn.ensures.longer)
-    c.turns-turns.result c.turns-turns.ensures c.requires.count
+    chosen_count g.K.Keeper.append_gives g.K.Keeper.faults c.declarations-service.ensures.sound c.declarations-service.ensures.checked c.requires.node c.requires.up c.requires.from c.args.draft.now
+    (chosen_of c.requires.vote (sym c.in_ok-value.ensures ∙ c.in-Some.is ∙ ap (λ v. Some v) (sym c.as_slice.ensures)))
+    c.learn.new.draft c.in_ok-learn.ensures.same
+    (learns_as g.K.Keeper.records g.K.Keeper.append_gives g.K.Keeper.faults c.args.svc.now g.P.Past.past (whole g.P.Past.past c.args.self.now) (whole g.P.Past.past c.learn.new.self) c.args.draft.now c.learn.new.draft c.args.instance c.as_slice.result.now c.in-On.is c.in_ok-learn.ensures.learns)
+    (known_as c.args.svc.now (whole g.P.Past.past c.args.self.now) c.args.instance c.as_slice.result.now c.in-On.is c.in_ok-learn.ensures.parts)
+    (longer_as g.K.Keeper.records (whole g.P.Past.past c.args.self.now) (whole g.P.Past.past c.learn.new.self) c.in-On.is c.in_ok-learn.ensures.longer)
+    c.turns-turns.ensures c.requires.count
 
 pub returns-clause-ends : goal.returns-clause-ends
 returns-clause-ends g c =
-    chosen_ends g.K.Keeper.records g.K.Keeper.append_gives g.K.Keeper.faults c.args.svc.now g.P.Past.past c.declarations-service.ensures.sound c.declarations-service.ensures.checked (whole g.P.Past.past c.args.self.now) c.requires.node c.requires.up c.args.from c.args.ballot c.args.instance c.requires.from c.args.draft.now c.as_slice.result.now
-    (chosen_of (whole g.P.Past.past c.args.self.now) c.args.from c.args.ballot c.args.instance c.as_slice.result.now c.requires.vote (sym c.in_ok-value.ensures ∙ c.in-Some.is ∙ ap (λ v. Some v) (sym c.as_slice.ensures)))
-    (whole g.P.Past.past c.learn.new.self) c.learn.new.draft c.in_ok-learn.ensures.same
-    (learns_as g.K.Keeper.records g.K.Keeper.append_gives g.K.Keeper.faults c.args.svc.now g.P.Past.past (whole g.P.Past.past c.args.self.now) (whole g.P.Past.past c.learn.new.self) c.args.draft.now c.learn.new.draft c.args.instance c.as_slice.result.now c.in_ok-learn.field-0 On c.in-On.is c.in_ok-learn.ensures.learns)
-    (known_as c.args.svc.now (whole g.P.Past.past c.args.self.now) (whole g.P.Past.past c.learn.new.self) c.args.instance c.as_slice.result.now c.in_ok-learn.field-0 c.in-On.is c.in_ok-learn.ensures.parts)
-    (longer_as g.K.Keeper.records (whole g.P.Past.past c.args.self.now) (whole g.P.Past.past c.learn.new.self) c.in_ok-learn.field-0 c.in-On.is c.in_ok-learn.ensures.longer)
-    c.turns-turns.result c.turns-turns.ensures
+    chosen_ends g.K.Keeper.append_gives g.K.Keeper.faults c.declarations-service.ensures.sound c.declarations-service.ensures.checked c.requires.node c.requires.up c.requires.from c.args.draft.now
+    (chosen_of c.requires.vote (sym c.in_ok-value.ensures ∙ c.in-Some.is ∙ ap (λ v. Some v) (sym c.as_slice.ensures)))
+    c.learn.new.draft c.in_ok-learn.ensures.same
+    (learns_as g.K.Keeper.records g.K.Keeper.append_gives g.K.Keeper.faults c.args.svc.now g.P.Past.past (whole g.P.Past.past c.args.self.now) (whole g.P.Past.past c.learn.new.self) c.args.draft.now c.learn.new.draft c.args.instance c.as_slice.result.now c.in-On.is c.in_ok-learn.ensures.learns)
+    (known_as c.args.svc.now (whole g.P.Past.past c.args.self.now) c.args.instance c.as_slice.result.now c.in-On.is c.in_ok-learn.ensures.parts)
+    (longer_as g.K.Keeper.records (whole g.P.Past.past c.args.self.now) (whole g.P.Past.past c.learn.new.self) c.in-On.is c.in_ok-learn.ensures.longer)
+    c.turns-turns.ensures
     (whole g.P.Past.past c.go_on.new.self) c.go_on.new.draft c.go_on.result c.go_on.ensures.ends
 
 pub returns-clause-stuck : goal.returns-clause-stuck
 returns-clause-stuck g c =
-    chosen_stuck g.K.Keeper.records g.K.Keeper.append_gives g.K.Keeper.faults c.args.svc.now g.P.Past.past c.declarations-service.ensures.sound c.declarations-service.ensures.checked (whole g.P.Past.past c.args.self.now) c.requires.node c.requires.up c.args.from c.args.ballot c.args.instance c.requires.from c.args.draft.now c.as_slice.result.now
-    (chosen_of (whole g.P.Past.past c.args.self.now) c.args.from c.args.ballot c.args.instance c.as_slice.result.now c.requires.vote (sym c.in_ok-value.ensures ∙ c.in-Some.is ∙ ap (λ v. Some v) (sym c.as_slice.ensures)))
-    (whole g.P.Past.past c.learn.new.self) c.learn.new.draft c.in_ok-learn.ensures.same
-    (learns_as g.K.Keeper.records g.K.Keeper.append_gives g.K.Keeper.faults c.args.svc.now g.P.Past.past (whole g.P.Past.past c.args.self.now) (whole g.P.Past.past c.learn.new.self) c.args.draft.now c.learn.new.draft c.args.instance c.as_slice.result.now c.in_ok-learn.field-0 On c.in-On.is c.in_ok-learn.ensures.learns)
-    (known_as c.args.svc.now (whole g.P.Past.past c.args.self.now) (whole g.P.Past.past c.learn.new.self) c.args.instance c.as_slice.result.now c.in_ok-learn.field-0 c.in-On.is c.in_ok-learn.ensures.parts)
-    (longer_as g.K.Keeper.records (whole g.P.Past.past c.args.self.now) (whole g.P.Past.past c.learn.new.self) c.in_ok-learn.field-0 c.in-On.is c.in_ok-learn.ensures.longer)
-    c.turns-turns.result c.turns-turns.ensures
+    chosen_stuck g.K.Keeper.append_gives g.K.Keeper.faults c.declarations-service.ensures.sound c.declarations-service.ensures.checked c.requires.node c.requires.up c.requires.from c.args.draft.now
+    (chosen_of c.requires.vote (sym c.in_ok-value.ensures ∙ c.in-Some.is ∙ ap (λ v. Some v) (sym c.as_slice.ensures)))
+    c.learn.new.draft c.in_ok-learn.ensures.same
+    (learns_as g.K.Keeper.records g.K.Keeper.append_gives g.K.Keeper.faults c.args.svc.now g.P.Past.past (whole g.P.Past.past c.args.self.now) (whole g.P.Past.past c.learn.new.self) c.args.draft.now c.learn.new.draft c.args.instance c.as_slice.result.now c.in-On.is c.in_ok-learn.ensures.learns)
+    (known_as c.args.svc.now (whole g.P.Past.past c.args.self.now) c.args.instance c.as_slice.result.now c.in-On.is c.in_ok-learn.ensures.parts)
+    (longer_as g.K.Keeper.records (whole g.P.Past.past c.args.self.now) (whole g.P.Past.past c.learn.new.self) c.in-On.is c.in_ok-learn.ensures.longer)
+    c.turns-turns.ensures
     (whole g.P.Past.past c.go_on.new.self) c.go_on.result c.go_on.ensures.stuck
 
 pub returns-in_err-learn-clause-stuck : goal.returns-in_err-learn-clause-stuck
 returns-in_err-learn-clause-stuck g c =
     on_err c.from_residual-in_err-learn.result
-    (choose_stuck g.K.Keeper.records g.K.Keeper.append_gives g.K.Keeper.faults c.args.svc.now g.P.Past.past c.declarations-service.ensures.sound c.declarations-service.ensures.checked (whole g.P.Past.past c.args.self.now) c.requires.node c.requires.up c.args.from c.args.ballot c.args.instance c.requires.from c.args.draft.now c.as_slice.result.now
-    (chosen_of (whole g.P.Past.past c.args.self.now) c.args.from c.args.ballot c.args.instance c.as_slice.result.now c.requires.vote (sym c.in_ok-value.ensures ∙ c.in-Some.is ∙ ap (λ v. Some v) (sym c.as_slice.ensures)))
-    (whole g.P.Past.past c.learn.new.self) c.in_err-learn.ensures.stuck)
+    (choose_stuck g.K.Keeper.append_gives g.K.Keeper.faults c.declarations-service.ensures.sound c.declarations-service.ensures.checked c.requires.node c.requires.up c.requires.from c.args.draft.now
+    (chosen_of c.requires.vote (sym c.in_ok-value.ensures ∙ c.in-Some.is ∙ ap (λ v. Some v) (sym c.as_slice.ensures)))
+    c.in_err-learn.ensures.stuck)

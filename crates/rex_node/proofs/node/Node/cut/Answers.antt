@@ -31,18 +31,18 @@ come g c = record {
       (Ends g.K.Keeper.records g.K.Keeper.append_gives g.K.Keeper.faults c.args.svc.now g.P.Past.past
       (cut c.args.svc.now c.args.self.now.seed c.args.self.now.nodes c.args.self.now.id (counts_for c.args.svc.now (here_of g.K.Keeper.records c.args.svc.now g.P.Past.past (whole g.P.Past.past c.args.self.now)) (option_copied c.args.limits)))
       (whole g.P.Past.past c.args.self.now) (whole g.P.Past.past c.propose_piece-end.new.self) c.new-draft.result c.propose_piece-end.new.draft) c.propose_piece-end.result
-      (λ going h. cut_ends g.K.Keeper.records g.K.Keeper.append_gives g.K.Keeper.faults c.args.svc.now g.P.Past.past (whole g.P.Past.past c.args.self.now) c.requires.node c.in_ok-piece.piece
+      (λ going h. cut_ends g.K.Keeper.records g.K.Keeper.append_gives g.K.Keeper.faults c.args.svc.now g.P.Past.past c.requires.node c.in_ok-piece.piece
       (record { limits = option_copied c.args.limits; many = c.requires.limits; can = c.in_ok-piece.ensures.can }) c.declarations-service.ensures.sound
-      (whole g.P.Past.past c.propose_piece-end.new.self) c.new-draft.result c.propose_piece-end.new.draft going h)
+      c.new-draft.result c.propose_piece-end.new.draft going h)
       c.propose_piece-end.ensures.ends;
   stuck =
       on_error (ProposesPieceShort g.K.Keeper.records g.K.Keeper.append_gives g.K.Keeper.faults c.args.svc.now g.P.Past.past c.in_ok-piece.piece.cut.counts (whole g.P.Past.past c.args.self.now) (whole g.P.Past.past c.propose_piece-end.new.self) c.new-draft.result)
       (IsStuck g.K.Keeper.records g.K.Keeper.append_gives g.K.Keeper.faults c.args.svc.now g.P.Past.past
       (cut c.args.svc.now c.args.self.now.seed c.args.self.now.nodes c.args.self.now.id (counts_for c.args.svc.now (here_of g.K.Keeper.records c.args.svc.now g.P.Past.past (whole g.P.Past.past c.args.self.now)) (option_copied c.args.limits)))
       (whole g.P.Past.past c.args.self.now) (whole g.P.Past.past c.propose_piece-end.new.self) c.new-draft.result) c.propose_piece-end.result
-      (cut_short g.K.Keeper.records g.K.Keeper.append_gives g.K.Keeper.faults c.args.svc.now g.P.Past.past (whole g.P.Past.past c.args.self.now) c.requires.node c.in_ok-piece.piece
+      (cut_short g.K.Keeper.records g.K.Keeper.append_gives g.K.Keeper.faults c.args.svc.now g.P.Past.past c.requires.node c.in_ok-piece.piece
       (record { limits = option_copied c.args.limits; many = c.requires.limits; can = c.in_ok-piece.ensures.can }) c.declarations-service.ensures.sound
-      (whole g.P.Past.past c.propose_piece-end.new.self) c.new-draft.result)
+      )
       c.propose_piece-end.ensures.stuck;
   same = c.propose_piece-end.ensures.same;
   finishes = c.finish.ensures;

@@ -14,12 +14,12 @@ use Rattle.rex_node.proofs.node.Node.migrate.Goals as goal
 pub record_of-requires-clause-sound : goal.record_of-requires-clause-sound
 record_of-requires-clause-sound g c =
     subst (λ (x : NodeValue _). IsSound c.args.svc.now x.start) (sym c.self.view_is)
-    (start_sound g.K.Keeper.records c.args.svc.now g.P.Past.past (whole g.P.Past.past c.args.self.now) c.requires.node (sym c.migrate_refusal.ensures ∙ c.in_default.is) c.declarations-service.ensures.sound c.declarations-service.ensures.checked)
+    (start_sound c.requires.node (sym c.migrate_refusal.ensures ∙ c.in_default.is) c.declarations-service.ensures.sound c.declarations-service.ensures.checked)
 
 pub record_of-requires-clause-limited : goal.record_of-requires-clause-limited
 record_of-requires-clause-limited g c =
     subst (λ (x : NodeValue _). IsLimited x.start) (sym c.self.view_is)
-    (start_limited g.K.Keeper.records c.args.svc.now g.P.Past.past (whole g.P.Past.past c.args.self.now) c.requires.node (sym c.migrate_refusal.ensures ∙ c.in_default.is) c.declarations-service.ensures.sound c.declarations-service.ensures.checked)
+    (start_limited c.requires.node (sym c.migrate_refusal.ensures ∙ c.in_default.is) c.declarations-service.ensures.sound c.declarations-service.ensures.checked)
 
 pub save_again-requires-clause-spelling : goal.save_again-requires-clause-spelling
 save_again-requires-clause-spelling g c =
@@ -57,33 +57,33 @@ returns-in-Err-Failed-clause-kept g c =
 
 pub returns-clause-left : goal.returns-clause-left
 returns-clause-left g c =
-    stands_own g.K.Keeper.records g.K.Keeper.append_gives g.K.Keeper.faults g.P.Past.past c.args.self.now c.save_again.new.self
+    stands_own g.P.Past.past
     (subst (MigratesOr g.K.Keeper.records g.K.Keeper.faults g.K.Keeper.append_gives (whole g.P.Past.past c.args.self.now) (whole g.P.Past.past c.save_again.new.self) (record_bytes c.in_ok-rec.rec)) (c.in-Err-OutOfMemory.is ∙ ap Err c.in-Err-OutOfMemory.field-0-is) c.save_again.ensures)
 
 pub returns-in-Some-clause-again : goal.returns-in-Some-clause-again
-returns-in-Some-clause-again g c = spells_itself c.args.svc.now c.args.self.now.start (g.K.Keeper.records c.args.self.now.keeper)
+returns-in-Some-clause-again g c = spells_itself
 
 pub returns-in_err-rec-clause-again : goal.returns-in_err-rec-clause-again
-returns-in_err-rec-clause-again g c = spells_itself c.args.svc.now c.args.self.now.start (g.K.Keeper.records c.args.self.now.keeper)
+returns-in_err-rec-clause-again g c = spells_itself
 
 pub returns-in_err-migrated-clause-again : goal.returns-in_err-migrated-clause-again
-returns-in_err-migrated-clause-again g c = spells_itself c.args.svc.now c.args.self.now.start (g.K.Keeper.records c.args.self.now.keeper)
+returns-in_err-migrated-clause-again g c = spells_itself
 
 pub returns-in_err-down-clause-again : goal.returns-in_err-down-clause-again
-returns-in_err-down-clause-again g c = spells_itself c.args.svc.now c.args.self.now.start (g.K.Keeper.records c.args.self.now.keeper)
+returns-in_err-down-clause-again g c = spells_itself
 
 pub returns-in-Ok-clause-again : goal.returns-in-Ok-clause-again
 returns-in-Ok-clause-again g c = λ rs h.
-    spells_again g.K.Keeper.records g.K.Keeper.append_gives g.K.Keeper.faults c.args.svc.now g.P.Past.past (whole g.P.Past.past c.args.self.now) c.requires.node (sym c.migrate_refusal.ensures ∙ c.in_default.is) c.in_ok-rec.rec (subst (λ (x : NodeValue _). IsCheckpoint c.args.svc.now Two x.base x.start c.in_ok-rec.rec) c.self.view_is c.in_ok-rec.ensures) rs h
-    (g.K.Keeper.records c.save_again.new.self.keeper) (subst (MigratesOr g.K.Keeper.records g.K.Keeper.faults g.K.Keeper.append_gives (whole g.P.Past.past c.args.self.now) (whole g.P.Past.past c.save_again.new.self) (record_bytes c.in_ok-rec.rec)) c.in-Ok.is c.save_again.ensures).records_are
+    spells_again g.K.Keeper.append_gives g.K.Keeper.faults c.requires.node (sym c.migrate_refusal.ensures ∙ c.in_default.is) (subst (λ (x : NodeValue _). IsCheckpoint c.args.svc.now Two x.base x.start c.in_ok-rec.rec) c.self.view_is c.in_ok-rec.ensures) h
+    (subst (MigratesOr g.K.Keeper.records g.K.Keeper.faults g.K.Keeper.append_gives (whole g.P.Past.past c.args.self.now) (whole g.P.Past.past c.save_again.new.self) (record_bytes c.in_ok-rec.rec)) c.in-Ok.is c.save_again.ensures).records_are
 
 pub returns-in-Err-Failed-clause-again : goal.returns-in-Err-Failed-clause-again
 returns-in-Err-Failed-clause-again g c = λ rs h.
     let k = (subst (MigratesOr g.K.Keeper.records g.K.Keeper.faults g.K.Keeper.append_gives (whole g.P.Past.past c.args.self.now) (whole g.P.Past.past c.save_again.new.self) (record_bytes c.in_ok-rec.rec)) (c.in-Err-Failed.is ∙ ap Err c.in-Err-Failed.field-0-is) c.save_again.ensures) in
-    spells_anyway g.K.Keeper.records g.K.Keeper.append_gives g.K.Keeper.faults c.args.svc.now g.P.Past.past (whole g.P.Past.past c.args.self.now) c.requires.node (sym c.migrate_refusal.ensures ∙ c.in_default.is) c.in_ok-rec.rec (subst (λ (x : NodeValue _). IsCheckpoint c.args.svc.now Two x.base x.start c.in_ok-rec.rec) c.self.view_is c.in_ok-rec.ensures) rs h
-    k.kept (g.K.Keeper.records c.save_again.new.self.keeper) k.records
+    spells_anyway g.K.Keeper.append_gives g.K.Keeper.faults c.requires.node (sym c.migrate_refusal.ensures ∙ c.in_default.is) (subst (λ (x : NodeValue _). IsCheckpoint c.args.svc.now Two x.base x.start c.in_ok-rec.rec) c.self.view_is c.in_ok-rec.ensures) h
+    k.kept k.records
 
 pub returns-clause-again : goal.returns-clause-again
 returns-clause-again g c =
-    spells_as g.K.Keeper.records c.args.svc.now c.args.self.now.start c.args.self.now c.save_again.new.self
+    spells_as g.K.Keeper.records c.args.self.now c.save_again.new.self
     (subst (MigratesOr g.K.Keeper.records g.K.Keeper.faults g.K.Keeper.append_gives (whole g.P.Past.past c.args.self.now) (whole g.P.Past.past c.save_again.new.self) (record_bytes c.in_ok-rec.rec)) (c.in-Err-OutOfMemory.is ∙ ap Err c.in-Err-OutOfMemory.field-0-is) c.save_again.ensures).records

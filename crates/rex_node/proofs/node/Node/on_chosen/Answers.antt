@@ -5,5 +5,5 @@ use Rattle.rex_node.proofs.node.Node.on_chosen.Goals as goal
 
 pub returns-then-instance-next-clause-ends : goal.returns-then-instance-next-clause-ends
 returns-then-instance-next-clause-ends g c =
-    chosen_ignored g.K.Keeper.records g.K.Keeper.append_gives g.K.Keeper.faults c.args.svc.now g.P.Past.past (whole g.P.Past.past c.args.self.now) c.requires.node c.requires.up c.args.draft.now c.tell.new.self c.args.instance (c.count-next.result + 1) c.args.value.now
+    chosen_ignored g.K.Keeper.append_gives g.K.Keeper.faults c.requires.node c.requires.up c.args.draft.now c.tell.new.self c.args.instance (c.count-next.result + 1) c.args.value.now
     (omega (arith, c.count-next.ensures.known)) c.if-instance-next.true c.in_ok-tell.ensures.effects c.in_ok-tell.ensures.sends

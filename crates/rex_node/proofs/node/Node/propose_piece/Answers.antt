@@ -8,11 +8,11 @@ use Rattle.rex_node.proofs.node.Node.propose_piece.Goals.{then-is_err, else-is_e
 
 pub propose_value-end-requires-clause-cut : goal.propose_value-end-requires-clause-cut
 propose_value-end-requires-clause-cut g c =
-    own_cut g.K.Keeper.records c.args.svc.now g.P.Past.past (whole g.P.Past.past c.args.self.now) c.requires.node c.args.piece c.requires.can c.declarations-service.ensures.sound (whole g.P.Past.past c.replace_cut-before.new.self) c.as_slice.result.now c.replace_cut-before.ensures.replaced c.as_slice.ensures
+    own_cut c.requires.node c.requires.can c.declarations-service.ensures.sound c.replace_cut-before.ensures.replaced c.as_slice.ensures
 
 pub propose_value-end-requires-clause-fits : goal.propose_value-end-requires-clause-fits
 propose_value-end-requires-clause-fits g c =
-    own_fits g.K.Keeper.records c.args.svc.now g.P.Past.past (whole g.P.Past.past c.args.self.now) c.requires.node c.args.piece c.requires.can c.declarations-service.ensures.sound (knows g.P.Past.past c.replace_cut-before.new.self) c.as_slice.result.now
+    own_fits c.requires.node c.requires.can c.declarations-service.ensures.sound
     (ap (λ (z : NodeValue _). z.known) c.replace_cut-before.ensures.replaced) c.as_slice.ensures
 
 pub returns-clause-ends : goal.returns-clause-ends
@@ -24,8 +24,8 @@ returns-clause-ends g c =
           subst (λ (y : NodeValue _). IfOk c.propose_value-end.result (End (whole g.P.Past.past y))) (sym w.self-is)
           (if_then (ProposesCut g.K.Keeper.records g.K.Keeper.append_gives g.K.Keeper.faults c.args.svc.now g.P.Past.past c.args.piece.events c.as_slice.result.now (whole g.P.Past.past c.replace_cut-before.new.self) (whole g.P.Past.past c.propose_value-end.new.self) c.args.draft.now c.propose_value-end.new.draft)
           (End (whole g.P.Past.past c.propose_value-end.new.self)) c.propose_value-end.result
-          (λ going h. piece_ends g.K.Keeper.records c.args.svc.now g.P.Past.past (whole g.P.Past.past c.args.self.now) c.requires.node c.args.piece c.requires.can g.K.Keeper.append_gives g.K.Keeper.faults (whole g.P.Past.past c.propose_value-end.new.self) c.args.draft.now c.propose_value-end.new.draft
-          (whole g.P.Past.past c.replace_cut-before.new.self) c.replace_cut-before.ensures.replaced c.as_slice.result.now c.as_slice.ensures going h) c.propose_value-end.ensures.ends)
+          (λ going h. piece_ends c.requires.node c.requires.can g.K.Keeper.append_gives g.K.Keeper.faults (whole g.P.Past.past c.propose_value-end.new.self) c.args.draft.now c.propose_value-end.new.draft
+          c.replace_cut-before.ensures.replaced c.as_slice.ensures going h) c.propose_value-end.ensures.ends)
     ]
 
 pub returns-clause-stuck : goal.returns-clause-stuck
@@ -36,8 +36,8 @@ returns-clause-stuck g c =
           subst (λ (y : NodeValue _). OnErr c.propose_value-end.result (Short (whole g.P.Past.past y))) (sym w.self-is)
           (on_error (ProposesCutShort g.K.Keeper.records g.K.Keeper.append_gives g.K.Keeper.faults c.args.svc.now g.P.Past.past c.args.piece.events c.as_slice.result.now (whole g.P.Past.past c.replace_cut-before.new.self) (whole g.P.Past.past c.propose_value-end.new.self) c.args.draft.now)
           (Short (whole g.P.Past.past w.replace_cut.new.self)) c.propose_value-end.result
-          (piece_short g.K.Keeper.records c.args.svc.now g.P.Past.past (whole g.P.Past.past c.args.self.now) c.requires.node c.args.piece c.requires.can g.K.Keeper.append_gives g.K.Keeper.faults (whole g.P.Past.past c.propose_value-end.new.self) c.args.draft.now c.propose_value-end.new.draft
-          (whole g.P.Past.past c.replace_cut-before.new.self) (whole g.P.Past.past w.replace_cut.new.self) c.replace_cut-before.ensures.replaced c.as_slice.result.now c.as_slice.ensures c.replace_cut-before.result.counts c.replace_cut-before.ensures.before w.replace_cut.ensures.replaced)
+          (piece_short c.requires.node c.requires.can g.K.Keeper.append_gives g.K.Keeper.faults (whole g.P.Past.past c.propose_value-end.new.self) c.args.draft.now c.propose_value-end.new.draft
+           c.replace_cut-before.ensures.replaced c.as_slice.ensures c.replace_cut-before.ensures.before w.replace_cut.ensures.replaced)
           c.propose_value-end.ensures.stuck)
       | else-is_err w ↦ on_ok (Short (whole g.P.Past.past c.if-is_err.self)) c.propose_value-end.result (sym c.is_err.ensures.value ∙ w.if-is_err.false)
     ]

@@ -13,15 +13,15 @@ pub after-rest-requires-clause-to : goal.after-rest-requires-clause-to
 after-rest-requires-clause-to g c = let among = c.requires.among in omega (arith, among, many_known g.P.Past.past c.args.self.now, ap (λ (x : NodeValue _). count_of x) c.self.view_is)
 
 pub replay_values-requires-clause-sound : goal.replay_values-requires-clause-sound
-replay_values-requires-clause-sound g c = from_sound g.K.Keeper.records c.args.svc.now g.P.Past.past (whole g.P.Past.past c.args.self.now) c.requires.node c.requires.up c.args.count c.args.from.now c.requires.from c.declarations-service.ensures.sound c.declarations-service.ensures.checked
+replay_values-requires-clause-sound g c = from_sound c.requires.node c.requires.up c.args.count c.requires.from c.declarations-service.ensures.sound c.declarations-service.ensures.checked
 
 pub replay_values-requires-clause-runs : goal.replay_values-requires-clause-runs
-replay_values-requires-clause-runs g c = rest_runs g.K.Keeper.records c.args.svc.now g.P.Past.past (whole g.P.Past.past c.args.self.now) c.requires.node c.requires.up c.args.count c.args.from.now c.requires.from c.after-rest.result.now (c.after-rest.ensures ∙ ap (λ (x : NodeValue _). drop (c.args.count - x.offset) x.known) c.self.view_is
-    ∙ sym (drop_known g.P.Past.past c.args.self.now c.args.count c.requires.held))
+replay_values-requires-clause-runs g c = rest_runs c.requires.node c.requires.up c.args.count c.requires.from (c.after-rest.ensures ∙ ap (λ (x : NodeValue _). drop (c.args.count - x.offset) x.known) c.self.view_is
+    ∙ sym (drop_known g.P.Past.past c.args.self.now c.requires.held))
 
 pub returns : goal.returns
 returns g c = record {
   runs = subst (λ (o : Option StateValue). IfOk c.replay_values.result (λ s. o ≡ Some s))
-      (rest_runs_to g.K.Keeper.records c.args.svc.now g.P.Past.past (whole g.P.Past.past c.args.self.now) c.requires.node c.requires.up c.args.count c.args.from.now c.requires.from c.after-rest.result.now (c.after-rest.ensures ∙ ap (λ (x : NodeValue _). drop (c.args.count - x.offset) x.known) c.self.view_is
-      ∙ sym (drop_known g.P.Past.past c.args.self.now c.args.count c.requires.held))) c.replay_values.ensures.runs;
+      (rest_runs_to c.requires.node c.requires.up c.args.count c.requires.from (c.after-rest.ensures ∙ ap (λ (x : NodeValue _). drop (c.args.count - x.offset) x.known) c.self.view_is
+      ∙ sym (drop_known g.P.Past.past c.args.self.now c.requires.held))) c.replay_values.ensures.runs;
 }

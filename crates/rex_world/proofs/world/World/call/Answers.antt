@@ -8,22 +8,22 @@ use Rattle.rex_world.proofs.Stepping.{on_ok}
 use Rattle.rex_world.proofs.world.World.call.Goals as goal
 
 pub serve-requires-clause-node : goal.serve-requires-clause-node
-serve-requires-clause-node g c = (own_old c.args.svc.now c.args.self.now c.requires.running c.args.node c.requires.there c.index_mut.result.now c.index_mut.ensures.value).node
+serve-requires-clause-node g c = (own_old c.args.svc.now c.args.self.now c.requires.running c.args.node c.requires.there c.index_mut.ensures.value).node
 
 pub serve-requires-clause-may : goal.serve-requires-clause-may
-serve-requires-clause-may g c = may_serve c.args.svc.now c.args.self.now c.requires.running c.args.node c.requires.there c.index_mut.result.now c.index_mut.ensures.value c.args.call.now c.requires.may
+serve-requires-clause-may g c = may_serve c.args.svc.now c.args.self.now c.requires.running c.args.node c.requires.there c.index_mut.ensures.value c.args.call.now c.requires.may
 
 pub serve-requires-clause-count : goal.serve-requires-clause-count
-serve-requires-clause-count g c = room_old c.args.svc.now c.args.self.now c.requires.running c.args.node c.requires.there c.index_mut.result.now c.index_mut.ensures.value
+serve-requires-clause-count g c = room_old c.args.svc.now c.args.self.now c.requires.running c.args.node c.requires.there c.index_mut.ensures.value
 
 pub settle-requires-clause-step : goal.settle-requires-clause-step
 settle-requires-clause-step g c =
     can_be_told c.args.svc.now c.args.self.now c.requires.running c.args.node c.requires.there c.index_mut.result.now c.serve.new.node c.index_mut.ensures.value _ refl _ c.in_ok-step.step
-    (call_come c.args.svc.now c.args.self.now c.requires.running c.args.node c.requires.there c.index_mut.result.now c.index_mut.ensures.value c.args.call.now c.requires.may c.serve.new.node c.in_ok-step.step c.in_ok-step.ensures.serves)
-    (call_stays c.args.svc.now c.args.self.now c.requires.running c.args.node c.requires.there c.index_mut.result.now c.index_mut.ensures.value c.args.call.now c.requires.may c.serve.new.node c.in_ok-step.step c.in_ok-step.ensures.serves c.in_ok-step.ensures.kept)
+    (call_come c.args.svc.now c.args.self.now c.requires.running c.args.node c.requires.there c.index_mut.ensures.value c.args.call.now c.requires.may c.in_ok-step.ensures.serves)
+    (call_stays c.args.svc.now c.args.self.now c.requires.running c.args.node c.requires.there c.index_mut.ensures.value c.args.call.now c.requires.may c.in_ok-step.ensures.serves c.in_ok-step.ensures.kept)
     c.in_ok-step.ensures.serves.tells
-    (call_kept c.args.svc.now c.args.self.now c.requires.running c.args.node c.requires.there c.index_mut.result.now c.index_mut.ensures.value c.args.call.now c.requires.may)
-    (call_released c.args.svc.now c.args.self.now c.requires.running c.args.node c.requires.there c.index_mut.result.now c.index_mut.ensures.value c.args.call.now c.requires.may)
+    (call_kept c.args.svc.now c.args.self.now c.requires.running c.args.node c.requires.there c.index_mut.ensures.value c.args.call.now c.requires.may)
+    (call_released c.args.svc.now c.args.self.now c.requires.running c.args.node c.requires.there c.index_mut.ensures.value c.args.call.now c.requires.may)
 
 pub returns : goal.returns
 returns g c = record {
@@ -31,11 +31,11 @@ returns g c = record {
       on_ok c.settle.result
       (λ t. subst (ComesTo c.args.svc.now c.args.self.now c.settle.new.self c.args.told.now c.settle.new.told) (served_row (world_of c.args.svc.now c.args.self.now) c.args.node (call_at c.args.svc.now c.args.self.now c.args.node c.args.call.now))
       (came c.args.svc.now c.args.self.now c.requires.running c.args.node c.requires.there c.index_mut.result.now c.serve.new.node c.index_mut.ensures.value _ refl _ c.in_ok-step.step
-      (call_come c.args.svc.now c.args.self.now c.requires.running c.args.node c.requires.there c.index_mut.result.now c.index_mut.ensures.value c.args.call.now c.requires.may c.serve.new.node c.in_ok-step.step c.in_ok-step.ensures.serves)
-      (call_stays c.args.svc.now c.args.self.now c.requires.running c.args.node c.requires.there c.index_mut.result.now c.index_mut.ensures.value c.args.call.now c.requires.may c.serve.new.node c.in_ok-step.step c.in_ok-step.ensures.serves c.in_ok-step.ensures.kept)
+      (call_come c.args.svc.now c.args.self.now c.requires.running c.args.node c.requires.there c.index_mut.ensures.value c.args.call.now c.requires.may c.in_ok-step.ensures.serves)
+      (call_stays c.args.svc.now c.args.self.now c.requires.running c.args.node c.requires.there c.index_mut.ensures.value c.args.call.now c.requires.may c.in_ok-step.ensures.serves c.in_ok-step.ensures.kept)
       c.in_ok-step.ensures.serves.tells
-      (call_kept c.args.svc.now c.args.self.now c.requires.running c.args.node c.requires.there c.index_mut.result.now c.index_mut.ensures.value c.args.call.now c.requires.may)
-      (call_released c.args.svc.now c.args.self.now c.requires.running c.args.node c.requires.there c.index_mut.result.now c.index_mut.ensures.value c.args.call.now c.requires.may)
-      c.len-count.result (records_old c.args.svc.now c.args.self.now c.requires.running c.args.node c.requires.there c.index.result.now c.index.ensures c.len-count.result (c.len-count.ensures ∙ ap (λ (k : KeeperValue). length k.records) c.keeper.ensures)) c.settle.new.self c.args.told.now c.settle.new.told t))
+      (call_kept c.args.svc.now c.args.self.now c.requires.running c.args.node c.requires.there c.index_mut.ensures.value c.args.call.now c.requires.may)
+      (call_released c.args.svc.now c.args.self.now c.requires.running c.args.node c.requires.there c.index_mut.ensures.value c.args.call.now c.requires.may)
+      (records_old c.args.svc.now c.args.self.now c.requires.running c.args.node c.requires.there c.index.ensures (c.len-count.ensures ∙ ap (λ (k : KeeperValue). length k.records) c.keeper.ensures)) t))
       c.settle.ensures;
 }

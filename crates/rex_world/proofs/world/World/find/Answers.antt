@@ -8,10 +8,10 @@ use Rattle.rex_world.specs.World.{IsSpelled}
 use Rattle.rex_world.proofs.world.World.find.Goals as goal
 
 -- what is there under a number is spelled
-spelled_at : (net : List (List ℕ)) (number : ℕ) (bytes : List ℕ) → All IsSpelled net → message_at net number ≡ Some bytes → IsSpelled bytes
-spelled_at net zero bytes h e = absurd (cc)
-spelled_at net (suc place) bytes h e =
+spelled_at : (net : List (List ℕ)) (number : ℕ) {bytes : List ℕ} → All IsSpelled net → message_at net number ≡ Some bytes → IsSpelled bytes
+spelled_at net zero h e = absurd (cc)
+spelled_at net (suc place) {bytes} h e =
     subst IsSpelled (get_or_from_slice_get net place bytes [] e) (All-get_or IsSpelled net place [] (slice_get_within net place bytes e) h)
 
 pub read-requires : goal.read-requires
-read-requires g c = spelled_at c.args.self.now.net c.args.number c.in-Some.bytes.now c.requires (sym c.get.ensures ∙ ap option_copied c.in-Some.is)
+read-requires g c = spelled_at c.args.self.now.net c.args.number c.requires (sym c.get.ensures ∙ ap option_copied c.in-Some.is)

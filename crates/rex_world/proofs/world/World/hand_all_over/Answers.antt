@@ -6,7 +6,7 @@ use Rattle.rex_world.proofs.world.World.hand_all_over.Goals as goal
 
 pub loop-place-init : goal.loop-place-init
 loop-place-init g c = record {
-  handed = handed_first c.args.svc.now c.args.self.now.requests c.args.self.now.seed (nodes_of c.args.self.now) (world_of c.args.svc.now c.args.self.now) c.args.told.now c.args.self.now.flushed c.requires.running.flushed c.requires.running.handed;
+  handed = handed_first c.args.svc.now c.args.self.now.requests c.args.self.now.seed (nodes_of c.args.self.now) c.requires.running.flushed c.requires.running.handed;
   running = c.requires.running;
   same = record { nodes = refl; requests = refl; seed = refl };
   done = refl;
@@ -17,19 +17,19 @@ loop-place-preserved g c =
     let i = c.loop-place.invariant in
     let inside : c.loop-place.place < length c.args.self.now.handed.items = omega (arith, c.loop-place-test.true, c.len-count.ensures, c.args.self.now.handed.ok.0) in
     record {
-      handed = handed_next c.args.svc.now c.args.self.now.requests c.args.self.now.seed (nodes_of c.args.self.now) (world_of c.args.svc.now c.args.self.now) (world_of c.args.svc.now c.loop-place.self) (world_of c.args.svc.now c.hand_over.new.self)
-          c.args.told.now c.loop-place.told c.hand_over.new.told c.loop-place.place c.loop-place.waited c.in_ok-waited.waited inside i.running.kept.handed i.handed
-          (over_as c.args.svc.now c.args.self.now c.loop-place.self _ _ _ _ _ _ _ i.same c.in_ok-waited.ensures.did);
+      handed = handed_next c.args.svc.now c.args.self.now.requests c.args.self.now.seed (nodes_of c.args.self.now)
+           inside i.running.kept.handed i.handed
+          (over_as i.same c.in_ok-waited.ensures.did);
       running = c.in_ok-waited.ensures.running;
-      same = same_both c.args.self.now c.loop-place.self c.hand_over.new.self i.same c.in_ok-waited.ensures.same;
+      same = same_both i.same c.in_ok-waited.ensures.same;
       done = c.in_ok-waited.ensures.done ∙ i.done;
     }
 
 pub returns-clause-running : goal.returns-clause-running
 returns-clause-running g c =
     let i = c.loop-place.invariant in
-    let f = flushed_all c.args.svc.now c.args.self.now.requests c.args.self.now.seed (nodes_of c.args.self.now) (world_of c.args.svc.now c.args.self.now) (world_of c.args.svc.now c.loop-place.self)
-    c.args.told.now c.loop-place.told c.loop-place.place c.loop-place.waited i.handed in
+    let f = flushed_all c.args.svc.now c.args.self.now.requests c.args.self.now.seed (nodes_of c.args.self.now)
+     i.handed in
     let e : c.loop-place.place ≡ c.len-count.result =
     omega (arith, c.loop-place-test.false, c.loop-place.auto.place-end, c.len-count.ensures, c.args.self.now.handed.ok.0, c.requires.running.flushed) in
     record { service_is = i.running.service_is; checked = i.running.checked; whole = i.running.whole; few = i.running.few; kept = i.running.kept; agreed = i.running.agreed; told = i.running.told; members = i.running.members; within = i.running.within; spelled = i.running.spelled; requests = i.running.requests; clients = i.running.clients; flushed = omega (arith, e, f.0); handed = subst (λ (k : ℕ). list_all (λ (b : Bool). b) (take k c.loop-place.self.handed.items) ≡ true) e f.1 }

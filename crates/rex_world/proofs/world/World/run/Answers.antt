@@ -16,24 +16,24 @@ use Rattle.rex_world.proofs.world.World.run.Goals as goal
 
 pub returns-in_err-effects-clause-front : goal.returns-in_err-effects-clause-front
 returns-in_err-effects-clause-front g c =
-    front_next (g.K.Sink.taken c.args.sink.now) (g.K.Sink.taken c.loop-line.sink) (g.K.Sink.taken c.loop-line.sink) c.loop-line.waiting.items
+    front_next (g.K.Sink.taken c.loop-line.sink)
     (effects_text c.args.svc.now (c.loop-line.self.done + 1) (row c.args.svc.now c.loop-line.self.requests c.loop-line.self.seed (nodes_of c.loop-line.self) (world_of c.args.svc.now c.loop-line.self) c.line-item.result).effects)
-    _ (report_from c.args.svc.now c.args.scenario.now.requests c.args.scenario.now.seed c.args.scenario.now.nodes (next_of c.args.svc.now c.loop-line.self c.line-item.result) (drop (c.loop-line.line-index + 1) c.args.scenario.now.schedule))
-    _ c.loop-line.invariant.written
-    (report_next c.args.svc.now c.args.scenario.now c.loop-line.self c.line-item.result (drop (c.loop-line.line-index + 1) c.args.scenario.now.schedule) _ c.loop-line.invariant.of
-    (drop_next c.args.scenario.now.schedule c.as_slice-line-items.result.now c.loop-line.line-index c.line-item.result c.as_slice-line-items.ensures c.loop-line-test.true c.line-item.is))
-    (front_none (g.K.Sink.taken c.loop-line.sink) _)
+    (report_from c.args.svc.now c.args.scenario.now.requests c.args.scenario.now.seed c.args.scenario.now.nodes (next_of c.args.svc.now c.loop-line.self c.line-item.result) (drop (c.loop-line.line-index + 1) c.args.scenario.now.schedule))
+    c.loop-line.invariant.written
+    (report_next c.args.svc.now c.loop-line.invariant.of
+    (drop_next c.as_slice-line-items.ensures c.loop-line-test.true c.line-item.is))
+    (front_none _)
 
 pub returns-in_err-write-clause-front : goal.returns-in_err-write-clause-front
 returns-in_err-write-clause-front g c =
     let told = ap (λ (n : ℕ). c.loop-line.waiting.items ++ effects_text c.args.svc.now n c.as_slice.result.now) (done_next c.args.svc.now c.loop-line.self c.step.new.self c.line-item.result c.in_ok-effects.ensures.world)
     ∙ ap (λ (es : List Effect). c.loop-line.waiting.items ++ effects_text c.args.svc.now (c.loop-line.self.done + 1) es) (c.as_slice.ensures ∙ c.in_ok-effects.ensures.effects) in
-    front_next (g.K.Sink.taken c.args.sink.now) (g.K.Sink.taken c.loop-line.sink) (g.K.Sink.taken c.write.new.sink) c.loop-line.waiting.items
+    front_next (g.K.Sink.taken c.write.new.sink)
     (effects_text c.args.svc.now (c.loop-line.self.done + 1) (row c.args.svc.now c.loop-line.self.requests c.loop-line.self.seed (nodes_of c.loop-line.self) (world_of c.args.svc.now c.loop-line.self) c.line-item.result).effects)
-    _ (report_from c.args.svc.now c.args.scenario.now.requests c.args.scenario.now.seed c.args.scenario.now.nodes (next_of c.args.svc.now c.loop-line.self c.line-item.result) (drop (c.loop-line.line-index + 1) c.args.scenario.now.schedule))
-    _ c.loop-line.invariant.written
-    (report_next c.args.svc.now c.args.scenario.now c.loop-line.self c.line-item.result (drop (c.loop-line.line-index + 1) c.args.scenario.now.schedule) _ c.loop-line.invariant.of
-    (drop_next c.args.scenario.now.schedule c.as_slice-line-items.result.now c.loop-line.line-index c.line-item.result c.as_slice-line-items.ensures c.loop-line-test.true c.line-item.is))
+    (report_from c.args.svc.now c.args.scenario.now.requests c.args.scenario.now.seed c.args.scenario.now.nodes (next_of c.args.svc.now c.loop-line.self c.line-item.result) (drop (c.loop-line.line-index + 1) c.args.scenario.now.schedule))
+    c.loop-line.invariant.written
+    (report_next c.args.svc.now c.loop-line.invariant.of
+    (drop_next c.as_slice-line-items.ensures c.loop-line-test.true c.line-item.is))
     (subst (λ (ws : List ℕ). GrowsByFront (g.K.Sink.taken c.loop-line.sink) (g.K.Sink.taken c.write.new.sink) ws) told c.in_err-write.ensures.front)
 
 pub loop-line-preserved : goal.loop-line-preserved
@@ -45,40 +45,40 @@ loop-line-preserved g c =
     let same : IsSame c.loop-line.self c.write.new.self = subst (IsSame c.loop-line.self) (sym still) c.in_ok-effects.ensures.same in
     record {
       running = subst (IsRunning c.args.svc.now) (sym still) c.in_ok-effects.ensures.running;
-      of = still_of c.args.scenario.now c.loop-line.self c.write.new.self c.loop-line.invariant.of same;
+      of = still_of c.loop-line.invariant.of same;
       done = done_next c.args.svc.now c.loop-line.self c.write.new.self c.line-item.result world ∙ omega (arith, c.loop-line.invariant.done);
-      world = leads_next c.args.svc.now c.args.scenario.now c.args.self.now c.loop-line.self c.write.new.self c.line-item.result (drop (c.loop-line.line-index + 1) c.args.scenario.now.schedule) _ c.loop-line.invariant.of
-          (drop_next c.args.scenario.now.schedule c.as_slice-line-items.result.now c.loop-line.line-index c.line-item.result c.as_slice-line-items.ensures c.loop-line-test.true c.line-item.is)
+      world = leads_next c.args.svc.now c.args.self.now c.write.new.self c.loop-line.invariant.of
+          (drop_next c.as_slice-line-items.ensures c.loop-line-test.true c.line-item.is)
           world c.loop-line.invariant.world;
-      same = same_both c.args.self.now c.loop-line.self c.write.new.self c.loop-line.invariant.same same;
+      same = same_both c.loop-line.invariant.same same;
       written =
           subst (λ (x : ModelWorld). IsWritten (g.K.Sink.taken c.args.sink.now) (g.K.Sink.taken c.write.new.sink) c.write.new.waiting.items (report_from c.args.svc.now c.args.scenario.now.requests c.args.scenario.now.seed c.args.scenario.now.nodes x (drop (c.loop-line.line-index + 1) c.args.scenario.now.schedule)) (report_from c.args.svc.now c.args.scenario.now.requests c.args.scenario.now.seed c.args.scenario.now.nodes (world_of c.args.svc.now c.args.self.now) c.args.scenario.now.schedule))
           (sym world)
-          (written_next (g.K.Sink.taken c.args.sink.now) (g.K.Sink.taken c.loop-line.sink) (g.K.Sink.taken c.write.new.sink) c.loop-line.waiting.items
+          (written_next (g.K.Sink.taken c.write.new.sink)
           (effects_text c.args.svc.now (c.loop-line.self.done + 1) (row c.args.svc.now c.loop-line.self.requests c.loop-line.self.seed (nodes_of c.loop-line.self) (world_of c.args.svc.now c.loop-line.self) c.line-item.result).effects)
-          _ (report_from c.args.svc.now c.args.scenario.now.requests c.args.scenario.now.seed c.args.scenario.now.nodes (next_of c.args.svc.now c.loop-line.self c.line-item.result) (drop (c.loop-line.line-index + 1) c.args.scenario.now.schedule))
-          _ c.loop-line.invariant.written
-          (report_next c.args.svc.now c.args.scenario.now c.loop-line.self c.line-item.result (drop (c.loop-line.line-index + 1) c.args.scenario.now.schedule) _ c.loop-line.invariant.of
-          (drop_next c.args.scenario.now.schedule c.as_slice-line-items.result.now c.loop-line.line-index c.line-item.result c.as_slice-line-items.ensures c.loop-line-test.true c.line-item.is))
-          c.write.new.waiting.items (subst (IsWritten (g.K.Sink.taken c.loop-line.sink) (g.K.Sink.taken c.write.new.sink) c.write.new.waiting.items []) told c.in_ok-write.ensures.written));
+          (report_from c.args.svc.now c.args.scenario.now.requests c.args.scenario.now.seed c.args.scenario.now.nodes (next_of c.args.svc.now c.loop-line.self c.line-item.result) (drop (c.loop-line.line-index + 1) c.args.scenario.now.schedule))
+          c.loop-line.invariant.written
+          (report_next c.args.svc.now c.loop-line.invariant.of
+          (drop_next c.as_slice-line-items.ensures c.loop-line-test.true c.line-item.is))
+          (subst (IsWritten (g.K.Sink.taken c.loop-line.sink) (g.K.Sink.taken c.write.new.sink) c.write.new.waiting.items []) told c.in_ok-write.ensures.written));
       later = omega (arith, c.in_ok-write.ensures.later, c.loop-line.invariant.later);
     }
 
 pub returns-clause-whole : goal.returns-clause-whole
 returns-clause-whole g c =
     on_ok_weaker c.write_ends.result
-    (written_last (g.K.Sink.taken c.args.sink.now) (g.K.Sink.taken c.loop-line.sink) (g.K.Sink.taken c.write_ends.new.sink) c.loop-line.waiting.items
-    (ends_text c.args.svc.now 1 (world_of c.args.svc.now c.loop-line.self).nodes) _ _ c.loop-line.invariant.written
+    (written_last
+     c.loop-line.invariant.written
     (ap (report_from c.args.svc.now c.args.scenario.now.requests c.args.scenario.now.seed c.args.scenario.now.nodes (world_of c.args.svc.now c.loop-line.self))
-    (drop_end c.args.scenario.now.schedule c.as_slice-line-items.result.now c.loop-line.line-index c.as_slice-line-items.ensures c.loop-line-test.false)))
+    (drop_end c.as_slice-line-items.ensures c.loop-line-test.false)))
     c.write_ends.ensures.whole
 
 pub returns-clause-front : goal.returns-clause-front
 returns-clause-front g c =
-    front_next (g.K.Sink.taken c.args.sink.now) (g.K.Sink.taken c.loop-line.sink) (g.K.Sink.taken c.write_ends.new.sink) c.loop-line.waiting.items
-    (ends_text c.args.svc.now 1 (world_of c.args.svc.now c.loop-line.self).nodes) _ [] _ c.loop-line.invariant.written
+    front_next (g.K.Sink.taken c.write_ends.new.sink)
+    (ends_text c.args.svc.now 1 (world_of c.args.svc.now c.loop-line.self).nodes) [] c.loop-line.invariant.written
     (ap (report_from c.args.svc.now c.args.scenario.now.requests c.args.scenario.now.seed c.args.scenario.now.nodes (world_of c.args.svc.now c.loop-line.self))
-    (drop_end c.args.scenario.now.schedule c.as_slice-line-items.result.now c.loop-line.line-index c.as_slice-line-items.ensures c.loop-line-test.false)
+    (drop_end c.as_slice-line-items.ensures c.loop-line-test.false)
     ∙ sym (append-nil (ends_text c.args.svc.now 1 (world_of c.args.svc.now c.loop-line.self).nodes)))
     c.write_ends.ensures.front
 
@@ -90,7 +90,7 @@ returns-clause-leads g c =
       world =
           ap (world_of c.args.svc.now) still
           ∙ sym (ap (after_lines c.args.svc.now c.args.scenario.now.requests c.args.scenario.now.seed c.args.scenario.now.nodes (world_of c.args.svc.now c.loop-line.self))
-          (drop_end c.args.scenario.now.schedule c.as_slice-line-items.result.now c.loop-line.line-index c.as_slice-line-items.ensures c.loop-line-test.false))
+          (drop_end c.as_slice-line-items.ensures c.loop-line-test.false))
           ∙ c.loop-line.invariant.world;
       running = subst (IsRunning c.args.svc.now) (sym still) c.loop-line.invariant.running;
       same = subst (IsSame c.args.self.now) (sym still) c.loop-line.invariant.same;

@@ -7,7 +7,7 @@ pub returns : goal.returns
 returns g c = record {
   effects = search rules;
   world = search rules;
-  running = let running : IsRunning c.args.svc.now c.act.new.self = search rules in counted_running c.args.svc.now c.act.new.self running;
+  running = let running : IsRunning c.args.svc.now c.act.new.self = search rules in counted_running running;
   same = search rules;
   broken = tt;
 }
