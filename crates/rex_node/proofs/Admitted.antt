@@ -31,16 +31,16 @@ module _ {K : Type 0} {records : K → List (List ℕ)} {service : Declarations}
       → value_in (state_of x) variable ≡ value_in (state_after service (trace_of (take x.replayed (known (here_of records service past x).log)))) variable
   value_is variable up follows =
       let u = node.up up in
-      let none : x.acting ≡ None = idle x.acting (sym (role_active service x.known x.acceptor x.proposer x.acting u.acting) ∙ follows) in
+      let none : x.acting ≡ None = idle x.acting (sym (role_active service x.known x.acceptor _ x.acting u.acting) ∙ follows) in
       ap (λ (s : StateValue). value_in s variable)
-      (sym (state_is service (trace_of (take x.replayed x.known)) (state_of x) (u.ahead none))
+      (sym (state_is service _ _ (u.ahead none))
       ∙ ap (λ (vs : List Value). state_after service (trace_of (take x.replayed vs))) u.known)
 
   pub read_is : (variable seen : ℕ) {leads : Bool} {v : ℤ} → leads ≡ is_active (here_of records service past x).role → v ≡ value_in (state_of x) variable
       → answered x.up leads x.replayed v seen ≡ read_at service (here_of records service past x) variable seen
   read_is variable seen {v} leads_is v_is =
       ap (λ (t : Bool). answered x.up t x.replayed v seen) leads_is
-      ∙ told_same x.up (is_active (here_of records service past x).role) x.replayed seen
+      ∙ told_same x.up _ _ seen
       (λ up follows. v_is ∙ value_is variable up follows)
 
   -- ---- the number that a release of an active node gives its client

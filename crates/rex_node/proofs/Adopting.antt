@@ -85,7 +85,7 @@ above_kept k (p ∷ ps) = ap (λ (m : ℕ). cond (nat_lt k p.instance) (suc m) m
 -- one that is taken is one less
 taken_less : (k : ℕ) (ps : List Kept) {q : Kept} → best_for (suc k) ps ≡ Some q → above (suc k) ps < above k ps
 taken_less k ps {q} e =
-    let less = stopping.above_best k (map proposal_in ps) (proposal_in q) (bridges.best_is (suc k) ps ∙ ap (option_map proposal_in) e) in
+    let less = stopping.above_best k _ _ (bridges.best_is (suc k) ps ∙ ap (option_map proposal_in) e) in
     omega (arith, less, above_kept k ps, above_kept (suc k) ps)
 
 -- the report that is taken is one of them
@@ -128,13 +128,13 @@ pub goes_parts : (p : ProposerValue) {w : Option ActingValue} → may_lead p (is
 goes_parts p {w} g =
     let a = and_parts (not (is_some w) && is_none p.open_instance) (not (is_candidate p)) g in
     let b = and_parts (not (is_some w)) (is_none p.open_instance) a.0 in
-    (no_acting w b.0, no_open p.open_instance b.1, not_not (counting.is_majority p.nodes (length p.promised)) a.1)
+    (no_acting w b.0, no_open _ b.1, not_not _ a.1)
 
 pub chooses_of : (o : Option ProposerValue) {w : Option ActingValue} {i : ℕ} {v : Value} → goes_on o (is_some w) ≡ true → reported_value o i ≡ Some v → Chooses o w i v
 chooses_of None g r = absurd (cc)
 chooses_of (Some p) {w} {i} {v} g r =
     let a = goes_parts p g in
-    let q = reported_at (best_for i p.reported) r in
+    let q = reported_at _ r in
     record {
       p = p;
       p_is = refl;
@@ -175,7 +175,7 @@ module _ {K : Type 0} {records : K → List (List ℕ)} (gives : K → List ℕ 
   less = taken_less (length x.known) c.p.reported (ap (λ (j : ℕ). best_for j c.p.reported) (sym next_suc) ∙ c.q_is)
 
   best_here : best i (map proposal_in c.p.reported) ≡ Some (proposal_in c.q)
-  best_here = bridges.best_is i c.p.reported ∙ ap (option_map proposal_in) c.q_is
+  best_here = bridges.best_is i _ ∙ ap (option_map proposal_in) c.q_is
 
   majority : is_majority x.nodes c.p.promised ≡ true
   majority =
@@ -185,11 +185,11 @@ module _ {K : Type 0} {records : K → List (List ℕ)} (gives : K → List ℕ 
   -- what it asks for of its proposal
   pub chosen_there : ballots.IsInstance i
   chosen_there =
-      let b = subst (BestOk i (map proposal_in c.p.reported)) best_here (best_ok i (map proposal_in c.p.reported)) in
+      let b = subst (BestOk i (map proposal_in c.p.reported)) best_here (best_ok i _) in
       fits_instance (subst ranges.IsInstance b.1 (lead_fits.reported (proposal_in c.q) b.0).instance)
 
   pub chosen_short : IsValue v
-  chosen_short = subst IsValue c.v_is (taken_in (λ (q : Kept). IsValue q.value) i c.p.reported c.q_is proposes.short)
+  chosen_short = subst IsValue c.v_is (taken_in (λ (q : Kept). IsValue q.value) i _ c.q_is proposes.short)
 
   pub chosen_leads : IsSome x.proposer
   chosen_leads = subst (λ (o : Option ProposerValue). IsSome o) (sym c.p_is) refl
@@ -257,7 +257,7 @@ module _ {K : Type 0} {records : K → List (List ℕ)} (gives : K → List ℕ 
   adopt_stuck {y} {before} (inr b) =
       inr (breaks_as (settle_is before)
       (subst (λ (o : Option ProposerValue). IfSome o (λ (q : ProposerValue). (k : CallHere → CallHere) → LosesFirst k → BreaksOff records gives faults service past (λ d. propose x.nodes x.id told d (lead_of x.acceptor q (is_some x.acting)) i v k) x y before)) c.p_is b
-      (settles (turns - 1)) (settle_loses (turns - 1) x.nodes x.id sv)))
+      (settles (turns - 1)) (settle_loses _ x.nodes x.id sv)))
 
   -- ---- the proposal is open
 
@@ -299,7 +299,7 @@ module _ {K : Type 0} {records : K → List (List ℕ)} (gives : K → List ℕ 
       rests_y : (f : Option Failure) → settles (turns - 1) (led role_with (armed_with f (so_far records service past y mid))) ≡ armed_with f (so_far records service past y mid)
       rests_y f =
           ap (λ (r : Role Value). settles (turns - 1) (led r (armed_with f (so_far records service past y mid)))) (sym role_y)
-          ∙ stops (turns - 1) role_y
+          ∙ stops _ role_y
 
       pub adopt_rests : GoesRound records gives faults service past turns x y before mid (Done On)
       adopt_rests = (
@@ -360,7 +360,7 @@ module _ {K : Type 0} {records : K → List (List ℕ)} (gives : K → List ℕ 
       pub alone_fits : RunsOn service (settles turns) (so_far records service past x before) → values_fit service (y.known ++ v ∷ []) ≡ true
       alone_fits runs =
           subst (λ (vs : List Value). values_fit service (vs ++ v ∷ []) ≡ true) (sym (alone_kept.up alone_up).known)
-          (fits_before good checked (settle_learns x.nodes sv x.id (turns - 2) d)
+          (fits_before good checked (settle_learns x.nodes sv x.id _ d)
           (subst (λ (e : CallHere). values_fit service (known e.node.log) ≡ true) (decides (so_far records service past y mid)) (rest_runs past x y before mid leads_y runs)))
         where
           d : CallHere
@@ -383,7 +383,7 @@ module _ {K : Type 0} {records : K → List (List ℕ)} (gives : K → List ℕ 
       -- up to where the model decides
       leads_decide : Leads records gives faults service (settles turns) (λ d. decide x.nodes sv x.id d l i v (settles (turns - 2))) x.keeper y.keeper (so_far records service past x before) (so_far records service past y mid)
       leads_decide = leads_then records gives faults service leads_y
-          (leads_same records gives faults service refl (λ f. decides (armed_with f (so_far records service past y mid))))
+          (leads_same records gives faults service refl (λ f. decides _))
 
       -- the append of the known value failed
       pub alone_down : {z : NodeValue K} (after : Draft) → IsSame x z → Learns records gives faults service past i v y z mid after Down → GoesRound records gives faults service past turns x z before after (Done Down)
@@ -404,12 +404,12 @@ module _ {K : Type 0} {records : K → List (List ℕ)} (gives : K → List ℕ 
         where
           by : LearnsShort records gives faults service past i v y z mid → IsStuck records gives faults service past (λ d. decide x.nodes sv x.id d l i v (settles (turns - 2))) y z mid
           by (inl s) = inl s
-          by (inr b) = inr (broken_at b (settles (turns - 2)) (settle_loses (turns - 2) x.nodes x.id sv))
+          by (inr b) = inr (broken_at b (settles (turns - 2)) (settle_loses _ x.nodes x.id sv))
 
       -- it knows the value, and goes on
       pub alone_again : {z : NodeValue K} (after : Draft) → Learns records gives faults service past i v y z mid after On → z ≡ record (knowing service y i v) { keeper = z.keeper } → length (records y.keeper) < length (records z.keeper) → GoesRound records gives faults service past turns x z before after Again
       alone_again {z} after learns parts_z longer_z =
-          let o = learns_at z after On learns (settles (turns - 2)) in
+          let o = learns_at z after On learns _ in
           ((leads_then records gives faults service leads_decide o.0, o.1, o.2), may_z, free_z, omega (arith, may_p, less), omega (arith, longer, longer_z))
         where
           z_is : z ≡ record (knowing service y_at i v) { keeper = z.keeper }

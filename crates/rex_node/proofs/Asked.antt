@@ -78,7 +78,7 @@ module _ {V : Type 0} (me to first : ℕ) where
     reaches = omega (arith, skips)
 
     many : length (tell me to first 1 known) ≡ length known - skipped
-    many = ap length whole ∙ tells_many (1 + skipped) (drop skipped known) reaches ∙ length-drop skipped known
+    many = ap length whole ∙ tells_many _ _ reaches ∙ length-drop skipped known
 
     -- the next one
     pub told_next : {place : ℕ} {v : V} (w : V) → skipped ≤ place → place < length known → v ≡ get_or known place w
@@ -89,7 +89,7 @@ module _ {V : Type 0} (me to first : ℕ) where
         ∙ take-suc (tell me to first 1 known) (place - skipped) (chose 0 v) (omega (arith, many, l, h))
         ∙ ap (λ (m : Message V). take (place - skipped) (tell me to first 1 known) ++ m ∷ [])
         (ap (λ (ms : List (Message V)). get_or ms (place - skipped) (chose 0 v)) whole
-        ∙ tells_at (drop skipped known) (place - skipped) (chose 0 v) w reaches (omega (arith, length-drop skipped known, l, h))
+        ∙ tells_at _ _ _ w reaches (omega (arith, length-drop skipped known, l, h))
         ∙ ap (λ (j : ℕ). chose j (get_or (drop skipped known) (place - skipped) w)) (at place skipped l)
         ∙ ap (chose (place + 1)) (get_or-drop skipped known (place - skipped) w ∙ ap (λ (j : ℕ). get_or known j w) (back place skipped l) ∙ sym e)))
       where

@@ -41,11 +41,11 @@ module _ {K : Type 0} (records : K → List (List ℕ)) {service : Declarations}
 
   -- the message says what the model's does
   content_is : (snapshot : List ℕ) → content_in past (sent.Snapshot x.base snapshot) ≡ Snapshot (take (base (here_of records service past x).log) (known (here_of records service past x).log))
-  content_is snapshot = state_told past (known (here_of records service past x).log) x.base snapshot begins based ∙ ap (λ (n : ℕ). Snapshot (take n (known (here_of records service past x).log))) u.base
+  content_is snapshot = state_told past _ x.base snapshot begins based ∙ ap (λ (n : ℕ). Snapshot (take n (known (here_of records service past x).log))) u.base
 
   pub tells_base : {before after : Draft} {to : ℕ} → TellsBase service x to before after → so_far records service past x after ≡ answer_base x.id to (so_far records service past x before)
   tells_base {before} {after} {to} t =
-      sends_to records service past x before after to (sent.Snapshot x.base t.snapshot) t.sends
+      sends_to records service past x before after to _ t.sends
       ∙ ap (λ (c : model.Content Value). send (so_far records service past x before) (answer x.id to c)) (content_is t.snapshot)
 
   -- and its state is the one to which these values run
@@ -77,10 +77,10 @@ module _ (service : Declarations) (past : List Value) (before after : Draft) (fr
 module _ {K : Type 0} (records : K → List (List ℕ)) {service : Declarations} (past : List Value) {x : NodeValue K} (u : IsUp service x (here_of records service past x)) where
   -- the state at the base is sound, and has a spelling
   pub start_sound : IsService service → IsChecked service → IsSound service x.start
-  start_sound good checked = run_keeps service (start_of service) x.start (trace_of (take x.base x.known)) good (start_keeps service good checked) u.start
+  start_sound good checked = run_keeps service _ x.start _ good (start_keeps service good checked) u.start
 
   pub start_limited : IsService service → IsChecked service → IsLimited x.start
   start_limited good checked = front_limited records past u good checked (logged_of records service past x u).few u.start
 
   pub base_tells : Begins (known (here_of records service past x).log) past → {before after : Draft} {to : ℕ} → before.sends.items ≡ [] → TellsBase service x to before after → AreTold service past after.sends.items
-  base_tells begins {before} {after} {to} none t = one_told service past before after x.id to (sent.Snapshot x.base t.snapshot) none t.sends (base_told records u begins t)
+  base_tells begins {before} {after} {to} none t = one_told service past before after x.id to _ none t.sends (base_told records u begins t)

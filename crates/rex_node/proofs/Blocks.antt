@@ -30,13 +30,13 @@ module _ {K : Type 0} (records : K → List (List ℕ)) {service : Declarations}
   one_leads : {x : NodeValue K} {a : ActingValue} (e : Event) → IsResting records service past x → if_up x.up o ≡ None → Some a ≡ x.acting
       → here_of records service past (record x { acting = Some (next_work service a e) }) ≡ (takes.take_event service e (begin (here_of records service past x))).node
   one_leads {x} {a} e node due has_a =
-      given_leads refl node o due has_a (taken_turn service a.recorder.state a.recorder.queue (length a.recorder.live) e) refl
+      given_leads refl node o due has_a _ refl
       ∙ ap (λ (t : Turn). (takes.taken t (begin (here_of records service past x))).node) (given_of_node {z = x} refl node o due has_a e)
 
   one_stays : {x : NodeValue K} {a : ActingValue} (e : Event) → IsResting records service past x → if_up x.up o ≡ None → Some a ≡ x.acting → StaysResting records service past x (record x { acting = Some (next_work service a e) })
   one_stays {x} {a} e node due has_a =
-      given_stays refl node o due has_a (taken_turn service a.recorder.state a.recorder.queue (length a.recorder.live) e) refl
-      (taken_keeps service a.recorder e good (has {z = x} refl node o due has_a).recorder) good
+      given_stays refl node o due has_a _ refl
+      (taken_keeps service _ e good (has {z = x} refl node o due has_a).recorder) good
 
   takes_each : (x : NodeValue K) {a : ActingValue} (es : List Event) → IsResting records service past x → if_up x.up o ≡ None → Some a ≡ x.acting → TakesEach records service past x es (given_all service a es)
   takes_each x [] node due has_a = record {

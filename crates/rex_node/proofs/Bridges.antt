@@ -126,7 +126,7 @@ best_is i ps = by (best_for i ps) (best_reports.is i ps)
     found : (b : Kept) → IsBest i ps b → best i (map proposal_in ps) ≡ Some (proposal_in b)
     found b h =
         ap (λ qs. best i (map proposal_in qs)) h.stands ∙ ap (best i) (map-append proposal_in h.before (b ∷ h.after))
-        ∙ best_after h.before (proposal_in b ∷ map proposal_in h.after) h.first
+        ∙ best_after h.before _ h.first
         (ap (λ t. cond t (better (proposal_in b) (best i (map proposal_in h.after))) (best i (map proposal_in h.after))) (eq-eqb b.instance i h.about) ∙ best_first h.after h.greatest)
 
     by : (o : Option Kept) → MatchOption o (HasNone i ps) (IsBest i ps) → best i (map proposal_in ps) ≡ option_map proposal_in o

@@ -92,7 +92,7 @@ module _ {K : Type 0} {records : K → List (List ℕ)} (gives : K → List ℕ 
   -- the ballot is the model's
   elect_is : (f : Option Failure) (d : CallHere) → d.node.log ≡ log → whole d ≡ stand x.nodes (service_of service x.seed) x.id b d
   elect_is f d e =
-      let l = left_is x.acceptor.promised few_nodes left in
+      let l = left_is _ few_nodes left in
       let promised : x.acceptor.promised ≡ promise d.node.log = u.promised ∙ ap promise (sym e) in
       ap (λ (p : ℕ). cond (nat_lt 4294967296 (round_of (ballot_above x.id p))) (say (effect.Spent x.id) d) (stand x.nodes (service_of service x.seed) x.id (ballot_above x.id p) d)) (sym promised)
       ∙ ap (λ (t : Bool). cond t (say (effect.Spent x.id) d) (stand x.nodes (service_of service x.seed) x.id (ballot_above x.id x.acceptor.promised) d)) l.1
@@ -109,10 +109,10 @@ module _ {K : Type 0} {records : K → List (List ℕ)} (gives : K → List ℕ 
     begun = so_far records service past x before
 
     then_loses : LosesFirst then_on
-    then_loses d = settle_loses (enough (own_reports log)) x.nodes x.id (service_of service x.seed) (send (say (effect.Candidate x.id b) (with_role (Leading (candidacy x.id b log)) d)) (others x.nodes x.id (Prepare b (suc (length (known log))))))
+    then_loses d = settle_loses _ x.nodes x.id _ (send (say (effect.Candidate x.id b) (with_role (Leading (candidacy x.id b log)) d)) (others x.nodes x.id (Prepare b (suc (length (known log))))))
 
     appends_is : (f : Option Failure) → whole (armed_with f begun) ≡ append f x.id (Promised b) (armed_with f begun) then_on
-    appends_is f = elect_is f (armed_with f begun) refl
+    appends_is f = elect_is f _ refl
 
     module _ (y : NodeValue K) (mid : Draft) where
       pub stand_down : Appends records faults gives x y before mid (record_bytes (kept.Promised b)) Down → Ends records gives faults service past whole x y before mid Down
@@ -148,7 +148,7 @@ module _ {K : Type 0} {records : K → List (List ℕ)} (gives : K → List ℕ 
         lead_fits : LeadFits (length x.known) (candidacy x.id b log)
         lead_fits = record {
           ballot = ballot_fits least.is;
-          reported = λ p i. accepted_fit log u.numbers.log p (in_from_on (suc (length (known log))) p (accepted log) i);
+          reported = λ p i. accepted_fit log u.numbers.log p (in_from_on _ p _ i);
           next = λ p e. absurd (none p e);
         }
           where

@@ -94,13 +94,13 @@ pub record CountsTo (o : Option ProposerValue) (b from have : ℕ) : Type 0 wher
 pub counts_to : (o : Option ProposerValue) {b from have : ℕ} {v : Vote} → v ≡ vote_on o b from → v ≡ NotYet have → CountsTo o b from have
 counts_to None {b} {have} e k = absurd (let n : NotYet have ≡ Ignored (Ballot b 0) = sym k ∙ e in cc)
 counts_to (Some p) {b} {from} {have} e k =
-    let r = not_yet_is (promise_refusal p b from) p.nodes (sym e ∙ k) in
+    let r = not_yet_is _ p.nodes (sym e ∙ k) in
     record { counts = record { proposer = p; is = refl; new = r.0; majority = r.1 }; have_is = r.2 }
 
 pub counts_many : (o : Option ProposerValue) {b from : ℕ} {v : Vote} → v ≡ vote_on o b from → v ≡ Quorum → Counts o b from true
 counts_many None {b} e k = absurd (let n : Quorum ≡ Ignored (Ballot b 0) = sym k ∙ e in cc)
 counts_many (Some p) {b} {from} e k =
-    let r = quorum_is (promise_refusal p b from) p.nodes (length p.promised + 1) (sym e ∙ k) in
+    let r = quorum_is _ p.nodes _ (sym e ∙ k) in
     record { proposer = p; is = refl; new = r.0; majority = r.1 }
 
 -- ---- what the model makes of a promise
@@ -125,7 +125,7 @@ module _ (n : ℕ) (sv : Service Value StateValue) (me from b : ℕ) (ps : List 
   late candidate = cond (not candidate) (Some Late) again
 
   once_made : cond (is_in from p.promised) (say (effect.IgnoredAgain from) d) (hear n sv me (heard own from ps) d) ≡ made again
-  once_made = ap (λ (t : Bool). cond t (say (effect.IgnoredAgain from) d) (hear n sv me (heard own from ps) d)) (in_counted from p.promised) ∙ go (is_counted from p.promised)
+  once_made = ap (λ (t : Bool). cond t (say (effect.IgnoredAgain from) d) (hear n sv me (heard own from ps) d)) (in_counted from _) ∙ go (is_counted from p.promised)
     where
       go : (t : Bool) → cond t (say (effect.IgnoredAgain from) d) (hear n sv me (heard own from ps) d) ≡ made (cond t (Some (Again from)) None)
       go true = refl
@@ -147,7 +147,7 @@ module _ (n : ℕ) (sv : Service Value StateValue) (me from b : ℕ) (ps : List 
       ∙ go (b == p.ballot)
     where
       go : (t : Bool) → cond t (on_own_promise n sv me from ps d own (open_of a p.open_instance)) (say (effect.IgnoredBallot b p.ballot) d) ≡ made (cond (not t) (Some (Ballot b p.ballot)) (late (is_candidate p)))
-      go true = own_made p.open_instance h e
+      go true = own_made _ h e
       go false = refl
 
 -- a promise that is counted finds no open proposal, at a node that isn't active
@@ -205,7 +205,7 @@ module _ {K : Type 0} {records : K → List (List ℕ)} (gives : K → List ℕ 
       made_is : (f : Option Failure) {r : Option Why} → promise_refusal p b from ≡ r → whole (armed_with f begun) ≡ made x.nodes (service_of service x.seed) x.id from b (map proposal_in reported) x.acceptor p (is_some x.acting) (armed_with f begun) r
       made_is f k =
           whole_at f e
-          ∙ promise_made x.nodes (service_of service x.seed) x.id from b (map proposal_in reported) x.acceptor p (is_some x.acting) (armed_with f begun) proposes.open_one gone
+          ∙ promise_made x.nodes _ x.id from b _ x.acceptor p _ _ proposes.open_one gone
           ∙ ap (made x.nodes (service_of service x.seed) x.id from b (map proposal_in reported) x.acceptor p (is_some x.acting) (armed_with f begun)) k
 
     -- ---- one that is ignored
@@ -213,21 +213,21 @@ module _ {K : Type 0} {records : K → List (List ℕ)} (gives : K → List ℕ 
     module _ {why : Why} (vote_is : vote_on x.proposer b from ≡ Ignored why) where
       same_at : (o : Option ProposerValue) → vote_on o b from ≡ Ignored why → option_map (λ (p : ProposerValue). promise_counted p b from reported) o ≡ o
       same_at None k = refl
-      same_at (Some p) k = ap (λ (r : Option Why). Some (with_promise r p from reported)) (ignored_is (promise_refusal p b from) p.nodes (length p.promised + 1) k)
+      same_at (Some p) k = ap (λ (r : Option Why). Some (with_promise r p from reported)) (ignored_is _ p.nodes _ k)
 
       pub ignored_same : {z : NodeValue K} → z ≡ counting x b from reported → z ≡ x
-      ignored_same z_is = z_is ∙ ap (λ (o : Option ProposerValue). record x { proposer = o }) (same_at x.proposer vote_is)
+      ignored_same z_is = z_is ∙ ap (λ (o : Option ProposerValue). record x { proposer = o }) (same_at _ vote_is)
 
       says_at : {f : Option Failure} (o : Option ProposerValue) → x.proposer ≡ o → vote_on o b from ≡ Ignored why → whole (armed_with f begun) ≡ armed_with f (say (told_of why) begun)
       says_at {f} None e k = whole_at f e ∙ ap (λ (w : Why). say (told_of w) (armed_with f begun)) (let n : Ballot b 0 ≡ why = cc in n)
-      says_at {f} (Some p) e k = made_is e f (ignored_is (promise_refusal p b from) p.nodes (length p.promised + 1) k)
+      says_at {f} (Some p) e k = made_is e f (ignored_is _ p.nodes _ k)
 
       pub promise_ignored : {z : NodeValue K} → z ≡ counting x b from reported → {told : Effect} → told ≡ told_of why → (after : Draft) → after.effects.items ≡ before.effects.items ++ told ∷ [] → after.sends.items ≡ before.sends.items
           → EndsWell records gives faults service past x z before after whole
       promise_ignored {z} z_is told_is after effects sends =
           subst (λ (n : NodeValue K). EndsWell records gives faults service past x n before after whole) (sym (ignored_same z_is))
           (ends_same records gives faults service past x x before after refl node up
-          (λ f. says_at x.proposer refl vote_is
+          (λ f. says_at _ refl vote_is
           ∙ ap (armed_with f) (sym (far records service past x after (effects ∙ ap (λ (t : Effect). before.effects.items ++ t ∷ []) told_is) (ap (map (message_in past)) sends)))))
 
     -- ---- one that is counted
@@ -246,7 +246,7 @@ module _ {K : Type 0} {records : K → List (List ℕ)} (gives : K → List ℕ 
           ∙ ap (λ (r : Option Why). record x { proposer = Some (with_promise r p from reported) }) new
 
       free : (is_some x.acting ≡ false) × (p.open_instance ≡ None)
-      free = free_of (is_some x.acting) p.open_instance (gone e) (no_second (not (b == p.ballot)) (not (is_candidate p)) (is_counted from p.promised) (Ballot b p.ballot) Late (Again from) new)
+      free = free_of _ _ (gone e) (no_second _ _ _ _ Late _ new)
 
       -- it is what the model leads with then
       heard_is : lead_of x.acceptor more (is_some x.acting) ≡ heard (lead_of x.acceptor p (is_some x.acting)) from (map proposal_in reported)
@@ -257,7 +257,7 @@ module _ {K : Type 0} {records : K → List (List ℕ)} (gives : K → List ℕ 
           ∙ ap (λ (ps : List (Proposal Value)). record (lead_of x.acceptor more false) { proposal = None; accepted_by = []; reported = ps }) (map-append proposal_in p.reported reported)
 
       counted : AreCounted p.nodes more.promised
-      counted = counted_push p.nodes p.promised from (proposes e).once.promises (subst (λ (n : ℕ). IsOneOf n from) (sym (proposes e).nodes_are) one_of) (new_promise p b from new)
+      counted = counted_push p.nodes _ from (proposes e).once.promises (subst (λ (n : ℕ). IsOneOf n from) (sym (proposes e).nodes_are) one_of) (new_promise p b from new)
 
       length_more : length more.promised ≡ length p.promised + 1
       length_more = length-append p.promised (from ∷ [])
@@ -289,7 +289,7 @@ module _ {K : Type 0} {records : K → List (List ℕ)} (gives : K → List ℕ 
       z_role : LeadFits (length x.known) (lead_of x.acceptor p (is_some x.acting)) → LeadFits (length x.known) (lead_of x.acceptor more (is_some x.acting))
       z_role h = record {
         ballot = h.ballot;
-        reported = λ q i. both_fit (map proposal_in p.reported) (map proposal_in reported) h.reported (reports_fit reported all) (subst (IsIn q) (map-append proposal_in p.reported reported) i);
+        reported = λ q i. both_fit _ _ h.reported (reports_fit reported all) (subst (IsIn q) (map-append proposal_in p.reported reported) i);
         next = h.next;
       }
 

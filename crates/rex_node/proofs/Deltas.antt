@@ -80,7 +80,7 @@ module _ (service : Declarations) where
   value_good offset instance value rs h = by (nat_lt offset instance) h
     where
       by : (t : Bool) → All SpellsDelta (cons_option (if t then Some value else None) (known_above offset rs)) → (◌≡◌ {A = Option ℕ} (if t then bad_at (delta_in value) else None) None) × All SpellsDelta (known_above offset rs)
-      by true all = (good_delta (delta_in value) (All-head SpellsDelta value (known_above offset rs) all), All-tail SpellsDelta value (known_above offset rs) all)
+      by true all = (good_delta _ (All-head SpellsDelta value (known_above offset rs) all), All-tail SpellsDelta value (known_above offset rs) all)
       by false all = (refl, all)
 
   -- so none of the records is bad
@@ -92,17 +92,17 @@ module _ (service : Declarations) where
       let parts = value_good offset i v rs all in
       ap (λ (o : Option ℕ). place_or n o (first_bad service offset (suc n) rs)) parts.0 ∙ none_bad offset rs (suc n) before parts.1 last
   none_bad offset (Checkpoint k bytes ∷ rs) n before all last =
-      ap (λ (o : Option ℕ). place_or n o (first_bad service offset (suc n) rs)) (state_good k bytes rs last) ∙ none_bad offset rs (suc n) (Some (record { deltas = k; snapshot = bytes })) all last
+      ap (λ (o : Option ℕ). place_or n o (first_bad service offset (suc n) rs)) (state_good k bytes rs last) ∙ none_bad offset rs (suc n) _ all last
   none_bad offset (Dropped k ∷ rs) n before all last = none_bad offset rs (suc n) before all last
   none_bad offset (Transferred k bytes ∷ rs) n before all last =
-      ap (λ (o : Option ℕ). place_or n o (first_bad service offset (suc n) rs)) (state_good k bytes rs last) ∙ none_bad offset rs (suc n) (Some (record { deltas = k; snapshot = bytes })) all last
+      ap (λ (o : Option ℕ). place_or n o (first_bad service offset (suc n) rs)) (state_good k bytes rs last) ∙ none_bad offset rs (suc n) _ all last
 
   -- so it is of what they say of a node
   pub none_bad_in : {x : Recovered} (rs : List Rec) {last : Option ℕ} → x ≡ recovered rs → last ≡ bad_at (state_at service x.snapshot) → is_some last ≡ false → All SpellsDelta x.known → None ≡ first_bad service x.offset 1 rs
   none_bad_in rs {last} is said good deltas =
       let all : All SpellsDelta (known rs) = subst (λ (y : Recovered). All SpellsDelta y.known) is deltas in
       let spelled : IsSpelled None rs = subst (λ (y : Recovered). bad_at (state_at service y.snapshot) ≡ None) is (sym said ∙ nowhere last good) in
-      sym (ap (λ (y : Recovered). first_bad service y.offset 1 rs) is ∙ none_bad (offset rs) rs 1 None all spelled)
+      sym (ap (λ (y : Recovered). first_bad service y.offset 1 rs) is ∙ none_bad _ rs 1 None all spelled)
 
   -- ---- where none is bad
 
@@ -113,7 +113,7 @@ module _ (service : Declarations) where
   -- a value that isn't forgotten spells a delta
   value_known : (offset instance : ℕ) (value : List ℕ) (rs : List Rec) (t : Bool) → ◌≡◌ {A = Option ℕ} (if t then bad_at (delta_in value) else None) None → All SpellsDelta (known_above offset rs)
       → All SpellsDelta (cons_option (if t then Some value else None) (known_above offset rs))
-  value_known offset instance value rs true here later = All-cons SpellsDelta value (known_above offset rs) (delta_good (delta_in value) here) later
+  value_known offset instance value rs true here later = All-cons SpellsDelta value (known_above offset rs) (delta_good _ here) later
   value_known offset instance value rs false here later = later
 
   -- so each value that is known does
@@ -122,13 +122,13 @@ module _ (service : Declarations) where
   values_good offset (Promised b ∷ rs) n good = values_good offset rs (suc n) good
   values_good offset (Accepted b i v ∷ rs) n good = values_good offset rs (suc n) good
   values_good offset (Known i v ∷ rs) n good =
-      let parts = rest_good n (if nat_lt offset i then bad_at (delta_in v) else None) good in
-      value_known offset i v rs (nat_lt offset i) parts.0 (values_good offset rs (suc n) parts.1)
+      let parts = rest_good n _ good in
+      value_known offset i v rs _ parts.0 (values_good offset rs (suc n) parts.1)
   values_good offset (Checkpoint k bytes ∷ rs) n good =
-      values_good offset rs (suc n) (rest_good n (if has_state rs then None else bad_at (state_in service bytes)) good).1
+      values_good offset rs (suc n) (rest_good n _ good).1
   values_good offset (Dropped k ∷ rs) n good = values_good offset rs (suc n) good
   values_good offset (Transferred k bytes ∷ rs) n good =
-      values_good offset rs (suc n) (rest_good n (if has_state rs then None else bad_at (state_in service bytes)) good).1
+      values_good offset rs (suc n) (rest_good n _ good).1
 
   pub known_good : {kept : List (List ℕ)} {x : Recovered} → IsFound service kept x → All SpellsDelta x.known
-  known_good f = subst (λ (y : Recovered). All SpellsDelta y.known) (sym f.read.is) (values_good (offset f.read.rs) f.read.rs 1 f.good)
+  known_good f = subst (λ (y : Recovered). All SpellsDelta y.known) (sym f.read.is) (values_good _ f.read.rs 1 f.good)

@@ -115,26 +115,26 @@ LeadsLater k (Some p) = IsLater k p.open_instance
 open_later : (a : AcceptorValue) (b : ℕ) {k many : ℕ} (o : Option ℕ) → HasOpen a b o → ((p : Proposal Value) → open_of a o ≡ Some p → p.instance ≡ suc many) → k ≤ many → IsLater k o
 open_later a b None h next l = tt
 open_later a b {many} (Some i) h next l =
-    let same : h.0.instance ≡ i = found_instance a.accepted h.1 in
+    let same : h.0.instance ≡ i = found_instance _ h.1 in
     let at : h.0.instance ≡ suc many = next (proposal_in h.0) (ap (option_map proposal_in) h.1) in
     omega (arith, l, same, at)
 
 leads_later : (nodes id : ℕ) (a : AcceptorValue) {k many : ℕ} (active : Bool) (o : Option ProposerValue) → IsProposer nodes id a o → RoleFits many (role_of a o active) → k ≤ many → LeadsLater k o
 leads_later nodes id a active None h fits l = tt
-leads_later nodes id a {k} {many} active (Some p) h fits l = open_later a p.ballot p.open_instance h.open_one (λ q e. (fits.next q e).0) l
+leads_later nodes id a {k} {many} active (Some p) h fits l = open_later a p.ballot _ h.open_one (λ q e. (fits.next q e).0) l
 
 -- so its open proposal stays
 open_kept : (a : AcceptorValue) (k : ℕ) (o : Option ℕ) → IsLater k o → open_of (forgetting a k) o ≡ open_of a o
 open_kept a k None l = refl
-open_kept a k (Some i) l = ap (option_map proposal_in) (found_later a.accepted l)
+open_kept a k (Some i) l = ap (option_map proposal_in) (found_later _ l)
 
 has_kept : (a : AcceptorValue) (b k : ℕ) (o : Option ℕ) → IsLater k o → HasOpen a b o → HasOpen (forgetting a k) b o
 has_kept a b k None l h = tt
-has_kept a b k (Some i) l h = (h.0, found_later a.accepted l ∙ h.1, h.2)
+has_kept a b k (Some i) l h = (h.0, found_later _ l ∙ h.1, h.2)
 
 role_kept : (a : AcceptorValue) (k : ℕ) (active : Bool) (o : Option ProposerValue) → LeadsLater k o → role_of (forgetting a k) o active ≡ role_of a o active
 role_kept a k active None l = refl
-role_kept a k active (Some p) l = ap (λ (q : Option (Proposal Value)). Leads (record (lead_of a p active) { proposal = q })) (open_kept a k p.open_instance l)
+role_kept a k active (Some p) l = ap (λ (q : Option (Proposal Value)). Leads (record (lead_of a p active) { proposal = q })) (open_kept a k _ l)
 
 proposer_kept : (nodes id : ℕ) (a : AcceptorValue) (k : ℕ) (o : Option ProposerValue) → LeadsLater k o → IsProposer nodes id a o → IsProposer nodes id (forgetting a k) o
 proposer_kept nodes id a k None l h = tt
@@ -145,13 +145,13 @@ proposer_kept nodes id a k (Some p) l h = record {
   once = h.once;
   short = h.short;
   counted = h.counted;
-  open_one = has_kept a p.ballot k p.open_instance l h.open_one;
+  open_one = has_kept a p.ballot k _ l h.open_one;
 }
 
 acting_kept : (service : Declarations) (values : List Value) (a : AcceptorValue) (k : ℕ) (o : Option ProposerValue) (w : Option ActingValue) → LeadsLater k o → IsActing service values a o w → IsActing service values (forgetting a k) o w
 acting_kept service values a k o None l h = tt
 acting_kept service values a k None (Some w) l h = h
-acting_kept service values a k (Some p) (Some w) l h = subst (λ (q : Option (Proposal Value)). ActsFor service values q w) (sym (open_kept a k p.open_instance l)) h
+acting_kept service values a k (Some p) (Some w) l h = subst (λ (q : Option (Proposal Value)). ActsFor service values q w) (sym (open_kept a k _ l)) h
 
 -- ---- the call
 
@@ -169,7 +169,7 @@ module _ {K : Type 0} (records : K → List (List ℕ)) (gives : K → List ℕ 
   b = beside_of records service past x u
 
   later : LeadsLater x.base x.proposer
-  later = leads_later x.nodes x.id x.acceptor (is_some x.acting) x.proposer b.proposer b.role l.few
+  later = leads_later x.nodes x.id _ _ _ b.proposer b.role l.few
 
   pub drop_spelled : HasSpelling (kept.Dropped x.base)
   drop_spelled = record { in_range = record { first = omega (arith, held); last = omega (arith, l.few, l.numbers.few, ap (λ (vs : List Value). length vs) l.known) } }
@@ -202,7 +202,7 @@ module _ {K : Type 0} (records : K → List (List ℕ)) (gives : K → List ℕ 
     forgets_logged : IsLogged service (forgetful x y.keeper) (Dropped x.base ∷ log)
     forgets_logged = record {
       promised = l.promised;
-      accepted = forgotten x.acceptor.accepted (last_accepted log) l.accepted (omega (arith, held, l.offset_is));
+      accepted = forgotten _ _ l.accepted (omega (arith, held, l.offset_is));
       offset_is = refl;
       low = omega arith;
       known = l.known;
@@ -217,16 +217,16 @@ module _ {K : Type 0} (records : K → List (List ℕ)) (gives : K → List ℕ 
 
     forgets_up : IsUp service (forgetful x y.keeper) (here_of records service past (forgetful x y.keeper))
     forgets_up =
-        up_of records service past (forgetful x y.keeper) (subst (IsLogged service (forgetful x y.keeper)) (sym log_is) forgets_logged)
+        up_of records service past _ (subst (IsLogged service (forgetful x y.keeper)) (sym log_is) forgets_logged)
         (record {
           based = b.based;
           replayed = b.replayed;
           ahead = b.ahead;
           caught_up = b.caught_up;
-          proposer = proposer_kept x.nodes x.id x.acceptor x.base x.proposer later b.proposer;
-          acting = acting_kept service x.known x.acceptor x.base x.proposer x.acting later b.acting;
+          proposer = proposer_kept x.nodes x.id _ x.base _ later b.proposer;
+          acting = acting_kept service x.known x.acceptor x.base _ x.acting later b.acting;
           stamped = b.stamped;
-          role = subst (RoleFits (length x.known)) (sym (role_kept x.acceptor x.base (is_some x.acting) x.proposer later)) b.role;
+          role = subst (RoleFits (length x.known)) (sym (role_kept x.acceptor x.base _ _ later)) b.role;
         })
 
     forgets_node : IsResting records service past (forgetful x y.keeper)
@@ -234,7 +234,7 @@ module _ {K : Type 0} (records : K → List (List ℕ)) (gives : K → List ℕ 
 
     forgets_here : here_of records service past (forgetful x y.keeper) ≡ record (here_of records service past x) { log = Dropped x.base ∷ log }
     forgets_here =
-        ap (λ (r : Role Value). record (here_of records service past x) { log = log_of service past (records y.keeper); role = r }) (role_kept x.acceptor x.base (is_some x.acting) x.proposer later)
+        ap (λ (r : Role Value). record (here_of records service past x) { log = log_of service past (records y.keeper); role = r }) (role_kept x.acceptor x.base _ _ later)
         ∙ ap (λ (rs : List (Rec Value StateValue)). record (here_of records service past x) { log = rs }) log_is
 
     drop_on : {z : NodeValue K} (after : Draft) → z ≡ forgetful x y.keeper → after.effects.items ≡ mid.effects.items ++ effect.Dropped x.id x.base ∷ [] → after.sends.items ≡ mid.sends.items

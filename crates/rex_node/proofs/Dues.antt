@@ -24,7 +24,7 @@ none_where_some (e ∷ es) h = refl
 
 -- what is refused where there is no piece
 refuses : (a : ActingValue) (cut : List ℕ) (result : Result Piece Refusal) → MakesPiece a cut result → RefusesThen None (refusal_of_none (below cut a.recorder.live)) result
-refuses a cut (Ok p) h = none_where_some (below cut a.recorder.live) h.some
+refuses a cut (Ok p) h = none_where_some _ h.some
 refuses a cut (Err why.Nothing) h = ap refusal_of_none h
 refuses a cut (Err why.OutOfMemory) h = tt
 refuses a cut (Err why.Down) h = absurd h
@@ -48,7 +48,7 @@ module _ {K : Type 0} {records : K → List (List ℕ)} {service : Declarations}
   counts_are {a} e limits = by limits
     where
       has : Executes service x.known a
-      has = executes service x.known x.acceptor x.proposer x.acting a is_up.acting e
+      has = executes service x.known x.acceptor _ x.acting a is_up.acting e
 
       live : state_after service (trace_of knows ++ (work_of x.acting).live) ≡ a.recorder.state
       live = live_state_is has is_up.known e
@@ -86,4 +86,4 @@ module _ {K : Type 0} {records : K → List (List ℕ)} {service : Declarations}
       by (Some a) e k =
           subst (λ (o : Option Refusal). RefusesThen None o result)
           (sym (ap (λ (w : Option ActingValue). late (counts_for service (here_of records service past x) limits) (work_of w).live) e ∙ ap (λ (counts : List ℕ). late counts a.recorder.live) (counts_are e limits)))
-          (refuses a (cut_in a limits) result k)
+          (refuses a _ result k)

@@ -131,7 +131,7 @@ module _ {K : Type 0} (records : K → List (List ℕ)) (gives : K → List ℕ 
       let effects : (call (begin (here_of records service past x))).effects ≡ step.effects = ap (λ (d : CallHere). d.effects) (ap call (sym (begins records service past x first h.effects h.sends)) ∙ call_well l) ∙ sym h.finishes.1 in
       record {
         down = λ more. absurd (omega arith);
-        only = λ last. absurd (quiet x.id (subst (IsAmong (effect.Down x.id)) (sym effects) (last_among step.effects last)));
+        only = λ last. absurd (quiet x.id (subst (IsAmong (effect.Down x.id)) (sym effects) (last_among _ last)));
         quiet = λ more. absurd (omega arith);
         falls = λ more. absurd (omega arith);
       }
@@ -140,7 +140,7 @@ module _ {K : Type 0} (records : K → List (List ℕ)) (gives : K → List ℕ 
       record {
         down = λ more. ap last_of (h.finishes.1 ∙ f.told) ∙ last_push f.front;
         only = λ last. subst (λ (n : NodeValue K). faults x.keeper < faults n.keeper) (sym h.finishes.0) f.fails.counted;
-        quiet = λ more. h.finishes.2 ∙ no_messages past draft.sends.items f.quiet;
+        quiet = λ more. h.finishes.2 ∙ no_messages past _ f.quiet;
         falls = λ more. ap (λ (n : NodeValue K). n.up) h.finishes.0 ∙ h.ends.0.1.down;
       }
   down end (Err refusal) h quiet = tt
@@ -213,7 +213,7 @@ module _ {K : Type 0} (records : K → List (List ℕ)) (gives : K → List ℕ 
   left (Ok going) (Err refusal) h = absurd h.finishes
   left (Err e) (Err refusal) h =
       subst (λ (r : Refusal). Leaves {A = Step} records gives faults service past call (Err r) x z) (sym h.finishes.0)
-      (by (left_short records gives faults service past call (whole past x) y (whole past z) before start draft h))
+      (by (left_short records gives faults service past call _ y _ before start draft h))
     where
       by : Stands records faults gives (whole past x) (whole past z) ⊎ IsGivenUp records gives faults service past call (whole past x) (whole past z) → Stands records faults gives x z ⊎ IsGivenUp records gives faults service past call x z
       by (inl s) = inl (stands_own past s)

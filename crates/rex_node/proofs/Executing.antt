@@ -47,12 +47,12 @@ use Rattle.rex_node.specs.Submitting.{answer_in, taken, given}
 
 module _ {service : Declarations} {values : List Value} {a : ActingValue} (h : Executes service values a) where
   pub start_is : state_after service (trace_of values) ≡ a.recorder.start
-  start_is = state_is service (trace_of values) a.recorder.start h.known
+  start_is = state_is service _ _ h.known
 
   pub live_is : state_after service (trace_of values ++ a.recorder.live) ≡ a.recorder.state
   live_is =
-      state_is service (trace_of values ++ a.recorder.live) a.recorder.state
-      (run-then service (start_of service) a.recorder.start (trace_of values) a.recorder.live h.known ∙ h.recorder.runs)
+      state_is service _ _
+      (run-then service (start_of service) _ (trace_of values) _ h.known ∙ h.recorder.runs)
 
   -- the state after what the node knows and its live events is the recorder's
   pub live_state_is : {vs : List Value} {w : Option ActingValue} → values ≡ vs → w ≡ Some a → state_after service (trace_of vs ++ (work_of w).live) ≡ a.recorder.state
@@ -91,11 +91,11 @@ module _ {service : Declarations} {values : List Value} {a : ActingValue} (h : E
       runs = h.recorder.runs;
       few = h.recorder.few;
       queue =
-          queue_after_answer service a.recorder.state a.recorder.queue r a.answers.entries fits
-          (run_keeps service a.recorder.start a.recorder.state a.recorder.live good h.recorder.sound h.recorder.runs).by.complete.clients h.recorder.queue;
+          queue_after_answer service _ _ r _ fits
+          (run_keeps service _ _ _ good h.recorder.sound h.recorder.runs).by.complete.clients h.recorder.queue;
     };
     known = h.known;
-    requests = requests_kept (answer_in a r) fits;
+    requests = requests_kept _ fits;
     answers = h.answers;
   }
 
@@ -130,16 +130,16 @@ module _ {service : Declarations} {values : List Value} {a : ActingValue} (h : E
 module _ {service : Declarations} (a : ActingValue) (h : IsRecorder service a.recorder) {r : Request} (fits : RequestFits service r) (e : answer_in a r ≡ Queued) where
   due : IsDue r.sequence (queued_in a.recorder.queue r.client) (entry_at a.recorder.state.clients r.client)
   due =
-      queued_due r.sequence (queued_in a.recorder.queue r.client) (entry_at a.recorder.state.clients r.client) (entry_at a.answers.entries r.client)
-      (λ k z. queued_positive service a.recorder.state a.recorder.queue r.client k h.queue z) e
+      queued_due _ _ _ _
+      (λ k z. queued_positive service _ _ r.client k h.queue z) e
 
   pub none_queued : queued_in a.recorder.queue r.client ≡ None
   none_queued = due.none
 
   pub can_begin : IsService service → CanBegin service a.recorder.state r
   can_begin good =
-      due_begins service a.recorder.state r (queued_in a.recorder.queue r.client) fits
-      (run_keeps service a.recorder.start a.recorder.state a.recorder.live good h.sound h.runs).by.complete.clients due
+      due_begins service _ r _ fits
+      (run_keeps service _ _ _ good h.sound h.runs).by.complete.clients due
 
 -- ---- an active node with other work
 
@@ -182,7 +182,7 @@ module _ {K : Type 0} (records : K → List (List ℕ)) (service : Declarations)
     ahead = λ n. absurd (none_or_some n);
     caught_up = λ _. u.caught_up (ap (λ (w : Option ActingValue). is_some w) e);
     proposer = u.proposer;
-    acting = acting_with x.acceptor x.proposer (subst (IsActing service x.known x.acceptor x.proposer) e u.acting) k;
+    acting = acting_with x.acceptor _ (subst (IsActing service x.known x.acceptor x.proposer) e u.acting) k;
     stamped = subst (NumbersReplies x.known) (sym k.0) (subst (HasStamps x.known) e u.stamped);
     fits = u.fits;
     short = u.short;
@@ -236,7 +236,7 @@ module _ {K : Type 0} {records : K → List (List ℕ)} {service : Declarations}
   is_up = node.up (up_of x.up o due)
 
   pub has : Executes service x.known a
-  has = executes service x.known x.acceptor x.proposer x.acting a is_up.acting x_has
+  has = executes service x.known x.acceptor _ x.acting a is_up.acting x_has
 
   pub live_state_of : live_state service (here_of records service past x) ≡ a.recorder.state
   live_state_of = live_state_is has is_up.known x_has
@@ -267,7 +267,7 @@ module _ {K : Type 0} {records : K → List (List ℕ)} {service : Declarations}
       (record { same = record { id = refl; nodes = refl; seed = refl; decoded = refl }; kept = node_with records service past x a b node x_has k })
 
   pub submit_stays : {r : Request} {b : ActingValue} {answer : Answer} → b ≡ taken a r answer → answer ≡ answer_in a r → IsService service → RequestFits service r → StaysResting records service past x (record z { acting = Some b })
-  submit_stays {r} {b} f g good fits = stays (ap (λ (c : ActingValue). c.answers) f, λ p h. subst (ActsFor service x.known p) (sym (f ∙ ap (taken a r) g)) (record { executes = answered h.executes good fits; open_is_cut = open_answered service x.known a r (answer_in a r) p h.open_is_cut }))
+  submit_stays {r} {b} f g good fits = stays (ap (λ (c : ActingValue). c.answers) f, λ p h. subst (ActsFor service x.known p) (sym (f ∙ ap (taken a r) g)) (record { executes = answered h.executes good fits; open_is_cut = open_answered service x.known a r _ p h.open_is_cut }))
 
   pub turn_stays : (t : Turn) {dice : Lcg} {b : ActingValue} → b ≡ record { recorder = turned service a.recorder t; dice = dice; proposed = a.proposed; answers = a.answers } → IsRecorder service b.recorder → IsService service → StaysResting records service past x (record z { acting = Some b })
   turn_stays t {dice} {b} f k good =

@@ -91,7 +91,7 @@ module _ {K : Type 0} {records : K → List (List ℕ)} (gives : K → List ℕ 
       → EndsWell records gives faults service past x z before after (λ d. on_nack x.id promised d d.node.role)
   nack_follows less z_is told =
       subst (λ (n : NodeValue K). EndsWell records gives faults service past x n before after (λ d. on_nack x.id promised d d.node.role)) (sym z_is)
-      (ends_same records gives faults service past x (leaving x) before after refl (node_left node) up
+      (ends_same records gives faults service past x _ before after refl (node_left node) up
       (λ f. by f x.proposer own_is ∙ ap (armed_with f) (sym left)))
     where
       left : so_far records service past (leaving x) after ≡ follow x.id [] (so_far records service past x before)
@@ -143,7 +143,7 @@ module _ {K : Type 0} {records : K → List (List ℕ)} {service : Declarations}
       ap (λ (l : List (Rec Value StateValue)). record (here_of records service past (leaving x)) { log = l }) log_is
       ∙ ap (λ (b : ℕ). record h { log = r ∷ h.log; role = Follower; work = no_work; replayed = replayed_left (is_some x.acting) b x.replayed }) (u.base ∙ sym base_is)
       ∙ ap (λ (work : Work). record h { log = r ∷ h.log; role = Follower; work = work; replayed = replayed_left (is_some x.acting) (base (r ∷ h.log)) x.replayed }) (sym (no_work_left x.acting))
-      ∙ ap (λ (t : Bool). record h { log = r ∷ h.log; role = Follower; work = work_left t (work_of x.acting); replayed = replayed_left t (base (r ∷ h.log)) x.replayed }) (sym (role_active service x.known x.acceptor x.proposer x.acting u.acting))
+      ∙ ap (λ (t : Bool). record h { log = r ∷ h.log; role = Follower; work = work_left t (work_of x.acting); replayed = replayed_left t (base (r ∷ h.log)) x.replayed }) (sym (role_active service x.known x.acceptor _ x.acting u.acting))
     where
       h : Here
       h = here_of records service past x

@@ -62,7 +62,7 @@ module _ {K : Type 0} (records : K → List (List ℕ)) (gives : K → List ℕ 
     appends = (chained gives).more a b c h.written k.written (Ok tt) h.appends k.appends;
     counted = k.counted ∙ h.counted;
     stated = stated_both service h.written k.written h.stated k.stated;
-    many = both h.written k.written (length d.node.log) h.many k.many;
+    many = both h.written k.written _ h.many k.many;
     comes = λ failure. ap (λ (g : Option Failure). whole (armed_with g d)) (later_both h.written k.written failure) ∙ h.comes (later k.written failure) ∙ k.comes failure;
   }
 
@@ -77,9 +77,9 @@ module _ {K : Type 0} (records : K → List (List ℕ)) (gives : K → List ℕ 
       appends = (chained gives).more a b k.fails.between h.written k.fails.written (Ok tt) h.appends k.fails.appends;
       fails = k.fails.fails;
       counted = subst (λ (n : ℕ). n < faults c) h.counted k.fails.counted;
-      stated = rw (append_assoc h.written k.fails.written (k.fails.bytes ∷ [])) (stated_both service h.written (k.fails.written ++ k.fails.bytes ∷ []) h.stated k.fails.stated);
-      many = both_failed k.fails.kept h.written k.fails.written (length d.node.log) h.many k.fails.many;
-      is = ap (λ (g : Option Failure). whole (armed_with g d)) (sym (later_count h.written k.fails.written)) ∙ h.comes (Some (After (length k.fails.written) k.fails.kept)) ∙ k.fails.is;
+      stated = rw (append_assoc h.written k.fails.written (k.fails.bytes ∷ [])) (stated_both service h.written _ h.stated k.fails.stated);
+      many = both_failed _ h.written _ _ h.many k.fails.many;
+      is = ap (λ (g : Option Failure). whole (armed_with g d)) (sym (later_count h.written _)) ∙ h.comes (Some (After (length k.fails.written) k.fails.kept)) ∙ k.fails.is;
     };
     front = k.front;
     told = k.told;

@@ -28,13 +28,13 @@ module _ {V S : Type 0} where
     pub begins : Begins (known d.node.log) (known e.node.log)
 
   pub learns_same : {d e : Call V S} → e.node.log ≡ d.node.log → Learns d e
-  learns_same {d} h = record { begins = subst (λ (log : List (Rec V S)). Begins (known d.node.log) (known log)) (sym h) (begins_same (known d.node.log)) }
+  learns_same {d} h = record { begins = subst (λ (log : List (Rec V S)). Begins (known d.node.log) (known log)) (sym h) (begins_same _) }
 
   same : {d e : Call V S} → e.node.log ≡ d.node.log → Learns d e
   same {d} {e} h = learns_same h
 
   pub learns_then : {d e f : Call V S} → Learns d e → Learns e f → Learns d f
-  learns_then {d} {e} {f} h k = record { begins = begins_trans (known d.node.log) (known e.node.log) (known f.node.log) h.begins k.begins }
+  learns_then {d} {e} {f} h k = record { begins = begins_trans _ _ _ h.begins k.begins }
 
   -- a record of something else than a state that was taken over
   abbrev pub IsOwn : Rec V S → Type 0
@@ -42,15 +42,15 @@ module _ {V S : Type 0} where
   IsOwn _ = Unit {0}
 
   more : (r : Rec V S) (log : List (Rec V S)) → IsOwn r → Begins (known log) (known (r ∷ log))
-  more (Promised b) log own = begins_same (known log)
-  more (Accepted b i v) log own = begins_same (known log)
+  more (Promised b) log own = begins_same _
+  more (Accepted b i v) log own = begins_same _
   more (Known i v) log own = (v ∷ [], refl)
-  more (Checkpoint version k s) log own = begins_same (known log)
-  more (Dropped k) log own = begins_same (known log)
+  more (Checkpoint version k s) log own = begins_same _
+  more (Dropped k) log own = begins_same _
   more (Transferred values s) log own = absurd own
 
   pub learns_more : {d e : Call V S} {r : Rec V S} → IsOwn r → e.node.log ≡ r ∷ d.node.log → Learns d e
-  learns_more {d} {r} own h = record { begins = subst (λ (log : List (Rec V S)). Begins (known d.node.log) (known log)) (sym h) (more r d.node.log own) }
+  learns_more {d} {r} own h = record { begins = subst (λ (log : List (Rec V S)). Begins (known d.node.log) (known log)) (sym h) (more r _ own) }
 
   if_learns : (t : Bool) {d e f : Call V S} → Learns d e → Learns d f → Learns d (cond t e f)
   if_learns true h k = h
@@ -79,21 +79,21 @@ module _ {V S : Type 0} (n : ℕ) (sv : Service V S) (me : ℕ) where
 
   pub choose_learns : {d : Call V S} (l : Lead V) (i : ℕ) (o : Option (Proposal V)) {k : Call V S → Call V S} → Goes k → Learns d (choose n sv me d l i o k)
   choose_learns l i None g = same refl
-  choose_learns {d} l i (Some p) {k} g = propose_learns (effect.Adopts me i (sv.size p.value)) l i p.value g
+  choose_learns {d} l i (Some p) {k} g = propose_learns _ l i p.value g
 
   pub lead_learns : {d : Call V S} (l : Lead V) (o : Option (Proposal V)) {k : Call V S → Call V S} → Goes k → Learns d (lead n sv me d l o k)
-  lead_learns {d} l (Some p) {k} g = if_learns (is_majority n l.accepted_by) (decide_learns l p.instance p.value g) (same refl)
+  lead_learns {d} l (Some p) {k} g = if_learns _ (decide_learns l _ p.value g) (same refl)
   lead_learns {d} l None {k} g =
       if_learns l.active (same refl)
-      (if_learns (is_majority n l.counted) (choose_learns l (suc (length (known d.node.log))) (best (suc (length (known d.node.log))) l.reported) g) (same refl))
+      (if_learns _ (choose_learns l _ _ g) (same refl))
 
   pub turn_learns : {d : Call V S} (r : Role V) {k : Call V S → Call V S} → Goes k → Learns d (turn n sv me d r k)
   turn_learns Follower g = same refl
-  turn_learns {d} (Leads l) {k} g = lead_learns l l.proposal g
+  turn_learns {d} (Leads l) {k} g = lead_learns l _ g
 
   pub settle_learns : (f : ℕ) (d : Call V S) → Learns d (settle f n sv me d)
   settle_learns zero d = same refl
-  settle_learns (suc f) d = turn_learns d.node.role (settle_learns f)
+  settle_learns (suc f) d = turn_learns _ (settle_learns f)
 
 -- ---- values that fit
 
@@ -108,7 +108,7 @@ module _ {service : Declarations} (good : IsService service) (checked : IsChecke
 
   -- what a call knows at first fits where what it knows in the end does
   pub fits_before : {d e : CallHere} → Learns d e → values_fit service (known e.node.log) ≡ true → values_fit service (known d.node.log) ≡ true
-  fits_before {d} {e} l h = begins_fit (known d.node.log) l.begins h
+  fits_before {d} {e} l h = begins_fit _ l.begins h
 
 pub later_none : (written : List (List ℕ)) → later written None ≡ None
 later_none [] = refl

@@ -55,10 +55,10 @@ bad_is service offset (Accepted ballot instance value) rs s h = refl
 bad_is service offset (Known instance value) rs s h =
     ap (λ (held : Bool). if held then bad_at (delta_in value) else None) (known_held offset s)
 bad_is service offset {last} (Checkpoint deltas snapshot) rs s h =
-    only_last (has_state rs) (h (record { deltas = deltas; snapshot = snapshot }) refl)
+    only_last _ (h (record { deltas = deltas; snapshot = snapshot }) refl)
 bad_is service offset (Dropped deltas) rs s h = refl
 bad_is service offset {last} (Transferred deltas snapshot) rs s h =
-    only_last (has_state rs) (h (record { deltas = deltas; snapshot = snapshot }) refl)
+    only_last _ (h (record { deltas = deltas; snapshot = snapshot }) refl)
 
 -- ---- the last state that records have
 
@@ -84,9 +84,9 @@ last_later [] (Transferred deltas snapshot) rs before is e = none_later rs e ∙
 last_later (Promised ballot ∷ front) r rs {saved} before is e = last_later front r rs before is e
 last_later (Accepted ballot instance value ∷ front) r rs {saved} before is e = last_later front r rs before is e
 last_later (Known instance value ∷ front) r rs {saved} before is e = last_later front r rs before is e
-last_later (Checkpoint deltas snapshot ∷ front) r rs {saved} before is e = last_later front r rs (Some (record { deltas = deltas; snapshot = snapshot })) is e
+last_later (Checkpoint deltas snapshot ∷ front) r rs {saved} before is e = last_later front r rs _ is e
 last_later (Dropped deltas ∷ front) r rs {saved} before is e = last_later front r rs before is e
-last_later (Transferred deltas snapshot ∷ front) r rs {saved} before is e = last_later front r rs (Some (record { deltas = deltas; snapshot = snapshot })) is e
+last_later (Transferred deltas snapshot ∷ front) r rs {saved} before is e = last_later front r rs _ is e
 
 -- so it is the one that was read
 pub is_last : (service : Declarations) {last : Option ℕ} {all : List Rec} (front : List Rec) (r : Rec) (rs : List Rec) → all ≡ front ++ r ∷ rs → last ≡ bad_at (state_at service (snapshot_of (checkpoint all)))
@@ -195,7 +195,7 @@ module _ {offset : ℕ} {kept : List (List ℕ)} {last : Option ℕ} {back index
       bad_here =
           bad_is_so ∙ ap (λ (b : List ℕ). bad_behind last (get_or b 0 0) (is_held offset b) (drop 9 b) later) spelled
           ∙ ap (bad_behind last (get_or (record_bytes r) 0 0) (is_held offset (record_bytes r)) (drop 9 (record_bytes r))) (h.more rs s)
-          ∙ bad_is service offset r (drop (length rs - back) rs) spelling (is_last service (take index rs) r (drop (length rs - back) rs) whole read)
+          ∙ bad_is service offset r _ spelling (is_last service _ r _ whole read)
 
       bad_now : now ≡ first_bad service offset (suc (length rs - (back + 1))) (drop (length rs - (back + 1)) rs)
       bad_now =
@@ -246,7 +246,7 @@ good_more : (service : Declarations) {deltas : ℕ} {snapshot : List ℕ} (rs : 
 good_more service {snapshot} rs {saved} none (inl h) =
     let here : bad_at (state_in service snapshot) ≡ None = ap (λ (t : Bool). if t then None else bad_at (state_in service snapshot)) (sym h.0) ∙ none in
     let same : snapshot ≡ saved.snapshot = ap (λ (x : Saved). x.snapshot) (same_Some _ saved h.1) in
-    subst (λ (bytes : List ℕ). IsOk (state_in service bytes)) same (good_of (state_in service snapshot) here)
+    subst (λ (bytes : List ℕ). IsOk (state_in service bytes)) same (good_of _ here)
 good_more service rs none (inr h) = h
 
 -- where no record is bad, the last snapshot spells a state, unless it stands before them
@@ -256,13 +256,13 @@ last_good service offset [] n good e = inl (refl, e)
 last_good service offset (Promised ballot ∷ rs) n {before} {saved} good e = last_good service offset rs (suc n) good e
 last_good service offset (Accepted ballot instance value ∷ rs) n {before} {saved} good e = last_good service offset rs (suc n) good e
 last_good service offset (Known instance value ∷ rs) n {before} {saved} good e =
-    last_good service offset rs (suc n) (none_of n (if nat_lt offset instance then bad_at (delta_in value) else None) good).1 e
+    last_good service offset rs (suc n) (none_of n _ good).1 e
 last_good service offset (Checkpoint deltas snapshot ∷ rs) n {saved} good e =
-    let parts = none_of n (if has_state rs then None else bad_at (state_in service snapshot)) good in
+    let parts = none_of n _ good in
     inr (good_more service rs parts.0 (last_good service offset rs (suc n) parts.1 e))
 last_good service offset (Dropped deltas ∷ rs) n {before} {saved} good e = last_good service offset rs (suc n) good e
 last_good service offset (Transferred deltas snapshot ∷ rs) n {saved} good e =
-    let parts = none_of n (if has_state rs then None else bad_at (state_in service snapshot)) good in
+    let parts = none_of n _ good in
     inr (good_more service rs parts.0 (last_good service offset rs (suc n) parts.1 e))
 
 -- so it is of all records
@@ -297,7 +297,7 @@ module _ (service : Declarations) {kept : List (List ℕ)} {x : Recovered} (r : 
 
   -- so it isn't bad where no record is
   pub not_bad : (at : ℕ) → IsFound service kept x → Err at ≡ state_at service x.snapshot → ⊥
-  not_bad at f is = some_none (read_last_of f ∙ read_good service (offset f.read.rs) f.read.rs f.good)
+  not_bad at f is = some_none (read_last_of f ∙ read_good service _ f.read.rs f.good)
     where
       read_last_of : (f : IsFound service kept x) → bad_at {A = StateValue} (Err at) ≡ bad_at (state_at service (snapshot_of (checkpoint f.read.rs)))
       read_last_of f = ap bad_at is ∙ ap (λ (y : Recovered). bad_at (state_at service y.snapshot)) f.read.is

@@ -15,7 +15,7 @@ use Rattle.rex_log.specs.Log.{proposal_in}
 -- instances that rise in the model rise at an acceptor
 pub rising_kept : (least : ℕ) (ps : List Kept) → ranges.AreRising least (map proposal_in ps) → AreRising (least + 1) ps
 rising_kept least [] h = tt
-rising_kept least (p ∷ ps) h = (let first = h.0 in omega arith, rising_kept p.instance ps h.1)
+rising_kept least (p ∷ ps) h = (let first = h.0 in omega arith, rising_kept _ ps h.1)
 
 pub rising_zero : (ps : List Kept) → ranges.AreRising 0 (map proposal_in ps) → AreRising 0 ps
 rising_zero ps h = rising_less 0 1 ps (omega arith) (rising_kept 0 ps h)

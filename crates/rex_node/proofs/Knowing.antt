@@ -68,7 +68,7 @@ shorter p es h = omega (arith, length-filter p es, count_by-le-length p es)
 
 module _ {service : Declarations} (good : IsService service) {values : List Value} {a : ActingValue} (h : Executes service values a) {v : Value} (cut : IsCutAt service values a v) where
   first : GoesFirst service a.recorder.start a.recorder.state a.proposed a.recorder.live
-  first = cuts_go_first service a.recorder.start a.recorder.state a.proposed a.recorder.live good h.recorder.sound cut.consistent h.recorder.runs
+  first = cuts_go_first service _ _ _ _ good h.recorder.sound cut.consistent h.recorder.runs
 
   start_settled : state_at service a.recorder a.proposed ≡ first.state
   start_settled = ap (λ (o : Option StateValue). unwrap_or o a.recorder.start) first.first
@@ -78,20 +78,20 @@ module _ {service : Declarations} (good : IsService service) {values : List Valu
 
   recorder_settled : IsRecorder service (record a.recorder { start = first.state; live = beyond a.proposed a.recorder.live })
   recorder_settled = record {
-    sound = run_keeps service a.recorder.start first.state (below a.proposed a.recorder.live) good h.recorder.sound first.first;
+    sound = run_keeps service _ _ _ good h.recorder.sound first.first;
     runs = first.rest;
-    few = shorter (λ e. not (is_below a.proposed e)) a.recorder.live h.recorder.few;
+    few = shorter (λ e. not (is_below a.proposed e)) _ h.recorder.few;
     queue = h.recorder.queue;
   }
 
   pub executes_settled : Executes service (values ++ v ∷ []) (settling service a)
   executes_settled = record {
     recorder = subst (λ (s : StateValue). IsRecorder service (record a.recorder { start = s; live = beyond a.proposed a.recorder.live })) (sym start_settled) recorder_settled;
-    known = ap (run service (start_of service)) (trace_push values v) ∙ run-then service (start_of service) a.recorder.start (trace_of values) (events_of v) h.known ∙ first_events ∙ ap (λ (s : StateValue). Some s) (sym start_settled);
+    known = ap (run service (start_of service)) (trace_push values v) ∙ run-then service (start_of service) _ (trace_of values) _ h.known ∙ first_events ∙ ap (λ (s : StateValue). Some s) (sym start_settled);
     requests = h.requests;
     answers =
         ap (λ (clients : List Entry). noted clients (below a.proposed a.recorder.live)) h.answers
-        ∙ run_noted service a.recorder.start first.state (below a.proposed a.recorder.live) first.first
+        ∙ run_noted service a.recorder.start _ (below a.proposed a.recorder.live) first.first
         ∙ ap (λ (s : StateValue). s.clients) (sym start_settled);
   }
 
@@ -218,7 +218,7 @@ module _ {K : Type 0} (records : K → List (List ℕ)) (gives : K → List ℕ 
           based = replayed_from x.acting next based replayed;
           replayed = subst (λ (n : ℕ). replayed_to x.acting i x.replayed ≤ n) (let n : length x.known + 1 ≡ length (x.known ++ v ∷ []) = omega (arith, length_push x.known v) in n) (replayed_most x.acting next replayed);
           ahead = ahead_known service x.known v x.acting i x.ahead x.start replayed b.ahead;
-          caught_up = known_all service x.acting x.replayed (length x.known) next (omega (arith, length_push x.known v));
+          caught_up = known_all service x.acting _ _ next (omega (arith, length_push x.known v));
           proposer = proposes_closed (subst (IsProposer x.nodes x.id x.acceptor) e b.proposer);
           acting = acting_known good seed_any x.known x.acceptor p v x.acting acting cut;
           stamped = stamped_known good seed_any x.known x.acceptor p v x.acting (let last = there.last in omega (arith, next, last)) b.stamped cut;
@@ -230,7 +230,7 @@ module _ {K : Type 0} (records : K → List (List ℕ)) (gives : K → List ℕ 
         seed_any = x.seed
 
     z_kept : IsKept records service past (z_at keeper)
-    z_kept = record { id = id; few = few; up = λ t. up_of records service past (z_at keeper) z_logged z_beside; reached = still_reached service x.offset x.reached (omega (arith, length_push x.known v)) (λ n l. take-append-le n x.known (v ∷ []) l) reached; decoded = decoded }
+    z_kept = record { id = id; few = few; up = λ t. up_of records service past _ z_logged z_beside; reached = still_reached service x.offset x.reached (omega (arith, length_push x.known v)) (λ n l. take-append-le n x.known (v ∷ []) l) reached; decoded = decoded }
 
     -- the model's call comes to the same
     z_comes : (before after : Draft) {f : Option Failure} → after.effects.items ≡ before.effects.items ++ effect.Known x.id i ∷ releases_in x.acting → map (message_in past) after.sends.items ≡ map (message_in past) before.sends.items ++ others x.nodes x.id (Chose i v)
@@ -240,7 +240,7 @@ module _ {K : Type 0} (records : K → List (List ℕ)) (gives : K → List ℕ 
         call_is
         (sym log_is)
         (ap (λ (vs : List Value). work_known (service_of service x.seed) (is_some x.acting) (vs ++ v ∷ []) (work_of x.acting)) (sym u.known) ∙ work_is good x.seed x.known x.acceptor p v x.acting acting cut)
-        (replayed_same x.acting i x.replayed)
+        (replayed_same x.acting i _)
         (sym sends)
         (ap (λ (es : List Effect). before.effects.items ++ (effect.Known x.id i ∷ es)) (ap (λ (vs : List Value). released (service_of service x.seed) (is_some x.acting) vs v) (sym u.known) ∙ released_are good x.seed x.known x.acceptor p v x.acting acting cut) ∙ sym effects)
         ∙ ap (λ (t : Bool). record (armed_with f (so_far records service past (z_at keeper) after)) { node = record (armed_with f (so_far records service past (z_at keeper) after)).node { role = leading lead None [] t } }) (sym (active_same service x.acting))
@@ -299,7 +299,7 @@ module _ {K : Type 0} {records : K → List (List ℕ)} (gives : K → List ℕ 
   -- its recorder can settle
   pub learn_settles : {y : NodeValue K} → y ≡ record x { keeper = y.keeper } → IfSome y.acting (CanSettle service)
   learn_settles y_is =
-      let s = some_of x.proposer leads in
+      let s = some_of _ leads in
       subst (λ (n : NodeValue K). IfSome n.acting (CanSettle service)) (sym y_is)
       (can_settle good x.seed x.known x.acceptor s.0 v x.acting (subst (λ (o : Option ProposerValue). IsActing service x.known x.acceptor o x.acting) s.1 (kept_so.up up).acting) cut)
 
@@ -312,19 +312,19 @@ module _ {K : Type 0} {records : K → List (List ℕ)} (gives : K → List ℕ 
 
     pub learn_down : g ≡ Down → Learns records gives faults service past i v x y before mid Down
     learn_down e =
-        let s = some_of x.proposer leads in
+        let s = some_of _ leads in
         let k : Appends records faults gives x y before mid (record_bytes (kept.Known i v)) Down = appends_as records gives faults x y before mid same_rec e h in
         learns_down records gives faults past good (kept_so.up up) kept_so.id kept_so.few kept_so.reached kept_so.decoded s.1 next there short fits cut before mid k.0 k.1 k.2
 
     pub learn_on : g ≡ On → {z : NodeValue K} (after : Draft) → z ≡ knowing service y i v → after.effects.items ≡ mid.effects.items ++ effect.Known y.id i ∷ releases_in y.acting → map (message_in past) after.sends.items ≡ map (message_in past) mid.sends.items ++ others y.nodes y.id (content_in past (sent.Chosen i v))
         → Learns records gives faults service past i v x z before after On
     learn_on e {z} after z_is effects sends =
-        let s = some_of x.proposer leads in
+        let s = some_of _ leads in
         let k : Appends records faults gives x y before mid (record_bytes (kept.Known i v)) On = appends_as records gives faults x y before mid same_rec e h in
         learns_on records gives faults past good (kept_so.up up) kept_so.id kept_so.few kept_so.reached kept_so.decoded s.1 next there short fits cut up before mid after k.0 k.1 k.2 z_is effects sends
 
     pub learn_stuck : g ≡ On → {z : NodeValue K} → z.keeper ≡ y.keeper → z.base ≡ y.base → LearnsShort records gives faults service past i v x z before
     learn_stuck e {z} keeper based =
-        let s = some_of x.proposer leads in
+        let s = some_of _ leads in
         let k : Appends records faults gives x y before mid (record_bytes (kept.Known i v)) On = appends_as records gives faults x y before mid same_rec e h in
         learns_broken records gives faults past good (kept_so.up up) kept_so.id kept_so.few kept_so.reached kept_so.decoded s.1 next there short fits cut before k.0 keeper based

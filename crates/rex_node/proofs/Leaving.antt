@@ -44,7 +44,7 @@ module _ {K : Type 0} (records : K → List (List ℕ)) {service : Declarations}
   leaves =
       ap (λ (b : ℕ). record h { role = Follower; work = no_work; replayed = replayed_left (is_some x.acting) b x.replayed }) u.base
       ∙ ap (λ (work : Work). record h { role = Follower; work = work; replayed = replayed_left (is_some x.acting) (base h.log) x.replayed }) (sym (no_work_left x.acting))
-      ∙ ap (λ (t : Bool). record h { role = Follower; work = work_left t (work_of x.acting); replayed = replayed_left t (base h.log) x.replayed }) (sym (role_active service x.known x.acceptor x.proposer x.acting u.acting))
+      ∙ ap (λ (t : Bool). record h { role = Follower; work = work_left t (work_of x.acting); replayed = replayed_left t (base h.log) x.replayed }) (sym (role_active service x.known x.acceptor _ x.acting u.acting))
     where
       h : Here
       h = here_of records service past x

@@ -18,7 +18,7 @@ pub limits_more : (a b c : List ℕ) {i x y z : ℕ} → i < length c → length
 limits_more a b c {i} {x} {y} {z} there e k xe ye ze =
     let la : length (take i a) ≡ length (take i c) = omega (arith, length-take i a, length-take i c, e, there) in
     let lb : length (take i b) ≡ length (take i c) = omega (arith, length-take i b, length-take i c, k, there) in
-    sym (push (take i a) (take i b) (take i c) x y z la lb)
+    sym (push _ _ _ x y z la lb)
     ∙ ap (λ (ns : List ℕ). limits_between ns (take i b ++ y ∷ []) (take i c ++ z ∷ [])) (sym (one a x (omega (arith, there, e)) xe))
     ∙ ap (λ (ns : List ℕ). limits_between (take (i + 1) a) ns (take i c ++ z ∷ [])) (sym (one b y (omega (arith, there, k)) ye))
     ∙ ap (λ (ns : List ℕ). limits_between (take (i + 1) a) (take (i + 1) b) ns) (sym (one c z there ze))

@@ -67,7 +67,7 @@ chosen_of {K} {x} {from} {ballot} {i} {v} vote_is value_is = by x.proposer refl 
     by None e f a s t = absurd (cc)
     by (Some p) e f None s t = absurd (cc)
     by (Some p) e f (Some q) s t =
-        let n = is_quorum (acceptance_refusal p ballot i from) p.nodes (length p.accepted + 1) f in
+        let n = is_quorum _ p.nodes _ f in
         record { p = p; p_is = e; none = n.0; many = n.1; q = q; q_is = s; v_is = same_Some q.value v t }
 
 module _ {K : Type 0} {records : K → List (List ℕ)} (gives : K → List ℕ → Answer → K → Type 0) (faults : K → ℕ) {service : Declarations} {past : List Value} (good : IsService service) (checked : IsChecked service) {x : NodeValue K} (node : IsResting records service past x) (up : x.up ≡ true) {from ballot i : ℕ} (there : IsNodeOf x.nodes from) (before : Draft)
@@ -100,7 +100,7 @@ module _ {K : Type 0} {records : K → List (List ℕ)} (gives : K → List ℕ 
   q_place = lead_fits.next (proposal_in c.q) proposal_is
 
   q_instance : c.q.instance ≡ i
-  q_instance = found_instance x.acceptor.accepted c.q_is
+  q_instance = found_instance _ c.q_is
 
   pub choose_next : i ≡ length x.known + 1
   choose_next = let e : c.q.instance ≡ suc (length x.known) = q_place.0 in omega (arith, e, q_instance)
@@ -109,7 +109,7 @@ module _ {K : Type 0} {records : K → List (List ℕ)} (gives : K → List ℕ 
   choose_there = subst ballots.IsInstance q_instance (fits_instance q_place.1)
 
   pub choose_short : IsValue v
-  choose_short = subst IsValue c.v_is (found_all (λ (q : Kept). IsValue q.value) i x.acceptor.accepted u.short c.q_is)
+  choose_short = subst IsValue c.v_is (found_all (λ (q : Kept). IsValue q.value) i _ u.short c.q_is)
 
   pub choose_leads : IsSome x.proposer
   choose_leads = subst (λ (o : Option ProposerValue). IsSome o) (sym c.p_is) refl
@@ -151,17 +151,17 @@ module _ {K : Type 0} {records : K → List (List ℕ)} (gives : K → List ℕ 
       ∙ ap (λ (t : Bool). cond t (decide x.nodes sv x.id (led (Leading more) d) more c.q.instance c.q.value rest) (led (Leading more) d)) majority
       ∙ ap (λ (j : ℕ). decide x.nodes sv x.id (led (Leading more) d) more j c.q.value rest) q_instance
       ∙ ap (λ (w : Value). decide x.nodes sv x.id (led (Leading more) d) more i w rest) c.v_is
-      ∙ decide_led x.nodes sv x.id d l (Leading more) (open_of x.acceptor c.p.open_instance) (c.p.accepted ++ from ∷ []) i v rest
+      ∙ decide_led x.nodes sv x.id d l _ (open_of x.acceptor c.p.open_instance) (c.p.accepted ++ from ∷ []) i v rest
 
   leads_decide : Leads records gives faults service whole (λ d. decide x.nodes sv x.id d l i v rest) x.keeper x.keeper (so_far records service past x before) (so_far records service past x before)
-  leads_decide = leads_same records gives faults service refl (λ f. decides (armed_with f (so_far records service past x before)) refl)
+  leads_decide = leads_same records gives faults service refl (λ f. decides _ refl)
 
   -- what it knows then runs on
   pub choose_fits : RunsOn service whole (so_far records service past x before) → values_fit service (x.known ++ v ∷ []) ≡ true
   choose_fits runs =
       subst (λ (vs : List Value). values_fit service (vs ++ v ∷ []) ≡ true) (sym u.known)
-      (fits_before good checked (settle_learns x.nodes sv x.id (2 * length c.p.reported + 2) d)
-      (subst (λ (e : CallHere). values_fit service (known e.node.log) ≡ true) (decides (so_far records service past x before) refl) runs))
+      (fits_before good checked (settle_learns x.nodes sv x.id _ d)
+      (subst (λ (e : CallHere). values_fit service (known e.node.log) ≡ true) (decides _ refl) runs))
     where
       d : CallHere
       d = send (learned sv x.id l i v (known (so_far records service past x before).node.log) (logged (Known i v) None (so_far records service past x before))) (others x.nodes x.id (Chose i v))
@@ -194,7 +194,7 @@ module _ {K : Type 0} {records : K → List (List ℕ)} (gives : K → List ℕ 
   choose_stuck {z} (inr b) =
       inr (breaks_later x z before leads_decide
       (subst (λ (o : Option ProposerValue). IfSome o (λ (q : ProposerValue). (k : CallHere → CallHere) → LosesFirst k → BreaksOff records gives faults service past (λ d. decide x.nodes sv x.id d (lead_of x.acceptor q (is_some x.acting)) i v k) x z before)) c.p_is b
-      rest (settle_loses (2 * length c.p.reported + 2) x.nodes x.id sv)))
+      rest (settle_loses _ x.nodes x.id sv)))
 
   module _ {z : NodeValue K} (mid : Draft) (same : IsSame x z) (learns : Learns records gives faults service past i v x z before mid On) (known_is : z ≡ record (knowing service x i v) { keeper = z.keeper }) (longer : length (records x.keeper) < length (records z.keeper))
       {turns : ℕ} (turns_is : turns ≡ 2 * reports_of x.proposer + 3) where
@@ -231,10 +231,10 @@ module _ {K : Type 0} {records : K → List (List ℕ)} (gives : K → List ℕ 
     pub chosen_may : MayGoOn z (turns - 1)
     chosen_may =
         subst (λ (n : NodeValue K). MayGoOn n (turns - 1)) (sym z_is)
-        (let few : above (length (x.known ++ v ∷ [])) c.p.reported ≤ length c.p.reported = above_most (length (x.known ++ v ∷ [])) c.p.reported in omega (arith, few, left))
+        (let few : above (length (x.known ++ v ∷ [])) c.p.reported ≤ length c.p.reported = above_most _ _ in omega (arith, few, left))
 
     rest_of : settle (turns - 1) z.nodes (service_of service z.seed) z.id ≡ rest
-    rest_of = settles_as records gives faults service past (turns - 1) same ∙ ap (λ (t : ℕ). settle t x.nodes sv x.id) left
+    rest_of = settles_as records gives faults service past _ same ∙ ap (λ (t : ℕ). settle t x.nodes sv x.id) left
 
     pub chosen_runs : RunsOn service whole (so_far records service past x before) → RunsOn service (settle (turns - 1) z.nodes (service_of service z.seed) z.id) (so_far records service past z mid)
     chosen_runs runs = subst (λ (k : CallHere → CallHere). RunsOn service k (so_far records service past z mid)) (sym rest_of) (rest_runs past x z before mid leads_z runs)
@@ -250,5 +250,5 @@ module _ {K : Type 0} {records : K → List (List ℕ)} (gives : K → List ℕ 
     pub chosen_stuck : (y : NodeValue K) (result : Result Going AllocError) → OnErr result (IsStuck records gives faults service past (settle (turns - 1) z.nodes (service_of service z.seed) z.id) z y mid) → OnErr result (IsStuck records gives faults service past whole x y before)
     chosen_stuck y (Ok going) h = tt
     chosen_stuck y (Err e) h =
-        inr (breaks_after z y mid leads_z longer (chosen_kept.up chosen_up).base (settle_loses (2 * length c.p.reported + 2) x.nodes x.id sv)
+        inr (breaks_after z y mid leads_z longer (chosen_kept.up chosen_up).base (settle_loses _ x.nodes x.id sv)
         (subst (λ (k : CallHere → CallHere). IsStuck records gives faults service past k z y mid) rest_of h))

@@ -57,7 +57,7 @@ module _ {K : Type 0} {records : K → List (List ℕ)} (gives : K → List ℕ 
   pub spells_again : {lists : List (List ℕ)} → lists ≡ records x.keeper ++ record_bytes r ∷ [] → SpellsTheSame service x.start rs lists
   spells_again e = record {
     again = rs ++ r ∷ [];
-    spelled = subst (λ (bs : List (List ℕ)). Spell bs (rs ++ r ∷ [])) (sym e) (spell_more (records x.keeper) rs r spelled follows);
+    spelled = subst (λ (bs : List (List ℕ)). Spell bs (rs ++ r ∷ [])) (sym e) (spell_more _ rs r spelled follows);
     same = subst (SaysTheSame service x.start (recovered rs)) (sym said) (says_again is.spells);
   }
 

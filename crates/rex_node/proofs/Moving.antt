@@ -111,7 +111,7 @@ module _ {K : Type 0} {records : K → List (List ℕ)} (gives : K → List ℕ 
       ap (λ (t : Bool). cond t (say (effect.IgnoredInstance (length (first k past)) (suc (length (known log)))) d) (append f x.id (Transferred (first k past) ((service_of service x.seed).state (first k past))) d rest))
       (lt-leb (length (first k past)) (length (known log)) (omega (arith, long, more, ap (λ (vs : List Value). length vs) u.known)))
       ∙ ap (λ (t : StateValue). append f x.id (Transferred (first k past) t) d rest)
-      (state_is service (trace_of (first k past)) s leads ∙ sym (ap (λ (q : Result StateValue ℕ). read_state service q) spelled))
+      (state_is service _ s leads ∙ sym (ap (λ (q : Result StateValue ℕ). read_state service q) spelled))
     where
       d : CallHere
       d = armed_with f (so_far records service past x before)
@@ -188,8 +188,8 @@ module _ {K : Type 0} {records : K → List (List ℕ)} (gives : K → List ℕ 
           z_is
           ∙ ap (λ (n : NodeValue K). leaving (record n { offset = k; known = first k past ++ []; acceptor = forgetting n.acceptor k; base = k; start = s; replayed = k; ahead = None; reached = None })) h.0.parts
           ∙ ap (λ (vs : List Value). record (follower y.keeper) { known = vs; replayed = replayed_left (is_some x.acting) k k; ahead = ahead_left (is_some x.acting) None }) (append-nil (first k past))
-          ∙ ap (λ (m : ℕ). record (follower y.keeper) { replayed = m; ahead = ahead_left (is_some x.acting) None }) (left_same (is_some x.acting))
-          ∙ ap (λ (o : Option StateValue). record (follower y.keeper) { ahead = o }) (none_left (is_some x.acting))
+          ∙ ap (λ (m : ℕ). record (follower y.keeper) { replayed = m; ahead = ahead_left (is_some x.acting) None }) (left_same _)
+          ∙ ap (λ (o : Option StateValue). record (follower y.keeper) { ahead = o }) (none_left _)
 
       log_is : log_of service past (records y.keeper) ≡ said ∷ log
       log_is = appended_log records gives faults service past x y before mid spelling due stated h
@@ -199,7 +199,7 @@ module _ {K : Type 0} {records : K → List (List ℕ)} (gives : K → List ℕ 
       here_is {ms} es =
           ap (λ (l : List (Rec Value StateValue)). at l no_work k (effect.Transferred x.id k)) log_is
           ∙ ap (λ (w : Work). at (said ∷ log) w k (effect.Transferred x.id k)) (sym (no_work_left x.acting))
-          ∙ ap (λ (t : Bool). at (said ∷ log) (work_left t (work_of x.acting)) k (effect.Transferred x.id k)) (sym (role_active service x.known x.acceptor x.proposer x.acting u.acting))
+          ∙ ap (λ (t : Bool). at (said ∷ log) (work_left t (work_of x.acting)) k (effect.Transferred x.id k)) (sym (role_active service x.known x.acceptor _ x.acting u.acting))
           ∙ ap (λ (m : ℕ). at (said ∷ log) (work_left active (work_of x.acting)) m (effect.Transferred x.id m)) (sym long)
           ∙ ap (λ (m : ℕ). at (said ∷ log) (work_left active (work_of x.acting)) m (effect.Transferred x.id (length (first k past)))) (sym (left_long active))
         where
@@ -220,7 +220,7 @@ module _ {K : Type 0} {records : K → List (List ℕ)} (gives : K → List ℕ 
           ∙ ap (λ (n : NodeValue K). before.effects.items ++ (effect.Transferred n.id k ∷ followed n.id (role_of n.acceptor n.proposer (is_some n.acting)))) h.0.parts)
           (ap (map (message_in past)) (told.sends_are ∙ h.2))
           ∙ ap (λ (n : NodeValue K). call_at (here_of records service past n) (map (message_in past) before.sends.items) (before.effects.items ++ (effect.Transferred x.id k ∷ followed x.id (role_of x.acceptor x.proposer (is_some x.acting))))) followed_at
-          ∙ here_is before.effects.items
+          ∙ here_is _
 
       -- it is kept
       logged_here : IsLogged service (follower y.keeper) (said ∷ log)
@@ -228,7 +228,7 @@ module _ {K : Type 0} {records : K → List (List ℕ)} (gives : K → List ℕ 
           let l = logged_of records service past x u in
           record {
             promised = l.promised;
-            accepted = accepted_above x.acceptor.accepted (last_accepted log) (omega (arith, l.offset_is, l.low, l.few, more)) l.accepted
+            accepted = accepted_above _ _ (omega (arith, l.offset_is, l.low, l.few, more)) l.accepted
                 ∙ ap (λ (n : ℕ). from_on (suc n) (last_accepted log)) (sym long);
             offset_is = sym long;
             low = le_refl k;
@@ -246,7 +246,7 @@ module _ {K : Type 0} {records : K → List (List ℕ)} (gives : K → List ℕ 
       follower_node = record {
         id = node.id;
         few = node.few;
-        up = λ t. up_of records service past (follower y.keeper) (subst (IsLogged service (follower y.keeper)) (sym log_is) logged_here)
+        up = λ t. up_of records service past _ (subst (IsLogged service (follower y.keeper)) (sym log_is) logged_here)
             (record {
               based = le_refl k;
               replayed = omega (arith, long);

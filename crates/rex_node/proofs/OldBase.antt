@@ -94,7 +94,7 @@ unfolding record_in
 record_some s bytes {r} e =
     let x = bind_ok (record_at s (all_left bytes)) (λ y. cond (length y.1.rest == 0) (Ok y.0) (Err y.1.at)) r e in
     let g = test_ok (length x.0.1.rest == 0) x.0.1.at x.0.0 r x.2 in
-    subst IsSome g.1 (read_some s (all_left bytes) x.1)
+    subst IsSome g.1 (read_some s _ x.1)
 
 -- ---- what the records say
 
@@ -114,7 +114,7 @@ based_step service past log bytes h = by (record_in (standing_in log) bytes) ref
   where
     by : (q : Result KeptRec ℕ) → record_in (standing_in log) bytes ≡ q → HasBase (log_with service past log q)
     by (Err at) e = h
-    by (Ok r) e = based_with service past log r (record_some (standing_in log) bytes e) h
+    by (Ok r) e = based_with service past log r (record_some _ bytes e) h
 
 based_from : (service : Declarations) (past : List Value) (log : List (Rec Value StateValue)) (kept : List (List ℕ)) → HasBase log → HasBase (fold (λ log bytes. log_with service past log (record_in (standing_in log) bytes)) log kept)
 based_from service past log [] h = h

@@ -88,7 +88,7 @@ module _ {nodes id : ℕ} (there : 0 < id) (few : id ≤ nodes) {a : AcceptorVal
   once_opened false = record {
     own = h.once.own;
     promises = h.once.promises;
-    acceptances = counted_push p.nodes [] (ballots.node_of p.ballot) (counted_none p.nodes) h.once.own.own refl;
+    acceptances = counted_push p.nodes [] _ (counted_none p.nodes) h.once.own.own refl;
   }
 
   has_opened : (t : Bool) → HasOpen (accepting a (own p i v)) p.ballot (opened_by t p i).open_instance
@@ -103,7 +103,7 @@ module _ {nodes id : ℕ} (there : 0 < id) (few : id ≤ nodes) {a : AcceptorVal
   by_opened false = record { nodes_are = h.nodes_are; own = h.own; ballot = promised_same; once = once_opened false; short = h.short; counted = λ n. absurd (cc); open_one = has_opened false }
 
   pub proposes_opened : Proposes nodes id (accepting a (own p i v)) (proposed p i)
-  proposes_opened = subst (Proposes nodes id (accepting a (own p i v))) (sym (opened_is p i)) (by_opened (counting.is_majority p.nodes 1))
+  proposes_opened = subst (Proposes nodes id (accepting a (own p i v))) (sym (opened_is p i)) (by_opened _)
 
 -- what is executed has the cut that was proposed
 acts_opened : {service : Declarations} {values : List Value} (a : AcceptorValue) (p : ProposerValue) {w : ActingValue} (i : ℕ) {v : Value} → ActsFor service values (open_of a p.open_instance) w → IsCutAt service values w v → ActsFor service values (open_of (accepting a (own p i v)) (proposed p i).open_instance) w
@@ -265,7 +265,7 @@ module _ {K : Type 0} {records : K → List (List ℕ)} (gives : K → List ℕ 
 
   pub propose_spelled : {w : Value} → w ≡ v → HasSpelling (kept.Accepted b i w)
   propose_spelled {w} w_is =
-      let s = some_of x.proposer leads in
+      let s = some_of _ leads in
       subst (λ (n : ℕ). HasSpelling (kept.Accepted n i w)) (sym (b_own s.1)) (subst (λ (z : Value). HasSpelling (kept.Accepted s.0.ballot i z)) (sym w_is)
       (spelled records gives faults past (kept_so.up up) kept_so.id kept_so.few kept_so.reached kept_so.decoded s.1 next there short cut))
 
@@ -275,19 +275,19 @@ module _ {K : Type 0} {records : K → List (List ℕ)} (gives : K → List ℕ 
 
     pub propose_down : g ≡ Down → Opens records gives faults service past told i v x y before mid Down
     propose_down e =
-        let s = some_of x.proposer leads in
+        let s = some_of _ leads in
         let k : Appends records faults gives x y before mid (record_bytes (kept.Accepted s.0.ballot i v)) Down = appends_as records gives faults x y before mid (same_rec s.1) e h in
         opens_down records gives faults past (kept_so.up up) kept_so.id kept_so.few kept_so.reached kept_so.decoded s.1 next there short cut told before mid k.0 k.1 k.2
 
     pub propose_on : g ≡ On → {z : NodeValue K} (after : Draft) → z ≡ opened y i v → after.effects.items ≡ mid.effects.items ++ told ∷ [] → FromLead y (λ l. map (message_in past) after.sends.items ≡ map (message_in past) mid.sends.items ++ others y.nodes y.id (content_in past (sent.Accept l.ballot i v)))
         → Opens records gives faults service past told i v x z before after On
     propose_on e {z} after z_is effects sends =
-        let s = some_of x.proposer leads in
+        let s = some_of _ leads in
         let k : Appends records faults gives x y before mid (record_bytes (kept.Accepted s.0.ballot i v)) On = appends_as records gives faults x y before mid (same_rec s.1) e h in
         opens_on records gives faults past (kept_so.up up) kept_so.id kept_so.few kept_so.reached kept_so.decoded s.1 next there short cut up told before mid after k.0 k.1 k.2 z_is effects sends
 
     pub propose_stuck : g ≡ On → {z : NodeValue K} → z.keeper ≡ y.keeper → z.base ≡ y.base → OpensShort records gives faults service past told i v x z before
     propose_stuck e {z} keeper based =
-        let s = some_of x.proposer leads in
+        let s = some_of _ leads in
         let k : Appends records faults gives x y before mid (record_bytes (kept.Accepted s.0.ballot i v)) On = appends_as records gives faults x y before mid (same_rec s.1) e h in
         opens_broken records gives faults past (kept_so.up up) kept_so.id kept_so.few kept_so.reached kept_so.decoded s.1 next there short cut told before k.0 keeper based

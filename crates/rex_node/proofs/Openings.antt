@@ -49,7 +49,7 @@ module _ (n : ℕ) (sv : Service Value StateValue) (me : ℕ) (l : Lead Value) (
 
   settle_at : {t : Bool} → is_majority n (me ∷ []) ≡ t → settle (enough l.reported) n sv me (led opens_to d) ≡ cond t (decide n sv me (led opens_to d) (record { ballot = l.ballot; counted = l.counted; reported = l.reported; proposal = Some p; accepted_by = me ∷ []; active = l.active }) p.instance p.value (settle left n sv me)) (led opens_to d)
   settle_at e =
-      ap (λ (f : ℕ). settle f n sv me (led opens_to d)) (more_turns l.reported)
+      ap (λ (f : ℕ). settle f n sv me (led opens_to d)) (more_turns _)
       ∙ ap (λ (u : Bool). cond u (decide n sv me (led opens_to d) (record { ballot = l.ballot; counted = l.counted; reported = l.reported; proposal = Some p; accepted_by = me ∷ []; active = l.active }) p.instance p.value (settle left n sv me)) (led opens_to d)) e
 
   -- it waits for a majority
@@ -106,7 +106,7 @@ pub opened_role : (acceptor : AcceptorValue) (p : ProposerValue) {active : Bool}
     ≡ leading (lead_of acceptor p active) (Some (proposal_of p.ballot instance value)) (id ∷ []) active
 opened_role acceptor p {active} {instance} {value} own alone =
     ap (λ (q : ProposerValue). role_of (accepting acceptor kept) (Some q) active) (proposed_open p instance alone)
-    ∙ ap (λ (o : Option Kept). leading (lead_of acceptor p active) (option_map proposal_in o) (node_of p.ballot ∷ []) active) (proposal_for-with acceptor.accepted kept)
+    ∙ ap (λ (o : Option Kept). leading (lead_of acceptor p active) (option_map proposal_in o) (node_of p.ballot ∷ []) active) (proposal_for-with _ kept)
     ∙ ap (λ (m : ℕ). leading (lead_of acceptor p active) (Some (proposal_of p.ballot instance value)) (m ∷ []) active) own
   where
     kept : Kept

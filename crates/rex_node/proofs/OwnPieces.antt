@@ -70,23 +70,23 @@ module _ {K : Type 0} {records : K → List (List ℕ)} {service : Declarations}
 
   -- what is executed
   abbrev one : (a : ActingValue) × (x.acting ≡ Some a) × IsPieceOf a (cut_in a has.limits) p
-  one = own_piece x.acting has.limits has.can.piece
+  one = own_piece x.acting _ has.can.piece
 
   runs : Executes service x.known one.0
-  runs = executes service x.known x.acceptor x.proposer x.acting one.0 is_up.acting one.1
+  runs = executes service x.known x.acceptor _ x.acting one.0 is_up.acting one.1
 
   -- the value of the piece runs on after what is known
   pub own_fits : IsService service → {vs : List Value} {v : Value} → vs ≡ x.known → v ≡ p.value → values_fit service (vs ++ v ∷ []) ≡ true
   own_fits good {v} vs_are v_is =
       subst (λ (ws : List Value). values_fit service (ws ++ v ∷ []) ≡ true) (sym vs_are)
-      (subst (λ (w : Value). values_fit service (x.known ++ w ∷ []) ≡ true) (sym v_is) (piece_fits good runs is_up.fits has.limits has.many one.2))
+      (subst (λ (w : Value). values_fit service (x.known ++ w ∷ []) ≡ true) (sym v_is) (piece_fits good runs is_up.fits _ has.many one.2))
 
   -- and it is the cut that the node proposed last, once that is the piece's
   pub own_cut : IsService service → {y : NodeValue K} {v : Value} → y ≡ with_cut x p.cut.counts → v ≡ p.value → IsOwnCut service y v
   own_cut good {v} y_is v_is =
       subst (λ (z : NodeValue K). IsOwnCut service z v) (sym y_is)
       (subst (λ (w : Option ActingValue). IfSome (option_map (cut_at p.cut.counts) w) (λ (a : ActingValue). IsCutAt service x.known a v)) (sym one.1)
-      (subst (λ (w : Value). IsCutAt service x.known (cut_at p.cut.counts one.0) w) (sym v_is) (piece_cut good runs is_up.fits has.limits has.many one.2)))
+      (subst (λ (w : Value). IsCutAt service x.known (cut_at p.cut.counts one.0) w) (sym v_is) (piece_cut good runs is_up.fits _ has.many one.2)))
 
   -- ---- the call
 
@@ -140,7 +140,7 @@ module _ {K : Type 0} {records : K → List (List ℕ)} {service : Declarations}
       -- a call of the node with this cut is one of the node
       ends_with : (l : Lead Value) (going : Going) → EndsBy (proposes p.events p.value l) at going → EndsBy (propose_cut service x.seed x.nodes x.id cut l) x going
       ends_with l going h =
-          ends_as records gives faults service past (proposes p.events p.value l) (propose_cut service x.seed x.nodes x.id cut l) x before after going (λ f. same_call before l f) (begins_here l going h)
+          ends_as records gives faults service past _ _ x before after going (λ f. same_call before l f) (begins_here l going h)
         where
           begins_here : (m : Lead Value) (going : Going) → EndsBy (proposes p.events p.value m) at going → EndsBy (proposes p.events p.value m) x going
           begins_here m On k = ((subst (λ (d : CallHere). LeadsOn records gives faults service (proposes p.events p.value m) (λ e. e) x.keeper y.keeper d (so_far records service past y after)) (draft_with before) k.0.0, k.0.1, k.0.2), k.1)
@@ -232,7 +232,7 @@ module _ {K : Type 0} (records : K → List (List ℕ)) (service : Declarations)
   up_now = node.up has.can.up
 
   abbrev has_one : (a : ActingValue) × (x.acting ≡ Some a) × IsPieceOf a (cut_in a has.limits) p
-  has_one = own_piece x.acting has.limits has.can.piece
+  has_one = own_piece x.acting _ has.can.piece
 
   abbrev a : ActingValue
   a = has_one.0
@@ -250,7 +250,7 @@ module _ {K : Type 0} (records : K → List (List ℕ)) (service : Declarations)
   live = (work_of x.acting).live
 
   counts_of_it : counts ≡ counts_in a has.limits
-  counts_of_it = counts_are node has.can.up has_one.1 has.limits
+  counts_of_it = counts_are node has.can.up has_one.1 _
 
   -- what is computed from the node's counts and live events is computed from what it executes
   there : {T : Type 0} (f : List ℕ → List Event → T) → f counts live ≡ f (counts_in a has.limits) a.recorder.live
@@ -260,7 +260,7 @@ module _ {K : Type 0} (records : K → List (List ℕ)) (service : Declarations)
   faithful =
       ap (λ (vs : List Value). is_faithful service x.seed vs (greatest_cut counts live) live) (sym up_now.known)
       ∙ there (λ cs es. is_faithful service x.seed x.known (greatest_cut cs es) es)
-      ∙ piece_faithful good (executes service x.known x.acceptor x.proposer x.acting a up_now.acting has_one.1) up_now.fits has.limits has.many has_one.2 x.seed
+      ∙ piece_faithful good (executes service x.known x.acceptor _ x.acting a up_now.acting has_one.1) up_now.fits _ has.many has_one.2 x.seed
 
   some : 0 < length (below (greatest_cut counts live) live)
   some = subst (λ (n : ℕ). 0 < n) (sym (there (λ cs es. length (below (greatest_cut cs es) es)))) has_one.2.some
@@ -282,7 +282,7 @@ module _ {K : Type 0} (records : K → List (List ℕ)) (service : Declarations)
       ∙ ap (λ (w : Option ActingValue). active_only (is_some w) d (cut_lead service x.seed x.nodes x.id counts l l.proposal d)) has_one.1
       ∙ ap (λ (o : Option (Proposal Value)). cut_lead service x.seed x.nodes x.id counts l o d) idle
       ∙ ap (λ (t : Bool). cond t (say effect.Ended d) (cut_live service x.seed x.nodes x.id (greatest_cut counts live) l (below (greatest_cut counts live) live) d)) left
-      ∙ proposes_some (below (greatest_cut counts live) live) some
+      ∙ proposes_some _ some
       ∙ ap (λ (c : List ℕ). propose_cut service x.seed x.nodes x.id c l d) (there greatest_cut ∙ sym has_one.2.cut_is)
 
 module _ {K : Type 0} (records : K → List (List ℕ)) (gives : K → List ℕ → Answer → K → Type 0) (faults : K → ℕ) (service : Declarations) (past : List Value) where
@@ -291,8 +291,8 @@ module _ {K : Type 0} (records : K → List (List ℕ)) (gives : K → List ℕ 
       → ProposesPiece records gives faults service past p.cut.counts x y first draft going
       → Ends records gives faults service past (lanes.cut service x.seed x.nodes x.id (counts_for service (here_of records service past x) has.limits)) x y first draft going
   cut_ends {x} node p has good {y} first draft going h =
-      let o = idle_leads x.acceptor x.proposer has.can.idle in
-      ends_as records gives faults service past (propose_cut service x.seed x.nodes x.id p.cut.counts (lead_of x.acceptor o.0 (is_some x.acting))) (lanes.cut service x.seed x.nodes x.id (counts_for service (here_of records service past x) has.limits)) x first draft going
+      let o = idle_leads x.acceptor _ has.can.idle in
+      ends_as records gives faults service past _ _ x first draft going
       (λ f. cuts_piece records service past x node p has good o.0 o.1 first f)
       (lead_from x (λ l. Ends records gives faults service past (propose_cut service x.seed x.nodes x.id p.cut.counts l) x y first draft going) o.0 o.1 h)
 
@@ -301,7 +301,7 @@ module _ {K : Type 0} (records : K → List (List ℕ)) (gives : K → List ℕ 
       → IsStuck records gives faults service past (lanes.cut service x.seed x.nodes x.id (counts_for service (here_of records service past x) has.limits)) x y first
   cut_short node p has good (inl s) = inl s
   cut_short {x} node p has good {y} {first} (inr b) =
-      let o = idle_leads x.acceptor x.proposer has.can.idle in
+      let o = idle_leads x.acceptor _ has.can.idle in
       inr (breaks_as
       (λ f. cuts_piece records service past x node p has good o.0 o.1 first f)
       (lead_from x (λ l. BreaksOff records gives faults service past (propose_cut service x.seed x.nodes x.id p.cut.counts l) x y first) o.0 o.1 b))

@@ -84,8 +84,8 @@ module _ {K : Type 0} {records : K → List (List ℕ)} (gives : K → List ℕ 
         (λ f. ap (λ (t : Bool). cond t (nacks f) (cond (nat_le first (offset (here_of records service past x).log)) (tells f) (cond (nat_lt (promise (here_of records service past x).log) b) (raises f) (again f)))) (le-ltb b (promise (here_of records service past x).log) (omega (arith, same, u.promised)))
         ∙ ap (λ (t : Bool). cond t (tells f) (cond (nat_lt (promise (here_of records service past x).log) b) (raises f) (again f))) (lt-leb first (offset (here_of records service past x).log) (subst (λ (o : ℕ). o < first) u.offset late))
         ∙ ap (λ (t : Bool). cond t (raises f) (again f)) (le-ltb (promise (here_of records service past x).log) b (omega (arith, same, u.promised)))
-        ∙ ap (λ (ps : List (Proposal Value)). send (armed_with f (so_far records service past x before)) (answer x.id from (Promise b ps))) (sym (from_kept first x.acceptor.accepted ∙ ap (from_on first) u.accepted))
-        ∙ ap (armed_with f) (sym (sends_to records service past x before after from (sent.Promise b (from_instance first x.acceptor.accepted)) s)))
+        ∙ ap (λ (ps : List (Proposal Value)). send (armed_with f (so_far records service past x before)) (answer x.id from (Promise b ps))) (sym (from_kept first _ ∙ ap (from_on first) u.accepted))
+        ∙ ap (armed_with f) (sym (sends_to records service past x before after from _ s)))
       where
         nacks : Option Failure → CallHere
         nacks f = send (armed_with f (so_far records service past x before)) (answer x.id from (Nack b (promise (here_of records service past x).log)))
@@ -139,12 +139,12 @@ module _ {K : Type 0} {records : K → List (List ℕ)} (gives : K → List ℕ 
           (follows_node gives faults y before mid node up spelled tt refl refl h logged_here (le_refl _) (λ n l. refl) z_here)
           (follows_up gives faults y before mid node up spelled tt refl refl h logged_here (le_refl _) (λ n l. refl) z_here)
           (λ f. refl)
-          (sends_to records service past z told after from (sent.Promise b (from_instance first z.acceptor.accepted)) s
+          (sends_to records service past z told after from _ s
           ∙ ap (λ (e : CallHere). send e (answer z.id from (Promise b (map proposal_in (from_instance first z.acceptor.accepted)))))
           (follows_to gives faults y before mid node up spelled tt refl refl h logged_here (le_refl _) (λ n l. refl) z_here
           (subst (λ (i : ℕ). Tells mid told (effect.Promised i b ∷ followed y.id (role_of y.acceptor y.proposer (is_some y.acting)))) (ap (λ (n : NodeValue K). n.id) h.0.parts) t))
           ∙ ap (λ (n : NodeValue K). send (follow x.id (effect.Promised x.id b ∷ []) (logged (Promised b) None (so_far records service past x before))) (answer n.id from (Promise b (map proposal_in (from_instance first n.acceptor.accepted))))) z_here
-          ∙ ap (λ (ps : List (Proposal Value)). send (follow x.id (effect.Promised x.id b ∷ []) (logged (Promised b) None (so_far records service past x before))) (answer x.id from (Promise b ps))) (from_kept first x.acceptor.accepted ∙ ap (from_on first) u.accepted))
+          ∙ ap (λ (ps : List (Proposal Value)). send (follow x.id (effect.Promised x.id b ∷ []) (logged (Promised b) None (so_far records service past x before))) (answer x.id from (Promise b ps))) (from_kept first _ ∙ ap (from_on first) u.accepted))
         where
           a : AcceptorValue
           a = promising x.acceptor b
@@ -173,7 +173,7 @@ module _ {K : Type 0} {records : K → List (List ℕ)} (gives : K → List ℕ 
 
     module _ {fresh : Bool} (answer_is : answer_to_accept x.acceptor b i ≡ asked.Accept fresh) where
       not_less : nat_lt b (promise (here_of records service past x).log) ≡ false
-      not_less = ap (nat_lt b) (sym u.promised) ∙ (asked_parts (nat_lt b x.acceptor.promised) (is_of_ballot b (proposal_for i x.acceptor.accepted)) fresh x.acceptor.promised answer_is).0
+      not_less = ap (nat_lt b) (sym u.promised) ∙ (asked_parts _ _ fresh _ answer_is).0
 
       has_it : has_last b i (accepted (here_of records service past x).log) ≡ not fresh
       has_it =
@@ -211,7 +211,7 @@ module _ {K : Type 0} {records : K → List (List ℕ)} (gives : K → List ℕ 
     pub accept_again : {after : Draft} → answer_to_accept x.acceptor b i ≡ asked.Accept false → x.offset < i → Sends before after (answering x.id from (sent.Accepted b i)) → EndsWell records gives faults service past x x before after accept
     accept_again {after} e late s =
         ends_same records gives faults service past x x before after refl node up
-        (λ f. accept_is e late f ∙ ap (armed_with f) (sym (sends_to records service past x before after from (sent.Accepted b i) s)))
+        (λ f. accept_is e late f ∙ ap (armed_with f) (sym (sends_to records service past x before after from _ s)))
 
     -- or it is accepted
     module _ (ballot : IsBallot b) (there : IsInstance i) (short : IsValue v) (late : x.offset < i) (e : answer_to_accept x.acceptor b i ≡ asked.Accept true) (y : NodeValue K) (mid : Draft) where
@@ -234,7 +234,7 @@ module _ {K : Type 0} {records : K → List (List ℕ)} (gives : K → List ℕ 
           (follows_node gives faults y before mid node up valued tt refl refl h logged_here (le_refl _) (λ n l. refl) z_here)
           (follows_up gives faults y before mid node up valued tt refl refl h logged_here (le_refl _) (λ n l. refl) z_here)
           (λ f. refl)
-          (sends_to records service past z told after from (sent.Accepted b i) s
+          (sends_to records service past z told after from _ s
           ∙ ap (λ (n : CallHere). send n (answer z.id from (Voted b i)))
           (follows_to gives faults y before mid node up valued tt refl refl h logged_here (le_refl _) (λ n l. refl) z_here
           (subst (λ (j : ℕ). Tells mid told (effect.Accepted j b i ∷ followed y.id (role_of y.acceptor y.proposer (is_some y.acting)))) (ap (λ (n : NodeValue K). n.id) h.0.parts) t))

@@ -87,34 +87,34 @@ module _ {service : Declarations} (good : IsService service) {values : List Valu
       le-ltb e.index (count_at counts e.lane) (omega (arith, w e.lane, count_is a.recorder.state e.lane, index))
 
   go : GoesFirst service a.recorder.start a.recorder.state a.proposed a.recorder.live
-  go = cuts_go_first service a.recorder.start a.recorder.state a.proposed a.recorder.live good h.recorder.sound c.consistent h.recorder.runs
+  go = cuts_go_first service _ _ _ _ good h.recorder.sound c.consistent h.recorder.runs
 
   -- the state after the value
   mid : state_after service (trace_of (values ++ value ∷ [])) ≡ go.state
   mid =
-      state_is service (trace_of (values ++ value ∷ [])) go.state
+      state_is service _ go.state
       (ap (run service (start_of service)) (trace_push values value)
-      ∙ run-then service (start_of service) a.recorder.start (trace_of values) (events_of value) h.known
+      ∙ run-then service (start_of service) _ (trace_of values) _ h.known
       ∙ ap (run service a.recorder.start) c.events ∙ go.first)
 
   mid_within : IsWithin (counts_of a.recorder.state) (counts_of (state_after service (trace_of (values ++ value ∷ []))))
-  mid_within = subst (λ (s : StateValue). IsWithin (counts_of a.recorder.state) (counts_of s)) (sym mid) (λ lane. (runs_rise service go.state a.recorder.state (beyond a.proposed a.recorder.live) go.rest).rise lane)
+  mid_within = subst (λ (s : StateValue). IsWithin (counts_of a.recorder.state) (counts_of s)) (sym mid) (λ lane. (runs_rise service go.state _ _ go.rest).rise lane)
 
   -- with one event more
   cut_pushed : (e : Event) {after : StateValue} {queue : List Request} {dice : Lcg} → next service a.recorder.state e ≡ Some after
       → IsCutAt service values (record { recorder = record { start = a.recorder.start; live = a.recorder.live ++ e ∷ []; state = after; queue = queue }; dice = dice; proposed = a.proposed; answers = a.answers }) value
   cut_pushed e {after} k = record {
     consistent = consistent_push e c.consistent out;
-    within = λ lane. le_trans (c.within lane) ((runs_rise service a.recorder.state after (e ∷ []) (run-push service a.recorder.state a.recorder.state after [] e refl k)).rise lane);
-    events = c.events ∙ sym (below_push a.proposed a.recorder.live e out);
+    within = λ lane. le_trans (c.within lane) ((runs_rise service a.recorder.state after (e ∷ []) (run-push service _ _ after [] e refl k)).rise lane);
+    events = c.events ∙ sym (below_push _ _ e out);
     others =
-        beyond_push (counts_of (state_after service (trace_of (values ++ value ∷ [])))) a.recorder.live e (not_below (counts_of (state_after service (trace_of (values ++ value ∷ [])))) e mid_within k)
+        beyond_push _ _ e (not_below _ e mid_within k)
         ∙ ap (λ (es : List Event). es ++ e ∷ []) c.others
-        ∙ sym (beyond_push a.proposed a.recorder.live e out);
+        ∙ sym (beyond_push _ _ e out);
   }
     where
       out : is_below a.proposed e ≡ false
-      out = not_below a.proposed e c.within k
+      out = not_below _ e c.within k
 
   -- after an event, or none, whatever the queue is then
   abbrev with_turn : Turn → List Request → Lcg → ActingValue
@@ -127,7 +127,7 @@ module _ {service : Declarations} (good : IsService service) {values : List Valu
 
   cut_turned : (t : Turn) {queue : List Request} {dice : Lcg} → IsRecorder service (with_turn t queue dice).recorder → IsCutAt service values (with_turn t queue dice) value
   cut_turned (turn.Done e) {queue} {dice} k =
-      let r = run-first service a.recorder.state (unwrap_or (next service a.recorder.state e) a.recorder.state) e [] (sym (run-then service a.recorder.start a.recorder.state a.recorder.live (e ∷ []) h.recorder.runs) ∙ k.runs) in
+      let r = run-first service _ _ e [] (sym (run-then service a.recorder.start _ a.recorder.live (e ∷ []) h.recorder.runs) ∙ k.runs) in
       cut_pushed e (r.1 ∙ r.2)
   cut_turned turn.Full k = record { consistent = c.consistent; within = c.within; events = c.events; others = c.others }
   cut_turned turn.Idle k = record { consistent = c.consistent; within = c.within; events = c.events; others = c.others }

@@ -127,7 +127,7 @@ module _ {K : Type 0} (records : K → List (List ℕ)) (gives : K → List ℕ 
         subst (λ (n : ℕ). BreaksOff records gives faults service past (whole_of n (effect.Proposes x.id (length x.known + 1) events) (lead_of x.acceptor p (is_some x.acting))) x mid before) next
         (subst (λ (t : Effect). BreaksOff records gives faults service past (whole_of instance t (lead_of x.acceptor p (is_some x.acting))) x mid before) told_is
         (lead_from x (λ l. (k : CallHere → CallHere) → LosesFirst k → BreaksOff records gives faults service past (λ d. propose x.nodes x.id told d l instance value k) x mid before) p leads b
-        (goes (lead_of x.acceptor p (is_some x.acting))) (settle_loses (enough (lead_of x.acceptor p (is_some x.acting)).reported) x.nodes x.id sv)))))
+        (goes (lead_of x.acceptor p (is_some x.acting))) (settle_loses _ x.nodes x.id sv)))))
 
     -- ---- the node goes on
 
@@ -194,7 +194,7 @@ module _ {K : Type 0} (records : K → List (List ℕ)) (gives : K → List ℕ 
               leads_then records gives faults service
                    o.0
                   (leads_same records gives faults service refl
-                  (λ f. stays_open x.nodes sv x.id l (proposal_of p.ballot (length x.known + 1) value) (armed_with f (so_far records service past mid between)) role (alone ∙ majority_where e))),
+                  (λ f. stays_open x.nodes sv x.id l _ _ role (alone ∙ majority_where e))),
               o.1,
               o.2,
             ),
@@ -246,7 +246,7 @@ module _ {K : Type 0} (records : K → List (List ℕ)) (gives : K → List ℕ 
             leads_then records gives faults service
              (opens_next On h leads).0
             (leads_same records gives faults service refl
-            (λ f. knows_at_once x.nodes sv x.id l (proposal_of p.ballot (length x.known + 1) value) (armed_with f (so_far records service past mid between)) (alone ∙ majority_where closed_now)))
+            (λ f. knows_at_once x.nodes sv x.id l _ _ (alone ∙ majority_where closed_now)))
 
         -- memory was short as it learned
         short_learned : length (records x.keeper) < length (records mid.keeper) → LearnsShort records gives faults service past instance value mid y between → BreaksAt y l
@@ -262,7 +262,7 @@ module _ {K : Type 0} (records : K → List (List ℕ)) (gives : K → List ℕ 
                 (subst (λ (id : ℕ). BreaksOff records gives faults service past (decides x.nodes x.seed id (is_some mid.acting) instance) mid y between) same.id
                 (subst (λ (seed : ℕ). BreaksOff records gives faults service past (decides x.nodes seed mid.id (is_some mid.acting) instance) mid y between) same.seed
                 (subst (λ (n : ℕ). BreaksOff records gives faults service past (decides n mid.seed mid.id (is_some mid.acting) instance) mid y between) same.nodes
-                (lead_from mid (λ m. (k : CallHere → CallHere) → LosesFirst k → BreaksOff records gives faults service past (λ d. decide mid.nodes (service_of service mid.seed) mid.id d m instance value k) mid y between) closed_one mid_closed b
+                (lead_from mid (λ m. (k : CallHere → CallHere) → LosesFirst k → BreaksOff records gives faults service past (λ d. decide mid.nodes (service_of service mid.seed) mid.id d m instance value k) mid y between) _ mid_closed b
                 (settle left x.nodes sv x.id) (settle_loses left x.nodes x.id sv)))))))
 
         ends_learned : (going : Going) → Learns records gives faults service past instance value mid y between after going → HasLearned service mid y instance value going → IsSame mid y → EndsAt y after going l

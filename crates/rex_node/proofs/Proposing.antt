@@ -41,7 +41,7 @@ module _ {service : Declarations} (a : ActingValue) (h : IsRecorder service a.re
   firsts_long = length-map a.recorder.start.lanes done_of ∙ h.sound.by.complete.lanes
 
   rises : RiseBy (length a.recorder.live) (counts_of a.recorder.start) (counts_of a.recorder.state)
-  rises = runs_rise service a.recorder.start a.recorder.state a.recorder.live h.runs
+  rises = runs_rise service _ _ _ h.runs
 
   pub lasts_long : length (counts_of a.recorder.state) ≡ service.lanes
   lasts_long = rises.long ∙ firsts_long
@@ -49,9 +49,9 @@ module _ {service : Declarations} (a : ActingValue) (h : IsRecorder service a.re
   counts_live : (limits : Option (List ℕ)) → AreLimits service limits → IsLiveCut a.recorder.start a.recorder.state (counts_in a limits)
   counts_live None many = record { long = rises.long; from = rises.rise; to = λ lane. le_refl _ }
   counts_live (Some limits) many = record {
-    long = between_long (counts_of a.recorder.start) (counts_of a.recorder.state) limits rises.long (many ∙ sym firsts_long);
-    from = λ lane. between_from (counts_of a.recorder.start) (counts_of a.recorder.state) limits lane rises.long (many ∙ sym firsts_long) rises.rise;
-    to = λ lane. between_to (counts_of a.recorder.start) (counts_of a.recorder.state) limits lane;
+    long = between_long _ _ limits rises.long (many ∙ sym firsts_long);
+    from = λ lane. between_from _ _ limits lane rises.long (many ∙ sym firsts_long) rises.rise;
+    to = λ lane. between_to _ _ limits lane;
   }
 
   pub counts_long : (limits : Option (List ℕ)) → AreLimits service limits → length (counts_in a limits) ≡ service.lanes
@@ -60,7 +60,7 @@ module _ {service : Declarations} (a : ActingValue) (h : IsRecorder service a.re
   -- they are a cut of the live events
   pub counts_cut : IsService service → (limits : Option (List ℕ)) → AreLimits service limits → IsCutOf a.recorder.live (counts_in a limits)
   counts_cut good limits many =
-      let c : CountsOn a.recorder.start a.recorder.live a.recorder.state = runs_count_on service a.recorder.start a.recorder.state a.recorder.live h.runs in
+      let c : CountsOn a.recorder.start a.recorder.live a.recorder.state = runs_count_on service _ _ _ h.runs in
       let live = counts_live limits many in
       record {
         bases = counts_of a.recorder.start;
@@ -93,7 +93,7 @@ module _ {service : Declarations} (good : IsService service) {values : List Valu
   -- what it proposes is faithful, and runs on after what is known
   pub piece_faithful : (seed : ℕ) → is_faithful service seed values (cut_in a limits) a.recorder.live ≡ true
   piece_faithful seed =
-      faithful_at service seed values a.recorder.start a.recorder.state live (counts_in a limits) good fit h.recorder.sound h.known h.recorder.runs cut_of
+      faithful_at service seed values _ _ live _ good fit h.recorder.sound h.known h.recorder.runs cut_of
       (counts_long a h.recorder limits many) read piece.spelled.delta piece.spelled.short
 
   pub piece_fits : values_fit service (values ++ p.value ∷ []) ≡ true
@@ -102,28 +102,28 @@ module _ {service : Declarations} (good : IsService service) {values : List Valu
       (and_parts (values_fit service (values ++ value_at cut live ∷ [])) (same_events (events_of (value_at cut live)) (below cut live)) (piece_faithful 0)).0
 
   consistent : IsConsistent live cut
-  consistent = (greatest_is (counts_in a limits) live cut_of).consistent
+  consistent = (greatest_is _ live cut_of).consistent
 
   go : GoesFirst service a.recorder.start a.recorder.state cut live
-  go = cuts_go_first service a.recorder.start a.recorder.state cut live good h.recorder.sound consistent h.recorder.runs
+  go = cuts_go_first service _ _ cut live good h.recorder.sound consistent h.recorder.runs
 
   events : events_of p.value ≡ below cut live
   events = ap (λ r. (read_delta r).events) piece.again
 
   mid : state_after service (trace_of (values ++ p.value ∷ [])) ≡ go.state
   mid =
-      state_is service (trace_of (values ++ p.value ∷ [])) go.state
+      state_is service _ go.state
       (ap (run service (start_of service)) (trace_push values p.value)
-      ∙ run-then service (start_of service) a.recorder.start (trace_of values) (events_of p.value) h.known
+      ∙ run-then service (start_of service) _ (trace_of values) _ h.known
       ∙ ap (run service a.recorder.start) events ∙ go.first)
 
   others : still_live service (values ++ p.value ∷ []) live ≡ beyond cut live
   others =
       ap (λ (s : StateValue). beyond (counts_of s) live) mid
-      ∙ beyond_same service a.recorder.start go.state a.recorder.state cut live go.first go.rest
+      ∙ beyond_same service _ go.state _ cut live go.first go.rest
 
   within : IsWithin (counts_of a.recorder.state) cut
-  within lane = le_trans ((greatest_is (counts_in a limits) live cut_of).within lane) ((counts_live a h.recorder limits many).to lane)
+  within lane = le_trans ((greatest_is _ live cut_of).within lane) ((counts_live a h.recorder limits many).to lane)
 
   -- it is a cut of what is executed
   pub piece_cut : IsCutAt service values (record a { proposed = p.cut.counts }) p.value

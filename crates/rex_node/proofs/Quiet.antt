@@ -36,7 +36,7 @@ quiet_one o id (inl h) = o id h
 quiet_one o id (inr h) = h
 
 quiet_both : (xs ys : List Effect) → IsQuiet xs → IsQuiet ys → IsQuiet (xs ++ ys)
-quiet_both xs ys p q id h = go (among_either (effect.Down id) xs ys h)
+quiet_both xs ys p q id h = go (among_either _ xs ys h)
   where
     go : IsAmong (effect.Down id) xs ⊎ IsAmong (effect.Down id) ys → ⊥
     go (inl k) = p id k
@@ -65,13 +65,13 @@ module _ {V S : Type 0} (n : ℕ) (sv : Service V S) (me : ℕ) (replies : (befo
   if_well false h k = k
 
   say_well : {e : Effect} {d : Call V S} → IsWell d → Other e → IsWell (say e d)
-  say_well {e} {d} h o = record { armed = h.armed; quiet = quiet_both d.effects (e ∷ []) h.quiet (quiet_one o) }
+  say_well {e} {d} h o = record { armed = h.armed; quiet = quiet_both d.effects _ h.quiet (quiet_one o) }
 
   append_well : {a : Option Failure} {r : Rec V S} (d : Call V S) (k : Call V S → Call V S) → a ≡ None → IsWell (k (logged r None d)) → IsWell (append a me r d k)
   append_well {r} d k e h = subst (λ (b : Option Failure). IsWell (append b me r d k)) (sym e) h
 
   propose_well : {told : Effect} {d : Call V S} (l : Lead V) (i : ℕ) (v : V) {k : Call V S → Call V S} → Other told → IsWell d → Goes k → IsWell (propose n me told d l i v k)
-  propose_well {told} {d} l i v o h g = append_well d _ h.armed (g _ (record { armed = refl; quiet = quiet_both d.effects (told ∷ []) h.quiet (quiet_one o) }))
+  propose_well {told} {d} l i v o h g = append_well d _ h.armed (g _ (record { armed = refl; quiet = quiet_both d.effects _ h.quiet (quiet_one o) }))
 
   released_quiet : (t : Bool) (before : List V) (v : V) → IsQuiet (released sv t before v)
   released_quiet true before v = replies before v
@@ -91,14 +91,14 @@ module _ {V S : Type 0} (n : ℕ) (sv : Service V S) (me : ℕ) (replies : (befo
   settle_well (suc f) d h = by d.node.role (settle_well f)
     where
       choose_well : (l : Lead V) (i : ℕ) (o : Option (Proposal V)) → Goes (settle f n sv me) → IsWell (choose n sv me d l i o (settle f n sv me))
-      choose_well l i None g = record { armed = h.armed; quiet = quiet_both d.effects (effect.Active me l.ballot ∷ []) h.quiet (quiet_one (λ id e. cc)) }
+      choose_well l i None g = record { armed = h.armed; quiet = quiet_both d.effects _ h.quiet (quiet_one (λ id e. cc)) }
       choose_well l i (Some p) g = propose_well l i p.value (λ id e. cc) h g
 
       lead_well : (l : Lead V) (o : Option (Proposal V)) → Goes (settle f n sv me) → IsWell (lead n sv me d l o (settle f n sv me))
-      lead_well l (Some p) g = if_well (is_majority n l.accepted_by) (decide_well l p.instance p.value h g) h
+      lead_well l (Some p) g = if_well _ (decide_well l _ p.value h g) h
       lead_well l None g =
           if_well l.active h
-          (if_well (is_majority n l.counted) (choose_well l (suc (length (known d.node.log))) (best (suc (length (known d.node.log))) l.reported) g) h)
+          (if_well _ (choose_well l (suc (length (known d.node.log))) (best (suc (length (known d.node.log))) l.reported) g) h)
 
       by : (r : Role V) → Goes (settle f n sv me) → IsWell (turn n sv me d r (settle f n sv me))
       by Follower g = h
@@ -113,7 +113,7 @@ module _ {V S : Type 0} (n : ℕ) (sv : Service V S) (me : ℕ) (replies : (befo
   sent_well h = record { armed = h.armed; quiet = h.quiet }
 
   follow_well : (cause : List Effect) {d : Call V S} → IsWell d → IsQuiet cause → IsWell (follow me cause d)
-  follow_well cause {d} h c = record { armed = h.armed; quiet = quiet_both d.effects (cause ++ followed me d.node.role) h.quiet (quiet_both cause (followed me d.node.role) c (quiet_followed me d.node.role)) }
+  follow_well cause {d} h c = record { armed = h.armed; quiet = quiet_both d.effects _ h.quiet (quiet_both cause _ c (quiet_followed me _)) }
 
   pub stand_well : (b : ℕ) {d : Call V S} → IsWell d → IsWell (stand n sv me b d)
   stand_well b {d} h =
@@ -122,8 +122,8 @@ module _ {V S : Type 0} (n : ℕ) (sv : Service V S) (me : ℕ) (replies : (befo
 
   pub elect_well : (d : Call V S) → IsWell d → IsWell (elect n sv me d)
   elect_well d h =
-      if_well (nat_lt 4294967296 (round_of (ballot_above me (promise d.node.log)))) (say_well h (λ id e. cc))
-      (stand_well (ballot_above me (promise d.node.log)) h)
+      if_well _ (say_well h (λ id e. cc))
+      (stand_well _ h)
 
   -- a node that follows after a record
   followed_well : {r : Rec V S} (cause : List Effect) {d : Call V S} → IsWell d → IsQuiet cause → IsWell (follow me cause (logged r None d))
@@ -177,7 +177,7 @@ module _ {V S : Type 0} (n : ℕ) (sv : Service V S) (me : ℕ) (replies : (befo
 
   nack_well : (p : ℕ) {d : Call V S} → IsWell d → (r : Role V) → IsWell (on_nack me p d r)
   nack_well p {d} h Follower = say_well h (λ id e. cc)
-  nack_well p {d} h (Leads l) = if_well (nat_lt l.ballot p) (follow_well [] h quiet_none) (say_well h (λ id e. cc))
+  nack_well p {d} h (Leads l) = if_well _ (follow_well [] h quiet_none) (say_well h (λ id e. cc))
 
   snapshot_well : (values : List V) {d : Call V S} → IsWell d → IsWell (on_snapshot sv me values d)
   snapshot_well values {d} h =
@@ -187,17 +187,17 @@ module _ {V S : Type 0} (n : ℕ) (sv : Service V S) (me : ℕ) (replies : (befo
 
   pub dropped_well : (d : Call V S) → IsWell d → IsWell (drop_known me d)
   dropped_well d h =
-      if_well (base d.node.log == offset d.node.log) (say_well h (λ id e. cc))
+      if_well _ (say_well h (λ id e. cc))
       (append_well d _ h.armed (say_well (record { armed = refl; quiet = h.quiet }) (λ id e. cc)))
 
   pub receive_well : (from : ℕ) (m : Content V) → Goes (receive n sv me from m)
   receive_well from (Prepare b first) d h = prepare_well from b first h
-  receive_well from (Promise b ps) d h = promise_well from b ps h d.node.role
+  receive_well from (Promise b ps) d h = promise_well from b ps h _
   receive_well from (Accept b i v) d h = accept_well from b i v h
-  receive_well from (Voted b i) d h = voted_well from b i h d.node.role
+  receive_well from (Voted b i) d h = voted_well from b i h _
   receive_well from (Chose i v) d h = chosen_well i v h
-  receive_well from (Nack b p) d h = nack_well p h d.node.role
-  receive_well from (Ask first) d h = if_well (nat_le first (offset d.node.log)) (sent_well h) (if_well (nat_lt (length (known d.node.log)) first) (say_well h (λ id e. cc)) (sent_well h))
+  receive_well from (Nack b p) d h = nack_well p h _
+  receive_well from (Ask first) d h = if_well _ (sent_well h) (if_well _ (say_well h (λ id e. cc)) (sent_well h))
   receive_well from (Snapshot values) d h = snapshot_well values h
 
 -- ---- a service's replies
@@ -209,7 +209,7 @@ released_quietly (r ∷ rs) id (inr h) = released_quietly rs id h
 
 -- its replies tell of no node
 pub replies_quiet : (service : Declarations) (seed : ℕ) (before : List Value) (v : Value) → IsQuiet ((service_of service seed).replies before v)
-replies_quiet service seed before v = released_quietly (releases (state_after service (trace_of before)).clients (events_of v))
+replies_quiet service seed before v = released_quietly _
 
 -- ---- a cut
 
@@ -218,28 +218,28 @@ module _ (service : Declarations) (seed n me : ℕ) where
   Well d = IsWell n (service_of service seed) me (replies_quiet service seed) d
 
   says : {e : Effect} {d : CallHere} → Well d → Other e → Well (say e d)
-  says {e} {d} h o = say_well n (service_of service seed) me (replies_quiet service seed) h o
+  says {e} {d} h o = say_well n _ me (replies_quiet service seed) h o
 
   live_well : (counts : List ℕ) (l : Lead Value) (es : List Event) {d : CallHere} → Well d → Well (cut_live service seed n me counts l es d)
   live_well counts l [] {d} h = says h (λ id e. cc)
   live_well counts l (e ∷ es) {d} h =
-      if_well n (service_of service seed) me (replies_quiet service seed) (is_faithful service seed (known d.node.log) counts d.node.work.live)
-      (propose_well n (service_of service seed) me (replies_quiet service seed) l (suc (length (known d.node.log))) (value_at counts d.node.work.live) (λ id e. cc) h (settle_well n (service_of service seed) me (replies_quiet service seed) (enough l.reported)))
+      if_well n _ me (replies_quiet service seed) _
+      (propose_well n _ me (replies_quiet service seed) l _ _ (λ id e. cc) h (settle_well n _ me (replies_quiet service seed) _))
       (says h (λ id e. cc))
 
   lead_cut_well : (counts : List ℕ) (l : Lead Value) (o : Option (Proposal Value)) (d : CallHere) → Well d → Well (cut_lead service seed n me counts l o d)
   lead_cut_well counts l (Some p) d h = says h (λ id e. cc)
   lead_cut_well counts l None d h =
-      if_well n (service_of service seed) me (replies_quiet service seed) (nat_le 65535 (length (known d.node.log))) (says h (λ id e. cc))
-      (live_well (greatest_cut counts d.node.work.live) l (below (greatest_cut counts d.node.work.live) d.node.work.live) h)
+      if_well n _ me (replies_quiet service seed) _ (says h (λ id e. cc))
+      (live_well _ l _ h)
 
   role_well : (counts : List ℕ) (r : Role Value) {d : CallHere} → Well d → Well (cut_role service seed n me counts r d)
   role_well counts Follower {d} h = says {e = effect.NotActive (role_name d.node.role)} {d = d} h (λ id e. cc)
   role_well counts (Leads l) {d} h = active l.active
     where
       active : (t : Bool) → Well (active_only t d (cut_lead service seed n me counts l l.proposal d))
-      active true = lead_cut_well counts l l.proposal d h
+      active true = lead_cut_well counts l _ d h
       active false = says {e = effect.NotActive (role_name d.node.role)} {d = d} h (λ id e. cc)
 
   pub cut_well : (counts : List ℕ) (d : CallHere) → Well d → Well (cut service seed n me counts d)
-  cut_well counts d h = role_well counts d.node.role h
+  cut_well counts d h = role_well counts _ h

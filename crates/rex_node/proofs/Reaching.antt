@@ -43,7 +43,7 @@ all_known past {held} e = ap (λ (n : ℕ). first n past ++ held) e
 
 pub again_reached : {K : Type 0} (service : Declarations) (past : List Value) (x : NodeValue K) (said : Recovered) {o : Option ReachedValue} → KeepsReached x said o → HasReached service x.offset (knows past x) x.reached
     → HasReached service said.offset (first said.offset past ++ said.known) o
-again_reached service past x said {o} (inl none) h = bare_reached service said.offset (first said.offset past ++ said.known) none
+again_reached service past x said {o} (inl none) h = bare_reached service _ _ none
 again_reached service past x said (inr (same, alike)) h = subst (HasReached service said.offset (first said.offset past ++ said.known)) (sym same) (by x.reached alike h)
   where
     by : (r : Option ReachedValue) → BeginAlike r x.known said.offset said.known → HasReached service x.offset (knows past x) r → HasReached service said.offset (first said.offset past ++ said.known) r

@@ -86,10 +86,10 @@ module _ (service : Declarations) where
   holds_good : (offset : ℕ) (r : KeptRec) (later : List KeptRec) → is_stated service (record_bytes r) ≡ true → list_all (spells service) (cons_option (durable.value_above offset r) []) ≡ true → bad_in service offset r later ≡ None
   holds_good offset (rec.Promised b) later stated fit = refl
   holds_good offset (rec.Accepted b i v) later stated fit = refl
-  holds_good offset (rec.Known i v) later stated fit = value_good v (nat_lt offset i) fit
-  holds_good offset (rec.Checkpoint k bytes) later stated fit = state_good (has_state later) (state_in service bytes) stated
+  holds_good offset (rec.Known i v) later stated fit = value_good v _ fit
+  holds_good offset (rec.Checkpoint k bytes) later stated fit = state_good _ _ stated
   holds_good offset (rec.Dropped k) later stated fit = refl
-  holds_good offset (rec.Transferred k bytes) later stated fit = state_good (has_state later) (state_in service bytes) stated
+  holds_good offset (rec.Transferred k bytes) later stated fit = state_good _ _ stated
 
   -- a list's first value, if it has one, and the others
   fit_parts : (o : Option Value) (vs : List Value) → list_all (spells service) (cons_option o vs) ≡ true → (list_all (spells service) (cons_option o []) ≡ true) × (list_all (spells service) vs ≡ true)
@@ -116,7 +116,7 @@ module _ (service : Declarations) where
       let values : list_all (spells service) (durable.known h.rs) ≡ true =
       ap (λ (vs : List Value). list_all (spells service) vs) said.held ∙ fits_past (durable.offset h.rs) (known (log_of service past kept)) fit in
       let states : list_all (is_stated service) (map record_bytes h.rs) ≡ true = subst (λ (lists : List (List ℕ)). AreStated service lists) h.spelled.bytes stated in
-      absurd (some_none place (sym h.first ∙ no_bad (durable.offset h.rs) h.rs 1 states values))
+      absurd (some_none place (sym h.first ∙ no_bad _ h.rs 1 states values))
     where
       some_none : (p : Place) → Some p ≡ None → ⊥
       some_none p e = cc

@@ -60,7 +60,7 @@ module _ (service : Declarations) (past : List Value) where
       (record {
         front = front_more service past before r counts follows said.front;
         old_is =
-            fold_push old_in _ before r ∙ old_more (log_of service past (map record_bytes before)) r said.old_is
+            fold_push old_in _ before r ∙ old_more _ r said.old_is
             ∙ ap (λ (log : List (Rec Value StateValue)). has_old_base log) (sym (log_front service past before r counts follows said.front));
       })
 

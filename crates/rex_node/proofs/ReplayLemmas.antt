@@ -33,12 +33,12 @@ use Rattle.rex_node.proofs.Reaching.{now_reached}
 module _ {K : Type 0} {records : K → List (List ℕ)} {service : Declarations} {past : List Value} {x : NodeValue K} (node : IsKept records service past x) (up : x.up ≡ true) where
   module _ (count : ℕ) {from : StateValue} (from_runs : run service (start_of service) (trace_of (take count x.known)) ≡ Some from) where
     pub from_sound : IsService service → IsChecked service → IsSound service from
-    from_sound good checked = run_keeps service (start_of service) from (trace_of (take count x.known)) good (start_keeps service good checked) from_runs
+    from_sound good checked = run_keeps service _ from _ good (start_keeps service good checked) from_runs
 
     pub rest_runs_to : {rest : List Value} → rest ≡ drop count x.known → run service from (trace_of rest) ≡ run service (start_of service) (trace_of x.known)
     rest_runs_to rest_is =
         ap (λ (vs : List Value). run service from (trace_of vs)) rest_is
-        ∙ sym (run-then service (start_of service) from (trace_of (take count x.known)) (trace_of (drop count x.known)) from_runs)
+        ∙ sym (run-then service (start_of service) from (trace_of (take count x.known)) _ from_runs)
         ∙ ap (run service (start_of service)) (sym (trace_both (take count x.known) (drop count x.known)) ∙ ap trace_of (take-append-drop count x.known))
 
     pub rest_runs : {rest : List Value} → rest ≡ drop count x.known → IsSome (run service from (trace_of rest))
@@ -84,7 +84,7 @@ module _ {K : Type 0} {records : K → List (List ℕ)} (gives : K → List ℕ 
 
       idle : (is_active (here_of records service past x).role || (x.replayed == length (known (here_of records service past x).log))) ≡ false
       idle =
-          ap (λ (t : Bool). t || (x.replayed == length (known (here_of records service past x).log))) (role_active service x.known x.acceptor x.proposer x.acting u.acting ∙ ap (λ (w : Option ActingValue). is_some w) none)
+          ap (λ (t : Bool). t || (x.replayed == length (known (here_of records service past x).log))) (role_active service x.known x.acceptor _ x.acting u.acting ∙ ap (λ (w : Option ActingValue). is_some w) none)
           ∙ ap (λ (k : ℕ). x.replayed == k) (sym here) ∙ old
 
   pub replay_stays : run service (start_of service) (trace_of x.known) ≡ Some s → StaysResting records service past x after_replay
@@ -103,7 +103,7 @@ module _ {K : Type 0} {records : K → List (List ℕ)} (gives : K → List ℕ 
       whole = take_all n x.known (omega arith)
 
       up_after : IsUp service after_replay (here_of records service past after_replay)
-      up_after = up_of records service past after_replay
+      up_after = up_of records service past _
           (record { promised = l.promised; accepted = l.accepted; offset_is = l.offset_is; low = l.low; known = l.known; base = l.base; old_base = l.old_base; few = l.few; start = l.start; short = l.short; fits = l.fits; numbers = l.numbers })
           (record {
             based = subst (λ (k : ℕ). x.base ≤ k) (sym n_is) l.few;

@@ -49,8 +49,8 @@ module _ {service : Declarations} {log : List (Rec Value StateValue)} {x : Recov
           let r : start ≡ state_after service (trace_of (take (base log) (known log))) = (right start (sym e ∙ saved_is service bytes s)).1 in
           let same : state_after service (trace_of (take (base log) (known log))) ≡ state_after service (trace_of (take x.base (known log))) =
           ap (λ (n : ℕ). state_after service (trace_of (take n (known log)))) (sym says.base) in
-          let f = front_runs service x.base (known log) fit in
-          f.1 ∙ ap Some (sym (state_is service (trace_of (take x.base (known log))) f.0 f.1) ∙ sym (r ∙ same))
+          let f = front_runs service x.base _ fit in
+          f.1 ∙ ap Some (sym (state_is service _ f.0 f.1) ∙ sym (r ∙ same))
 
 -- the first values of the past, and those that are held, are all that the records know
 whole_is : {service : Declarations} (past : List Value) {log : List (Rec Value StateValue)} {x : Recovered} → Says service x log → HasForgotten past log → first x.offset past ++ x.known ≡ known log
@@ -130,7 +130,7 @@ module _ {K : Type 0} (records : K → List (List ℕ)) {service : Declarations}
       };
       ahead = λ _. runs_there;
       caught_up = λ t. absurd (false≢true t);
-      short = short_values x.accepted h.found.read.fits.accepted;
+      short = short_values _ h.found.read.fits.accepted;
       proposer = tt;
       acting = tt;
       stamped = tt;

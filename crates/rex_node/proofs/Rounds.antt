@@ -109,11 +109,11 @@ module _ {K : Type 0} {records : K → List (List ℕ)} (gives : K → List ℕ 
     where
       by : (o : Option ProposerValue) → x.proposer ≡ o → goes_on o (is_some x.acting) ≡ false → IsFree o (is_some x.acting) → GoesRound records gives faults service past turns x x before before (Done On)
       by None e g free = stays (subst (λ (o : Option ProposerValue). HasGoneOn o (is_some x.acting)) (sym e) tt)
-          (λ f. settle_follows x.nodes (service_of service x.seed) x.id turns (ap (λ (o : Option ProposerValue). role_of x.acceptor o (is_some x.acting)) e))
+          (λ f. settle_follows x.nodes _ x.id turns (ap (λ (o : Option ProposerValue). role_of x.acceptor o (is_some x.acting)) e))
       by (Some p) e g free =
           let r = rests_with p g free in
           stays (subst (λ (o : Option ProposerValue). HasGoneOn o (is_some x.acting)) (sym e) r.1)
-          (λ f. settle_rests x.nodes (service_of service x.seed) x.id turns (ap (λ (o : Option ProposerValue). role_of x.acceptor o (is_some x.acting)) e) (ap (open_of x.acceptor) free.0)
+          (λ f. settle_rests x.nodes _ x.id turns (ap (λ (o : Option ProposerValue). role_of x.acceptor o (is_some x.acting)) e) (ap (open_of x.acceptor) free.0)
           (ap (λ (t : Bool). is_some x.acting || not t) (same_majority e) ∙ r.0))
 
   -- ---- it is active
@@ -154,7 +154,7 @@ module _ {K : Type 0} {records : K → List (List ℕ)} (gives : K → List ℕ 
       none_best (Some q) t = absurd (cc)
 
       best_none : best i (map proposal_in p.reported) ≡ None
-      best_none = bridges.best_is i p.reported ∙ ap (option_map proposal_in) (none_best (best_for i p.reported) (subst (λ (o : Option ProposerValue). reported_value o i ≡ None) e unreported))
+      best_none = bridges.best_is i _ ∙ ap (option_map proposal_in) (none_best _ (subst (λ (o : Option ProposerValue). reported_value o i ≡ None) e unreported))
 
       place : suc (length (known (so_far records service past x before).node.log)) ≡ i
       place = ap (λ (vs : List Value). suc (length vs)) (sym u.known) ∙ (let n : suc (length x.known) ≡ i = omega (arith, next) in n)
@@ -168,7 +168,7 @@ module _ {K : Type 0} {records : K → List (List ℕ)} (gives : K → List ℕ 
       activates : {f : Option Failure} → settles (armed_with f (so_far records service past x before)) ≡ activate (service_of service x.seed) x.id l (armed_with f (so_far records service past x before))
       activates {f} =
           ap (λ (t : ℕ). settle t x.nodes (service_of service x.seed) x.id (armed_with f (so_far records service past x before))) some
-          ∙ turn_chooses x.nodes (service_of service x.seed) x.id (armed_with f (so_far records service past x before)) (settle (turns - 1) x.nodes (service_of service x.seed) x.id)
+          ∙ turn_chooses x.nodes (service_of service x.seed) x.id _ _
           (ap (λ (o : Option ProposerValue). role_of x.acceptor o (is_some x.acting)) e) (ap (open_of x.acceptor) none) (ap (λ (w : Option ActingValue). is_some w) idle) (same_majority e ∙ majority)
           ∙ ap (λ (o : Option (Proposal Value)). choose x.nodes (service_of service x.seed) x.id (armed_with f (so_far records service past x before)) l (suc (length (known (so_far records service past x before).node.log))) o (settle (turns - 1) x.nodes (service_of service x.seed) x.id))
           (ap (λ (j : ℕ). best j (map proposal_in p.reported)) place ∙ best_none)

@@ -55,7 +55,7 @@ module _ {K : Type 0} (records : K → List (List ℕ)) {service : Declarations}
   replayed_runs_with (Some a) e =
       ap (λ (n : ℕ). run service (start_of service) (trace_of (take n x.known))) (u.caught_up (ap (λ (w : Option ActingValue). is_some w) e))
       ∙ ap (λ (vs : List Value). run service (start_of service) (trace_of vs)) (take_all (length x.known) x.known (omega arith))
-      ∙ (executes service x.known x.acceptor x.proposer x.acting a u.acting e).known
+      ∙ (executes service x.known x.acceptor _ x.acting a u.acting e).known
 
   -- the values that were replayed lead to it
   pub replayed_runs : run service (start_of service) (trace_of (take x.replayed x.known)) ≡ Some (replayed_state x)
@@ -70,13 +70,13 @@ spelled_first p (suc n) (v ∷ vs) h = let q = and_parts (p v) (list_all p vs) h
 front_fits : (service : Declarations) (n : ℕ) (vs : List Value) → values_fit service vs ≡ true → values_fit service (take n vs) ≡ true
 front_fits service n vs h =
     let q = and_parts (list_all (spells service) vs) (runs service (trace_of vs)) h in
-    and_from _ _ (spelled_first (spells service) n vs q.0) (ap (λ (o : Option StateValue). is_some o) (front_runs service n vs h).1)
+    and_from _ _ (spelled_first _ n vs q.0) (ap (λ (o : Option StateValue). is_some o) (front_runs service n vs h).1)
 
 -- the state after the first values is within the limits
 pub front_limited : {K : Type 0} (records : K → List (List ℕ)) {service : Declarations} (past : List Value) {x : NodeValue K} → IsUp service x (here_of records service past x) → IsService service → IsChecked service → {n : ℕ} → n ≤ length x.known → {s : StateValue}
     → run service (start_of service) (trace_of (take n x.known)) ≡ Some s → IsLimited s
 front_limited records {service} past {x} u good checked {n} le {s} runs =
-    let l = values_limited service (take n x.known) s good checked (front_fits service n x.known u.fits) (omega (arith, le, (logged_of records service past x u).numbers.few, ap length u.known, length-take-le n x.known le)) runs in
+    let l = values_limited service _ s good checked (front_fits service n x.known u.fits) (omega (arith, le, (logged_of records service past x u).numbers.few, ap length u.known, length-take-le n x.known le)) runs in
     record {
       lanes = All-weaker (λ (lane : Lane). lane.done ≤ 268431360) HasFewEvents (λ lane h. record { few = h }) s.lanes l.lanes;
       nobody = l.nobody;
@@ -121,7 +121,7 @@ module _ {K : Type 0} {records : K → List (List ℕ)} {service : Declarations}
   runs_now = replayed_runs records past up_now ∙ ap Some (sym s_is)
 
   pub replayed_sound_now : IsSound service s
-  replayed_sound_now = run_keeps service (start_of service) s (trace_of (take x.replayed x.known)) good (start_keeps service good checked) runs_now
+  replayed_sound_now = run_keeps service _ s _ good (start_keeps service good checked) runs_now
 
   pub replayed_limited : IsLimited s
   replayed_limited = front_limited records past up_now good checked (beside_of records service past x up_now).replayed runs_now
@@ -177,7 +177,7 @@ module _ {K : Type 0} (records : K → List (List ℕ)) (gives : K → List ℕ 
   state_now : state_after service (trace_of (take x.replayed (known log))) ≡ s
   state_now =
       ap (λ (vs : List Value). state_after service (trace_of (take x.replayed vs))) (sym u.known)
-      ∙ state_is service (trace_of (take x.replayed x.known)) (replayed_state x) (replayed_runs records past u) ∙ sym s_is
+      ∙ state_is service _ _ (replayed_runs records past u) ∙ sym s_is
 
   -- the model appends the state
   appends : (g : Option Failure) → call (armed_with g (begin h)) ≡ append g x.id said (armed_with g (begin h)) (say (effect.Checkpointed x.id x.replayed))

@@ -62,7 +62,7 @@ module _ {K : Type 0} {records : K → List (List ℕ)} {service : Declarations}
   up_now = node.up (old_there (here_of records service past x) due).up
 
   pub start_sound : IsSound service x.start
-  start_sound = run_keeps service (start_of service) x.start (trace_of (take x.base x.known)) good (start_keeps service good checked) up_now.start
+  start_sound = run_keeps service _ x.start _ good (start_keeps service good checked) up_now.start
 
   pub start_limited : IsLimited x.start
   start_limited = front_limited records past up_now good checked (logged_of records service past x up_now).few up_now.start
@@ -119,7 +119,7 @@ module _ {K : Type 0} (records : K → List (List ℕ)) (gives : K → List ℕ 
   state_now : state_after service (trace_of (take x.base (known log))) ≡ x.start
   state_now =
       ap (λ (vs : List Value). state_after service (trace_of (take x.base vs))) (sym u.known)
-      ∙ state_is service (trace_of (take x.base x.known)) x.start u.start
+      ∙ state_is service _ x.start u.start
 
   -- the model appends the state
   appends : (g : Option Failure) → call (armed_with g (begin h)) ≡ append g x.id said (armed_with g (begin h)) (say (effect.Migrated x.id x.base))

@@ -23,7 +23,7 @@ not_told false t h = refl
 events_silent : {client : ℕ} (es : List Event) → RepliesToNone client es → replies_to client es ≡ false
 events_silent [] h = refl
 events_silent {client} (e ∷ es) h =
-    rw (not_told (is_reply_to client e.kind) refl (h e (inl refl))) (events_silent es (λ f has. h f (inr has)))
+    rw (not_told _ refl (h e (inl refl))) (events_silent es (λ f has. h f (inr has)))
 
 pub value_silent : {client : ℕ} (value : Value) → ((d : Delta) → delta_in value ≡ Ok d → RepliesToNone client d.events) → replies_to client (events_of value) ≡ false
 value_silent {client} value h = by (delta_in value) refl

@@ -70,13 +70,13 @@ module _ {values : List Value} {a : AnswersValue} (h : NumbersReplies values a) 
     count = next ∙ sym (length_push values v);
     stamps = λ client l some.
         ap (λ (o : Option ℕ). unwrap_or o 0) (told client l)
-        ∙ stamp_next l (replies_to client (events_of v)) (subst (λ (o : Option ℕ). 0 < unwrap_or o 0) (told client l) some)
+        ∙ stamp_next l _ (subst (λ (o : Option ℕ). 0 < unwrap_or o 0) (told client l) some)
         ∙ sym (last_push client 1 values v);
   }
     where
       told : (client : ℕ) → client ≤ 256 → stamp_of (noting a (events_of v)) client ≡ cond (replies_to client (events_of v)) (Some (suc (length values))) (stamp_of a client)
       told client l =
-          noted_number (next_number a.count) client a.numbers (events_of v) (let many = h.clients in omega (arith, l, many))
+          noted_number _ client a.numbers (events_of v) (let many = h.clients in omega (arith, l, many))
           ∙ ap (λ (k : ℕ). cond (replies_to client (events_of v)) (Some k) (stamp_of a client)) next
 
 -- ---- a node that is active from here on

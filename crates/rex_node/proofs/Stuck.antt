@@ -36,25 +36,25 @@ module _ {V S : Type 0} (n : ℕ) (sv : Service V S) (me : ℕ) where
 
   choose_loses : (d : Call V S) → d.node.armed ≡ Some (After 0 false) → (l : Lead V) (i : ℕ) (o : Option (Proposal V)) (k : Call V S → Call V S) → Keeps d (choose n sv me d l i o k)
   choose_loses d e l i None k = refl
-  choose_loses d e l i (Some p) k = lost d e (Accepted l.ballot i p.value) _
+  choose_loses d e l i (Some p) k = lost d e _ _
 
   lead_loses : (d : Call V S) → d.node.armed ≡ Some (After 0 false) → (l : Lead V) (o : Option (Proposal V)) (k : Call V S → Call V S) → Keeps d (lead n sv me d l o k)
-  lead_loses d e l (Some p) k = if_keeps (is_majority n l.accepted_by) d (decide n sv me d l p.instance p.value k) d (lost d e (Known p.instance p.value) _) refl
+  lead_loses d e l (Some p) k = if_keeps _ d _ d (lost d e _ _) refl
   lead_loses d e l None k =
-      if_keeps l.active d d (cond (is_majority n l.counted) (choose n sv me d l (suc (length (known d.node.log))) (best (suc (length (known d.node.log))) l.reported) k) d) refl
-      (if_keeps (is_majority n l.counted) d (choose n sv me d l (suc (length (known d.node.log))) (best (suc (length (known d.node.log))) l.reported) k) d (choose_loses d e l (suc (length (known d.node.log))) (best (suc (length (known d.node.log))) l.reported) k) refl)
+      if_keeps l.active d d _ refl
+      (if_keeps _ d _ d (choose_loses d e l _ _ k) refl)
 
   turn_loses : (d : Call V S) → d.node.armed ≡ Some (After 0 false) → (r : Role V) (k : Call V S → Call V S) → Keeps d (turn n sv me d r k)
   turn_loses d e Follower k = refl
-  turn_loses d e (Leads l) k = lead_loses d e l l.proposal k
+  turn_loses d e (Leads l) k = lead_loses d e l _ k
 
   settle_keeps : (f : ℕ) (d : Call V S) → d.node.armed ≡ Some (After 0 false) → Keeps d (settle f n sv me d)
   settle_keeps zero d e = refl
-  settle_keeps (suc f) d e = turn_loses d e d.node.role (settle f n sv me)
+  settle_keeps (suc f) d e = turn_loses d e _ _
 
 -- so it is where a node goes on
 pub settle_loses : (f n me : ℕ) (sv : Service Value StateValue) → LosesFirst (settle f n sv me)
-settle_loses f n me sv d = settle_keeps n sv me f (armed_with (Some (After 0 false)) d) refl
+settle_loses f n me sv d = settle_keeps n sv me f _ refl
 
 -- ---- the whole stops short where a part of it does
 
@@ -70,7 +70,7 @@ module _ {K : Type 0} (records : K → List (List ℕ)) (gives : K → List ℕ 
     short = k.short;
     counted = k.counted ∙ h.counted;
     stated = stated_both service h.written k.written h.stated k.stated;
-    many = both h.written k.written (length d.node.log) h.many k.many;
+    many = both h.written k.written _ h.many k.many;
     is = ap (λ (f : Option Failure). (whole (armed_with f d)).node.log) (sym (later_count h.written k.written)) ∙ ap (λ (f : CallHere). f.node.log) (h.comes (Some (After (length k.written) false))) ∙ k.is;
   }
 

@@ -58,11 +58,11 @@ module _ {K : Type 0} (records : K → List (List ℕ)) (gives : K → List ℕ 
 
     pub gone_again : GoesRound records gives faults service past left y z mid after Again → GoneOn turns (left - 2) x z before after
     gone_again k = record {
-      comes = (first_leads (subst (λ (rest : CallHere → CallHere). Leads records gives faults service (settles y left) rest y.keeper z.keeper (so_far records service past y mid) (so_far records service past z after)) (settles_as (left - 2) h.same) k.0.0), k.0.1, k.0.2);
+      comes = (first_leads (subst (λ (rest : CallHere → CallHere). Leads records gives faults service (settles y left) rest y.keeper z.keeper (so_far records service past y mid) (so_far records service past z after)) (settles_as _ h.same) k.0.0), k.0.1, k.0.2);
       same = same_then h.same same;
       free = k.2;
       may = k.1;
-      runs = subst (λ (rest : CallHere → CallHere). RunsOn service rest (so_far records service past z after)) (sym (settles_as (left - 2) same)) (rest_runs past y z mid after k.0.0 h.runs);
+      runs = subst (λ (rest : CallHere → CallHere). RunsOn service rest (so_far records service past z after)) (sym (settles_as _ same)) (rest_runs past y z mid after k.0.0 h.runs);
       count = subst (λ (n : ℕ). n < 2 ^ 64 - 1) (sym k.0.0.counted) h.count;
       moved = inr (longer h.moved k.4);
     }
@@ -89,7 +89,7 @@ module _ {K : Type 0} (records : K → List (List ℕ)) (gives : K → List ℕ 
         by : (y ≡ x) ⊎ (length (records x.keeper) < length (records y.keeper)) → IsStuck records gives faults service past (settles x left) y z mid → IsStuck records gives faults service past (settles x turns) x z before
         by (inl e) (inl s) = inl (subst (λ (n : NodeValue K). Stands records faults gives n z) e s)
         by (inl e) (inr b) = inr (breaks_later y z mid h.comes.0 b)
-        by (inr longer) s = inr (breaks_after y z mid h.comes.0 longer (h.comes.1.up h.comes.2).base (settle_loses left x.nodes x.id (service_of service x.seed)) s)
+        by (inr longer) s = inr (breaks_after y z mid h.comes.0 longer (h.comes.1.up h.comes.2).base (settle_loses left x.nodes x.id _) s)
 
 -- a call that has come so far ends as the rest of it does
 pub ends_then : {K : Type 0} {records : K → List (List ℕ)} {gives : K → List ℕ → Answer → K → Type 0} {faults : K → ℕ} {service : Declarations} {past : List Value} {whole middle : CallHere → CallHere} (x y : NodeValue K) {z : NodeValue K} (before mid after : Draft) (going : Going) → y.id ≡ x.id

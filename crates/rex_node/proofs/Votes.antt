@@ -82,12 +82,12 @@ module _ {nodes id : ℕ} {a : AcceptorValue} {p : ProposerValue} (h : Proposes 
   pub open_at : {o : ℕ} → p.open_instance ≡ Some o → (q : Kept) × (open_of a p.open_instance ≡ Some (proposal_in q)) × (q.instance ≡ o) × (proposal_for o a.accepted ≡ Some q)
   open_at {o} e =
       let k : HasOpen a p.ballot (Some o) = subst (HasOpen a p.ballot) e h.open_one in
-      (k.0, ap (open_of a) e ∙ ap (option_map proposal_in) k.1, found_instance a.accepted k.1, k.1)
+      (k.0, ap (open_of a) e ∙ ap (option_map proposal_in) k.1, found_instance _ k.1, k.1)
 
   -- with one more it is a majority where the proposer's count is
   pub majority_more : is_counted from p.accepted ≡ false → is_majority nodes (p.accepted ++ from ∷ []) ≡ counting.is_majority p.nodes (length p.accepted + 1)
   majority_more new =
-      bridges.majority_is (counted_push nodes p.accepted from (subst (λ (n : ℕ). AreCounted n p.accepted) h.nodes_are h.once.acceptances) one new)
+      bridges.majority_is (counted_push nodes _ from (subst (λ (n : ℕ). AreCounted n p.accepted) h.nodes_are h.once.acceptances) one new)
       ∙ ap (λ (n : ℕ). counting.is_majority n (length (p.accepted ++ from ∷ []))) (sym h.nodes_are)
       ∙ ap (counting.is_majority p.nodes) (length-append p.accepted (from ∷ []))
 
@@ -127,7 +127,7 @@ module _ {nodes id : ℕ} {a : AcceptorValue} {p : ProposerValue} (h : Proposes 
           ≡ outcome nodes sv id from l (voted (if not t then Some (why.Instance i o) else if is_counted from p.accepted then Some (why.Again from) else None) p.nodes (length p.accepted + 1)) d
       go false q f = refl
       go true q f =
-          ap (λ (t : Bool). cond t (say (effect.IgnoredAgain from) d) (count_vote nodes sv id (calls.voted l from (proposal_in q)) d)) (bridges.in_counted from p.accepted)
+          ap (λ (t : Bool). cond t (say (effect.IgnoredAgain from) d) (count_vote nodes sv id (calls.voted l from (proposal_in q)) d)) (bridges.in_counted from _)
           ∙ again q f (is_counted from p.accepted) refl
 
   at_any : (o : Option ℕ) → p.open_instance ≡ o → on_own_vote nodes sv id from i d l (open_of a p.open_instance) ≡ outcome nodes sv id from l (answer true o (is_counted from p.accepted)) d
@@ -140,7 +140,7 @@ module _ {nodes id : ℕ} {a : AcceptorValue} {p : ProposerValue} (h : Proposes 
     where
       go : (t : Bool) → cond t (on_own_vote nodes sv id from i d l (open_of a p.open_instance)) (say (effect.IgnoredBallot ballot p.ballot) d) ≡ outcome nodes sv id from l (answer t p.open_instance (is_counted from p.accepted)) d
       go false = refl
-      go true = at_any p.open_instance refl
+      go true = at_any _ refl
 
 -- ---- answers
 
@@ -194,7 +194,7 @@ module _ {K : Type 0} (records : K → List (List ℕ)) (gives : K → List ℕ 
       → whole d ≡ outcome x.nodes (service_of service x.seed) x.id from (lead_of x.acceptor p (is_some x.acting)) (acceptance_vote p ballot i from) d
   whole_is {p} e d role =
       ap (λ (r : Role Value). on_voted x.nodes (service_of service x.seed) x.id from ballot i d r) (role ∙ ap (λ (o : Option ProposerValue). role_of x.acceptor o (is_some x.acting)) e)
-      ∙ voted_is (proposes_of e) (is_some x.acting) (service_of service x.seed) ballot i one d
+      ∙ voted_is (proposes_of e) (is_some x.acting) _ ballot i one d
 
   kept_so : IsKept records service past x
   kept_so = record { id = node.id; few = node.few; up = node.up; reached = node.reached; decoded = node.decoded }
@@ -230,12 +230,12 @@ module _ {K : Type 0} (records : K → List (List ℕ)) (gives : K → List ℕ 
     parts = no_refusal (eqb ballot p.ballot) (is_open p.open_instance i) (is_counted from p.accepted) (why.Ballot ballot p.ballot) (why.Instance i (unwrap_or p.open_instance 0)) (why.Again from) none
 
     pub opens : p.open_instance ≡ Some i
-    opens = open_is p.open_instance parts.1
+    opens = open_is _ parts.1
 
     more_counted : AreCounted p.nodes (p.accepted ++ from ∷ [])
     more_counted =
         let h = proposes_of e in
-        counted_push p.nodes p.accepted from h.once.acceptances (subst (λ (n : ℕ). IsOneOf n from) (sym h.nodes_are) one) parts.2
+        counted_push p.nodes _ from h.once.acceptances (subst (λ (n : ℕ). IsOneOf n from) (sym h.nodes_are) one) parts.2
 
     module _ (few : counting.is_majority p.nodes (length p.accepted + 1) ≡ false) where
       abbrev q : ProposerValue
@@ -294,7 +294,7 @@ module _ {K : Type 0} (records : K → List (List ℕ)) (gives : K → List ℕ 
       counted_at after effects sends = (
         (
           leads_same records gives faults service refl
-              (λ f. whole_is e (armed_with f (so_far records service past x before)) refl
+              (λ f. whole_is e _ refl
               ∙ ap (λ (z : Vote). outcome x.nodes (service_of service x.seed) x.id from (lead_of x.acceptor p (is_some x.acting)) z (armed_with f (so_far records service past x before))) vote_at
               ∙ call_is
                refl refl refl (ap (map (message_in past)) (sym sends)) (sym effects)),
@@ -311,7 +311,7 @@ module _ {K : Type 0} (records : K → List (List ℕ)) (gives : K → List ℕ 
       by : (o : Option ProposerValue) → x.proposer ≡ o → acceptance_vote_on o ballot i from ≡ vote.NotYet have → Ends records gives faults service past whole x y before after On
       by None e f = absurd (cc)
       by (Some p) e f =
-          let n = not_yet (acceptance_refusal p ballot i from) p.nodes f in
+          let n = not_yet _ p.nodes f in
           let all : y ≡ record x { proposer = Some (record p { accepted = p.accepted ++ from ∷ [] }) } =
           y_is ∙ ap (λ (o : Option ProposerValue). record x { proposer = option_map (λ (q : ProposerValue). acceptance_counted q ballot i from) o }) e ∙ ap (λ (q : ProposerValue). record x { proposer = Some q }) (q_is p e n.0 n.1) in
           subst (λ (z : NodeValue K). Ends records gives faults service past whole x z before after On) (sym all)

@@ -16,5 +16,5 @@ returns-then-branch c =
     ∙ ap (λ (v : Value). replies_to c.args.client (events_of v)) (sym c.as_slice.ensures)
     ∙ sym c.in_ok-has_reply.ensures ∙ c.if-branch.true in
     (let known = c.known-last.ensures.known in let n : c.known-last.result - c.loop-back.back ≡ suc (c.args.known.now.offset + i) = omega (arith, there, known) in n)
-    ∙ found_last c.args.client c.args.known.now.offset c.args.known.now.values c.index-values-count.result (omega (arith, there)) some
+    ∙ found_last _ _ _ _ (omega (arith, there)) some
     (subst (IsSilent c.args.client c.args.known.now.offset c.args.known.now.values) (let n : length c.args.known.now.values - c.loop-back.back ≡ suc i = omega (arith, there) in n) c.loop-back.invariant)

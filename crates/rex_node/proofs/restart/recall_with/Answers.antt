@@ -19,9 +19,9 @@ returns-clause-recalled g c =
     (c.bad_place.ensures service c.requires.read.rs c.requires.read.spelled c.requires.read.is (c.bad_at.ensures ∙ ap bad_at c.in_ok-saved.ensures)) c.in_default.is in
     record {
       found = found;
-      start_is = saved_so service c.args.recovered.snapshot (sym c.in-Ok.is ∙ c.in_ok-saved.ensures);
+      start_is = saved_so service _ (sym c.in-Ok.is ∙ c.in_ok-saved.ensures);
       old_is = c.ends_old-old_base.ensures found.read.rs found.read.spelled;
     }
 
 pub returns-clause-decoded : goal.returns-clause-decoded
-returns-clause-decoded g c = c.in_ok-anew.ensures c.args.svc.now (saved_so c.args.svc.now c.args.recovered.snapshot (sym c.in-Ok.is ∙ c.in_ok-saved.ensures))
+returns-clause-decoded g c = c.in_ok-anew.ensures c.args.svc.now (saved_so _ _ (sym c.in-Ok.is ∙ c.in_ok-saved.ensures))

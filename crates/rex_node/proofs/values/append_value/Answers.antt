@@ -7,12 +7,12 @@ use Rattle.rex_node.proofs.values.append_value.Goals as goal
 
 pub returns-in-Ok : goal.returns-in-Ok
 returns-in-Ok c = record {
-  events = appended c.args.events.now.items (delta_in c.args.value.now) c.in-Ok.ensures.exact;
-  counted = value_counted c.args.value.now (λ i. omega (arith, c.type_inv.value i));
+  events = appended _ _ c.in-Ok.ensures.exact;
+  counted = value_counted _ (λ i. omega (arith, c.type_inv.value i));
 }
 
 pub returns-in-Err-OutOfMemory-clause-counted : goal.returns-in-Err-OutOfMemory-clause-counted
-returns-in-Err-OutOfMemory-clause-counted c = value_counted c.args.value.now (λ i. omega (arith, c.type_inv.value i))
+returns-in-Err-OutOfMemory-clause-counted c = value_counted _ (λ i. omega (arith, c.type_inv.value i))
 
 pub returns-in-Err-Bad : goal.returns-in-Err-Bad
 returns-in-Err-Bad c = record {
@@ -20,5 +20,5 @@ returns-in-Err-Bad c = record {
       c.in-Err-Bad.ensures.err
       ∙ none_appended c.in-Err-Bad.field-0-0 (delta_in c.args.value.now)
       (subst (λ e. Fails e (behind_of c.args.events.now.items (delta_in c.args.value.now))) c.in-Err-Bad.field-0-is c.in-Err-Bad.ensures.exact);
-  counted = value_counted c.args.value.now (λ i. omega (arith, c.type_inv.value i));
+  counted = value_counted _ (λ i. omega (arith, c.type_inv.value i));
 }

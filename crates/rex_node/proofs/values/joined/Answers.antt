@@ -5,5 +5,5 @@ use Rattle.rex_node.proofs.values.joined.Goals as goal
 
 pub loop-value-preserved : goal.loop-value-preserved
 loop-value-preserved c =
-    joined_more c.args.values.now c.loop-value-test.true c.value-item.is c.loop-value.invariant
+    joined_more _ c.loop-value-test.true c.value-item.is c.loop-value.invariant
     (ap events_of c.as_slice.ensures) c.append_value.ensures.counted c.in_ok-append_value.ensures.events

@@ -10,8 +10,8 @@ use Rattle.rex_node.proofs.node.Node.activate.Goals as goal
 
 pub at-requires : goal.at-requires
 at-requires g c =
-    some_entries c.args.svc.now c.in_ok-state.state
-    (run_keeps c.args.svc.now (start_of c.args.svc.now) c.in_ok-state.state (trace_of (knows g.P.Past.past c.args.self.now)) c.declarations-service.ensures.sound (start_keeps c.args.svc.now c.declarations-service.ensures.sound c.declarations-service.ensures.checked) c.in_ok-state.ensures.runs)
+    some_entries _ _
+    (run_keeps _ _ _ _ c.declarations-service.ensures.sound (start_keeps _ c.declarations-service.ensures.sound c.declarations-service.ensures.checked) c.in_ok-state.ensures.runs)
 
 pub returns-clause-active : goal.returns-clause-active
 returns-clause-active g c =
@@ -19,8 +19,8 @@ returns-clause-active g c =
     record {
       state = c.in_ok-state.state;
       runs = c.in_ok-state.ensures.runs;
-      sound = run_keeps c.args.svc.now (start_of c.args.svc.now) c.in_ok-state.state (trace_of (knows g.P.Past.past c.args.self.now)) c.declarations-service.ensures.sound (start_keeps c.args.svc.now c.declarations-service.ensures.sound c.declarations-service.ensures.checked) c.in_ok-state.ensures.runs;
-      is = activated_is (whole g.P.Past.past c.args.self.now) _ (ap (λ (x : NodeValue _). whole g.P.Past.past x) c.self.view_is) c.in_ok-state.state c.count-known.result c.in_ok-recorder.recorder.value c.new-dice.result c.new-counts.result c.unwrap_or-ballot.result c.self.inside.seed c.in_ok-answers.answers c.in_ok-reached.reached many c.in_ok-recorder.ensures.started
+      sound = run_keeps _ _ _ _ c.declarations-service.ensures.sound (start_keeps _ c.declarations-service.ensures.sound c.declarations-service.ensures.checked) c.in_ok-state.ensures.runs;
+      is = activated_is _ _ (ap (λ (x : NodeValue _). whole g.P.Past.past x) c.self.view_is) _ _ _ _ _ _ _ _ _ many c.in_ok-recorder.ensures.started
           (c.unwrap_or-ballot.ensures ∙ ap (λ o. unwrap_or o 0) c.own_ballot.ensures) (ap (λ (n : NodeValue _). n.seed) c.self.view_is) c.new-dice.ensures c.new-counts.ensures c.in_ok-answers.ensures
           (c.in_ok-reached.ensures ∙ ap (λ o. reached_at o c.self.inside.base c.count-known.result c.in_ok-state.state) c.offset.ensures ∙ ap (λ (n : NodeValue _). reached_at n.offset n.base c.count-known.result c.in_ok-state.state) c.self.view_is);
     }

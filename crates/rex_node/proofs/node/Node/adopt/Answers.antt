@@ -8,29 +8,29 @@ use Rattle.rex_node.proofs.node.Node.adopt.Goals as goal
 pub propose-requires-clause-leads : goal.propose-requires-clause-leads
 propose-requires-clause-leads g c =
     chosen_leads g.K.Keeper.append_gives g.K.Keeper.faults c.declarations-service.ensures.sound c.declarations-service.ensures.checked c.requires.kept c.requires.up c.requires.next
-    (chooses_of c.args.self.now.proposer c.requires.goes c.requires.reported) c.args.turns c.requires.turns
+    (chooses_of _ c.requires.goes c.requires.reported) _ c.requires.turns
 
 pub propose-requires-clause-there : goal.propose-requires-clause-there
 propose-requires-clause-there g c =
     chosen_there g.K.Keeper.append_gives g.K.Keeper.faults c.declarations-service.ensures.sound c.declarations-service.ensures.checked c.requires.kept c.requires.up c.requires.next
-    (chooses_of c.args.self.now.proposer c.requires.goes c.requires.reported) c.args.turns c.requires.turns
+    (chooses_of _ c.requires.goes c.requires.reported) _ c.requires.turns
 
 pub propose-requires-clause-value : goal.propose-requires-clause-value
 propose-requires-clause-value g c =
     chosen_short g.K.Keeper.append_gives g.K.Keeper.faults c.declarations-service.ensures.sound c.declarations-service.ensures.checked c.requires.kept c.requires.up c.requires.next
-    (chooses_of c.args.self.now.proposer c.requires.goes c.requires.reported) c.args.turns c.requires.turns
+    (chooses_of _ c.requires.goes c.requires.reported) _ c.requires.turns
 
 pub propose-requires-clause-cut : goal.propose-requires-clause-cut
 propose-requires-clause-cut g c =
     chosen_cut g.K.Keeper.append_gives g.K.Keeper.faults c.declarations-service.ensures.sound c.declarations-service.ensures.checked c.requires.kept c.requires.up c.requires.next
-    (chooses_of c.args.self.now.proposer c.requires.goes c.requires.reported) c.args.turns c.requires.turns
+    (chooses_of _ c.requires.goes c.requires.reported) _ c.requires.turns
 
 pub returns-in-Down-clause-goes : goal.returns-in-Down-clause-goes
 returns-in-Down-clause-goes g c =
-    adopt_down g.K.Keeper.append_gives g.K.Keeper.faults c.declarations-service.ensures.sound c.declarations-service.ensures.checked c.requires.kept c.requires.up c.requires.next
-    (chooses_of c.args.self.now.proposer c.requires.goes c.requires.reported) c.args.turns c.requires.turns
+    adopt_down _ _ c.declarations-service.ensures.sound c.declarations-service.ensures.checked c.requires.kept c.requires.up c.requires.next
+    (chooses_of _ c.requires.goes c.requires.reported) _ c.requires.turns
     c.args.draft.now c.propose.new.draft c.in_ok-propose.ensures.same
-    (opens_as g.K.Keeper.records g.K.Keeper.append_gives g.K.Keeper.faults c.args.svc.now g.P.Past.past (whole g.P.Past.past c.args.self.now) (whole g.P.Past.past c.propose.new.self) c.args.draft.now c.propose.new.draft c.args.instance c.args.value.now (told_is c.args.value.now (ap (λ (n : NodeValue _). n.id) c.self.view_is) c.event_count-events.ensures) c.in-Down.is c.in_ok-propose.ensures.opens)
+    (opens_as _ _ _ _ _ (whole g.P.Past.past c.args.self.now) _ c.args.draft.now c.propose.new.draft _ _ (told_is _ (ap (λ (n : NodeValue _). n.id) c.self.view_is) c.event_count-events.ensures) c.in-Down.is c.in_ok-propose.ensures.opens)
 
 pub returns-then-self-gt1-clause-goes : goal.returns-then-self-gt1-clause-goes
 returns-then-self-gt1-clause-goes g c =
@@ -115,19 +115,19 @@ learn-requires-clause-count g c =
 pub learn-requires-clause-there : goal.learn-requires-clause-there
 learn-requires-clause-there g c =
     chosen_there g.K.Keeper.append_gives g.K.Keeper.faults c.declarations-service.ensures.sound c.declarations-service.ensures.checked c.requires.kept c.requires.up c.requires.next
-    (chooses_of c.args.self.now.proposer c.requires.goes c.requires.reported) c.args.turns c.requires.turns
+    (chooses_of _ c.requires.goes c.requires.reported) _ c.requires.turns
 
 pub learn-requires-clause-value : goal.learn-requires-clause-value
 learn-requires-clause-value g c =
     chosen_short g.K.Keeper.append_gives g.K.Keeper.faults c.declarations-service.ensures.sound c.declarations-service.ensures.checked c.requires.kept c.requires.up c.requires.next
-    (chooses_of c.args.self.now.proposer c.requires.goes c.requires.reported) c.args.turns c.requires.turns
+    (chooses_of _ c.requires.goes c.requires.reported) _ c.requires.turns
 
 pub returns-in_err-propose-clause-stuck : goal.returns-in_err-propose-clause-stuck
 returns-in_err-propose-clause-stuck g c =
-    on_err c.from_residual.result
-    (adopt_stuck g.K.Keeper.append_gives g.K.Keeper.faults c.declarations-service.ensures.sound c.declarations-service.ensures.checked c.requires.kept c.requires.up c.requires.next
-    (chooses_of c.args.self.now.proposer c.requires.goes c.requires.reported) c.args.turns c.requires.turns
-    (opens_short_as c.args.svc.now g.P.Past.past c.args.draft.now c.args.instance c.args.value.now (told_is c.args.value.now (ap (λ (n : NodeValue _). n.id) c.self.view_is) c.event_count-events.ensures) c.in_err-propose.ensures.stuck))
+    on_err _
+    (adopt_stuck _ _ c.declarations-service.ensures.sound c.declarations-service.ensures.checked c.requires.kept c.requires.up c.requires.next
+    (chooses_of _ c.requires.goes c.requires.reported) _ c.requires.turns
+    (opens_short_as _ _ _ _ _ (told_is _ (ap (λ (n : NodeValue _). n.id) c.self.view_is) c.event_count-events.ensures) c.in_err-propose.ensures.stuck))
 
 pub returns-in_err-learn-in-On-clause-stuck : goal.returns-in_err-learn-in-On-clause-stuck
 returns-in_err-learn-in-On-clause-stuck g c =

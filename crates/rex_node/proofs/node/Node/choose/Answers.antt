@@ -43,10 +43,10 @@ learn-requires-clause-cut g c =
 
 pub returns-in-Down-clause-ends : goal.returns-in-Down-clause-ends
 returns-in-Down-clause-ends g c =
-    choose_down g.K.Keeper.append_gives g.K.Keeper.faults c.declarations-service.ensures.sound c.declarations-service.ensures.checked c.requires.node c.requires.up c.requires.from c.args.draft.now
+    choose_down _ _ c.declarations-service.ensures.sound c.declarations-service.ensures.checked c.requires.node c.requires.up c.requires.from c.args.draft.now
     (chosen_of c.requires.vote (sym c.in_ok-value.ensures ∙ c.in-Some.is ∙ ap (λ v. Some v) (sym c.as_slice.ensures)))
     c.learn.new.draft c.in_ok-learn.ensures.same
-    (learns_as g.K.Keeper.records g.K.Keeper.append_gives g.K.Keeper.faults c.args.svc.now g.P.Past.past (whole g.P.Past.past c.args.self.now) (whole g.P.Past.past c.learn.new.self) c.args.draft.now c.learn.new.draft c.args.instance c.as_slice.result.now c.in-Down.is c.in_ok-learn.ensures.learns)
+    (learns_as _ _ _ _ _ (whole g.P.Past.past c.args.self.now) _ c.args.draft.now c.learn.new.draft _ _ c.in-Down.is c.in_ok-learn.ensures.learns)
 
 pub go_on-requires-clause-kept : goal.go_on-requires-clause-kept
 go_on-requires-clause-kept g c =
@@ -132,7 +132,7 @@ returns-clause-stuck g c =
 
 pub returns-in_err-learn-clause-stuck : goal.returns-in_err-learn-clause-stuck
 returns-in_err-learn-clause-stuck g c =
-    on_err c.from_residual-in_err-learn.result
-    (choose_stuck g.K.Keeper.append_gives g.K.Keeper.faults c.declarations-service.ensures.sound c.declarations-service.ensures.checked c.requires.node c.requires.up c.requires.from c.args.draft.now
+    on_err _
+    (choose_stuck _ _ c.declarations-service.ensures.sound c.declarations-service.ensures.checked c.requires.node c.requires.up c.requires.from _
     (chosen_of c.requires.vote (sym c.in_ok-value.ensures ∙ c.in-Some.is ∙ ap (λ v. Some v) (sym c.as_slice.ensures)))
     c.in_err-learn.ensures.stuck)

@@ -8,26 +8,26 @@ use Rattle.rex_node.proofs.node.Node.drop_to_base.Goals as goal
 
 pub returns-in-Down-clause-ends : goal.returns-in-Down-clause-ends
 returns-in-Down-clause-ends g c =
-    drop_down g.K.Keeper.records g.K.Keeper.append_gives g.K.Keeper.faults c.args.svc.now g.P.Past.past (whole g.P.Past.past c.args.self.now) (whole g.P.Past.past c.append.new.self) c.args.draft.now c.append.new.draft c.requires.node c.requires.up c.requires.held
-    (appends_at g.K.Keeper.records g.K.Keeper.append_gives g.K.Keeper.faults (whole g.P.Past.past c.args.self.now) (whole g.P.Past.past c.append.new.self) c.args.draft.now c.append.new.draft (kept.Dropped c.self.inside.base) (ap (λ (n : NodeValue _). kept.Dropped n.base) c.self.view_is) c.in-Down.is c.in_ok-append.ensures.appends)
+    drop_down _ _ _ _ _ _ _ c.args.draft.now c.append.new.draft c.requires.node c.requires.up c.requires.held
+    (appends_at _ _ _ _ _ c.args.draft.now c.append.new.draft _ (ap (λ (n : NodeValue _). kept.Dropped n.base) c.self.view_is) c.in-Down.is c.in_ok-append.ensures.appends)
 
 pub forget-requires-clause-to : goal.forget-requires-clause-to
 forget-requires-clause-to g c =
     subst (λ (n : NodeValue _). n.base ≤ count_of c.append.new.self) (sym c.self.view_is)
-    (drop_counts g.K.Keeper.records g.K.Keeper.append_gives g.K.Keeper.faults c.args.svc.now g.P.Past.past (whole g.P.Past.past c.args.self.now) (whole g.P.Past.past c.append.new.self) c.args.draft.now c.append.new.draft c.requires.node c.requires.up c.requires.held
-    (appends_at g.K.Keeper.records g.K.Keeper.append_gives g.K.Keeper.faults (whole g.P.Past.past c.args.self.now) (whole g.P.Past.past c.append.new.self) c.args.draft.now c.append.new.draft (kept.Dropped c.self.inside.base) (ap (λ (n : NodeValue _). kept.Dropped n.base) c.self.view_is) c.in-On.is c.in_ok-append.ensures.appends)
-    c.append.new.self refl)
+    (drop_counts _ _ _ _ _ _ _ c.args.draft.now c.append.new.draft c.requires.node c.requires.up c.requires.held
+    (appends_at _ _ _ _ _ c.args.draft.now c.append.new.draft _ (ap (λ (n : NodeValue _). kept.Dropped n.base) c.self.view_is) c.in-On.is c.in_ok-append.ensures.appends)
+    _ refl)
 
 pub returns-in_err-tell-in-On-clause-stuck : goal.returns-in_err-tell-in-On-clause-stuck
 returns-in_err-tell-in-On-clause-stuck g c =
-    on_err_anyway c.from_residual-in_err-tell-in-On.result _
-    (drop_stuck g.K.Keeper.records g.K.Keeper.append_gives g.K.Keeper.faults c.args.svc.now g.P.Past.past (whole g.P.Past.past c.args.self.now) (whole g.P.Past.past c.append.new.self) c.args.draft.now c.append.new.draft c.requires.node c.requires.up c.requires.held
-    (appends_at g.K.Keeper.records g.K.Keeper.append_gives g.K.Keeper.faults (whole g.P.Past.past c.args.self.now) (whole g.P.Past.past c.append.new.self) c.args.draft.now c.append.new.draft (kept.Dropped c.self.inside.base) (ap (λ (n : NodeValue _). kept.Dropped n.base) c.self.view_is) c.in-On.is c.in_ok-append.ensures.appends)
+    on_err_anyway _ _
+    (drop_stuck _ _ _ _ _ _ _ _ c.append.new.draft c.requires.node c.requires.up c.requires.held
+    (appends_at _ _ _ _ _ c.args.draft.now c.append.new.draft _ (ap (λ (n : NodeValue _). kept.Dropped n.base) c.self.view_is) c.in-On.is c.in_ok-append.ensures.appends)
     (ap (λ (n : NodeValue _). n.keeper) c.forget.ensures) (ap (λ (n : NodeValue _). n.base) c.forget.ensures))
 
 pub returns-clause-ends : goal.returns-clause-ends
 returns-clause-ends g c =
-    drop_ends g.K.Keeper.records g.K.Keeper.append_gives g.K.Keeper.faults c.args.svc.now g.P.Past.past (whole g.P.Past.past c.args.self.now) (whole g.P.Past.past c.append.new.self) c.args.draft.now c.append.new.draft c.requires.node c.requires.up c.requires.held
-    (appends_at g.K.Keeper.records g.K.Keeper.append_gives g.K.Keeper.faults (whole g.P.Past.past c.args.self.now) (whole g.P.Past.past c.append.new.self) c.args.draft.now c.append.new.draft (kept.Dropped c.self.inside.base) (ap (λ (n : NodeValue _). kept.Dropped n.base) c.self.view_is) c.in-On.is c.in_ok-append.ensures.appends)
-    c.append.new.self refl c.requires.past c.tell.new.self c.forget.ensures (ap (λ (n : NodeValue _). n.base) c.self.view_is)
+    drop_ends _ _ _ _ _ _ _ c.args.draft.now c.append.new.draft c.requires.node c.requires.up c.requires.held
+    (appends_at _ _ _ _ _ c.args.draft.now c.append.new.draft _ (ap (λ (n : NodeValue _). kept.Dropped n.base) c.self.view_is) c.in-On.is c.in_ok-append.ensures.appends)
+    _ refl c.requires.past c.tell.new.self c.forget.ensures (ap (λ (n : NodeValue _). n.base) c.self.view_is)
     (c.in_ok-tell-in-On.ensures.effects ∙ ap (λ (n : NodeValue _). c.append.new.draft.effects.items ++ effect.Dropped n.id n.base ∷ []) c.self.view_is) c.in_ok-tell-in-On.ensures.sends

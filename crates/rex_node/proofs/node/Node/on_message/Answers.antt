@@ -20,7 +20,7 @@ call g c = receive c.args.self.now.nodes (service_of c.args.svc.now c.args.self.
 come : (g : given.Over) (c : goal.After-finish g) → HasCome g.K.Keeper.records g.K.Keeper.append_gives g.K.Keeper.faults c.args.svc.now g.P.Past.past (call g c) (whole g.P.Past.past c.args.self.now) (whole g.P.Past.past c.receive-end.new.self) (whole g.P.Past.past c.finish.new.self) c.len-before.result c.new-draft.result c.receive-end.new.draft c.receive-end.result c.finish.result
 come g c = record {
   node = c.requires.node;
-  up = up_of c.args.self.now.up _ (sym c.up_refusal.ensures ∙ c.in_default.is);
+  up = up_of _ _ (sym c.up_refusal.ensures ∙ c.in_default.is);
   many = c.len-before.ensures ∙ ap (λ (n : NodeValue _). length (g.K.Keeper.records n.keeper)) c.self.view_is;
   effects = c.new-draft.ensures.effects;
   sends = c.new-draft.ensures.sends;
@@ -37,7 +37,7 @@ receive-end-requires-clause-runs g c =
     c.requires.runs
 
 pub returns-clause-told : goal.returns-clause-told
-returns-clause-told g c = told g.K.Keeper.records g.K.Keeper.append_gives g.K.Keeper.faults c.args.svc.now g.P.Past.past (call g c) (whole g.P.Past.past c.args.self.now) (whole g.P.Past.past c.receive-end.new.self) (whole g.P.Past.past c.finish.new.self) c.len-before.result c.new-draft.result c.receive-end.new.draft c.receive-end.result c.finish.result (come g c)
+returns-clause-told g c = told _ _ _ _ _ _ _ (whole g.P.Past.past c.receive-end.new.self) _ c.len-before.result c.new-draft.result c.receive-end.new.draft _ _ (come g c)
 
 pub returns-clause-down : goal.returns-clause-down
 returns-clause-down g c =
@@ -45,19 +45,19 @@ returns-clause-down g c =
     (receive_well c.args.self.now.nodes (service_of c.args.svc.now c.args.self.now.seed) c.args.self.now.id (replies_quiet c.args.svc.now c.args.self.now.seed) c.args.message.now.from (content_in g.P.Past.past c.args.message.now.content) _ (record { armed = refl; quiet = λ id h. h })).quiet
 
 pub returns-clause-left : goal.returns-clause-left
-returns-clause-left g c = left g.K.Keeper.records g.K.Keeper.append_gives g.K.Keeper.faults c.args.svc.now g.P.Past.past (call g c) c.args.self.now (whole g.P.Past.past c.receive-end.new.self) c.finish.new.self c.len-before.result c.new-draft.result c.receive-end.new.draft c.receive-end.result c.finish.result (come g c)
+returns-clause-left g c = left _ _ _ _ _ _ _ _ _ _ _ _ _ _ (come g c)
 
 pub returns-clause-kept : goal.returns-clause-kept
-returns-clause-kept g c = kept g.K.Keeper.records g.K.Keeper.append_gives g.K.Keeper.faults c.args.svc.now g.P.Past.past (call g c) (whole g.P.Past.past c.args.self.now) (whole g.P.Past.past c.receive-end.new.self) (whole g.P.Past.past c.finish.new.self) c.len-before.result c.new-draft.result c.receive-end.new.draft c.receive-end.result c.finish.result (come g c)
+returns-clause-kept g c = kept _ g.K.Keeper.append_gives g.K.Keeper.faults _ _ (call g c) _ (whole g.P.Past.past c.receive-end.new.self) _ c.len-before.result c.new-draft.result c.receive-end.new.draft _ _ (come g c)
 
 pub returns-in-Some-clause-taken : goal.returns-in-Some-clause-taken
-returns-in-Some-clause-taken g c = none_kept c.args.message.now.content (g.K.Keeper.records c.args.self.now.keeper)
+returns-in-Some-clause-taken g c = none_kept _ _
 
 pub returns-in_err-told-clause-taken : goal.returns-in_err-told-clause-taken
-returns-in_err-told-clause-taken g c = none_kept c.args.message.now.content (g.K.Keeper.records c.args.self.now.keeper)
+returns-in_err-told-clause-taken g c = none_kept _ _
 
 pub returns-clause-taken : goal.returns-clause-taken
 returns-clause-taken g c =
-    then_kept g.K.Keeper.records c.args.message.now.content (g.K.Keeper.records c.args.self.now.keeper) c.receive-end.new.self c.finish.new.self
-    (finish_keeps g.K.Keeper.records c.len-before.result c.receive-end.new.draft c.receive-end.result (whole g.P.Past.past c.receive-end.new.self) (whole g.P.Past.past c.finish.new.self) c.finish.result c.finish.ensures)
+    then_kept g.K.Keeper.records _ _ c.receive-end.new.self c.finish.new.self
+    (finish_keeps _ _ c.receive-end.new.draft _ _ _ _ c.finish.ensures)
     c.receive-end.ensures.taken

@@ -5,10 +5,10 @@ use Rattle.rex_node.specs.Parts.{whole}
 
 pub returns-then-own-promised-clause-ends : goal.returns-then-own-promised-clause-ends
 returns-then-own-promised-clause-ends g c =
-    nack_follows g.K.Keeper.append_gives g.K.Keeper.faults c.requires.node c.requires.up c.args.draft.now c.leave.new.draft c.args.promised (sym c.own_ballot.ensures ∙ c.in-Some.is)
+    nack_follows _ _ c.requires.node c.requires.up _ _ _ (sym c.own_ballot.ensures ∙ c.in-Some.is)
     c.if-own-promised.true c.in_ok-leave-in-Some.ensures.ok c.in_ok-leave-in-Some.ensures.told
 
 pub returns-in_ok-tell-in-Some-clause-ends : goal.returns-in_ok-tell-in-Some-clause-ends
 returns-in_ok-tell-in-Some-clause-ends g c =
-    nack_ignored g.K.Keeper.append_gives g.K.Keeper.faults c.requires.node c.requires.up c.args.draft.now c.tell-in-Some.new.self c.args.promised (sym c.own_ballot.ensures ∙ c.in-Some.is)
+    nack_ignored _ _ c.requires.node c.requires.up c.args.draft.now c.tell-in-Some.new.self _ (sym c.own_ballot.ensures ∙ c.in-Some.is)
     c.if-own-promised.false c.in_ok-tell-in-Some.ensures.effects c.in_ok-tell-in-Some.ensures.sends

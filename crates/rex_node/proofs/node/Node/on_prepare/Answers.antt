@@ -8,14 +8,14 @@ pub returns-then-first-offset-clause-ends : goal.returns-then-first-offset-claus
 returns-then-first-offset-clause-ends g c =
     let more : c.args.self.now.acceptor.promised ≤ c.args.ballot = omega (arith, c.if-ballot-promised.false, c.promised-promised.ensures, ap (λ (n : NodeValue _). n.acceptor.promised) c.self.view_is) in
     let old : c.args.first ≤ c.args.self.now.offset = omega (arith, c.if-first-offset.true, c.offset.ensures, ap (λ (n : NodeValue _). n.offset) c.self.view_is) in
-    prepare_old g.K.Keeper.append_gives g.K.Keeper.faults c.requires.node c.requires.up c.args.draft.now c.args.from c.args.ballot c.args.first c.requires.past more old c.in_ok-tell_base.ensures
+    prepare_old _ _ c.requires.node c.requires.up _ _ _ _ c.requires.past more old c.in_ok-tell_base.ensures
 
 pub returns-then-first-offset-clause-tells : goal.returns-then-first-offset-clause-tells
 returns-then-first-offset-clause-tells g c none =
-    base_tells g.K.Keeper.records g.P.Past.past (c.requires.node.up c.requires.up) c.requires.past none c.in_ok-tell_base.ensures
+    base_tells g.K.Keeper.records _ (c.requires.node.up c.requires.up) c.requires.past none c.in_ok-tell_base.ensures
 
 pub returns-clause-ends : goal.returns-clause-ends
 returns-clause-ends g c =
     let same : c.args.ballot ≡ c.args.self.now.acceptor.promised = omega (arith, c.if-ballot-promised.false, c.if-promised-ballot.false, c.promised-promised.ensures, ap (λ (n : NodeValue _). n.acceptor.promised) c.self.view_is) in
     let late : c.args.self.now.offset < c.args.first = omega (arith, c.if-first-offset.false, c.offset.ensures, ap (λ (n : NodeValue _). n.offset) c.self.view_is) in
-    prepare_again g.K.Keeper.append_gives g.K.Keeper.faults c.requires.node c.requires.up c.args.draft.now c.args.from c.args.ballot c.args.first same late c.in_ok-promise.ensures
+    prepare_again _ _ c.requires.node c.requires.up _ _ _ _ same late c.in_ok-promise.ensures

@@ -12,61 +12,61 @@ use Rattle.rex_node.proofs.Written.{on_err}
 
 pub returns-in_ok-tell-in-Ignored-clause-ends : goal.returns-in_ok-tell-in-Ignored-clause-ends
 returns-in_ok-tell-in-Ignored-clause-ends g c =
-    promise_ignored g.K.Keeper.append_gives g.K.Keeper.faults c.requires.node c.requires.up c.args.ballot c.requires.from c.args.reported.now c.requires.reported c.args.draft.now (sym c.in_ok-why.ensures.vote ∙ c.in-Ignored.is)
+    promise_ignored _ _ c.requires.node c.requires.up _ c.requires.from _ c.requires.reported c.args.draft.now (sym c.in_ok-why.ensures.vote ∙ c.in-Ignored.is)
     c.in_ok-why.ensures.counted c.told_of.ensures c.tell.new.self c.in_ok-tell-in-Ignored.ensures.effects c.in_ok-tell-in-Ignored.ensures.sends
 
 pub returns-in-Ok-clause-ends : goal.returns-in-Ok-clause-ends
 returns-in-Ok-clause-ends g c =
-    let n = counts_to c.args.self.now.proposer c.in_ok-why.ensures.vote c.in-NotYet.is in
-    promise_have g.K.Keeper.append_gives g.K.Keeper.faults c.requires.node c.requires.up c.args.ballot c.requires.from c.args.reported.now c.requires.reported c.args.draft.now n.counts.is n.counts.new n.counts.majority
+    let n = counts_to _ c.in_ok-why.ensures.vote c.in-NotYet.is in
+    promise_have _ _ c.requires.node c.requires.up _ c.requires.from _ c.requires.reported c.args.draft.now n.counts.is n.counts.new n.counts.majority
     c.in_ok-why.ensures.counted n.have_is c.tell-in-NotYet.new.self c.in-Ok.ensures.effects c.in-Ok.ensures.sends
 
 pub returns-in-Err-clause-stuck : goal.returns-in-Err-clause-stuck
 returns-in-Err-clause-stuck g c =
-    let n = counts_to c.args.self.now.proposer c.in_ok-why.ensures.vote c.in-NotYet.is in
-    promise_back g.K.Keeper.append_gives g.K.Keeper.faults c.requires.node c.requires.up c.args.ballot c.requires.from c.args.reported.now c.requires.reported c.args.draft.now n.counts.is n.counts.new
+    let n = counts_to _ c.in_ok-why.ensures.vote c.in-NotYet.is in
+    promise_back _ _ c.requires.node c.requires.up _ c.requires.from _ c.requires.reported _ n.counts.is n.counts.new
      c.in_ok-why.ensures.counted c.take_back.ensures
 
 pub go_on-requires-clause-kept : goal.go_on-requires-clause-kept
 go_on-requires-clause-kept g c =
-    let n = counts_many c.args.self.now.proposer c.in_ok-why.ensures.vote c.in-Quorum.is in
-    promise_kept g.K.Keeper.append_gives g.K.Keeper.faults c.requires.node c.requires.up c.args.ballot c.requires.from c.args.reported.now c.requires.reported c.args.draft.now n.is n.new n.majority
+    let n = counts_many _ c.in_ok-why.ensures.vote c.in-Quorum.is in
+    promise_kept g.K.Keeper.append_gives g.K.Keeper.faults c.requires.node c.requires.up _ c.requires.from _ c.requires.reported c.args.draft.now n.is n.new n.majority
     c.in_ok-why.ensures.counted
 
 pub go_on-requires-clause-free : goal.go_on-requires-clause-free
 go_on-requires-clause-free g c =
-    let n = counts_many c.args.self.now.proposer c.in_ok-why.ensures.vote c.in-Quorum.is in
-    promise_free g.K.Keeper.append_gives g.K.Keeper.faults c.requires.node c.requires.up c.args.ballot c.requires.from c.args.reported.now c.requires.reported c.args.draft.now n.is n.new n.majority
+    let n = counts_many _ c.in_ok-why.ensures.vote c.in-Quorum.is in
+    promise_free g.K.Keeper.append_gives g.K.Keeper.faults c.requires.node c.requires.up _ c.requires.from _ c.requires.reported c.args.draft.now n.is n.new n.majority
     c.in_ok-why.ensures.counted
 
 pub go_on-requires-clause-turns : goal.go_on-requires-clause-turns
 go_on-requires-clause-turns g c =
-    let n = counts_many c.args.self.now.proposer c.in_ok-why.ensures.vote c.in-Quorum.is in
-    promise_turns g.K.Keeper.append_gives g.K.Keeper.faults c.requires.node c.requires.up c.args.ballot c.requires.from c.args.reported.now c.requires.reported c.args.draft.now n.is n.new n.majority
+    let n = counts_many _ c.in_ok-why.ensures.vote c.in-Quorum.is in
+    promise_turns g.K.Keeper.append_gives g.K.Keeper.faults c.requires.node c.requires.up _ c.requires.from _ c.requires.reported c.args.draft.now n.is n.new n.majority
     c.in_ok-why.ensures.counted c.turns-turns.ensures
 
 pub go_on-requires-clause-runs : goal.go_on-requires-clause-runs
 go_on-requires-clause-runs g c =
-    let n = counts_many c.args.self.now.proposer c.in_ok-why.ensures.vote c.in-Quorum.is in
-    promise_runs g.K.Keeper.append_gives g.K.Keeper.faults c.requires.node c.requires.up c.args.ballot c.requires.from c.args.reported.now c.requires.reported c.args.draft.now n.is n.new n.majority
+    let n = counts_many _ c.in_ok-why.ensures.vote c.in-Quorum.is in
+    promise_runs g.K.Keeper.append_gives g.K.Keeper.faults c.requires.node c.requires.up _ c.requires.from _ c.requires.reported c.args.draft.now n.is n.new n.majority
     c.in_ok-why.ensures.counted c.turns-turns.ensures c.requires.runs
 
 pub returns-in-Ok-go_on-clause-ends : goal.returns-in-Ok-go_on-clause-ends
 returns-in-Ok-go_on-clause-ends g c =
-    let n = counts_many c.args.self.now.proposer c.in_ok-why.ensures.vote c.in-Quorum.is in
-    promise_ends g.K.Keeper.append_gives g.K.Keeper.faults c.requires.node c.requires.up c.args.ballot c.requires.from c.args.reported.now c.requires.reported c.args.draft.now n.is n.new n.majority
-    c.in_ok-why.ensures.counted c.turns-turns.ensures c.go_on.new.draft c.in-Ok-go_on.going c.in-Ok-go_on.ensures.ends
+    let n = counts_many _ c.in_ok-why.ensures.vote c.in-Quorum.is in
+    promise_ends _ _ c.requires.node c.requires.up _ c.requires.from _ c.requires.reported c.args.draft.now n.is n.new n.majority
+    c.in_ok-why.ensures.counted c.turns-turns.ensures c.go_on.new.draft _ c.in-Ok-go_on.ensures.ends
 
 pub returns-in-Err-go_on-clause-stuck : goal.returns-in-Err-go_on-clause-stuck
 returns-in-Err-go_on-clause-stuck g c =
-    let n = counts_many c.args.self.now.proposer c.in_ok-why.ensures.vote c.in-Quorum.is in
-    promise_stuck g.K.Keeper.append_gives g.K.Keeper.faults c.requires.node c.requires.up c.args.ballot c.requires.from c.args.reported.now c.requires.reported c.args.draft.now n.is n.new n.majority
+    let n = counts_many _ c.in_ok-why.ensures.vote c.in-Quorum.is in
+    promise_stuck _ _ c.requires.node c.requires.up _ c.requires.from _ c.requires.reported _ n.is n.new n.majority
     c.in_ok-why.ensures.counted c.turns-turns.ensures c.in-Err-go_on.ensures.stuck c.take_back-in-Err-go_on.ensures
 
 pub returns-in_err-tell-in-Ignored-clause-stuck : goal.returns-in_err-tell-in-Ignored-clause-stuck
 returns-in_err-tell-in-Ignored-clause-stuck g c =
-    on_err c.from_residual-in_err-tell-in-Ignored.result
+    on_err _
     (subst (λ (n : NodeValue _). IsStuck g.K.Keeper.records g.K.Keeper.append_gives g.K.Keeper.faults c.args.svc.now g.P.Past.past (λ d. on_promise c.args.self.now.nodes (service_of c.args.svc.now c.args.self.now.seed) c.args.self.now.id c.args.from c.args.ballot (map proposal_in c.args.reported.now) d d.node.role) (whole g.P.Past.past c.args.self.now) n c.args.draft.now)
-    (sym (ignored_same g.K.Keeper.append_gives g.K.Keeper.faults c.requires.node c.requires.up c.args.ballot c.requires.from c.args.reported.now c.requires.reported c.args.draft.now (sym c.in_ok-why.ensures.vote ∙ c.in-Ignored.is)
+    (sym (ignored_same g.K.Keeper.append_gives g.K.Keeper.faults c.requires.node c.requires.up _ c.requires.from _ c.requires.reported c.args.draft.now (sym c.in_ok-why.ensures.vote ∙ c.in-Ignored.is)
     c.in_ok-why.ensures.counted))
     (inl (stands_same)))

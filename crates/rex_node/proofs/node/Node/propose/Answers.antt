@@ -12,18 +12,18 @@ append-requires-clause-spelling g c =
 
 pub returns-in-Down-clause-opens : goal.returns-in-Down-clause-opens
 returns-in-Down-clause-opens g c =
-    propose_down g.K.Keeper.append_gives g.K.Keeper.faults c.requires.kept c.requires.up c.requires.leads c.requires.next c.requires.there c.requires.value c.requires.cut
-    (c.unwrap_or-ballot.ensures ∙ ap (λ o. unwrap_or o 0) c.own_ballot.ensures) c.args.told c.in_ok-copied.ensures (whole g.P.Past.past c.append.new.self) c.args.draft.now c.append.new.draft c.in_ok-append.field-0 c.in_ok-append.ensures.appends c.in-Down.is
+    propose_down _ _ c.requires.kept c.requires.up c.requires.leads c.requires.next c.requires.there c.requires.value c.requires.cut
+    (c.unwrap_or-ballot.ensures ∙ ap (λ o. unwrap_or o 0) c.own_ballot.ensures) _ c.in_ok-copied.ensures _ c.args.draft.now c.append.new.draft _ c.in_ok-append.ensures.appends c.in-Down.is
 
 pub returns-clause-opens : goal.returns-clause-opens
 returns-clause-opens g c =
-    propose_on g.K.Keeper.append_gives g.K.Keeper.faults c.requires.kept c.requires.up c.requires.leads c.requires.next c.requires.there c.requires.value c.requires.cut
-    (c.unwrap_or-ballot.ensures ∙ ap (λ o. unwrap_or o 0) c.own_ballot.ensures) c.args.told c.in_ok-copied.ensures (whole g.P.Past.past c.append.new.self) c.args.draft.now c.append.new.draft c.in_ok-append.field-0 c.in_ok-append.ensures.appends c.in-On.is
+    propose_on _ _ c.requires.kept c.requires.up c.requires.leads c.requires.next c.requires.there c.requires.value c.requires.cut
+    (c.unwrap_or-ballot.ensures ∙ ap (λ o. unwrap_or o 0) c.own_ballot.ensures) _ c.in_ok-copied.ensures _ c.args.draft.now c.append.new.draft _ c.in_ok-append.ensures.appends c.in-On.is
     c.open.new.draft c.in_ok-open-in-On.ensures.opened c.in_ok-open-in-On.ensures.effects c.in_ok-open-in-On.ensures.sends
 
 pub returns-in_err-open-in-On-clause-stuck : goal.returns-in_err-open-in-On-clause-stuck
 returns-in_err-open-in-On-clause-stuck g c =
-    on_err c.from_residual-in_err-open-in-On.result
-    (propose_stuck g.K.Keeper.append_gives g.K.Keeper.faults c.requires.kept c.requires.up c.requires.leads c.requires.next c.requires.there c.requires.value c.requires.cut
-    (c.unwrap_or-ballot.ensures ∙ ap (λ o. unwrap_or o 0) c.own_ballot.ensures) c.args.told c.in_ok-copied.ensures (whole g.P.Past.past c.append.new.self) c.args.draft.now c.append.new.draft c.in_ok-append.field-0 c.in_ok-append.ensures.appends c.in-On.is
+    on_err _
+    (propose_stuck _ _ c.requires.kept c.requires.up c.requires.leads c.requires.next c.requires.there c.requires.value c.requires.cut
+    (c.unwrap_or-ballot.ensures ∙ ap (λ o. unwrap_or o 0) c.own_ballot.ensures) _ c.in_ok-copied.ensures _ _ c.append.new.draft _ c.in_ok-append.ensures.appends c.in-On.is
     c.in_err-open-in-On.ensures.keeper c.in_err-open-in-On.ensures.base)

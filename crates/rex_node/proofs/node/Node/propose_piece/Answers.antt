@@ -34,10 +34,10 @@ returns-clause-stuck g c =
     elim c.if-is_err.branch [
       | then-is_err w ↦
           subst (λ (y : NodeValue _). OnErr c.propose_value-end.result (Short (whole g.P.Past.past y))) (sym w.self-is)
-          (on_error (ProposesCutShort g.K.Keeper.records g.K.Keeper.append_gives g.K.Keeper.faults c.args.svc.now g.P.Past.past c.args.piece.events c.as_slice.result.now (whole g.P.Past.past c.replace_cut-before.new.self) (whole g.P.Past.past c.propose_value-end.new.self) c.args.draft.now)
-          (Short (whole g.P.Past.past w.replace_cut.new.self)) c.propose_value-end.result
-          (piece_short c.requires.node c.requires.can g.K.Keeper.append_gives g.K.Keeper.faults (whole g.P.Past.past c.propose_value-end.new.self) c.args.draft.now c.propose_value-end.new.draft
+          (on_error _
+          _ _
+          (piece_short c.requires.node c.requires.can _ _ _ _ c.propose_value-end.new.draft
            c.replace_cut-before.ensures.replaced c.as_slice.ensures c.replace_cut-before.ensures.before w.replace_cut.ensures.replaced)
           c.propose_value-end.ensures.stuck)
-      | else-is_err w ↦ on_ok (Short (whole g.P.Past.past c.if-is_err.self)) c.propose_value-end.result (sym c.is_err.ensures.value ∙ w.if-is_err.false)
+      | else-is_err w ↦ on_ok _ _ (sym c.is_err.ensures.value ∙ w.if-is_err.false)
     ]

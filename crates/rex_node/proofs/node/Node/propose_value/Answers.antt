@@ -9,71 +9,71 @@ use Rattle.rex_node.proofs.node.Node.propose_value.Goals as goal
 
 pub returns-then-has_open-clause-ends : goal.returns-then-has_open-clause-ends
 returns-then-has_open-clause-ends g c =
-    let s = some_of c.args.self.now.acting c.requires.active in
+    let s = some_of _ c.requires.active in
     let next : c.count-instance.result + 1 ≡ length (knows g.P.Past.past c.args.self.now) + 1 = ap (λ (n : ℕ). n + 1) c.count-instance.ensures.known in
     let told = told_same (ap (λ (z : NodeValue _). z.id) c.self.view_is) next in
-    cut_waits g.K.Keeper.records g.K.Keeper.append_gives g.K.Keeper.faults c.args.svc.now g.P.Past.past c.requires.node c.requires.up s.1 c.args.value.now told next
-    (whole g.P.Past.past c.propose.new.self) c.args.draft.now c.propose.new.draft
+    cut_waits _ _ _ _ _ c.requires.node c.requires.up s.1 _ told next
+    _ c.args.draft.now c.propose.new.draft
     (rw c.in-On.is at c.in_ok-propose.ensures.opens) (rw c.in-On.is at c.in_ok-propose.ensures.parts) (sym c.has_open.ensures ∙ c.if-has_open.true)
 
 pub returns-in-Down-clause-ends : goal.returns-in-Down-clause-ends
 returns-in-Down-clause-ends g c =
-    let s = some_of c.args.self.now.acting c.requires.active in
+    let s = some_of _ c.requires.active in
     let next : c.count-instance.result + 1 ≡ length (knows g.P.Past.past c.args.self.now) + 1 = ap (λ (n : ℕ). n + 1) c.count-instance.ensures.known in
     let told = told_same (ap (λ (z : NodeValue _). z.id) c.self.view_is) next in
-    cut_fell g.K.Keeper.records g.K.Keeper.append_gives g.K.Keeper.faults c.args.svc.now g.P.Past.past c.requires.node c.requires.up s.1 c.args.value.now told next
-    (whole g.P.Past.past c.propose.new.self) c.args.draft.now c.propose.new.draft
+    cut_fell _ _ _ _ _ c.requires.node c.requires.up s.1 _ told next
+    _ c.args.draft.now c.propose.new.draft
     (rw c.in-Down.is at c.in_ok-propose.ensures.opens) c.propose.ensures.same
 
 pub learn-requires-clause-kept : goal.learn-requires-clause-kept
 learn-requires-clause-kept g c =
-    let s = some_of c.args.self.now.acting c.requires.active in
+    let s = some_of _ c.requires.active in
     let next : c.count-instance.result + 1 ≡ length (knows g.P.Past.past c.args.self.now) + 1 = ap (λ (n : ℕ). n + 1) c.count-instance.ensures.known in
     let told = told_same (ap (λ (z : NodeValue _). z.id) c.self.view_is) next in
-    let l = idle_leads c.args.self.now.acceptor c.args.self.now.proposer c.requires.idle in
-    kept_between g.K.Keeper.records g.K.Keeper.append_gives g.K.Keeper.faults c.args.svc.now g.P.Past.past c.requires.node c.requires.up s.1 c.args.value.now told next
-    (whole g.P.Past.past c.propose.new.self) c.args.draft.now c.propose.new.draft
+    let l = idle_leads c.args.self.now.acceptor _ c.requires.idle in
+    kept_between _ _ _ _ _ c.requires.node c.requires.up s.1 _ told next
+    _ c.args.draft.now c.propose.new.draft
     (rw c.in-On.is at c.in_ok-propose.ensures.opens) (rw c.in-On.is at c.in_ok-propose.ensures.parts) l.1
 
 pub learn-requires-clause-count : goal.learn-requires-clause-count
 learn-requires-clause-count g c =
-    let s = some_of c.args.self.now.acting c.requires.active in
+    let s = some_of _ c.requires.active in
     let next : c.count-instance.result + 1 ≡ length (knows g.P.Past.past c.args.self.now) + 1 = ap (λ (n : ℕ). n + 1) c.count-instance.ensures.known in
     let told = told_same (ap (λ (z : NodeValue _). z.id) c.self.view_is) next in
-    let l = idle_leads c.args.self.now.acceptor c.args.self.now.proposer c.requires.idle in
-    subst (λ (n : ℕ). n < 2 ^ 64 - 1) (sym (counted_between g.K.Keeper.records g.K.Keeper.append_gives g.K.Keeper.faults c.args.svc.now g.P.Past.past c.requires.node c.requires.up s.1 c.args.value.now told next
-    (whole g.P.Past.past c.propose.new.self) c.args.draft.now c.propose.new.draft
+    let l = idle_leads c.args.self.now.acceptor _ c.requires.idle in
+    subst (λ (n : ℕ). n < 2 ^ 64 - 1) (sym (counted_between _ _ _ _ _ c.requires.node c.requires.up s.1 _ told next
+    _ c.args.draft.now c.propose.new.draft
     (rw c.in-On.is at c.in_ok-propose.ensures.opens) (rw c.in-On.is at c.in_ok-propose.ensures.parts) l.1)) c.requires.count
 
 pub returns-in_err-propose-clause-stuck : goal.returns-in_err-propose-clause-stuck
 returns-in_err-propose-clause-stuck g c =
-    let s = some_of c.args.self.now.acting c.requires.active in
+    let s = some_of _ c.requires.active in
     let next : c.count-instance.result + 1 ≡ length (knows g.P.Past.past c.args.self.now) + 1 = ap (λ (n : ℕ). n + 1) c.count-instance.ensures.known in
     let told = told_same (ap (λ (z : NodeValue _). z.id) c.self.view_is) next in
-    on_err c.from_residual.result
-    (cut_short g.K.Keeper.records g.K.Keeper.append_gives g.K.Keeper.faults c.args.svc.now g.P.Past.past c.requires.node c.requires.up s.1 c.args.value.now told next
-    (whole g.P.Past.past c.propose.new.self) c.args.draft.now c.propose.new.draft c.in_err-propose.ensures.stuck)
+    on_err _
+    (cut_short _ _ _ _ _ c.requires.node c.requires.up s.1 _ told next
+    _ _ c.propose.new.draft c.in_err-propose.ensures.stuck)
 
 pub returns-else-has_open-clause-stuck : goal.returns-else-has_open-clause-stuck
 returns-else-has_open-clause-stuck g c =
-    let s = some_of c.args.self.now.acting c.requires.active in
+    let s = some_of _ c.requires.active in
     let next : c.count-instance.result + 1 ≡ length (knows g.P.Past.past c.args.self.now) + 1 = ap (λ (n : ℕ). n + 1) c.count-instance.ensures.known in
     let told = told_same (ap (λ (z : NodeValue _). z.id) c.self.view_is) next in
-    on_error (LearnsShort g.K.Keeper.records g.K.Keeper.append_gives g.K.Keeper.faults c.args.svc.now g.P.Past.past (c.count-instance.result + 1) c.args.value.now (whole g.P.Past.past c.propose.new.self) (whole g.P.Past.past c.learn.new.self) c.propose.new.draft)
-    (ProposesCutShort g.K.Keeper.records g.K.Keeper.append_gives g.K.Keeper.faults c.args.svc.now g.P.Past.past c.args.events c.args.value.now (whole g.P.Past.past c.args.self.now) (whole g.P.Past.past c.learn.new.self) c.args.draft.now) c.learn.result
-    (cut_stuck g.K.Keeper.records g.K.Keeper.append_gives g.K.Keeper.faults c.args.svc.now g.P.Past.past c.requires.node c.requires.up s.1 c.args.value.now told next
-    (whole g.P.Past.past c.propose.new.self) c.args.draft.now c.propose.new.draft
+    on_error _
+    _ _
+    (cut_stuck _ _ _ _ _ c.requires.node c.requires.up s.1 _ told next
+    _ _ _
     (rw c.in-On.is at c.in_ok-propose.ensures.opens) (rw c.in-On.is at c.in_ok-propose.ensures.parts) (sym c.has_open.ensures ∙ c.if-has_open.false) c.propose.ensures.same c.learn.new.draft (rw c.in-On.is at c.in_ok-propose.ensures.longer)) c.learn.ensures.stuck
 
 pub returns-else-has_open-clause-ends : goal.returns-else-has_open-clause-ends
 returns-else-has_open-clause-ends g c =
-    let s = some_of c.args.self.now.acting c.requires.active in
+    let s = some_of _ c.requires.active in
     let next : c.count-instance.result + 1 ≡ length (knows g.P.Past.past c.args.self.now) + 1 = ap (λ (n : ℕ). n + 1) c.count-instance.ensures.known in
     let told = told_same (ap (λ (z : NodeValue _). z.id) c.self.view_is) next in
-    if_both (Learns g.K.Keeper.records g.K.Keeper.append_gives g.K.Keeper.faults c.args.svc.now g.P.Past.past (c.count-instance.result + 1) c.args.value.now (whole g.P.Past.past c.propose.new.self) (whole g.P.Past.past c.learn.new.self) c.propose.new.draft c.learn.new.draft)
-    (HasLearned c.args.svc.now (whole g.P.Past.past c.propose.new.self) (whole g.P.Past.past c.learn.new.self) (c.count-instance.result + 1) c.args.value.now)
-    (ProposesCut g.K.Keeper.records g.K.Keeper.append_gives g.K.Keeper.faults c.args.svc.now g.P.Past.past c.args.events c.args.value.now (whole g.P.Past.past c.args.self.now) (whole g.P.Past.past c.learn.new.self) c.args.draft.now c.learn.new.draft) c.learn.result
-    (λ going hl learned. cut_known g.K.Keeper.records g.K.Keeper.append_gives g.K.Keeper.faults c.args.svc.now g.P.Past.past c.requires.node c.requires.up s.1 c.args.value.now told next
-    (whole g.P.Past.past c.propose.new.self) c.args.draft.now c.propose.new.draft
+    if_both _
+    _
+    _ _
+    (λ going hl learned. cut_known _ _ _ _ _ c.requires.node c.requires.up s.1 _ told next
+    _ c.args.draft.now c.propose.new.draft
     (rw c.in-On.is at c.in_ok-propose.ensures.opens) (rw c.in-On.is at c.in_ok-propose.ensures.parts) (sym c.has_open.ensures ∙ c.if-has_open.false) c.propose.ensures.same c.learn.new.draft going hl learned c.learn.ensures.same)
     c.learn.ensures.learns c.learn.ensures.parts

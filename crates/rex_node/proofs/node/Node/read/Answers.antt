@@ -13,7 +13,7 @@ returns-clause-answer g c =
     c.admitted.ensures.answer
     ∙ ap (λ (v : ℤ). answered c.self.inside.up c.is_active-leads.result c.self.inside.replayed v c.args.seen.now) (to_z-of_z w64 c.value_in-value.result small)
     ∙ ap (λ (x : NodeValue _). answered x.up c.is_active-leads.result x.replayed c.value_in-value.result c.args.seen.now) c.self.view_is
-    ∙ read_is c.requires.node c.args.variable c.args.seen.now
+    ∙ read_is c.requires.node _ _
     (c.is_active-leads.ensures)
     (c.value_in-value.ensures ∙ ap (λ s. value_in s c.args.variable) (c.ahead_of.ensures ∙ ap (λ (x : NodeValue _). state_of x) c.self.view_is))
 

@@ -13,7 +13,7 @@ pub after-rest-requires-clause-to : goal.after-rest-requires-clause-to
 after-rest-requires-clause-to g c = let among = c.requires.among in omega (arith, among, many_known g.P.Past.past c.args.self.now, ap (λ (x : NodeValue _). count_of x) c.self.view_is)
 
 pub replay_values-requires-clause-sound : goal.replay_values-requires-clause-sound
-replay_values-requires-clause-sound g c = from_sound c.requires.node c.requires.up c.args.count c.requires.from c.declarations-service.ensures.sound c.declarations-service.ensures.checked
+replay_values-requires-clause-sound g c = from_sound c.requires.node c.requires.up _ c.requires.from c.declarations-service.ensures.sound c.declarations-service.ensures.checked
 
 pub replay_values-requires-clause-runs : goal.replay_values-requires-clause-runs
 replay_values-requires-clause-runs g c = rest_runs c.requires.node c.requires.up c.args.count c.requires.from (c.after-rest.ensures ∙ ap (λ (x : NodeValue _). drop (c.args.count - x.offset) x.known) c.self.view_is

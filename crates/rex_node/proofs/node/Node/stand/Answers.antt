@@ -7,51 +7,51 @@ use Rattle.rex_node.specs.Parts.{whole}
 
 pub returns-in-Down-clause-ends : goal.returns-in-Down-clause-ends
 returns-in-Down-clause-ends g c =
-    stand_down g.K.Keeper.append_gives g.K.Keeper.faults c.requires.node c.requires.up c.requires.left c.requires.least c.args.draft.now (whole g.P.Past.past c.append.new.self) c.append.new.draft
-    (appends_at g.K.Keeper.records g.K.Keeper.append_gives g.K.Keeper.faults (whole g.P.Past.past c.args.self.now) (whole g.P.Past.past c.append.new.self) c.args.draft.now c.append.new.draft (kept.Promised c.args.ballot) refl c.in-Down.is c.in_ok-append.ensures.appends)
+    stand_down _ _ c.requires.node c.requires.up c.requires.left c.requires.least c.args.draft.now _ c.append.new.draft
+    (appends_at _ _ _ _ _ c.args.draft.now c.append.new.draft (kept.Promised c.args.ballot) refl c.in-Down.is c.in_ok-append.ensures.appends)
 
 pub returns-in_err-turns-in-On-clause-stuck : goal.returns-in_err-turns-in-On-clause-stuck
 returns-in_err-turns-in-On-clause-stuck g c =
-    on_err_anyway c.from_residual-in_err-turns-in-On.result _
-    (stand_stuck g.K.Keeper.append_gives g.K.Keeper.faults c.requires.node c.requires.up c.requires.left c.requires.least c.args.draft.now (whole g.P.Past.past c.append.new.self) c.append.new.draft
-    (appends_at g.K.Keeper.records g.K.Keeper.append_gives g.K.Keeper.faults (whole g.P.Past.past c.args.self.now) (whole g.P.Past.past c.append.new.self) c.args.draft.now c.append.new.draft (kept.Promised c.args.ballot) refl c.in-On.is c.in_ok-append.ensures.appends)
+    on_err_anyway _ _
+    (stand_stuck _ _ c.requires.node c.requires.up c.requires.left c.requires.least _ _ c.append.new.draft
+    (appends_at _ _ _ _ _ c.args.draft.now c.append.new.draft (kept.Promised c.args.ballot) refl c.in-On.is c.in_ok-append.ensures.appends)
     c.in_err-turns-in-On.ensures.keeper c.in_err-turns-in-On.ensures.base)
 
 pub go_on-requires-clause-kept : goal.go_on-requires-clause-kept
 go_on-requires-clause-kept g c =
-    stand_kept g.K.Keeper.append_gives g.K.Keeper.faults c.requires.node c.requires.up c.requires.left c.requires.least c.args.draft.now (whole g.P.Past.past c.append.new.self) c.append.new.draft
-    (appends_at g.K.Keeper.records g.K.Keeper.append_gives g.K.Keeper.faults (whole g.P.Past.past c.args.self.now) (whole g.P.Past.past c.append.new.self) c.args.draft.now c.append.new.draft (kept.Promised c.args.ballot) refl c.in-On.is c.in_ok-append.ensures.appends)
+    stand_kept _ _ c.requires.node c.requires.up c.requires.left c.requires.least c.args.draft.now _ c.append.new.draft
+    (appends_at _ _ _ _ _ c.args.draft.now c.append.new.draft (kept.Promised c.args.ballot) refl c.in-On.is c.in_ok-append.ensures.appends)
     c.in_ok-turns-in-On.ensures.stands
 
 pub go_on-requires-clause-free : goal.go_on-requires-clause-free
 go_on-requires-clause-free g c =
-    stand_free g.K.Keeper.append_gives g.K.Keeper.faults c.requires.node c.requires.up c.requires.left c.requires.least c.args.draft.now (whole g.P.Past.past c.append.new.self) c.append.new.draft
-    (appends_at g.K.Keeper.records g.K.Keeper.append_gives g.K.Keeper.faults (whole g.P.Past.past c.args.self.now) (whole g.P.Past.past c.append.new.self) c.args.draft.now c.append.new.draft (kept.Promised c.args.ballot) refl c.in-On.is c.in_ok-append.ensures.appends)
+    stand_free _ _ c.requires.node c.requires.up c.requires.left c.requires.least c.args.draft.now _ c.append.new.draft
+    (appends_at _ _ _ _ _ c.args.draft.now c.append.new.draft (kept.Promised c.args.ballot) refl c.in-On.is c.in_ok-append.ensures.appends)
     c.in_ok-turns-in-On.ensures.stands
 
 pub go_on-requires-clause-turns : goal.go_on-requires-clause-turns
 go_on-requires-clause-turns g c =
-    stand_turns g.K.Keeper.append_gives g.K.Keeper.faults c.requires.node c.requires.up c.requires.left c.requires.least c.args.draft.now (whole g.P.Past.past c.append.new.self) c.append.new.draft
-    (appends_at g.K.Keeper.records g.K.Keeper.append_gives g.K.Keeper.faults (whole g.P.Past.past c.args.self.now) (whole g.P.Past.past c.append.new.self) c.args.draft.now c.append.new.draft (kept.Promised c.args.ballot) refl c.in-On.is c.in_ok-append.ensures.appends)
+    stand_turns _ _ c.requires.node c.requires.up c.requires.left c.requires.least c.args.draft.now _ c.append.new.draft
+    (appends_at _ _ _ _ _ c.args.draft.now c.append.new.draft (kept.Promised c.args.ballot) refl c.in-On.is c.in_ok-append.ensures.appends)
     c.in_ok-turns-in-On.ensures.stands c.in_ok-turns-in-On.ensures.turns
 
 pub go_on-requires-clause-runs : goal.go_on-requires-clause-runs
 go_on-requires-clause-runs g c =
-    stand_runs g.K.Keeper.append_gives g.K.Keeper.faults c.requires.node c.requires.up c.requires.left c.requires.least c.args.draft.now (whole g.P.Past.past c.append.new.self) c.append.new.draft
-    (appends_at g.K.Keeper.records g.K.Keeper.append_gives g.K.Keeper.faults (whole g.P.Past.past c.args.self.now) (whole g.P.Past.past c.append.new.self) c.args.draft.now c.append.new.draft (kept.Promised c.args.ballot) refl c.in-On.is c.in_ok-append.ensures.appends)
+    stand_runs _ _ c.requires.node c.requires.up c.requires.left c.requires.least c.args.draft.now _ c.append.new.draft
+    (appends_at _ _ _ _ _ c.args.draft.now c.append.new.draft (kept.Promised c.args.ballot) refl c.in-On.is c.in_ok-append.ensures.appends)
     c.in_ok-turns-in-On.ensures.stands c.in_ok-turns-in-On.ensures.turns
     c.candidate.new.draft c.in_ok-turns-in-On.ensures.effects c.in_ok-turns-in-On.ensures.sends c.requires.runs
 
 pub returns-clause-ends : goal.returns-clause-ends
 returns-clause-ends g c =
-    stand_ends g.K.Keeper.append_gives g.K.Keeper.faults c.requires.node c.requires.up c.requires.left c.requires.least c.args.draft.now (whole g.P.Past.past c.append.new.self) c.append.new.draft
-    (appends_at g.K.Keeper.records g.K.Keeper.append_gives g.K.Keeper.faults (whole g.P.Past.past c.args.self.now) (whole g.P.Past.past c.append.new.self) c.args.draft.now c.append.new.draft (kept.Promised c.args.ballot) refl c.in-On.is c.in_ok-append.ensures.appends)
+    stand_ends _ _ c.requires.node c.requires.up c.requires.left c.requires.least c.args.draft.now _ c.append.new.draft
+    (appends_at _ _ _ _ _ c.args.draft.now c.append.new.draft (kept.Promised c.args.ballot) refl c.in-On.is c.in_ok-append.ensures.appends)
     c.in_ok-turns-in-On.ensures.stands c.in_ok-turns-in-On.ensures.turns
-    c.candidate.new.draft c.in_ok-turns-in-On.ensures.effects c.in_ok-turns-in-On.ensures.sends (whole g.P.Past.past c.go_on.new.self) c.go_on.new.draft c.go_on.result c.go_on.ensures.ends
+    c.candidate.new.draft c.in_ok-turns-in-On.ensures.effects c.in_ok-turns-in-On.ensures.sends _ c.go_on.new.draft _ c.go_on.ensures.ends
 
 pub returns-clause-stuck : goal.returns-clause-stuck
 returns-clause-stuck g c =
-    stand_short g.K.Keeper.append_gives g.K.Keeper.faults c.requires.node c.requires.up c.requires.left c.requires.least c.args.draft.now (whole g.P.Past.past c.append.new.self) c.append.new.draft
-    (appends_at g.K.Keeper.records g.K.Keeper.append_gives g.K.Keeper.faults (whole g.P.Past.past c.args.self.now) (whole g.P.Past.past c.append.new.self) c.args.draft.now c.append.new.draft (kept.Promised c.args.ballot) refl c.in-On.is c.in_ok-append.ensures.appends)
+    stand_short _ _ c.requires.node c.requires.up c.requires.left c.requires.least _ _ c.append.new.draft
+    (appends_at _ _ _ _ _ c.args.draft.now c.append.new.draft (kept.Promised c.args.ballot) refl c.in-On.is c.in_ok-append.ensures.appends)
     c.in_ok-turns-in-On.ensures.stands c.in_ok-turns-in-On.ensures.turns
-    c.candidate.new.draft c.in_ok-turns-in-On.ensures.effects c.in_ok-turns-in-On.ensures.sends (whole g.P.Past.past c.go_on.new.self) c.go_on.result c.go_on.ensures.stuck
+    _ c.in_ok-turns-in-On.ensures.effects c.in_ok-turns-in-On.ensures.sends _ _ c.go_on.ensures.stuck

@@ -13,7 +13,7 @@ returns-clause-told g c =
 
 pub returns-clause-node : goal.returns-clause-node
 returns-clause-node g c =
-    submit_leads (ap (λ (x : NodeValue _). whole g.P.Past.past x) c.self.view_is) c.requires.node _ (sym c.active_refusal.ensures.why ∙ c.in_default.is) (sym c.in-Some-acting.is) c.args.request.now c.in_ok-answer.ensures.ok c.in_ok-answer.ensures.answer
+    submit_leads (ap (λ (x : NodeValue _). whole g.P.Past.past x) c.self.view_is) c.requires.node _ (sym c.active_refusal.ensures.why ∙ c.in_default.is) (sym c.in-Some-acting.is) _ c.in_ok-answer.ensures.ok c.in_ok-answer.ensures.answer
 
 pub returns-clause-kept : goal.returns-clause-kept
 returns-clause-kept g c =

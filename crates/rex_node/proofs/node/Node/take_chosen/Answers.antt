@@ -8,23 +8,23 @@ use Rattle.rex_node.specs.Parts.{whole}
 
 pub returns-in-Down-clause-ends : goal.returns-in-Down-clause-ends
 returns-in-Down-clause-ends g c =
-    chosen_down g.K.Keeper.append_gives g.K.Keeper.faults c.requires.node c.requires.up c.args.draft.now c.requires.instance c.requires.next c.requires.value (whole g.P.Past.past c.append.new.self) c.append.new.draft
-    (appends_at g.K.Keeper.records g.K.Keeper.append_gives g.K.Keeper.faults (whole g.P.Past.past c.args.self.now) (whole g.P.Past.past c.append.new.self) c.args.draft.now c.append.new.draft (kept.Known c.args.instance c.in_ok-copied.field-0) (ap (kept.Known c.args.instance) c.in_ok-copied.ensures) c.in-Down.is c.in_ok-append.ensures.appends)
+    chosen_down _ _ c.requires.node c.requires.up c.args.draft.now c.requires.instance c.requires.next c.requires.value _ c.append.new.draft
+    (appends_at _ _ _ _ _ c.args.draft.now c.append.new.draft _ (ap (kept.Known c.args.instance) c.in_ok-copied.ensures) c.in-Down.is c.in_ok-append.ensures.appends)
 
 pub returns-in_err-chosen-in-On-clause-stuck : goal.returns-in_err-chosen-in-On-clause-stuck
 returns-in_err-chosen-in-On-clause-stuck g c =
-    on_err_anyway c.from_residual-in_err-chosen-in-On.result _
-    (chosen_stuck g.K.Keeper.append_gives g.K.Keeper.faults c.requires.node c.requires.up c.args.draft.now c.requires.instance c.requires.next c.requires.value (whole g.P.Past.past c.append.new.self) c.append.new.draft
-    (appends_at g.K.Keeper.records g.K.Keeper.append_gives g.K.Keeper.faults (whole g.P.Past.past c.args.self.now) (whole g.P.Past.past c.append.new.self) c.args.draft.now c.append.new.draft (kept.Known c.args.instance c.in_ok-copied.field-0) (ap (kept.Known c.args.instance) c.in_ok-copied.ensures) c.in-On.is c.in_ok-append.ensures.appends)
+    on_err_anyway _ _
+    (chosen_stuck _ _ c.requires.node c.requires.up _ c.requires.instance c.requires.next c.requires.value _ c.append.new.draft
+    (appends_at _ _ _ _ _ c.args.draft.now c.append.new.draft _ (ap (kept.Known c.args.instance) c.in_ok-copied.ensures) c.in-On.is c.in_ok-append.ensures.appends)
     c.in_err-chosen-in-On.ensures.keeper c.in_err-chosen-in-On.ensures.base)
 
 pub returns-clause-ends : goal.returns-clause-ends
 returns-clause-ends g c =
-    chosen_on g.K.Keeper.append_gives g.K.Keeper.faults c.requires.node c.requires.up c.args.draft.now c.requires.instance c.requires.next c.requires.value (whole g.P.Past.past c.append.new.self) c.append.new.draft c.requires.runs
-    (appends_at g.K.Keeper.records g.K.Keeper.append_gives g.K.Keeper.faults (whole g.P.Past.past c.args.self.now) (whole g.P.Past.past c.append.new.self) c.args.draft.now c.append.new.draft (kept.Known c.args.instance c.in_ok-copied.field-0) (ap (kept.Known c.args.instance) c.in_ok-copied.ensures) c.in-On.is c.in_ok-append.ensures.appends)
+    chosen_on _ _ c.requires.node c.requires.up c.args.draft.now c.requires.instance c.requires.next c.requires.value _ _ c.requires.runs
+    (appends_at _ _ _ _ _ c.args.draft.now c.append.new.draft _ (ap (kept.Known c.args.instance) c.in_ok-copied.ensures) c.in-On.is c.in_ok-append.ensures.appends)
      c.in_ok-chosen-in-On.ensures.chosen c.in_ok-chosen-in-On.ensures.told
 
 pub chosen-requires-clause-delta : goal.chosen-requires-clause-delta
 chosen-requires-clause-delta g c =
-    last_spelled c.args.svc.now (whole g.P.Past.past c.args.self.now).known c.args.value.now
+    last_spelled c.args.svc.now (whole g.P.Past.past c.args.self.now).known _
     (chosen_fits g.K.Keeper.append_gives g.K.Keeper.faults c.requires.node c.requires.up c.args.draft.now c.requires.instance c.requires.next c.requires.value (whole g.P.Past.past c.append.new.self) c.append.new.draft c.requires.runs)

@@ -18,7 +18,7 @@ returns-clause-told g c =
     (sym c.self.view_is)
     (subst (λ (r : Option ReachedValue). Does g.K.Keeper.records g.K.Keeper.append_gives g.K.Keeper.faults c.args.svc.now g.P.Past.past (replay c.args.self.now.id) (whole g.P.Past.past c.args.self.now) (whole g.P.Past.past (record c.args.self.now { replayed = c.count-deltas.result; ahead = Some c.args.state; reached = r })) (record { effects = c.in_ok-effects.effects; sends = c.new.result }))
     (sym (reached_is g c))
-    (replay_does g.K.Keeper.append_gives g.K.Keeper.faults c.requires.node (c.replay_refusal.ensures.up c.in_default.is) (c.replay_refusal.ensures.idle c.in_default.is) c.count-deltas.ensures.known c.args.state
+    (replay_does _ _ c.requires.node (c.replay_refusal.ensures.up c.in_default.is) (c.replay_refusal.ensures.idle c.in_default.is) c.count-deltas.ensures.known c.args.state
     (ne_eqb c.args.self.now.replayed c.count-deltas.result (λ e. c.replay_refusal.ensures.behind c.in_default.is (e ∙ c.count-deltas.ensures.known)))
     (c.in_ok-effects.ensures ∙ ap (λ (x : NodeValue _). Replayed x.id c.count-deltas.result ∷ []) c.self.view_is)
     c.new.ensures))
@@ -29,4 +29,4 @@ returns-clause-kept g c =
     (sym c.self.view_is)
     (subst (λ (r : Option ReachedValue). StaysNode g.K.Keeper.records c.args.svc.now g.P.Past.past c.args.self.now (record c.args.self.now { replayed = c.count-deltas.result; ahead = Some c.args.state; reached = r }))
     (sym (reached_is g c))
-    (replay_stays g.K.Keeper.append_gives g.K.Keeper.faults c.requires.node (c.replay_refusal.ensures.up c.in_default.is) (c.replay_refusal.ensures.idle c.in_default.is) c.count-deltas.ensures.known c.args.state c.requires.runs))
+    (replay_stays g.K.Keeper.append_gives g.K.Keeper.faults c.requires.node (c.replay_refusal.ensures.up c.in_default.is) (c.replay_refusal.ensures.idle c.in_default.is) c.count-deltas.ensures.known _ c.requires.runs))
